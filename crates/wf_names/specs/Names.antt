@@ -1,0 +1,28 @@
+-- The form of a name, and how one is kept.
+use Rattle.std.specs.Prelude.{◌≡◌, ℕ, ◌-◌, ◌≤◌, Bool, false, ◌&&◌, ◌||◌, ◌==◌, nat_le, nat_lt, List, [], ◌∷◌, ◌++◌, length, take, drop, replicate, IsTrue}
+use Rattle.std.specs.List.{list_all}
+use Rattle.wf_names.specs.declared.limits.TheConstants.{NAME_LIMIT}
+
+-- a lower-case letter
+abbrev pub is_letter : ℕ → Bool
+is_letter b = nat_le 97 b && nat_le b 122
+
+-- a lower-case letter, a digit or the underscore
+abbrev pub is_name_byte : ℕ → Bool
+is_name_byte b = is_letter b || (nat_le 48 b && nat_le b 57) || (b == 95)
+
+-- 1 to 40 bytes of lower-case letters, digits and underscores, the first of them a letter
+unfoldable pub is_name : List ℕ → Bool
+is_name [] = false
+is_name (b ∷ bs) = is_letter b && list_all is_name_byte bs && nat_lt (length bs) NAME_LIMIT
+
+-- the bytes of a name, filled up with zeros
+unfoldable pub padded : List ℕ → List ℕ
+padded bytes = bytes ++ replicate (NAME_LIMIT - length bytes) 0
+
+-- the first len bytes are a name, and the others are zero
+pub record IsStored (bytes : List ℕ) (len : ℕ) : Type 0 where
+  pub fits : len ≤ NAME_LIMIT
+  pub whole : length bytes ≡ NAME_LIMIT
+  pub blank : drop len bytes ≡ replicate (NAME_LIMIT - len) 0
+  pub form : IsTrue (is_name (take len bytes))

@@ -1,0 +1,18 @@
+//! What every crate of the server names things by: numbers of users, roles and the like, the
+//! server's limits, names, and tables of names.
+#![tactic(auto)]
+
+mod ids;
+mod limits;
+mod name;
+mod table;
+
+pub use ids::{CaseId, FlowId, RelId, RoleId, StepId, UserId};
+pub use limits::{
+    BATCH_LINE_LIMIT, CASE_LIMIT, DEFAULT_LANES, DEFAULT_ROUNDS, FLOW_LIMIT, LANE_LIMIT,
+    LINE_LIMIT, NAME_LIMIT, OPEN_CASE_LIMIT, PAIR_LIMIT, POLICY_FILE_LIMIT, RELATION_LIMIT,
+    REQUESTS_FILE_LIMIT, ROLE_LIMIT, ROUND_LIMIT, RULE_LIMIT, SESSION_LINE_LIMIT, STEP_LIMIT,
+    TRANSCRIPT_LINE_LIMIT, USER_LIMIT,
+};
+pub use name::Name;
+pub use table::{NameFault, NameTable};

@@ -1,0 +1,122 @@
+//! Names of users, roles, relations, workflows and steps.
+ghost use Rattle.std.specs.Prelude.{◌≡◌, ◌≤◌, ◌↔◌, IsSome, IfSome, IsTrue, nat_eq};
+ghost use Rattle.std.specs.Cmp.{partial_equiv_from_equiv};
+ghost use Rattle.std.specs.Cmp.Lexicographic.{pointwise, nat_list_eq_equiv};
+ghost use Rattle.std.specs.Cmp.Rules.{hashing};
+ghost use Rattle.std.specs.Hash as fed;
+ghost use Rattle.std.proofs.Common.{rules};
+ghost use Rattle.wf_names.specs.Names.{is_name, is_name_byte, is_letter, padded};
+
+use crate::NAME_LIMIT;
+use std::hash::{Hash, Hasher};
+use std::marker::Model;
+use std::str;
+
+/// A name: 1 to 40 bytes of `a-z`, `0-9` and `_`, the first of them a letter. Contracts see its bytes.
+#[derive(Clone, Copy)]
+pub struct Name {
+    bytes: [u8; NAME_LIMIT],
+    len: u8,
+}
+
+impl Model for Name {
+    ghost use Rattle.std.specs.Prelude.{List, ℕ, length, take};
+    ghost use Rattle.wf_names.specs.Names.{padded, IsStored};
+    ghost use Rattle.wf_names.specs.NameLaws.{padded-take, length-taken};
+
+    ghost Value = { List ℕ };
+
+    ghost view = { λ n. take n.len n.bytes };
+
+    ghost invariant = { λ n. IsStored n.bytes n.len };
+
+    ghost inverse = { λ v. record { bytes = padded v; len = length v } };
+
+    ghost inverse_ok = { λ n h. record { bytes = padded-take n.bytes n.len h; len = length-taken n.bytes n.len h } };
+}
+
+impl Name {
+    /// The name that a text is; None where it is not of a name's form.
+    pub fn read(text: &str) -> Option<Name>
+        ensures form { IsSome result ↔ IsTrue (is_name text.now) }
+        ensures value { IfSome result (λ n. n ≡ text.now) }
+    {
+        let bytes = text.as_bytes();
+        if has_form(bytes) {
+            Some(stored(bytes))
+        } else {
+            None
+        }
+    }
+
+    /// The name as text.
+    pub fn as_str(&self) -> &str
+        ensures text { result.now ≡ self.now }
+        ensures form { IsTrue (is_name self.now) }
+    {
+        // A name's bytes are ASCII.
+        unsafe { str::from_utf8_unchecked(&self.bytes[..self.len as usize]) }
+    }
+}
+
+impl PartialEq for Name {
+    ghost eq = { pointwise nat_eq };
+
+    ghost laws = { partial_equiv_from_equiv nat_list_eq_equiv };
+
+    fn eq(&self, other: &Name) -> bool {
+        self.as_str() == other.as_str()
+    }
+}
+
+impl Eq for Name {
+    ghost laws = { nat_list_eq_equiv };
+}
+
+impl Hash for Name {
+    ghost hash_input = { fed.str };
+
+    ghost respects_eq = { Prim.search (hashing, rules) };
+
+    fn hash<H: Hasher>(&self, state: &mut H) {
+        self.as_str().hash(state);
+    }
+}
+
+/// Whether bytes are of a name's form.
+#[tactic(auto, unfolding(crate::specs::Names::is_name))]
+fn has_form(bytes: &[u8]) -> bool
+    ensures { result ≡ is_name bytes.now }
+{
+    match bytes {
+        [] => false,
+        [first, rest @ ..] => {
+            is_letter(*first) && rest.iter().all(|b| is_name_byte(*b)) && rest.len() < NAME_LIMIT
+        }
+    }
+}
+
+fn is_letter(byte: u8) -> bool
+    ensures { result ≡ is_letter byte }
+{
+    byte >= b'a' && byte <= b'z'
+}
+
+fn is_name_byte(byte: u8) -> bool
+    ensures { result ≡ is_name_byte byte }
+{
+    is_letter(byte) || (byte >= b'0' && byte <= b'9') || byte == b'_'
+}
+
+/// The name of these bytes.
+fn stored(bytes: &[u8]) -> Name
+    requires { IsTrue (is_name bytes.now) }
+    ensures { result ≡ bytes.now }
+{
+    let mut cells = [0; NAME_LIMIT];
+    cells[..bytes.len()].copy_from_slice(bytes);
+    Name {
+        bytes: cells,
+        len: bytes.len() as u8,
+    }
+}

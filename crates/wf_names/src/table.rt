@@ -1,0 +1,122 @@
+//! Tables of distinct names, each found by its number and by its text.
+ghost use Rattle.std.specs.Prelude.{◌≡◌, ◌<◌, ◌≤◌, ◌↔◌, IsTrue, ℕ, List, [], ◌∷◌, ◌++◌, length, is_some, IfOk, IfSome, OnOk, OnErr, IsErrOf, true, false, slice_get, Some};
+ghost use Rattle.wf_names.specs.Table.{Table, place_of};
+
+use crate::Name;
+use indexmap::IndexSet;
+use std::alloc::{AllocError, Global};
+use std::marker::Model;
+
+/// Why a name was not added.
+#[derive(Clone, Copy, Debug, PartialEq, Eq)]
+pub enum NameFault {
+    /// The name is there already.
+    Twice,
+    /// The table has as many names as its limit.
+    Full,
+    /// There was no memory for it.
+    NoMemory,
+}
+
+/// A list of distinct names, at most `limit` of them. A name's number is its place in the list.
+#[derive(Drop)]
+pub struct NameTable {
+    names: IndexSet<Name>,
+    limit: u16,
+}
+
+impl Model for NameTable {
+    ghost use Rattle.std.specs.Prelude.{List, ℕ, length, ◌≤◌};
+    ghost use Rattle.std.specs.List.{IsDistinct};
+    ghost use Rattle.std.specs.Cmp.Lexicographic.{pointwise};
+    ghost use Rattle.wf_names.specs.Table.{Table};
+
+    ghost Value = { Table };
+
+    ghost view = { λ t. record { names = t.names.keys; limit = t.limit } };
+
+    ghost invariant = { λ t. length t.names.keys ≤ t.limit };
+}
+
+impl NameTable {
+    /// An empty table that takes at most `limit` names.
+    pub fn new(alloc: Global, limit: u16) -> Result<NameTable, AllocError>
+        ensures { IfOk result (λ t. t ≡ record { names = []; limit = limit }) }
+    {
+        Ok(NameTable {
+            names: IndexSet::new(alloc),
+            limit,
+        })
+    }
+
+    /// Adds a name at the end, and answers its number.
+    pub fn add(&mut self, name: Name) -> Result<u16, NameFault>
+        ensures place { IfOk result (λ n. n ≡ length self.old.names) }
+        ensures added { OnOk result (self.new ≡ record self.old { names = self.old.names ++ name ∷ [] }) }
+        ensures fresh { OnOk result (is_some (place_of self.old.names name) ≡ false) }
+        ensures room { OnOk result (length self.old.names < self.old.limit) }
+
+        ensures twice { IsErrOf result NameFault.Twice ↔ (is_some (place_of self.old.names name) ≡ true) }
+        ensures full { IsErrOf result NameFault.Full ↔ ((is_some (place_of self.old.names name) ≡ false) × (length self.old.names ≡ self.old.limit)) }
+        ensures unchanged { OnErr result (self.new ≡ self.old) }
+    {
+        if self.names.get_index_of(&name).is_some() {
+            return Err(NameFault::Twice);
+        }
+        let count = self.names.len();
+        if count >= self.limit as usize {
+            return Err(NameFault::Full);
+        }
+        match self.names.insert_full(name) {
+            Ok(_) => Ok(count as u16),
+            Err(_) => Err(NameFault::NoMemory),
+        }
+    }
+
+    /// The number of a name.
+    pub fn find(&self, name: &Name) -> Option<u16>
+        ensures place { result ≡ place_of self.now.names name.now }
+        ensures within { IfSome result (λ n. n < length self.now.names) }
+    {
+        match self.names.get_index_of(name) {
+            Some(place) => Some(place as u16),
+            None => None,
+        }
+    }
+
+    /// The name with a number.
+    pub fn name(&self, n: u16) -> Name
+        requires { n < length self.now.names }
+        ensures { slice_get self.now.names n ≡ Some result }
+    {
+        match self.names.get_index(n as usize) {
+            Some(name) => *name,
+            None => unreachable!(),
+        }
+    }
+
+    /// How many names there are.
+    pub fn len(&self) -> u16
+        ensures count { result ≡ length self.now.names }
+        ensures within { length self.now.names ≤ self.now.limit }
+    {
+        self.names.len() as u16
+    }
+
+    /// Whether there is no name.
+    pub fn is_empty(&self) -> bool
+        ensures { IsTrue result ↔ (self.now.names ≡ []) }
+    {
+        self.names.is_empty()
+    }
+
+    /// A table with the same names and the same limit.
+    pub fn copy(&self) -> Result<NameTable, AllocError>
+        ensures { IfOk result (λ t. t ≡ self.now) }
+    {
+        Ok(NameTable {
+            names: self.names.clone()?,
+            limit: self.limit,
+        })
+    }
+}
