@@ -1,7 +1,6 @@
 -- Laws of a name's cells.
-use Rattle.std.proofs.Common.{◌≡◌, ℕ, ◌-◌, ◌≤◌, List, ◌++◌, length, take, drop, replicate, ap, sym, ◌∙◌, arith, subst}
+use Rattle.std.proofs.Common.{◌≡◌, ℕ, ◌≤◌, List, length, take, sym, subst}
 use Rattle.std.proofs.lemmas.List.{take-append-drop, length-take-le}
-use Rattle.wf_names.specs.declared.limits.TheConstants.{NAME_LIMIT}
 use Rattle.wf_names.specs.Names.{padded, IsStored}
 
 pub length-taken : (bytes : List ℕ) (len : ℕ) → IsStored bytes len → length (take len bytes) ≡ len

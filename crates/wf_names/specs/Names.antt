@@ -1,5 +1,5 @@
 -- The form of a name, and how one is kept.
-use Rattle.std.specs.Prelude.{◌≡◌, ℕ, ◌-◌, ◌≤◌, Bool, false, ◌&&◌, ◌||◌, ◌==◌, nat_le, nat_lt, List, [], ◌∷◌, ◌++◌, length, take, drop, replicate, IsTrue}
+use Rattle.std.specs.Prelude.{◌≡◌, ℕ, ◌-◌, ◌≤◌, Bool, false, ◌&&◌, ◌||◌, ◌==◌, nat_le, List, [], ◌∷◌, ◌++◌, length, take, drop, replicate, IsTrue}
 use Rattle.std.specs.List.{list_all}
 use Rattle.wf_names.specs.declared.limits.TheConstants.{NAME_LIMIT}
 
@@ -11,10 +11,14 @@ is_letter b = nat_le 97 b && nat_le b 122
 abbrev pub is_name_byte : ℕ → Bool
 is_name_byte b = is_letter b || (nat_le 48 b && nat_le b 57) || (b == 95)
 
+-- the first byte is a letter
+abbrev pub starts_with_letter : List ℕ → Bool
+starts_with_letter [] = false
+starts_with_letter (b ∷ bs) = is_letter b
+
 -- 1 to 40 bytes of lower-case letters, digits and underscores, the first of them a letter
 unfoldable pub is_name : List ℕ → Bool
-is_name [] = false
-is_name (b ∷ bs) = is_letter b && list_all is_name_byte bs && nat_lt (length bs) NAME_LIMIT
+is_name bs = starts_with_letter bs && list_all is_name_byte bs && nat_le (length bs) NAME_LIMIT
 
 -- the bytes of a name, filled up with zeros
 unfoldable pub padded : List ℕ → List ℕ

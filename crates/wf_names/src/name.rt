@@ -1,11 +1,12 @@
 //! Names of users, roles, relations, workflows and steps.
-ghost use Rattle.std.specs.Prelude.{◌≡◌, ◌≤◌, ◌↔◌, IsSome, IfSome, IsTrue, nat_eq};
+ghost use Rattle.std.specs.Prelude.{◌≡◌, ◌≤◌, ◌↔◌, IsSome, IfSome, IsTrue, nat_eq, replicate};
+ghost use Rattle.std.specs.List.{list_all};
 ghost use Rattle.std.specs.Cmp.{partial_equiv_from_equiv};
 ghost use Rattle.std.specs.Cmp.Lexicographic.{pointwise, nat_list_eq_equiv};
 ghost use Rattle.std.specs.Cmp.Rules.{hashing};
 ghost use Rattle.std.specs.Hash as fed;
 ghost use Rattle.std.proofs.Common.{rules};
-ghost use Rattle.wf_names.specs.Names.{is_name, is_name_byte, is_letter, padded};
+ghost use Rattle.wf_names.specs.Names.{is_name, is_name_byte, is_letter, starts_with_letter};
 
 use crate::NAME_LIMIT;
 use std::hash::{Hash, Hasher};
@@ -32,7 +33,7 @@ impl Model for Name {
 
     ghost inverse = { λ v. record { bytes = padded v; len = length v } };
 
-    ghost inverse_ok = { λ n h. record { bytes = padded-take n.bytes n.len h; len = length-taken n.bytes n.len h } };
+    ghost inverse_ok = { λ n h i. record { bytes = padded-take n.bytes n.len h i; len = length-taken n.bytes n.len h i } };
 }
 
 impl Name {
@@ -88,12 +89,22 @@ impl Hash for Name {
 fn has_form(bytes: &[u8]) -> bool
     ensures { result ≡ is_name bytes.now }
 {
+    starts_with_letter(bytes) && all_in_names(bytes) && bytes.len() <= NAME_LIMIT
+}
+
+fn starts_with_letter(bytes: &[u8]) -> bool
+    ensures { result ≡ starts_with_letter bytes.now }
+{
     match bytes {
         [] => false,
-        [first, rest @ ..] => {
-            is_letter(*first) && rest.iter().all(|b| is_name_byte(*b)) && rest.len() < NAME_LIMIT
-        }
+        [first, ..] => is_letter(*first),
     }
+}
+
+fn all_in_names(bytes: &[u8]) -> bool
+    ensures { result ≡ list_all is_name_byte bytes.now }
+{
+    bytes.iter().all(|b| is_name_byte(*b))
 }
 
 fn is_letter(byte: u8) -> bool
@@ -113,10 +124,16 @@ fn stored(bytes: &[u8]) -> Name
     requires { IsTrue (is_name bytes.now) }
     ensures { result ≡ bytes.now }
 {
-    let mut cells = [0; NAME_LIMIT];
+    let mut cells = blank();
     cells[..bytes.len()].copy_from_slice(bytes);
     Name {
         bytes: cells,
         len: bytes.len() as u8,
     }
+}
+
+fn blank() -> [u8; NAME_LIMIT]
+    ensures { result ≡ replicate NAME_LIMIT 0 }
+{
+    [0; NAME_LIMIT]
 }

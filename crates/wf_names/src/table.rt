@@ -26,16 +26,14 @@ pub struct NameTable {
 }
 
 impl Model for NameTable {
-    ghost use Rattle.std.specs.Prelude.{List, ℕ, length, ◌≤◌};
-    ghost use Rattle.std.specs.List.{IsDistinct};
-    ghost use Rattle.std.specs.Cmp.Lexicographic.{pointwise};
+    ghost use Rattle.std.specs.Prelude.{length, ◌≤◌, ◌<◌, ◌^◌};
     ghost use Rattle.wf_names.specs.Table.{Table};
 
     ghost Value = { Table };
 
     ghost view = { λ t. record { names = t.names.keys; limit = t.limit } };
 
-    ghost invariant = { λ t. length t.names.keys ≤ t.limit };
+    ghost invariant = { λ t. (length t.names.keys ≤ t.limit) × (t.limit < 2 ^ 16) };
 }
 
 impl NameTable {
