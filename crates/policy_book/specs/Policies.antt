@@ -1,0 +1,35 @@
+-- What a policy says.
+use Rattle.std.specs.Prelude.{ℕ, ◌+◌, Bool, true, false, ◌&&◌, ◌||◌, List, [], length, slice_index_or}
+use Rattle.std.specs.FinSet as set
+use Rattle.user_relations.specs.Relations.{is_related}
+use Rattle.workflow_schema.specs.Flows.{FlowShape}
+use Rattle.policy_book.specs.Shapes.{PolicyShape, WorkflowShape}
+use Rattle.policy_book.specs.Plans.{Problem}
+
+-- a workflow without steps, which stands where there is none
+abbrev pub no_workflow : WorkflowShape
+no_workflow = record { flow = record { steps = []; order = set.empty; permits = set.empty }; rules = []; retired = false }
+
+-- the workflow with a number
+abbrev pub flow_at : PolicyShape → ℕ → WorkflowShape
+flow_at p f = slice_index_or p.flows f no_workflow
+
+-- some number below n passes
+abbrev pub any_below : ℕ → (ℕ → Bool) → Bool
+any_below zero test = false
+any_below (suc n) test = any_below n test || test n
+
+-- a user is authorised for a step where some role is held by the user and permitted for the step
+abbrev pub is_authorised : PolicyShape → ℕ → ℕ → ℕ → Bool
+is_authorised p f s u =
+    any_below (length p.roster.roles) (λ r. set.contains p.roster.members (u, r) && set.contains (flow_at p f).flow.permits (r, s))
+
+-- all that a policy says of one of its workflows
+abbrev pub problem_of : PolicyShape → ℕ → Problem
+problem_of p f = record {
+    steps = length (flow_at p f).flow.steps;
+    users = length p.roster.users;
+    authorised = is_authorised p f;
+    related = is_related p.relations;
+    rules = (flow_at p f).rules
+}
