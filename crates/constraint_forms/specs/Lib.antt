@@ -1,0 +1,4 @@
+pub mod Flags
+pub mod Plans
+pub mod Rules
+pub mod Laws

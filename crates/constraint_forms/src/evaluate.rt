@@ -1,0 +1,94 @@
+//! Whether a partial assignment falsifies a rule, and whether a plan satisfies it.
+ghost use Rattle.std.specs.Prelude.{◌≡◌, ℕ, ◌<◌, IsTrue, length};
+ghost use Rattle.constraint_forms.specs.Rules.{all_from, any_from, are_unrelated, is_falsified, is_member, is_satisfied, planned, user_at, IsRuleOf};
+
+use wf_names::{RelId, STEP_LIMIT, StepId, UserId};
+
+use crate::{Assign, Holds, Plan, Rule, StepSet};
+
+/// Whether a rule is falsified: whatever users the free steps get, the rule will not be satisfied.
+pub fn falsified<H: Holds>(rule: &Rule, h: &H, a: &Assign) -> bool
+    ensures { result ≡ is_falsified (H.related h.now) rule.now (user_at a.now) }
+{
+    match *rule {
+        Rule::Pair { rho, first, second } => is_unrelated(h, rho, a.at(first), a.at(second)),
+        Rule::SomeOf { rho, group, step } => a.at(step).is_some() && all_unrelated(h, rho, a, &group, step),
+        Rule::AllOf { rho, group, step } => any_unrelated(h, rho, a, &group, step),
+    }
+}
+
+/// Whether a plan for at least the rule's steps satisfies the rule.
+pub fn satisfied<H: Holds>(rule: &Rule, h: &H, plan: &Plan) -> bool
+    requires { IsRuleOf (length plan.now) rule.now }
+    ensures { result ≡ is_satisfied (H.related h.now) rule.now (planned plan.now) }
+{
+    match *rule {
+        Rule::Pair { rho, first, second } => h.holds(rho, plan.at(first), plan.at(second)),
+        Rule::SomeOf { rho, group, step } => any_related(h, rho, plan, &group, plan.at(step)),
+        Rule::AllOf { rho, group, step } => all_related(h, rho, plan, &group, plan.at(step)),
+    }
+}
+
+// Whether both users are there and are unrelated.
+fn is_unrelated<H: Holds>(h: &H, rho: RelId, u: Option<UserId>, v: Option<UserId>) -> bool
+    ensures { result ≡ are_unrelated (H.related h.now) rho u v }
+{
+    match (u, v) {
+        (Some(u), Some(v)) => !h.holds(rho, u, v),
+        _ => false,
+    }
+}
+
+// Whether some member is assigned and unrelated to the step.
+fn any_unrelated<H: Holds>(h: &H, rho: RelId, a: &Assign, group: &StepSet, step: StepId) -> bool
+    ensures { result ≡ any_from 0 group.now (λ x. are_unrelated (H.related h.now) rho (user_at a.now x) (user_at a.now step)) }
+{
+    'members: for x in 0..STEP_LIMIT {
+        let member = StepId(x as u8);
+        if group.has(member) && is_unrelated(h, rho, a.at(member), a.at(step)) {
+            return true;
+        }
+    }
+    false
+}
+
+// Whether every member is assigned and unrelated to the step.
+fn all_unrelated<H: Holds>(h: &H, rho: RelId, a: &Assign, group: &StepSet, step: StepId) -> bool
+    ensures { result ≡ all_from 0 group.now (λ x. are_unrelated (H.related h.now) rho (user_at a.now x) (user_at a.now step)) }
+{
+    'members: for x in 0..STEP_LIMIT {
+        let member = StepId(x as u8);
+        if group.has(member) && !is_unrelated(h, rho, a.at(member), a.at(step)) {
+            return false;
+        }
+    }
+    true
+}
+
+// Whether the user of some member is related to v.
+fn any_related<H: Holds>(h: &H, rho: RelId, plan: &Plan, group: &StepSet, v: UserId) -> bool
+    requires { (x : ℕ) → IsTrue (is_member group.now x) → x < length plan.now }
+    ensures { result ≡ any_from 0 group.now (λ x. H.related h.now rho (planned plan.now x) v) }
+{
+    'members: for x in 0..STEP_LIMIT {
+        let member = StepId(x as u8);
+        if group.has(member) && h.holds(rho, plan.at(member), v) {
+            return true;
+        }
+    }
+    false
+}
+
+// Whether the user of every member is related to v.
+fn all_related<H: Holds>(h: &H, rho: RelId, plan: &Plan, group: &StepSet, v: UserId) -> bool
+    requires { (x : ℕ) → IsTrue (is_member group.now x) → x < length plan.now }
+    ensures { result ≡ all_from 0 group.now (λ x. H.related h.now rho (planned plan.now x) v) }
+{
+    'members: for x in 0..STEP_LIMIT {
+        let member = StepId(x as u8);
+        if group.has(member) && !h.holds(rho, plan.at(member), v) {
+            return false;
+        }
+    }
+    true
+}

@@ -1,0 +1,20 @@
+//! The forms of a workflow's rules: what it is for a plan to satisfy a rule, and for a partial
+//! assignment to falsify one, over whatever relates users.
+#![tactic(auto)]
+
+pub mod laws;
+
+mod assign;
+mod evaluate;
+
+mod plan;
+mod rule;
+mod rules;
+mod step_set;
+
+pub use assign::Assign;
+pub use evaluate::{falsified, satisfied};
+pub use plan::Plan;
+pub use rule::{Holds, Rule};
+pub use rules::Rules;
+pub use step_set::StepSet;
