@@ -1,1 +1,2 @@
 pub mod NameForms
+pub mod Places

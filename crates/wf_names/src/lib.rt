@@ -6,6 +6,8 @@ mod ids;
 mod limits;
 mod name;
 mod table;
+#[cfg(test)]
+mod tests;
 
 pub use ids::{CaseId, FlowId, RelId, RoleId, StepId, UserId};
 pub use limits::{

@@ -85,8 +85,11 @@ impl NameTable {
     /// The name with a number.
     pub fn name(&self, n: u16) -> Name
         requires { n < length self.now.names }
-        ensures { slice_get self.now.names n ≡ Some result }
+        ensures name { slice_get self.now.names n ≡ Some result }
+        ensures alone { place_of self.now.names result ≡ Some n }
     {
+        let count = self.names.len();
+        prove!((n as usize) < count);
         match self.names.get_index(n as usize) {
             Some(name) => *name,
             None => unreachable!(),
