@@ -1,3 +1,4 @@
 pub mod Shapes
 pub mod Policies
 pub mod Plans
+pub mod Facts

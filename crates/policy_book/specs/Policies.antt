@@ -1,8 +1,9 @@
 -- What a policy says.
-use Rattle.std.specs.Prelude.{ℕ, ◌+◌, Bool, true, false, ◌&&◌, ◌||◌, List, [], length, slice_index_or}
+use Rattle.std.specs.Prelude.{ℕ, ◌+◌, Bool, true, false, ◌&&◌, ◌||◌, List, [], length, slice_index_or, slice_set}
 use Rattle.std.specs.FinSet as set
+use Rattle.rbac_state.specs.Rosters.{RosterShape, has_role}
 use Rattle.user_relations.specs.Relations.{is_related}
-use Rattle.workflow_schema.specs.Flows.{FlowShape}
+use Rattle.pair_set.specs.Pairs.{Pairs}
 use Rattle.policy_book.specs.Shapes.{PolicyShape, WorkflowShape}
 use Rattle.policy_book.specs.Plans.{Problem}
 
@@ -22,7 +23,7 @@ any_below (suc n) test = any_below n test || test n
 -- a user is authorised for a step where some role is held by the user and permitted for the step
 abbrev pub is_authorised : PolicyShape → ℕ → ℕ → ℕ → Bool
 is_authorised p f s u =
-    any_below (length p.roster.roles) (λ r. set.contains p.roster.members (u, r) && set.contains (flow_at p f).flow.permits (r, s))
+    any_below (length p.roster.roles) (λ r. has_role p.roster u r && set.contains (flow_at p f).flow.permits (r, s))
 
 -- all that a policy says of one of its workflows
 abbrev pub problem_of : PolicyShape → ℕ → Problem
@@ -33,3 +34,15 @@ problem_of p f = record {
     related = is_related p.relations;
     rules = (flow_at p f).rules
 }
+
+-- a policy with another roster
+abbrev pub with_roster : PolicyShape → RosterShape → PolicyShape
+with_roster p roster = record p { roster = roster }
+
+-- a policy with another workflow at a number
+abbrev pub with_flow : PolicyShape → ℕ → WorkflowShape → PolicyShape
+with_flow p f w = record p { flows = slice_set p.flows f w }
+
+-- a policy with other permissions in one of its workflows
+abbrev pub with_permits : PolicyShape → ℕ → Pairs → PolicyShape
+with_permits p f permits = with_flow p f (record (flow_at p f) { flow = record (flow_at p f).flow { permits = permits } })

@@ -1,2 +1,11 @@
 //! The policy: who holds which role, who is related to whom, and the workflows with their rules.
 #![tactic(auto)]
+
+mod policy;
+mod workflow;
+
+pub use constraint_forms::{Assign, Holds, Plan, Rule, Rules, StepSet};
+pub use policy::Policy;
+pub use rbac_state::{Roster, RosterFault};
+pub use user_relations::{RelationFault, Relations};
+pub use workflow_schema::{Flow, FlowFault};

@@ -1,0 +1,45 @@
+-- What every policy keeps.
+use Rattle.std.specs.Prelude.{◌≡◌, ℕ, ◌+◌, ◌<◌, ◌≤◌, Bool, true, List, length, Some, slice_get, IsTrue}
+use Rattle.std.specs.FinSet as set
+use Rattle.wf_names.specs.declared.limits.TheConstants.{FLOW_LIMIT, RULE_LIMIT}
+use Rattle.workflow_schema.specs.Flows.{FlowShape}
+use Rattle.user_relations.specs.Relations.{AreOfUsers}
+use Rattle.constraint_forms.specs.declared.rule.Rule.{Rule}
+use Rattle.constraint_forms.specs.declared.rule.Rule.TheVariants.{Pair, SomeOf, AllOf}
+use Rattle.constraint_forms.specs.Rules.{any_from, relation_of, IsRuleOf}
+use Rattle.policy_book.specs.Shapes.{PolicyShape, WorkflowShape}
+use Rattle.policy_book.specs.Policies.{flow_at}
+
+-- a rule over a group of steps has some step in it
+abbrev pub HasMembers : Rule → Type 0
+HasMembers (Pair rho first second) = Unit {0}
+HasMembers (SomeOf rho group step) = IsTrue (any_from 0 group (λ _. true))
+HasMembers (AllOf rho group step) = IsTrue (any_from 0 group (λ _. true))
+
+-- a rule of a workflow with so many steps, under so many declared relations
+pub record IsSoundRule (steps relations : ℕ) (rule : Rule) : Type 0 where
+  pub names : IsRuleOf steps rule
+  pub relation : relation_of rule < relations + 2
+  pub members : HasMembers rule
+
+-- each of some rules is such a rule
+abbrev pub AreSoundRules : ℕ → ℕ → List Rule → Type 0
+AreSoundRules steps relations rules = (k : ℕ) (rule : Rule) → slice_get rules k ≡ Some rule → IsSoundRule steps relations rule
+
+-- a workflow permits its steps to no role but the first so many
+abbrev pub PermitsRolesBelow : ℕ → FlowShape → Type 0
+PermitsRolesBelow roles flow = (r s : ℕ) → set.contains flow.permits (r, s) ≡ true → r < roles
+
+-- a workflow of a policy with so many roles and declared relations
+pub record IsSoundWorkflow (roles relations : ℕ) (w : WorkflowShape) : Type 0 where
+  pub permitted : PermitsRolesBelow roles w.flow
+  pub few : length w.rules ≤ RULE_LIMIT
+  pub ruled : AreSoundRules (length w.flow.steps) relations w.rules
+
+-- numbers are in range and limits are met
+pub record IsSoundPolicy (p : PolicyShape) : Type 0 where
+  pub admin : p.admin < length p.roster.roles
+  pub named : length p.flow_names ≡ length p.flows
+  pub few : length p.flows ≤ FLOW_LIMIT
+  pub related : AreOfUsers (length p.roster.users) p.relations
+  pub flows : (f : ℕ) → f < length p.flows → IsSoundWorkflow (length p.roster.roles) (length p.relations) (flow_at p f)

@@ -1,0 +1,257 @@
+//! The policy over its parts.
+ghost use Rattle.std.specs.Prelude.{◌≡◌, ◌<◌, ◌≤◌, ◌+◌, ◌↔◌, ℕ, List, [], ◌∷◌, ◌++◌, length, is_some, true, false, IfOk, IfSome, OnOk, OnErr, IsErrOf, IsTrue, slice_get, slice_set, Some};
+ghost use Rattle.std.specs.FinSet as set;
+ghost use Rattle.wf_names.specs.declared.limits.TheConstants.{FLOW_LIMIT, RULE_LIMIT};
+ghost use Rattle.wf_names.specs.Table.{place_of};
+ghost use Rattle.user_relations.specs.Relations.{AreOfUsers};
+ghost use Rattle.policy_book.specs.Policies.{flow_at, is_authorised, problem_of};
+ghost use Rattle.policy_book.specs.Plans.{IsWellFormed};
+ghost use Rattle.policy_book.specs.Facts.{AreSoundRules, PermitsRolesBelow};
+
+use constraint_forms::{Holds, Rules};
+use rbac_state::{Roster, RosterFault};
+use std::alloc::{AllocError, Global};
+use std::marker::Model;
+use user_relations::{RelationFault, Relations};
+use wf_names::{FLOW_LIMIT, FlowId, Name, NameFault, NameTable, RelId, RoleId, StepId, UserId};
+use workflow_schema::Flow;
+
+use crate::workflow::Workflow;
+
+/// A policy: a roster, relations, workflows with their rules, and the role of its administrators.
+#[derive(Drop)]
+pub struct Policy {
+    roster: Roster,
+    relations: Relations,
+    names: NameTable,
+    flows: Vec<Workflow>,
+    admin: RoleId,
+    alloc: Global,
+}
+
+impl Policy {
+    /// A policy with no workflow yet.
+    pub fn start(
+        alloc: Global,
+        roster: Roster,
+        relations: Relations,
+        admin: RoleId,
+    ) -> Result<Policy, AllocError>
+        requires related { AreOfUsers (length roster.users) relations }
+        requires admin { admin < length roster.roles }
+        ensures { IfOk result (λ p. p ≡ record { roster = roster; relations = relations; flow_names = []; flows = []; admin = admin }) }
+    {
+        Ok(Policy {
+            roster,
+            relations,
+            names: NameTable::new(alloc, FLOW_LIMIT)?,
+            flows: Vec::new(alloc),
+            admin,
+            alloc,
+        })
+    }
+
+    /// Adds a workflow, which is not retired, and answers its number.
+    pub fn add_flow(&mut self, name: Name, flow: Flow, rules: Rules) -> Result<FlowId, NameFault>
+        requires roles { PermitsRolesBelow (length self.old.roster.roles) flow }
+        requires few { length rules ≤ RULE_LIMIT }
+        requires ruled { AreSoundRules (length flow.steps) (length self.old.relations) rules }
+
+        ensures place { IfOk result (λ f. f ≡ length self.old.flows) }
+        ensures added { OnOk result (self.new ≡ record self.old {
+            flow_names = self.old.flow_names ++ name ∷ [];
+            flows = self.old.flows ++ record { flow = flow; rules = rules; retired = false } ∷ [] }) }
+        ensures fresh { OnOk result (is_some (place_of self.old.flow_names name) ≡ false) }
+
+        ensures twice { IsErrOf result NameFault.Twice ↔ (is_some (place_of self.old.flow_names name) ≡ true) }
+        ensures full { IsErrOf result NameFault.Full ↔ ((is_some (place_of self.old.flow_names name) ≡ false) × (length self.old.flows ≡ FLOW_LIMIT)) }
+        ensures unchanged { OnErr result (self.new ≡ self.old) }
+    {
+        let place = free_place(&self.names, &name)?;
+        if self.flows.reserve(1).is_err() {
+            return Err(NameFault::NoMemory);
+        }
+        self.names.add(name)?;
+        let added = self.flows.push(Workflow {
+            flow,
+            rules,
+            retired: false,
+        });
+        match added {
+            Ok(()) => Ok(place),
+            Err(_) => unreachable!(),
+        }
+    }
+
+    /// Whether a user is authorised for a step of a workflow: some role is held by the user and
+    /// permitted for the step.
+    pub fn authorised(&self, f: FlowId, s: StepId, u: UserId) -> bool
+        requires flow { f < length self.now.flows }
+        requires step { s < length (flow_at self.now f).flow.steps }
+        requires user { u < length self.now.roster.users }
+        ensures { result ≡ is_authorised self.now f s u }
+    {
+        some_role(&self.roster, self.flow(f), s, u)
+    }
+
+    /// The users, the roles and who holds which.
+    pub fn roster(&self) -> &Roster
+        ensures roster { result.now ≡ self.now.roster }
+        ensures admin { self.now.admin < length self.now.roster.roles }
+    {
+        &self.roster
+    }
+
+    /// The relations between users.
+    pub fn relations(&self) -> &Relations
+        ensures relations { result.now ≡ self.now.relations }
+        ensures users { AreOfUsers (length self.now.roster.users) self.now.relations }
+    {
+        &self.relations
+    }
+
+    /// A workflow's steps, their order and who may perform them.
+    pub fn flow(&self, f: FlowId) -> &Flow
+        requires { f < length self.now.flows }
+        ensures flow { result.now ≡ (flow_at self.now f).flow }
+        ensures roles { PermitsRolesBelow (length self.now.roster.roles) (flow_at self.now f).flow }
+    {
+        let workflow = &self.flows[f.0 as usize];
+        &workflow.flow
+    }
+
+    /// A workflow's rules.
+    pub fn rules(&self, f: FlowId) -> &Rules
+        requires { f < length self.now.flows }
+        ensures rules { result.now ≡ (flow_at self.now f).rules }
+        ensures few { length (flow_at self.now f).rules ≤ RULE_LIMIT }
+        ensures ruled { AreSoundRules (length (flow_at self.now f).flow.steps) (length self.now.relations) (flow_at self.now f).rules }
+        ensures well_formed { IsWellFormed (problem_of self.now f) }
+    {
+        let workflow = &self.flows[f.0 as usize];
+        &workflow.rules
+    }
+
+    /// Whether a workflow is retired: no case of it is opened any more.
+    pub fn retired(&self, f: FlowId) -> bool
+        requires { f < length self.now.flows }
+        ensures { result ≡ (flow_at self.now f).retired }
+    {
+        let workflow = &self.flows[f.0 as usize];
+        workflow.retired
+    }
+
+    /// The role of the administrators.
+    pub fn admin(&self) -> RoleId
+        ensures admin { result ≡ self.now.admin }
+        ensures within { self.now.admin < length self.now.roster.roles }
+    {
+        self.admin
+    }
+
+    /// The number of the workflow with a name.
+    pub fn find_flow(&self, name: &Name) -> Option<FlowId>
+        ensures place { result ≡ place_of self.now.flow_names name.now }
+        ensures within { IfSome result (λ f. f < length self.now.flows) }
+    {
+        match self.names.find(name) {
+            Some(place) => Some(FlowId(place as u8)),
+            None => None,
+        }
+    }
+
+    /// The names of the workflows, at their numbers.
+    pub fn flows(&self) -> &NameTable
+        ensures names { result.now.names ≡ self.now.flow_names }
+        ensures count { length self.now.flow_names ≡ length self.now.flows }
+        ensures within { length self.now.flows ≤ FLOW_LIMIT }
+    {
+        &self.names
+    }
+
+    /// A policy that is equal to this one.
+    pub fn copy(&self) -> Result<Policy, AllocError>
+        ensures { IfOk result (λ p. p ≡ self.now) }
+    {
+        Ok(Policy {
+            roster: self.roster.copy()?,
+            relations: self.relations.copy()?,
+            names: self.names.copy()?,
+            flows: copies(self.alloc, &self.flows)?,
+            admin: self.admin,
+            alloc: self.alloc,
+        })
+    }
+
+    /// Adds a user without roles, and answers their number.
+    pub fn add_user(&mut self, name: Name) -> Result<UserId, NameFault>
+        ensures number { IfOk result (λ u. u ≡ length self.old.roster.users) }
+        ensures added { OnOk result (self.new ≡ with_roster self.old (record self.old.roster { users = self.old.roster.users ++ name ∷ [] })) }
+
+        ensures twice { IsErrOf result NameFault.Twice ↔ (is_some (place_of self.old.roster.users name) ≡ true) }
+        ensures full { IsErrOf result NameFault.Full ↔ ((is_some (place_of self.old.roster.users name) ≡ false) × (length self.old.roster.users ≡ USER_LIMIT)) }
+        ensures unchanged { OnErr result (self.new ≡ self.old) }
+    {
+        self.roster.add_user(name)
+    }
+
+    /// Gives a user a role.
+    pub fn enrol(&mut self, u: UserId, r: RoleId) -> Result<(), RosterFault>
+        requires user { u < length self.old.roster.users }
+        requires role { r < length self.old.roster.roles }
+        ensures enrolled { OnOk result (self.new ≡ with_roster self.old (record self.old.roster { members = set.insert self.old.roster.members (u, r) })) }
+
+        ensures already { IsErrOf result RosterFault.Already ↔ (has_role self.old.roster u r ≡ true) }
+        ensures absent { ¬ IsErrOf result RosterFault.Absent }
+        ensures unchanged { OnErr result (self.new ≡ self.old) }
+    {
+        self.roster.enrol(u, r)
+    }
+
+    /// Takes a role away from a user.
+    pub fn dismiss(&mut self, u: UserId, r: RoleId) -> Result<(), RosterFault>
+        requires user { u < length self.old.roster.users }
+        requires role { r < length self.old.roster.roles }
+        ensures dismissed { OnOk result (self.new ≡ with_roster self.old (record self.old.roster { members = set.remove self.old.roster.members (u, r) })) }
+        ensures held { OnOk result (has_role self.old.roster u r ≡ true) }
+
+        ensures absent { IsErrOf result RosterFault.Absent ↔ (has_role self.old.roster u r ≡ false) }
+        ensures already { ¬ IsErrOf result RosterFault.Already }
+        ensures unchanged { OnErr result (self.new ≡ self.old) }
+    {
+        self.roster.dismiss(u, r)
+    }
+
+    /// Permits a step of a workflow to a role, and answers whether that changes anything.
+    pub fn permit(&mut self, f: FlowId, r: RoleId, s: StepId) -> bool
+        requires flow { f < length self.old.flows }
+        requires role { r < length self.old.roster.roles }
+        requires step { s < length (flow_at self.old f).flow.steps }
+        ensures permitted { self.new ≡ with_permits self.old f (set.insert (flow_at self.old f).flow.permits (r, s)) }
+        ensures changed { result ≡ not (set.contains (flow_at self.old f).flow.permits (r, s)) }
+    {
+        let workflow = &mut self.flows[f.0 as usize];
+        workflow.flow.permit(r, s)
+    }
+
+    /// Forbids a step of a workflow to a role, and answers whether that changes anything.
+    pub fn forbid(&mut self, f: FlowId, r: RoleId, s: StepId) -> bool
+        requires flow { f < length self.old.flows }
+        requires role { r < length self.old.roster.roles }
+        requires step { s < length (flow_at self.old f).flow.steps }
+        ensures forbidden { self.new ≡ with_permits self.old f (set.remove (flow_at self.old f).flow.permits (r, s)) }
+        ensures changed { result ≡ set.contains (flow_at self.old f).flow.permits (r, s) }
+    {
+        let workflow = &mut self.flows[f.0 as usize];
+        workflow.flow.forbid(r, s)
+    }
+
+    /// Retires a workflow, which it stays.
+    pub fn retire(&mut self, f: FlowId)
+        requires { f < length self.old.flows }
+        ensures { self.new ≡ with_flow self.old f (record (flow_at self.old f) { retired = true }) }
+    {
+        let workflow = &mut self.flows[f.0 as usize];
+        workflow.retired = true;
+    }
+}

@@ -1,0 +1,28 @@
+//! A workflow of a policy.
+ghost use Rattle.std.specs.Prelude.{◌≡◌, IfOk};
+
+use constraint_forms::Rules;
+use std::alloc::{AllocError, Global};
+use std::marker::Model;
+use workflow_schema::Flow;
+
+/// A workflow: its steps with their order and permissions, its rules, and whether it is retired.
+#[derive(Drop)]
+pub(crate) struct Workflow {
+    pub(crate) flow: Flow,
+    pub(crate) rules: Rules,
+    pub(crate) retired: bool,
+}
+
+impl Workflow {
+    /// A workflow that is equal to this one.
+    pub(crate) fn copy(&self, alloc: Global) -> Result<Workflow, AllocError>
+        ensures { IfOk result (λ w. w ≡ self.now) }
+    {
+        Ok(Workflow {
+            flow: self.flow.copy()?,
+            rules: self.rules.copy(alloc)?,
+            retired: self.retired,
+        })
+    }
+}
