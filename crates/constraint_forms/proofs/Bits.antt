@@ -21,10 +21,19 @@ flags_of-at (suc n) w zero d h = ap (λ b. nat_eq b 1) (sym (bit_at_lowest w))
 flags_of-at (suc n) w (suc i) d h =
     flags_of-at n (w / 2) i d (omega arith) ∙ ap (λ b. nat_eq b 1) (sym (bit_at-suc w i))
 
+get_or-replicate_same : (n i : ℕ) → get_or (replicate n false) i false ≡ false
+get_or-replicate_same zero zero = refl
+get_or-replicate_same zero (suc i) = refl
+get_or-replicate_same (suc n) zero = refl
+get_or-replicate_same (suc n) (suc i) = get_or-replicate_same n i
+
 pub flags_of-zero : (n : ℕ) → flags_of n 0 ≡ replicate n false
 unfolding flags_of
 flags_of-zero zero = refl
 flags_of-zero (suc n) = ap (λ fs. false ∷ fs) (flags_of-zero n)
+
+pub none_of_zero : (n i : ℕ) → slice_index_or (flags_of n 0) i false ≡ false
+none_of_zero n i = rw (flags_of-zero n) (get_or-replicate_same n i)
 
 -- the test of bit i tells the flag
 pub has_flag : (n w i : ℕ) → i < n → nat_eq (bit_and (w / 2 ^ i) 1) 1 ≡ slice_index_or (flags_of n w) i false

@@ -1,3 +1,3 @@
 pub mod Bits
-pub mod Members
+pub mod Kept
 pub mod RuleLaws

@@ -62,7 +62,7 @@ impl StepSet {
         ensures limit { result ≡ STEP_LIMIT }
         ensures len { length self.now ≡ STEP_LIMIT }
     {
-        let _ = self.bits;
+        let _ = &self.bits;
         STEP_LIMIT
     }
 }

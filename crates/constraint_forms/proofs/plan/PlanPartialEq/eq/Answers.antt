@@ -1,6 +1,6 @@
-use Rattle.std.proofs.Common.{rules, arith, refl, sym, ap, subst, ◌∙◌, ◌≡◌, ℕ, ◌<◌, false, true, length, replicate, slice_index_or, slice_set, ◌+◌, ◌-◌, ◌*◌, ◌≤◌, ◌/◌, ◌%◌, ◌^◌, Bool, nat_eq, nat_lt, List, [], ◌∷◌, ◌++◌, bit_and, bit_or, get_or, set}
-use Rattle.wf_names.specs.declared.limits.TheConstants.{STEP_LIMIT}
+use Rattle.constraint_forms.proofs.Kept.{same_plans}
 use Rattle.constraint_forms.proofs.plan.PlanPartialEq.eq.Goals as goal
 
 pub returns : goal.returns
-returns c = let h = c.eq.ensures in let i = c.and_eq.ensures in ?
+returns c =
+    same_plans _ _ _ _ _ _ _ c.eq.result c.and_eq.result c.t1-1.invariant c.t2-1.invariant c.t1-1.view_is c.t2-1.view_is c.eq.ensures c.and_eq.ensures
