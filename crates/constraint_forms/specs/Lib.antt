@@ -1,3 +1,4 @@
+pub mod Assigned
 pub mod Flags
 pub mod Plans
 pub mod Rules

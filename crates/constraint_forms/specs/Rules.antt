@@ -1,19 +1,8 @@
 -- What rules mean: over plans, and over partial assignments.
-use Rattle.std.specs.Prelude.{ℕ, ◌+◌, ◌<◌, Bool, true, false, not, ◌&&◌, ◌||◌, ◌==◌, List, [], ◌∷◌, Option, None, Some, is_some, slice_index, slice_index_or, IsTrue}
+use Rattle.std.specs.Prelude.{ℕ, ◌+◌, ◌<◌, Bool, true, false, not, ◌&&◌, ◌||◌, ◌==◌, List, [], ◌∷◌, Option, None, Some, is_some, IsTrue}
+use Rattle.constraint_forms.specs.Assigned.{is_member}
 use Rattle.constraint_forms.specs.declared.rule.Rule.{Rule}
 use Rattle.constraint_forms.specs.declared.rule.Rule.TheVariants.{Pair, SomeOf, AllOf}
-
--- the user that an assignment gives to a step
-abbrev pub user_at : List (Option ℕ) → ℕ → Option ℕ
-user_at a s = slice_index_or a s None
-
--- the user that a plan gives to a step
-abbrev pub planned : List ℕ → ℕ → ℕ
-planned plan s = slice_index plan s
-
--- whether a step is in a set of steps
-abbrev pub is_member : List Bool → ℕ → Bool
-is_member group s = slice_index_or group s false
 
 -- whether a relation holds from one user to another
 abbrev pub Relating : Type 0

@@ -1,7 +1,7 @@
 //! Partial assignments of users to steps.
-ghost use Rattle.std.specs.Prelude.{◌≡◌, ◌<◌, None, Some, length, replicate, slice_set};
+ghost use Rattle.std.specs.Prelude.{◌≡◌, ◌<◌, None, Some, ℕ, length, slice_set};
 ghost use Rattle.wf_names.specs.declared.limits.TheConstants.{STEP_LIMIT};
-ghost use Rattle.constraint_forms.specs.Rules.{user_at};
+ghost use Rattle.constraint_forms.specs.Assigned.{no_users, user_at};
 
 use std::marker::Model;
 use wf_names::{STEP_LIMIT, StepId, UserId};
@@ -25,7 +25,9 @@ impl Model for Assign {
 impl Assign {
     /// The assignment that gives no step to anybody.
     pub fn empty() -> Assign
-        ensures { result ≡ replicate STEP_LIMIT None }
+        ensures value { result ≡ no_users }
+        ensures free { (s : ℕ) → user_at result s ≡ None }
+        ensures len { length result ≡ STEP_LIMIT }
     {
         Assign {
             users: [None; STEP_LIMIT],

@@ -1,8 +1,9 @@
 //! Whether a partial assignment falsifies a rule, and whether a plan satisfies it.
 ghost use Rattle.std.specs.Prelude.{◌≡◌, ℕ, ◌<◌, IsTrue, length};
-ghost use Rattle.constraint_forms.specs.Rules.{all_from, any_from, are_unrelated, is_falsified, is_member, is_satisfied, planned, user_at, IsRuleOf};
+ghost use Rattle.constraint_forms.specs.Rules.{all_from, any_from, are_unrelated, is_falsified, is_satisfied, IsRuleOf};
+ghost use Rattle.constraint_forms.specs.Assigned.{is_member, planned, user_at};
 
-use wf_names::{RelId, STEP_LIMIT, StepId, UserId};
+use wf_names::{RelId, StepId, UserId};
 
 use crate::{Assign, Holds, Plan, Rule, StepSet};
 
@@ -43,7 +44,8 @@ fn is_unrelated<H: Holds>(h: &H, rho: RelId, u: Option<UserId>, v: Option<UserId
 fn any_unrelated<H: Holds>(h: &H, rho: RelId, a: &Assign, group: &StepSet, step: StepId) -> bool
     ensures { result ≡ any_from 0 group.now (λ x. are_unrelated (H.related h.now) rho (user_at a.now x) (user_at a.now step)) }
 {
-    'members: for x in 0..STEP_LIMIT {
+    let limit = group.limit();
+    'members: for x in 0..limit {
         let member = StepId(x as u8);
         if group.has(member) && is_unrelated(h, rho, a.at(member), a.at(step)) {
             return true;
@@ -56,7 +58,8 @@ fn any_unrelated<H: Holds>(h: &H, rho: RelId, a: &Assign, group: &StepSet, step:
 fn all_unrelated<H: Holds>(h: &H, rho: RelId, a: &Assign, group: &StepSet, step: StepId) -> bool
     ensures { result ≡ all_from 0 group.now (λ x. are_unrelated (H.related h.now) rho (user_at a.now x) (user_at a.now step)) }
 {
-    'members: for x in 0..STEP_LIMIT {
+    let limit = group.limit();
+    'members: for x in 0..limit {
         let member = StepId(x as u8);
         if group.has(member) && !is_unrelated(h, rho, a.at(member), a.at(step)) {
             return false;
@@ -70,7 +73,8 @@ fn any_related<H: Holds>(h: &H, rho: RelId, plan: &Plan, group: &StepSet, v: Use
     requires { (x : ℕ) → IsTrue (is_member group.now x) → x < length plan.now }
     ensures { result ≡ any_from 0 group.now (λ x. H.related h.now rho (planned plan.now x) v) }
 {
-    'members: for x in 0..STEP_LIMIT {
+    let limit = group.limit();
+    'members: for x in 0..limit {
         let member = StepId(x as u8);
         if group.has(member) && h.holds(rho, plan.at(member), v) {
             return true;
@@ -84,7 +88,8 @@ fn all_related<H: Holds>(h: &H, rho: RelId, plan: &Plan, group: &StepSet, v: Use
     requires { (x : ℕ) → IsTrue (is_member group.now x) → x < length plan.now }
     ensures { result ≡ all_from 0 group.now (λ x. H.related h.now rho (planned plan.now x) v) }
 {
-    'members: for x in 0..STEP_LIMIT {
+    let limit = group.limit();
+    'members: for x in 0..limit {
         let member = StepId(x as u8);
         if group.has(member) && !h.holds(rho, plan.at(member), v) {
             return false;

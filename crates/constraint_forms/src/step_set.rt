@@ -1,6 +1,7 @@
 //! Sets of steps, kept as the bits of one word.
-ghost use Rattle.std.specs.Prelude.{◌≡◌, ℕ, ◌<◌, false, true, length, replicate, slice_index_or, slice_set};
+ghost use Rattle.std.specs.Prelude.{◌≡◌, ℕ, ◌<◌, false, true, length, slice_set};
 ghost use Rattle.wf_names.specs.declared.limits.TheConstants.{STEP_LIMIT};
+ghost use Rattle.constraint_forms.specs.Assigned.{is_member, no_steps};
 
 use std::marker::Model;
 use wf_names::{STEP_LIMIT, StepId};
@@ -30,7 +31,9 @@ impl Model for StepSet {
 impl StepSet {
     /// The set of no step.
     pub fn empty() -> StepSet
-        ensures { result ≡ replicate STEP_LIMIT false }
+        ensures value { result ≡ no_steps }
+        ensures none { (s : ℕ) → is_member result s ≡ false }
+        ensures len { length result ≡ STEP_LIMIT }
     {
         StepSet { bits: 0 }
     }
@@ -38,7 +41,8 @@ impl StepSet {
     /// This set with a step.
     pub fn with(&self, s: StepId) -> StepSet
         requires { s < STEP_LIMIT }
-        ensures { result ≡ slice_set self.now s true }
+        ensures value { result ≡ slice_set self.now s true }
+        ensures len { length self.now ≡ STEP_LIMIT }
     {
         StepSet {
             bits: self.bits | 1 << s.0,
@@ -47,9 +51,18 @@ impl StepSet {
 
     /// Whether a step is in the set; no step from the limit on is.
     pub fn has(&self, s: StepId) -> bool
-        ensures flag { result ≡ slice_index_or self.now s false }
+        ensures flag { result ≡ is_member self.now s }
         ensures len { length self.now ≡ STEP_LIMIT }
     {
         (s.0 as usize) < STEP_LIMIT && self.bits >> s.0 & 1 == 1
+    }
+
+    /// How many steps have a flag, members or not.
+    pub fn limit(&self) -> usize
+        ensures limit { result ≡ STEP_LIMIT }
+        ensures len { length self.now ≡ STEP_LIMIT }
+    {
+        let _ = &self.bits;
+        STEP_LIMIT
     }
 }

@@ -1,0 +1,9 @@
+use Rattle.std.proofs.Common.{◌≡◌, ℕ, ◌+◌, Bool, drop}
+use Rattle.constraint_forms.specs.Assigned.{user_at, planned, is_member}
+use Rattle.constraint_forms.specs.Rules.{any_from, all_from, are_unrelated}
+use Rattle.constraint_forms.proofs.evaluate.all_related.Given as goal
+
+abbrev pub invariant-members : goal.invariant-members
+invariant-members g l =
+    let p = λ (x : ℕ). g.H.Holds.related l.h l.rho (planned l.plan x) l.v in
+    all_from l.x (drop l.x l.group) p ≡ all_from 0 l.group p

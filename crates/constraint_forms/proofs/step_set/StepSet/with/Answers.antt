@@ -1,0 +1,16 @@
+use Rattle.std.proofs.Common.{◌≡◌, ℕ, zero, suc, ◌+◌, ◌<◌, ◌≤◌, Bool, true, false, not, ◌&&◌, ◌||◌, List, [], ◌∷◌, length, get_or, replicate, refl, sym, ap, subst, ◌∙◌, arith}
+use Rattle.wf_names.specs.declared.limits.TheConstants.{STEP_LIMIT}
+use Rattle.constraint_forms.proofs.Bits.{length-flags_of, set_fits, flags_of-with}
+use Rattle.constraint_forms.proofs.step_set.StepSet.with.Goals as goal
+
+pub invariant_of-result : goal.invariant_of-result
+invariant_of-result c =
+    set_fits STEP_LIMIT c.self.inside.bits c.s.inside.0 (omega (arith, c.s.view_is, c.requires)) (omega (arith, c.s.view_is, c.requires)) c.self.invariant
+
+pub returns-clause-value : goal.returns-clause-value
+returns-clause-value c =
+    rw (← c.self.view_is, ← c.s.view_is)
+    (flags_of-with STEP_LIMIT c.self.inside.bits c.s.inside.0 (omega (arith, c.s.view_is, c.requires)) (omega (arith, c.s.view_is, c.requires)))
+
+pub returns-clause-len : goal.returns-clause-len
+returns-clause-len c = rw (← c.self.view_is) (length-flags_of STEP_LIMIT c.self.inside.bits)
