@@ -1,5 +1,5 @@
 -- Laws of finite sets of pairs.
-use Rattle.std.specs.Prelude.{◌≡◌, ℕ, ◌+◌, Bool, true, false, not, cond, ◌&&◌, ◌||◌, List, [], ◌∷◌, length}
+use Rattle.std.specs.Prelude.{◌≡◌, ℕ, true, false, not, ◌&&◌, ◌||◌}
 use Rattle.std.proofs.Common.{refl, sym, ap, subst, ◌∙◌, ◌⊎◌, inl, inr}
 use Rattle.std.specs.Cmp.{IsTotalOrder, nat_cmp_total}
 use Rattle.std.proofs.lemmas.Cmp.{on_total, then_total, tied_itself}
@@ -87,7 +87,7 @@ all_insert P s a b here all = record {
   each = λ x y h. elim (either_inserted pair_cmp_total pair_cmp-IsAntisymmetric s (a, b) (x, y) h) [
     | inl e ↦ subst (λ (q : ℕ × ℕ). P q.0 q.1) (sym e) here
     | inr was ↦ all.each x y was
-  ]
+  ];
 }
 
 pub all_remove : (P : ℕ → ℕ → Type 0) (s : Pairs) (a b : ℕ) → AllPairs P s → AllPairs P (set.remove s (a, b))
