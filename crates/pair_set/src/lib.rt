@@ -1,9 +1,10 @@
 //! A finite set of pairs of numbers, kept as an ascending list.
 #![tactic(auto)]
 
-ghost use Rattle.std.specs.Prelude.{◌≡◌, ◌==◌, true, false, not, OnOk, OnErr, IfOk, IsTrue, ◌↔◌};
+ghost use Rattle.std.specs.Prelude.{◌≡◌, ◌==◌, true, false, not, OnOk, IfErr, OnErr, IfOk, IsTrue, ◌↔◌};
 ghost use Rattle.std.specs.FinSet as set;
 ghost use Rattle.pair_set.specs.Pairs.{Pairs, pairs_code, pair_cmp, IsAscending};
+ghost use Rattle.pair_set.specs.Places.{IsPlaceOf, IsGapFor};
 
 use std::alloc::{AllocError, Global};
 use std::marker::Model;
@@ -38,21 +39,21 @@ impl PairSet {
     pub fn has(&self, a: u16, b: u16) -> bool
         ensures { result ≡ set.contains self.now (a, b) }
     {
-        self.pairs.binary_search(&(a, b)).is_ok()
+        place_of(&self.pairs, (a, b)).is_ok()
     }
 
     /// The number of pairs.
     pub fn len(&self) -> usize
         ensures { result ≡ set.len self.now }
     {
-        self.pairs.len()
+        self.as_slice().len()
     }
 
     /// Whether the set has no pair.
     pub fn is_empty(&self) -> bool
         ensures { IsTrue result ↔ (self.now ≡ set.empty) }
     {
-        self.pairs.is_empty()
+        self.as_slice().is_empty()
     }
 
     /// Puts the pair `(a, b)` into the set and answers whether it is new there.
@@ -64,7 +65,7 @@ impl PairSet {
         ensures absent { OnErr result (set.contains self.old (a, b) ≡ false) }
         ensures unchanged { OnErr result (self.new ≡ self.old) }
     {
-        match self.pairs.binary_search(&(a, b)) {
+        match place_of(&self.pairs, (a, b)) {
             Ok(_) => Ok(false),
             Err(place) => {
                 self.pairs.insert(place, (a, b))?;
@@ -79,7 +80,7 @@ impl PairSet {
         ensures found { result ≡ set.contains self.old (a, b) }
         ensures absent { result ≡ false → self.new ≡ self.old }
     {
-        match self.pairs.binary_search(&(a, b)) {
+        match place_of(&self.pairs, (a, b)) {
             Ok(place) => {
                 self.pairs.remove(place);
                 true
@@ -104,4 +105,13 @@ impl PairSet {
             pairs: self.pairs.clone()?,
         })
     }
+}
+
+// Where the pair stands in the list, or where it would.
+fn place_of(pairs: &[(u16, u16)], pair: (u16, u16)) -> Result<usize, usize>
+    requires { IsAscending pairs.now }
+    ensures found { IfOk result (IsPlaceOf pairs.now pair) }
+    ensures gap { IfErr result (IsGapFor pairs.now pair) }
+{
+    pairs.binary_search(&pair)
 }
