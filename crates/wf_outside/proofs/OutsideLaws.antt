@@ -1,0 +1,133 @@
+-- How what was taken and what was put composes over several calls.
+use Rattle.std.proofs.Common.{◌≡◌, ℕ, ◌+◌, ◌-◌, ◌<◌, ◌≤◌, List, [], ◌++◌, length, take, drop, Option, None, Some, IfSome, Result, Ok, Err, refl, sym, ◌∙◌, ap, subst, arith, append_assoc}
+use Rattle.std.proofs.lemmas.List.{append-nil, take-append-le, length-append, length-take, take_rest}
+use Rattle.std.proofs.Math.Seq.{take-append-add, take-length, take-add}
+use Rattle.wf_outside.specs.declared.loaded.LoadFault.{LoadFault}
+use Rattle.wf_outside.specs.declared.loaded.LoadFault.TheVariants.{TooLong}
+use Rattle.wf_outside.specs.Outside.{with_bytes, bytes_before, HasTaken, IsAtEnd, HasTakenAtMost, HasPart, ReadsAll}
+
+-- no bytes are taken where nothing changed
+pub nothing_taken : (left : Option (List ℕ)) → HasTaken left left []
+unfolding bytes_before
+nothing_taken None = refl
+nothing_taken (Some left) = refl
+
+-- bytes in front of more in front of what is left
+pub more_before : (bytes more : List ℕ) (left : Option (List ℕ)) → bytes_before bytes (bytes_before more left) ≡ bytes_before (bytes ++ more) left
+unfolding bytes_before
+more_before bytes more None = refl
+more_before bytes more (Some left) = ap Some (sym (append_assoc bytes more left))
+
+-- bytes, and then more
+pub more_taken : (before middle after : Option (List ℕ)) (bytes more : List ℕ)
+    → HasTaken before middle bytes → HasTaken middle after more → HasTaken before after (bytes ++ more)
+more_taken before middle after bytes more first second = first ∙ ap (bytes_before bytes) second ∙ more_before bytes more after
+
+-- with nothing left behind them, bytes are the whole
+all_at_end : (left : Option (List ℕ)) (bytes : List ℕ) → IsAtEnd left → IfSome (bytes_before bytes left) (λ all. bytes ≡ all)
+unfolding bytes_before
+all_at_end None bytes ended = tt
+all_at_end (Some left) bytes ended = rw ended (sym (append-nil bytes))
+
+-- the front is no longer than the whole
+front_within : (left : Option (List ℕ)) (bytes : List ℕ) → IfSome (bytes_before bytes left) (λ all. length bytes ≤ length all)
+unfolding bytes_before
+front_within None bytes = tt
+front_within (Some left) bytes = omega (arith, length-append bytes left)
+
+-- what was taken up to the end is all that was left
+pub taken_to_end : (before after : Option (List ℕ)) (bytes : List ℕ)
+    → HasTaken before after bytes → IsAtEnd after → IfSome before (λ all. bytes ≡ all)
+taken_to_end before after bytes taken ended = subst (λ (left : Option (List ℕ)). IfSome left (λ all. bytes ≡ all)) (sym taken) (all_at_end after bytes ended)
+
+-- no more than all that was left is taken
+pub taken_within : (before after : Option (List ℕ)) (bytes : List ℕ) → HasTaken before after bytes → IfSome before (λ all. length bytes ≤ length all)
+taken_within before after bytes taken = subst (λ (left : Option (List ℕ)). IfSome left (λ all. length bytes ≤ length all)) (sym taken) (front_within after bytes)
+
+-- nothing is put where nothing changed
+pub nothing_put : (held : Option (List ℕ)) → with_bytes held [] ≡ held
+unfolding with_bytes
+nothing_put None = refl
+nothing_put (Some held) = ap Some (append-nil held)
+
+-- bytes, and then more
+pub more_put : (held : Option (List ℕ)) (bytes more : List ℕ) → with_bytes (with_bytes held bytes) more ≡ with_bytes held (bytes ++ more)
+unfolding with_bytes
+more_put None bytes more = refl
+more_put (Some held) bytes more = ap Some (append_assoc held bytes more)
+
+-- none of the bytes is a prefix of them
+pub part_none : (held : Option (List ℕ)) (bytes : List ℕ) → HasPart held held bytes
+part_none held bytes = record { count = 0; within = omega arith; held = sym (nothing_put held) }
+
+-- all of the bytes are a prefix of them
+pub part_all : (held : Option (List ℕ)) (bytes : List ℕ) → HasPart held (with_bytes held bytes) bytes
+part_all held bytes = record { count = length bytes; within = omega arith; held = ap (with_bytes held) (sym (take-length bytes)) }
+
+-- a prefix of the bytes is one of the bytes with more behind them
+pub part_first : (before after : Option (List ℕ)) (bytes more : List ℕ) → HasPart before after bytes → HasPart before after (bytes ++ more)
+part_first before after bytes more part =
+    record {
+      count = part.count;
+      within = let h = part.within in omega (arith, length-append bytes more);
+      held = rw (take-append-le part.count bytes more part.within) part.held;
+    }
+
+-- all of the bytes, and then a prefix of more, is a prefix of both together
+pub part_second : (before after : Option (List ℕ)) (bytes more : List ℕ) → HasPart (with_bytes before bytes) after more → HasPart before after (bytes ++ more)
+part_second before after bytes more part =
+    record {
+      count = length bytes + part.count;
+      within = let h = part.within in omega (arith, length-append bytes more);
+      held = rw (take-append-add bytes more part.count, ← more_put before bytes (take part.count more)) part.held;
+    }
+
+-- one more put of what was not yet put
+pub put_on : (held middle after : Option (List ℕ)) (bytes : List ℕ) (done count : ℕ)
+    → middle ≡ with_bytes held (take done bytes)
+    → after ≡ with_bytes middle (take count (take (length bytes - done) (drop done bytes)))
+    → after ≡ with_bytes held (take (done + count) bytes)
+put_on held middle after bytes done count so_far now =
+    let rest : after ≡ with_bytes middle (take count (drop done bytes)) = rw take_rest at now in
+    rest ∙ ap (λ h. with_bytes h (take count (drop done bytes))) so_far ∙ more_put held (take done bytes) (take count (drop done bytes)) ∙ ap (with_bytes held) (sym (take-add done count bytes))
+
+whole_within : (left : Option (List ℕ)) (bytes : List ℕ) (limit : ℕ) → IsAtEnd left → length bytes ≤ limit → IfSome (bytes_before bytes left) (λ content. ReadsAll content limit (Ok bytes))
+unfolding bytes_before
+whole_within None bytes limit ended within = tt
+whole_within (Some left) bytes limit ended within = rw (ended, append-nil bytes) (refl, within)
+
+more_than : (left : Option (List ℕ)) (bytes : List ℕ) (limit : ℕ) → limit < length bytes → IfSome (bytes_before bytes left) (λ content. ReadsAll content limit (Err TooLong))
+unfolding bytes_before
+more_than None bytes limit above = tt
+more_than (Some left) bytes limit above = omega (arith, length-append bytes left)
+
+-- all of what a source told, read up to its end
+pub reads_whole : (before after : Option (List ℕ)) (bytes : List ℕ) (limit : ℕ)
+    → HasTaken before after bytes → IsAtEnd after → length bytes ≤ limit → IfSome before (λ content. ReadsAll content limit (Ok bytes))
+reads_whole before after bytes limit taken ended within =
+    subst (λ (left : Option (List ℕ)). IfSome left (λ content. ReadsAll content limit (Ok bytes))) (sym taken) (whole_within after bytes limit ended within)
+
+-- more than the limit of what a source told
+pub reads_more : (before after : Option (List ℕ)) (bytes : List ℕ) (limit : ℕ)
+    → HasTaken before after bytes → limit < length bytes → IfSome before (λ content. ReadsAll content limit (Err TooLong))
+reads_more before after bytes limit taken above =
+    subst (λ (left : Option (List ℕ)). IfSome left (λ content. ReadsAll content limit (Err TooLong))) (sym taken) (more_than after bytes limit above)
+
+-- nothing is at most anything
+pub nothing_at_most : (left : Option (List ℕ)) (most : ℕ) → HasTakenAtMost left left most
+nothing_at_most left most = record { bytes = []; taken = nothing_taken left; within = omega arith }
+
+-- at most so many, and so at most more
+pub at_most_more : (before after : Option (List ℕ)) (most more : ℕ) → HasTakenAtMost before after most → most ≤ more → HasTakenAtMost before after more
+at_most_more before after most more taken le =
+    record { bytes = taken.bytes; taken = taken.taken; within = let h = taken.within in omega arith }
+
+-- bytes, and then the front of a buffer
+pub front_at_most : (before middle after : Option (List ℕ)) (bytes buf : List ℕ) (count room : ℕ)
+    → HasTaken before middle bytes → HasTaken middle after (take count buf) → count ≤ room → HasTakenAtMost before after (length bytes + room)
+front_at_most before middle after bytes buf count room first second le =
+    record {
+      bytes = bytes ++ take count buf;
+      taken = more_taken before middle after bytes (take count buf) first second;
+      within = omega (arith, length-append bytes (take count buf), length-take count buf);
+    }

@@ -1,0 +1,58 @@
+-- What sources, sinks and shelves tell of their content, what a call moved, and when a count of faults has risen.
+use Rattle.std.specs.Prelude.{◌≡◌, ℕ, ◌+◌, ◌^◌, ◌<◌, ◌≤◌, List, [], ◌++◌, length, take, Option, None, Some, IfSome, Result, Ok, Err}
+use Rattle.wf_outside.specs.declared.loaded.LoadFault.{LoadFault}
+use Rattle.wf_outside.specs.declared.loaded.LoadFault.TheVariants.{Failed, TooLong, NoMemory}
+
+-- the count of faults rose; one that is at the last value of 64 bits stays there
+abbrev pub Rose : ℕ → ℕ → Type 0
+Rose before after = after + 1 < 2 ^ 64 → before < after
+
+-- what a sink holds once these bytes are put at its end, where it tells
+unfoldable pub with_bytes : Option (List ℕ) → List ℕ → Option (List ℕ)
+with_bytes None bytes = None
+with_bytes (Some held) bytes = Some (held ++ bytes)
+
+-- these bytes in front of what a source has left, where it tells
+unfoldable pub bytes_before : List ℕ → Option (List ℕ) → Option (List ℕ)
+bytes_before bytes None = None
+bytes_before bytes (Some left) = Some (bytes ++ left)
+
+-- a source that had `before` left, and has `after` left, gave these bytes
+abbrev pub HasTaken : Option (List ℕ) → Option (List ℕ) → List ℕ → Type 0
+HasTaken before after bytes = before ≡ bytes_before bytes after
+
+-- nothing is left, where the source tells
+abbrev pub IsAtEnd : Option (List ℕ) → Type 0
+IsAtEnd left = IfSome left (λ bytes. bytes ≡ [])
+
+-- the source gave this many bytes
+pub record HasTakenCount (before after : Option (List ℕ)) (count : ℕ) : Type 0 where
+  pub bytes : List ℕ
+  pub taken : HasTaken before after bytes
+  pub counted : length bytes ≡ count
+
+-- the source gave at most this many bytes
+pub record HasTakenAtMost (before after : Option (List ℕ)) (most : ℕ) : Type 0 where
+  pub bytes : List ℕ
+  pub taken : HasTaken before after bytes
+  pub within : length bytes ≤ most
+
+-- a sink that held `before` holds a prefix of these bytes after it, maybe all of them
+pub record HasPart (before after : Option (List ℕ)) (bytes : List ℕ) : Type 0 where
+  pub count : ℕ
+  pub within : count ≤ length bytes
+  pub held : after ≡ with_bytes before (take count bytes)
+
+-- what reading all of this content may answer under a limit: all of it, or that it is longer, or a fault before that
+abbrev pub ReadsAll : List ℕ → ℕ → Result (List ℕ) LoadFault → Type 0
+ReadsAll content limit (Ok bytes) = (bytes ≡ content) × (length content ≤ limit)
+ReadsAll content limit (Err TooLong) = limit < length content
+ReadsAll content limit (Err Failed) = Unit {0}
+ReadsAll content limit (Err NoMemory) = Unit {0}
+
+-- what loading a file with this content may answer: that it is too long exactly where it is, else all of it or a fault
+abbrev pub LoadsFile : List ℕ → ℕ → Result (List ℕ) LoadFault → Type 0
+LoadsFile content limit (Ok bytes) = (bytes ≡ content) × (length content ≤ limit)
+LoadsFile content limit (Err TooLong) = limit < length content
+LoadsFile content limit (Err Failed) = length content ≤ limit
+LoadsFile content limit (Err NoMemory) = length content ≤ limit

@@ -1,0 +1,36 @@
+ghost use Rattle.std.specs.Prelude.{◌≡◌, ◌≤◌, ◌<◌, ℕ, List, length, take, Option, IfOk, OnOk, OnErr};
+ghost use Rattle.wf_outside.specs.Outside.{Rose, with_bytes, HasPart};
+
+use crate::Failed;
+
+/// Where bytes go, as standard output.
+pub trait Sink {
+    /// The bytes that were put so far, or `None` where the sink does not tell.
+    ghost held: { Self → Option (List ℕ) };
+
+    /// How often a call has failed.
+    ghost faults: { Self → ℕ };
+
+    /// Takes a prefix of `bytes` and answers its length, at least 1 where `bytes` is not empty.
+    fn put(&mut self, bytes: &[u8]) -> Result<usize, Failed>
+        ensures within { IfOk result (λ n. n ≤ length bytes.now) }
+        ensures some { IfOk result (λ n. 0 < length bytes.now → 0 < n) }
+        ensures taken { IfOk result (λ n. held self.new ≡ with_bytes (held self.old) (take n bytes.now)) }
+        ensures kept { OnErr result (held self.new ≡ held self.old) }
+        ensures faults { faults self.old ≤ faults self.new }
+        ensures rose { OnErr result (Rose (faults self.old) (faults self.new)) };
+}
+
+/// Puts all of the bytes; after a fault the sink holds a prefix of them.
+pub fn put_all<K: Sink>(sink: &mut K, bytes: &[u8]) -> Result<(), Failed>
+    ensures all { OnOk result (K.held sink.new ≡ with_bytes (K.held sink.old) bytes.now) }
+    ensures part { HasPart (K.held sink.old) (K.held sink.new) bytes.now }
+    ensures faults { K.faults sink.old ≤ K.faults sink.new }
+    ensures rose { OnErr result (Rose (K.faults sink.old) (K.faults sink.new)) }
+{
+    let mut done = 0;
+    'putting: while done < bytes.len() {
+        done += sink.put(&bytes[done..])?;
+    }
+    Ok(())
+}
