@@ -1,0 +1,18 @@
+-- The words of the program's command line.
+use Rattle.std.specs.Prelude.{ℕ, List, [], ◌∷◌, Option, None, Some, codes, nat_eq, if◌then◌else◌}
+use Rattle.std.specs.Cmp.Lexicographic.{pointwise}
+
+-- what the program is asked to do, with the names of the files and the workflow
+pub data Command : Type 0 where
+  plan : List ℕ → List ℕ → Command
+  showing : List ℕ → Command
+  solve : List ℕ → Command
+
+-- the command that the words are, where they are one
+abbrev pub command_of : List (List ℕ) → Option Command
+command_of (word ∷ policy ∷ []) =
+    if pointwise nat_eq word (codes "show") then Some (showing policy) else
+    if pointwise nat_eq word (codes "solve") then Some (solve policy) else None
+command_of (word ∷ policy ∷ flow ∷ []) =
+    if pointwise nat_eq word (codes "plan") then Some (plan policy flow) else None
+command_of _ = None
