@@ -53,18 +53,18 @@ flags_of-with n w i h small =
     same_lists _ _
     (length-flags_of n _ ∙ sym (length-set (flags_of n w) i true ∙ many))
     (λ k d within.
-        let below : k < n = subst (λ m. k < m) (length-flags_of n _) within in
-        flags_of-at n _ k d below
-        ∙ elim (cases_eq k i) [
-            | inl e ↦
-                subst (λ j. nat_eq (bit_at (bit_or w (1 * 2 ^ i % 2 ^ bits w32)) j) 1 ≡ get_or (set (flags_of n w) i true) j d) (sym e)
-                (ap (λ b. nat_eq b 1) (bit_at_set_same w32 w i small)
-                 ∙ sym (get_or-set_same (flags_of n w) i true d (subst (λ m. i < m) (sym many) h)))
-            | inr ne ↦
-                ap (λ b. nat_eq b 1) (bit_at_set_other w32 w i small k ne)
-                ∙ sym (flags_of-at n w k d below)
-                ∙ sym (get_or-set_other (flags_of n w) i k true d ne)
-          ])
+    let below : k < n = subst (λ m. k < m) (length-flags_of n _) within in
+    flags_of-at n _ k d below
+    ∙ elim (cases_eq k i) [
+      | inl e ↦
+          subst (λ j. nat_eq (bit_at (bit_or w (1 * 2 ^ i % 2 ^ bits w32)) j) 1 ≡ get_or (set (flags_of n w) i true) j d) (sym e)
+          (ap (λ b. nat_eq b 1) (bit_at_set_same w32 w i small)
+          ∙ sym (get_or-set_same (flags_of n w) i true d (subst (λ m. i < m) (sym many) h)))
+      | inr ne ↦
+          ap (λ b. nat_eq b 1) (bit_at_set_other w32 w i small k ne)
+          ∙ sym (flags_of-at n w k d below)
+          ∙ sym (get_or-set_other (flags_of n w) i k true d ne)
+    ])
 
 -- no bit from the limit on is set
 pub set_fits : (n w i : ℕ) → i < n → i < 32 → w < 2 ^ n → bit_or w (1 * 2 ^ i % 2 ^ bits w32) < 2 ^ n

@@ -3,9 +3,8 @@ ghost use Rattle.std.specs.Prelude.{◌≡◌, ℕ, ◌<◌, IsTrue, length};
 ghost use Rattle.constraint_forms.specs.Rules.{all_from, any_from, are_unrelated, is_falsified, is_satisfied, IsRuleOf};
 ghost use Rattle.constraint_forms.specs.Assigned.{is_member, planned, user_at};
 
-use wf_names::{RelId, StepId, UserId};
-
 use crate::{Assign, Holds, Plan, Rule, StepSet};
+use wf_names::{RelId, StepId, UserId};
 
 /// Whether a rule is falsified: whatever users the free steps get, the rule will not be satisfied.
 pub fn falsified<H: Holds>(rule: &Rule, h: &H, a: &Assign) -> bool
@@ -13,7 +12,8 @@ pub fn falsified<H: Holds>(rule: &Rule, h: &H, a: &Assign) -> bool
 {
     match *rule {
         Rule::Pair { rho, first, second } => is_unrelated(h, rho, a.at(first), a.at(second)),
-        Rule::SomeOf { rho, group, step } => a.at(step).is_some() && all_unrelated(h, rho, a, &group, step),
+        Rule::SomeOf { rho, group, step } => a.at(step).is_some()
+            && all_unrelated(h, rho, a, &group, step),
         Rule::AllOf { rho, group, step } => any_unrelated(h, rho, a, &group, step),
     }
 }

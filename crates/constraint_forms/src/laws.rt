@@ -8,20 +8,17 @@ ghost use Rattle.constraint_forms.specs.Laws.{ExchangeDoesNotMatter, FalsifiedBy
 pub fn falsified_is_final()
     ensures total { TotalsDecide }
     ensures stays { StaysFalsified }
-{
-}
+{}
 
 /// Steps that a rule does not name do not matter to it.
 pub fn only_named_steps_matter()
     ensures falsified { FalsifiedByNamed }
     ensures satisfied { SatisfiedByNamed }
-{
-}
+{}
 
 /// Of users a rule sees only who is related to whom and who is one user, so that users whom its
 /// relation treats alike can be exchanged.
 pub fn only_relatedness_matters()
     ensures alike { SeesRelatedness }
     ensures exchange { ExchangeDoesNotMatter }
-{
-}
+{}

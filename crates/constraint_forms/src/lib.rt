@@ -2,11 +2,9 @@
 //! assignment to falsify one, over whatever relates users.
 #![tactic(auto)]
 
-pub mod laws;
-
 mod assign;
 mod evaluate;
-
+pub mod laws;
 mod plan;
 mod rule;
 mod rules;

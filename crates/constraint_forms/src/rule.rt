@@ -2,9 +2,8 @@
 ghost use Rattle.std.specs.Prelude.{◌≡◌, ℕ, Bool};
 ghost use Rattle.constraint_forms.specs.Rules.{names, reads};
 
-use wf_names::{RelId, StepId, UserId};
-
 use crate::StepSet;
+use wf_names::{RelId, StepId, UserId};
 
 /// A rule of a workflow over a relation and some of its steps.
 #[derive(Clone, Copy, Debug, PartialEq, Eq)]

@@ -1,10 +1,9 @@
 //! The list of a workflow's rules.
 ghost use Rattle.std.specs.Prelude.{◌≡◌, ℕ, ◌<◌, List, [], ◌∷◌, ◌++◌, length, slice_get, Some, IfOk, OnErr, OnOk};
 
+use crate::Rule;
 use std::alloc::{AllocError, Global};
 use std::marker::Model;
-
-use crate::Rule;
 
 /// A list of rules; a rule's number is its place.
 #[derive(Drop)]

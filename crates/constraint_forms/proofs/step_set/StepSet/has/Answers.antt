@@ -11,7 +11,7 @@ pub returns-then-s-lt-STEP_LIMIT-clause-len : goal.returns-then-s-lt-STEP_LIMIT-
 returns-then-s-lt-STEP_LIMIT-clause-len c = rw (← c.self.view_is) (length-flags_of STEP_LIMIT c.self.inside.bits)
 
 pub returns-else-s-lt-STEP_LIMIT-clause-flag : goal.returns-else-s-lt-STEP_LIMIT-clause-flag
-returns-else-s-lt-STEP_LIMIT-clause-flag c = 
+returns-else-s-lt-STEP_LIMIT-clause-flag c =
     rw (← c.self.view_is, ← c.s.view_is, has_no_flag STEP_LIMIT c.self.inside.bits c.s.inside.0 c.if-s-lt-STEP_LIMIT.false) (not_below c.s.inside.0 STEP_LIMIT c.if-s-lt-STEP_LIMIT.false)
 
 pub returns-else-s-lt-STEP_LIMIT-clause-len : goal.returns-else-s-lt-STEP_LIMIT-clause-len
