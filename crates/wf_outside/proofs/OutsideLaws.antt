@@ -1,6 +1,7 @@
 -- How what was taken and what was put composes over several calls.
 use Rattle.std.proofs.Common.{◌≡◌, ℕ, ◌+◌, ◌-◌, ◌<◌, ◌≤◌, List, [], ◌++◌, length, take, drop, Option, None, Some, IfSome, Result, Ok, Err, refl, sym, ◌∙◌, ap, subst, arith, append_assoc}
-use Rattle.std.proofs.lemmas.List.{append-nil, take-append-le, length-append, length-take, take_rest}
+use Rattle.std.proofs.lemmas.Grind.{common_steps}
+use Rattle.std.proofs.lemmas.List.{take-append-drop, append-nil, take-append-le, length-append, length-take, take_rest}
 use Rattle.std.proofs.Math.Seq.{take-append-add, take-length, take-add}
 use Rattle.wf_outside.specs.declared.loaded.LoadFault.{LoadFault}
 use Rattle.wf_outside.specs.declared.loaded.LoadFault.TheVariants.{TooLong}
@@ -131,3 +132,11 @@ front_at_most before middle after bytes buf count room first second le =
       taken = more_taken before middle after bytes (take count buf) first second;
       within = omega (arith, length-append bytes (take count buf), length-take count buf);
     }
+
+-- the front of what was left, copied into a buffer
+pub front_taken : (left rest old new : List ℕ) (count : ℕ)
+    → new ≡ take count left ++ drop count old → rest ≡ drop count left → count ≤ length left → HasTaken (Some left) (Some rest) (take count new)
+unfolding bytes_before
+front_taken left rest old new count front after le =
+    let shown : take count (take count left ++ drop count old) ≡ take count left = grind (arith, common_steps) in
+    rw (front, after, shown, take-append-drop) refl

@@ -1,8 +1,9 @@
 -- The source, the sink and the shelf in memory: what they hold, and what each call does.
-use Rattle.std.specs.Prelude.{◌≡◌, ℕ, ◌+◌, ◌-◌, ◌^◌, min, Bool, ◌&&◌, ◌||◌, ◌==◌, nat_lt, if◌then◌else◌, List, [], ◌∷◌, length, Option, None, Some}
+use Rattle.std.specs.Prelude.{◌≡◌, ℕ, ◌+◌, ◌-◌, ◌^◌, min, Bool, ◌&&◌, ◌||◌, ◌==◌, nat_eq, nat_lt, if◌then◌else◌, List, [], ◌∷◌, length, Option, None, Some, MatchOption, MatchBool, Result, Ok, Err, true, false}
+use Rattle.wf_outside.specs.declared.loaded.LoadFault.{LoadFault}
+use Rattle.wf_outside.specs.declared.loaded.LoadFault.TheVariants.{Failed, TooLong, NoMemory}
 use Rattle.std.specs.List.{list_any}
 use Rattle.std.specs.Cmp.Lexicographic.{pointwise}
-use Rattle.std.specs.Bool.{nat_eq}
 
 -- which calls are to fail, by number from 0, how many were made, and how many failed
 pub record CountsShape : Type 0 where
@@ -10,9 +11,9 @@ pub record CountsShape : Type 0 where
   pub calls : ℕ
   pub faults : ℕ
 
--- one more, up to the last value of 64 bits
+-- one more, or the same at the last value of 64 bits
 abbrev pub next_count : ℕ → ℕ
-next_count n = min (n + 1) (2 ^ 64 - 1)
+next_count n = if nat_lt (n + 1) (2 ^ 64) then n + 1 else n
 
 -- the next call is one of those that are to fail
 abbrev pub is_failing : CountsShape → Bool
@@ -61,3 +62,23 @@ pub record MemShelfShape : Type 0 where
 abbrev pub file_of : List FileShape → List ℕ → Option (List ℕ)
 file_of [] name = None
 file_of (f ∷ files) name = if pointwise nat_eq f.name name then Some f.bytes else file_of files name
+
+-- the counts after a load: a fault is counted exactly where the answer is one
+abbrev pub counts_after : CountsShape → Result (List ℕ) LoadFault → CountsShape
+counts_after c (Ok bytes) = after_call c
+counts_after c (Err Failed) = after_fault c
+counts_after c (Err TooLong) = after_call c
+counts_after c (Err NoMemory) = after_call c
+
+-- what a call that is or is not to fail may answer for a file of at most the limit
+abbrev pub AnswersWith : Bool → List ℕ → Result (List ℕ) LoadFault → Type 0
+AnswersWith failing content (Ok bytes) = (bytes ≡ content) × (failing ≡ false)
+AnswersWith failing content (Err Failed) = failing ≡ true
+AnswersWith failing content (Err TooLong) = ⊥
+AnswersWith failing content (Err NoMemory) = failing ≡ false
+
+-- what the shelf may answer: a fault for a name that it lacks, else that the file is too long, else by the list
+abbrev pub LoadsFrom : MemShelfShape → List ℕ → ℕ → Result (List ℕ) LoadFault → Type 0
+LoadsFrom s name limit result =
+    MatchOption (file_of s.files name) (result ≡ Err Failed)
+    (λ content. MatchBool (nat_lt limit (length content)) (result ≡ Err TooLong) (AnswersWith (is_failing s.counts) content result))
