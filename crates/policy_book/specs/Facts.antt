@@ -3,12 +3,17 @@ use Rattle.std.specs.Prelude.{◌≡◌, ℕ, ◌+◌, ◌<◌, ◌≤◌, Bool,
 use Rattle.std.specs.FinSet as set
 use Rattle.wf_names.specs.declared.limits.TheConstants.{FLOW_LIMIT, RULE_LIMIT}
 use Rattle.workflow_schema.specs.Flows.{FlowShape}
-use Rattle.user_relations.specs.Relations.{AreOfUsers}
+use Rattle.pair_set.specs.Pairs.{Pairs, AllPairs}
+use Rattle.user_relations.specs.Relations.{RelationShape, listed, kind_of}
 use Rattle.constraint_forms.specs.declared.rule.Rule.{Rule}
 use Rattle.constraint_forms.specs.declared.rule.Rule.TheVariants.{Pair, SomeOf, AllOf}
 use Rattle.constraint_forms.specs.Rules.{any_from, relation_of, IsRuleOf}
 use Rattle.policy_book.specs.Shapes.{PolicyShape, WorkflowShape}
 use Rattle.policy_book.specs.Policies.{flow_at}
+
+-- each pair of a listed relation is of users among the first so many
+abbrev pub AreOfUsers : ℕ → List RelationShape → Type 0
+AreOfUsers users relations = (rho : ℕ) (pairs : Pairs) → kind_of relations rho ≡ Some (listed pairs) → AllPairs (λ u v. (u < users) × (v < users)) pairs
 
 -- a rule over a group of steps has some step in it
 abbrev pub HasMembers : Rule → Type 0

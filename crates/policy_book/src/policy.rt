@@ -1,12 +1,12 @@
 //! The policy over its parts.
-ghost use Rattle.std.specs.Prelude.{◌≡◌, ◌<◌, ◌≤◌, ◌+◌, ◌↔◌, ℕ, List, [], ◌∷◌, ◌++◌, length, is_some, true, false, IfOk, IfSome, OnOk, OnErr, IsErrOf, IsTrue, slice_get, slice_set, Some};
+ghost use Rattle.std.specs.Prelude.{◌≡◌, ◌<◌, ◌≤◌, ◌+◌, ◌↔◌, ℕ, List, [], ◌∷◌, ◌++◌, length, is_some, true, false, IfOk, IfSome, OnOk, OnErr, IsErrOf, IsTrue, not};
 ghost use Rattle.std.specs.FinSet as set;
-ghost use Rattle.wf_names.specs.declared.limits.TheConstants.{FLOW_LIMIT, RULE_LIMIT};
+ghost use Rattle.wf_names.specs.declared.limits.TheConstants.{FLOW_LIMIT, RULE_LIMIT, USER_LIMIT};
+ghost use Rattle.rbac_state.specs.Rosters.{has_role};
 ghost use Rattle.wf_names.specs.Table.{place_of};
-ghost use Rattle.user_relations.specs.Relations.{AreOfUsers};
-ghost use Rattle.policy_book.specs.Policies.{flow_at, is_authorised, problem_of};
+ghost use Rattle.policy_book.specs.Policies.{flow_at, is_authorised, problem_of, with_roster, with_permits, with_flow};
 ghost use Rattle.policy_book.specs.Plans.{IsWellFormed};
-ghost use Rattle.policy_book.specs.Facts.{AreSoundRules, PermitsRolesBelow};
+ghost use Rattle.policy_book.specs.Facts.{AreOfUsers, AreSoundRules, PermitsRolesBelow};
 
 use constraint_forms::{Holds, Rules};
 use rbac_state::{Roster, RosterFault};

@@ -4,13 +4,14 @@
 mod disk;
 mod streams;
 
-use std::io::{self, Write};
 use std::process::ExitCode;
-use std::{env, process};
 
 use crate::disk::DiskShelf;
 use crate::streams::{ReaderSource, WriterSink};
 
 fn main(rt: HostRuntime) -> ExitCode {
+    let _shelf = DiskShelf::new(&rt);
+    let _source = ReaderSource::new(rt.reader());
+    let _sink = WriterSink::new(std::io::writer(&rt));
     ExitCode::from(0)
 }

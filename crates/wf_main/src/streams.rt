@@ -1,7 +1,7 @@
 //! Standard input and output, and files, as sources and sinks that do not tell what they hold.
 ghost use Rattle.std.specs.Prelude.{None};
 
-use std::io::{ErrorKind, Read, Write};
+use std::io::{Read, Write};
 use wf_outside::{Failed, Sink, Source};
 
 /// A reader as a source: standard input, or an opened file.
@@ -23,6 +23,7 @@ impl<R: Read + Drop> Source for ReaderSource<R> {
 
     ghost faults = { λ s. s.faults };
 
+    #[tactic(auto, unfolding(wf_outside::specs::Outside::bytes_before))]
     fn take(&mut self, buf: &mut [u8]) -> Result<usize, Failed> {
         match self.reader.read(buf) {
             Ok(count) => Ok(count),
@@ -53,6 +54,7 @@ impl<W: Write + Drop> Sink for WriterSink<W> {
 
     ghost faults = { λ s. s.faults };
 
+    #[tactic(auto, unfolding(wf_outside::specs::Outside::with_bytes))]
     fn put(&mut self, bytes: &[u8]) -> Result<usize, Failed> {
         match self.writer.write(bytes) {
             Ok(count) if count > 0 || bytes.is_empty() => Ok(count),
