@@ -2,3 +2,4 @@ pub mod Shapes
 pub mod Policies
 pub mod Plans
 pub mod Facts
+pub mod Refuting
