@@ -3,6 +3,7 @@
 use Rattle.std.specs.Prelude.{◌≡◌, ◌≢◌, ◌⊎◌, ℕ, ◌+◌, ◌<◌, ◌≤◌, Bool, true, false, List, [], ◌∷◌, ◌++◌, length, drop, slice_index, Option, Some, None}
 use Rattle.std.specs.List.{Contains}
 use mathlib.Core.Option.{some}
+use mathlib.Core.Option as maybe
 use lib.ListN.{get_elem?}
 use Rattle.atomic_table.specs.Table.{State, Me, Step}
 use Rattle.turn_table.specs.Lists.{StartsWith, Quiet, OwnPast, longer, shorter, brought}
@@ -69,27 +70,30 @@ pub record Fits {G I : Type 0} (g : G) (opening now : List (ℕ × I)) (lanes ma
   pub unnumbered : v.number ≡ None → (seat ≡ first) × (v.made ≡ made)
   pub numbers : (n : ℕ) → StandsIn n v → (n < made) × (owner n ≡ seat)
 
--- The rule, over the views of all seats
-pub record Kept {D G I : Type 0} (fixed_part : D → G) (list : D → List (ℕ × I)) (g : G) (opening : List (ℕ × I)) (lanes : ℕ) (s : State (Option D) (View G I)) : Type 0 where
+-- What holds of word 0, the slots and the views of all seats
+pub record Kept {D G I : Type 0} (fixed_part : D → G) (list : D → List (ℕ × I)) (g : G) (opening : List (ℕ × I)) (lanes word : ℕ) (homes : List (maybe.Option (Option D))) (views : List (View G I)) : Type 0 where
   -- the present list, how many lanes were made, the seat of the first lane, the seat that holds the lock if one does, and the seat at which each number stands
   pub now : List (ℕ × I)
   pub made : ℕ
   pub first : ℕ
   pub holder : ℕ
   pub owner : ℕ → ℕ
-  pub one_word : length s.words ≡ 1
   -- part 2: where the lock is free, the slot has the value, with the fixed part, and its list is the present list
-  pub free : slice_index s.words 0 ≡ 0 → (x : D) × (get_elem? s.homes 0 ≡ some (some (Some x))) × (fixed_part x ≡ g) × (list x ≡ now)
-  -- part 3: else there is a holder, whose seen list is the present list; the word is 1, or 2 once its turn is noted
-  pub held : slice_index s.words 0 ≢ 0 → (v : View G I) × (get_elem? s.views holder ≡ some v) × (v.live ≡ true) × (word_of v.hold ≡ slice_index s.words 0)
-  -- part 4: past the opening list there is no pair of a number that is not yet made
+  pub free : word ≡ 0 → (x : D) × (get_elem? homes 0 ≡ some (some (Some x))) × (fixed_part x ≡ g) × (list x ≡ now)
+  -- part 3: else there is a holder; the word is 1, or 2 once its turn is noted
+  pub held : word ≢ 0 → (v : View G I) × (get_elem? views holder ≡ some v) × (v.live ≡ true) × (word_of v.hold ≡ word)
+  -- part 4: past the opening list, the present list has no pair of a number that is not yet made
   pub unmade : Quiet (λ n. made ≤ n) now opening
-  -- part 5: the first lane has a seat, and each number made stands at one
+  -- part 5: the first lane has a seat, each number made stands at one, and no more are made than the table may have
   pub enough : made ≤ lanes
-  pub has_first : (v : View G I) × (get_elem? s.views first ≡ some v) × (v.live ≡ true) × (v.number ≡ None)
-  pub seated : (n : ℕ) → n < made → (v : View G I) × (get_elem? s.views (owner n) ≡ some v) × (v.live ≡ true) × StandsIn n v
+  pub has_first : (v : View G I) × (get_elem? views first ≡ some v) × (v.live ≡ true) × (v.number ≡ None)
+  pub seated : (n : ℕ) → n < made → (v : View G I) × (get_elem? views (owner n) ≡ some v) × (v.live ≡ true) × StandsIn n v
   -- parts 1 to 5, seat by seat
-  pub each_seat : (seat : ℕ) (v : View G I) → get_elem? s.views seat ≡ some v → v.live ≡ true → Fits g opening now lanes made (slice_index s.words 0) first holder owner seat v
+  pub each_seat : (seat : ℕ) (v : View G I) → get_elem? views seat ≡ some v → v.live ≡ true → Fits g opening now lanes made word first holder owner seat v
+
+-- The rule of a turn table
+abbrev pub TurnRule : {D G I : Type 0} → (D → G) → (D → List (ℕ × I)) → G → List (ℕ × I) → ℕ → State (Option D) (View G I) → Type 0
+TurnRule fixed_part list g opening lanes s = (length s.words ≡ 1) × Kept fixed_part list g opening lanes (slice_index s.words 0) s.homes s.views
 
 -- What a step tells its caller, of the step, the seat before, the number found and the seat after
 module _ {D G I : Type 0} where

@@ -24,9 +24,9 @@ pub struct Turns<D> {
 
 impl<D: Tabled> TableRule<Option<D>, View<D::Ground, D::Item>, Told<D>> for Turns<D> {
     ghost use Rattle.std.specs.Prelude.{Some};
-    ghost use Rattle.turn_table.specs.Turns.{Kept, starting};
+    ghost use Rattle.turn_table.specs.Turns.{TurnRule, starting};
 
-    ghost holds = { λ key. Kept D.fixed_part D.list (D.fixed_part key.value.value) (D.list key.value.value) key.lanes };
+    ghost holds = { λ key. TurnRule D.fixed_part D.list (D.fixed_part key.value.value) (D.list key.value.value) key.lanes };
 
     ghost first = { λ key. starting (Some (D.fixed_part key.value.value)) (D.list key.value.value) key.lanes };
 }
