@@ -1,0 +1,1 @@
+-- The rule holds at the start, and what it says at the end.
