@@ -207,21 +207,21 @@ module _ {D G I : Type 0} (fixed_part : D → G) (list : D → List (ℕ × I)) 
               (λ j u ne there alive. let f = k.each_seat j u there alive in reheld k.now k.made k.first k.owner 2 0 k.holder k.holder j u f (λ b. absurd (ne ((f.holds b).1 ∙ sym h.1))));
         }
 
-  pub unlocks : (slots id : ℕ) (v : View G I) (y : D) → slots ≡ 1 → v.live ≡ true → v.hold ≡ Noted → Some (fixed_part y) ≡ v.fixed → list y ≡ v.seen
-      → Allows Rule slots id (v, (0, Some y) ∷ []) 0 (λ _. 0) (unlocked (step slots 0 0 0 none) (v, (0, Some y) ∷ []))
-  unlocks slots id v y one live holds fixed whole s r wide at _ =
+  pub unlocks : (slots id : ℕ) (me : Me (Option D) (View G I)) (v : View G I) (y : D) → me ≡ (v, (0, Some y) ∷ []) → slots ≡ 1 → v.live ≡ true → v.hold ≡ Noted → Some (fixed_part y) ≡ v.fixed → list y ≡ v.seen
+      → Allows Rule slots id me 0 (λ _. 0) (unlocked (step slots 0 0 0 none) me)
+  unlocks slots id me v y is one live holds fixed whole = subst (λ m. Allows Rule slots id m 0 (λ _. 0) (unlocked (step slots 0 0 0 none) m)) (sym is) (λ s r wide at _.
       let word = slice_index s.words 0 in
       let p = r.1.each_seat id v at live in
       let two : word_of v.hold ≡ 2 = ap word_of holds in
-      let is : word ≡ 2 = sym (p.holds (λ e. omega (arith, two, e))).0 ∙ two in
-      let k = subst (λ (b : ℕ). Keeps b s.homes s.views) is r.1 in
+      let here : word ≡ 2 = sym (p.holds (λ e. omega (arith, two, e))).0 ∙ two in
+      let k = subst (λ (b : ℕ). Keeps b s.homes s.views) here r.1 in
       let known : fixed_part y ≡ g = (let e : Some (fixed_part y) ≡ Some g = fixed ∙ p.fixed in cc) in (
         leaving v,
         gives,
         tt,
         rule_at s.words _ _ 0 r.0 (given_back s.homes s.views k id v at live holds y known whole (wide ∙ one)),
         (refl, subst (λ o. (n : ℕ) → v.number ≡ Some n → OwnPast n v.seen o v.own × OwnPast n v.seen v.born v.own) (sym p.opens) p.own),
-      )
+      ))
 
   -- The look at what was seen before a join
 

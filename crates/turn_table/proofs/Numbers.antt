@@ -1,5 +1,5 @@
 -- The numbers that stand in a view, and the seat at which each stands.
-use Rattle.std.proofs.Common.{◌≡◌, ◌≢◌, ◌⊎◌, ℕ, zero, suc, ◌<◌, eqb, cond, List, [], ◌∷◌, ◌++◌, length, sym, refl, ap, ◌∙◌, inl, inr, ⊎_elim, arith, eq-eqb, ne_eqb, Option, Some, None}
+use Rattle.std.proofs.Common.{◌≡◌, ◌≢◌, ◌⊎◌, ℕ, zero, suc, ◌<◌, eqb, cond, List, [], ◌∷◌, ◌++◌, length, sym, refl, ap, ◌∙◌, inl, inr, ⊎_elim, arith, eq-eqb, ne_eqb, Option, Some, None, IsSome, IfSome, Bool, true, false, subst}
 use Rattle.std.specs.List.{Contains}
 use Rattle.std.proofs.lemmas.List.Elements.{Contains-append_left, Contains-append_right, Contains-append_cases}
 use Rattle.turn_table.specs.Lists.{brought}
@@ -40,3 +40,20 @@ brought_from (Some m) joined n h = ⊎_elim (λ a. inl (ap Some (only m n a))) (
 
 pub contains_none : (n : ℕ) → Contains [] n → ⊥
 contains_none n (k, lt, e) = omega arith
+
+-- a lane's number, if it has one
+pub some_of : (o : Option ℕ) → IsSome o → (n : ℕ) × (o ≡ Some n)
+some_of None h = cc
+some_of (Some n) h = (n, refl)
+
+pub at_some : (P : ℕ → Type 0) (o : Option ℕ) (n : ℕ) → o ≡ Some n → IfSome o P → P n
+at_some P o n e h = subst (λ x. IfSome x P) e h
+
+pub if_some : (P : ℕ → Type 0) (o : Option ℕ) → ((n : ℕ) → o ≡ Some n → P n) → IfSome o P
+if_some P None h = tt
+if_some P (Some n) h = h n refl
+
+-- only a lane with a number has the value out
+pub inside : (out : Bool) (o : Option ℕ) → (out ≡ true → IsSome o) → o ≡ None → out ≡ false
+inside false o h e = refl
+inside true o h e = let s = some_of o (h refl) in let bad : None ≡ Some s.0 = sym e ∙ s.1 in cc

@@ -1,4 +1,7 @@
 //! A lane's token.
+ghost use Rattle.std.specs.Prelude.{◌≡◌};
+ghost use Rattle.turn_table.specs.Lanes.{IsLane, shape_of};
+
 use crate::tabled::Tabled;
 use crate::view::View;
 use atomic_table::Seat;
@@ -18,4 +21,14 @@ impl<D: Tabled> Model for Lane<D> {
     ghost view = { λ l. shape_of l.seat.table_id l.out l.seat.me.0 };
 
     ghost invariant = { λ l. IsLane l.seat.me.1 l.out l.seat.me.0 };
+}
+
+impl<D: Tabled> Lane<D> {
+    pub(crate) fn into_seat(self) -> Seat<Option<D>, View<D::Ground, D::Item>>
+        ensures shape { self ≡ shape_of result.table_id self.out result.me.0 }
+        ensures lane { IsLane result.me.1 self.out result.me.0 }
+    {
+        let Lane { seat, out: _ } = self;
+        seat
+    }
 }
