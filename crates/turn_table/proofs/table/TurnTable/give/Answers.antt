@@ -1,0 +1,34 @@
+use Rattle.std.proofs.Common.{◌≡◌, true, Some, None, [], ◌∷◌, IfSome, rules, refl, ap, ◌∙◌, sym, subst}
+use Rattle.atomic_table.specs.Table.{rest}
+use Rattle.turn_table.specs.Lists.{GrowsByOne}
+use Rattle.turn_table.specs.Lanes.{LaneShape, hold_of, carried_by}
+use Rattle.turn_table.specs.Turns.{noting}
+use Rattle.turn_table.proofs.Keeps.{notes, unlocks}
+use Rattle.turn_table.proofs.Numbers.{some_of, at_some}
+use Rattle.turn_table.proofs.table.TurnTable.give.Goals as goal
+
+pub compare_exchange_with-requires : goal.compare_exchange_with-requires
+compare_exchange_with-requires g c =
+    let v = c.lane.inside.seat.me.0 in
+    let out : c.lane.inside.out ≡ true = ap (λ l. l.out) c.lane.view_is ∙ c.requires.out in
+    let n = some_of v.number (c.lane.invariant.numbered out) in
+    let grows = subst (λ (l : LaneShape g.row.D-Ground.Denot g.row.D-Item.Denot). IfSome l.number (λ k. GrowsByOne k (g.D.Tabled.list c.args.value) l.seen)) (sym c.lane.view_is) c.requires.list in (
+      search rules,
+      search rules,
+      notes g.D.Tabled.fixed_part g.D.Tabled.list _ _ _ _ _ c.lane.inside.seat.me c.args.value n.0 c.lane.invariant.live (c.lane.invariant.hold ∙ ap hold_of out) n.1
+          (at_some (λ k. GrowsByOne k (g.D.Tabled.list c.args.value) v.seen) v.number n.0 n.1 grows),
+    )
+
+pub swap-requires : goal.swap-requires
+swap-requires g c =
+    let v = c.lane.inside.seat.me.0 in
+    let out : c.lane.inside.out ≡ true = ap (λ l. l.out) c.lane.view_is ∙ c.requires.out in
+    let w = noting v (g.D.Tabled.list c.args.value) in
+    let note = c.compare_exchange_with.ensures.2 c.args.value refl in
+    let slots = c.lane.invariant.slots ∙ ap carried_by out in
+    let is : c.exchange-emptied.new.seat.me ≡ (w, (0, Some c.args.value) ∷ []) = c.exchange-emptied.ensures.3 ∙ (ap (λ m. (m.0, (0, Some c.args.value) ∷ rest m.1)) note ∙ ap (λ l. (w, (0, Some c.args.value) ∷ rest l)) slots) in (
+      search rules,
+      search rules,
+      unlocks g.D.Tabled.fixed_part g.D.Tabled.list _ _ _ _ _ c.exchange-emptied.new.seat.me w c.args.value is c.self.invariant.1 c.lane.invariant.live refl
+          (c.requires.fixed ∙ sym (ap (λ l. l.fixed) c.lane.view_is)) refl,
+    )
