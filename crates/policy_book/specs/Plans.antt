@@ -1,7 +1,8 @@
 -- What the plans of a workflow must meet.
 use Rattle.std.specs.Prelude.{◌≡◌, ℕ, ◌<◌, Bool, false, List, length, Option, Some, slice_get, IsTrue}
 use Rattle.constraint_forms.specs.declared.rule.Rule.{Rule}
-use Rattle.constraint_forms.specs.Rules.{Relating, user_at, planned, is_member, is_satisfied, IsRuleOf}
+use Rattle.constraint_forms.specs.Assigned.{user_at, planned, is_member}
+use Rattle.constraint_forms.specs.Rules.{Relating, is_satisfied, IsRuleOf}
 use Rattle.constraint_forms.specs.Laws.{IsExtension}
 
 -- all that a policy says of one workflow: how many steps it has and how many users there are,

@@ -1,8 +1,9 @@
 -- What each command answers: how its run ends, faults of the outside and want of memory aside, and
 -- the text that it writes.
-use Rattle.std.specs.Prelude.{◌≡◌, ◌≢◌, ℕ, ◌<◌, Bool, false, List, [], ◌∷◌, ◌++◌, length, replicate, Option, None, Some, Result, Ok, Err, MatchOption, MatchResult, MatchBool, nat_lt, codes, decimal, slice_index_or}
-use Rattle.wf_names.specs.declared.limits.TheConstants.{POLICY_FILE_LIMIT, LINE_LIMIT, STEP_LIMIT}
+use Rattle.std.specs.Prelude.{◌≡◌, ℕ, List, [], ◌∷◌, ◌++◌, length, Result, Ok, Err, MatchOption, MatchResult, MatchBool, nat_lt, codes, decimal, slice_index_or}
+use Rattle.wf_names.specs.declared.limits.TheConstants.{POLICY_FILE_LIMIT, LINE_LIMIT}
 use Rattle.wf_names.specs.Table.{place_of}
+use Rattle.constraint_forms.specs.Assigned.{no_users, no_steps}
 use Rattle.policy_book.specs.Shapes.{PolicyShape}
 use Rattle.policy_book.specs.Policies.{flow_at, problem_of}
 use Rattle.policy_book.specs.Plans.{IsValidPlan}
@@ -16,12 +17,6 @@ use Rattle.wf_server.specs.declared.fault.InputFault.TheVariants.{NoFlow}
 use Rattle.wf_server.specs.Inputs.{plan_of_input}
 use Rattle.wf_server.specs.Words.{Command, plan, showing, solve}
 
--- no step is assigned, and none is finished
-abbrev pub nobody : List (Option ℕ)
-nobody = replicate STEP_LIMIT None
-abbrev pub nothing : List Bool
-nothing = replicate STEP_LIMIT false
-
 -- the line that names the first fault of a plan; a plan from nothing moves no step
 abbrev pub fault_line : List (List ℕ) → PlanFault → List ℕ
 fault_line steps (Moved s) = []
@@ -30,9 +25,9 @@ fault_line steps (Rule k) = codes "rule " ++ decimal k ++ codes "\n"
 
 -- a valid plan ends well and is called so; another one is found out by its first fault
 abbrev pub Judges : PolicyShape → ℕ → List ℕ → RunFault → List ℕ → Type 0
-Judges p f users Nothing text = IsValidPlan (problem_of p f) nobody nothing users × (text ≡ codes "valid\n")
+Judges p f users Nothing text = IsValidPlan (problem_of p f) no_users no_steps users × (text ≡ codes "valid\n")
 Judges p f users Found text =
-    (e : PlanFault) × IsFirstFault (problem_of p f) nobody nothing users e × (text ≡ fault_line (flow_at p f).flow.steps e)
+    (e : PlanFault) × IsFirstFault (problem_of p f) no_users no_steps users e × (text ≡ fault_line (flow_at p f).flow.steps e)
 Judges p f users fault text = ⊥
 
 -- a run that ends with a fault writes nothing
