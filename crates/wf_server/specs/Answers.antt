@@ -45,7 +45,7 @@ abbrev pub JudgesInput : PolicyShape → List ℕ → List ℕ → RunFault → 
 JudgesInput p word input fault text =
     MatchOption (place_of p.flow_names word) (Refuses (BadInput NoFlow) fault text) (λ f.
         MatchBool (nat_lt LINE_LIMIT (length input)) (Refuses (LineTooLong 0) fault text)
-            (MatchResult (plan_of_input p f input) (λ users. Judges p f users fault text) (λ e. Refuses (BadInput e) fault text)))
+            (MatchResult (plan_of_input p (length (flow_at p f).flow.steps) input) (λ users. Judges p f users fault text) (λ e. Refuses (BadInput e) fault text)))
 
 -- `show` writes a text that is a file of the same policy
 abbrev pub Shows : PolicyShape → RunFault → List ℕ → Type 0

@@ -1,28 +1,34 @@
 //! The input of `plan`, read as a plan.
-ghost use Rattle.std.specs.Prelude.{◌≡◌, ◌<◌, ◌≤◌, ℕ, List, [], ◌∷◌, ◌++◌, length, map, option_map, Option, Some, None};
-ghost use Rattle.first_fault.specs.Reading.{Gives};
+ghost use Rattle.std.specs.Prelude.{◌≡◌, ◌<◌, ◌≤◌, ◌==◌, ℕ, List, [], ◌∷◌, ◌++◌, length, option_and_then};
+ghost use Rattle.std.specs.List.{list_all};
+ghost use Rattle.serde_json.specs.View.{view, items_view};
+ghost use Rattle.serde_json.specs.Find.{as_str};
+ghost use Rattle.first_fault.specs.Reading.{Gives, or_fault, each};
 ghost use Rattle.wf_names.specs.declared.limits.TheConstants.{STEP_LIMIT};
 ghost use Rattle.policy_book.specs.Policies.{flow_at};
-ghost use Rattle.wf_server.specs.Inputs.{plan_of_input, user_named, users_named, value_of, input_fault};
+ghost use Rattle.wf_server.specs.declared.fault.InputFault.TheVariants.{Syntax};
+ghost use Rattle.wf_server.specs.Inputs.{plan_of_input, user_named, next_user, value_of, is_text, listed_items, input_fault};
 
 use policy_book::{Plan, Policy};
 use serde_json::Value;
-use std::alloc::Global;
+use std::alloc::{AllocError, Global};
 use std::str;
 use wf_names::{FlowId, Name, UserId};
 
 use crate::InputFault;
 
 /// Why an input was not read as a plan.
+#[derive(Clone, Copy, Debug)]
 pub(crate) enum InputError {
     Fault(InputFault),
     NoMemory,
 }
 
 /// The plan that an input is for a workflow.
-pub(crate) fn read_plan(alloc: Global, p: &Policy, f: FlowId, input: &[u8]) -> Result<Plan, InputError>
-    requires { f < length p.now.flows }
-    ensures { Gives input_fault (λ plan. plan) result (plan_of_input p.now f input.now) }
+#[tactic(auto, unfolding(crate::specs::Inputs::plan_of_input))]
+pub(crate) fn read_plan(alloc: Global, p: &Policy, steps: u8, input: &[u8]) -> Result<Plan, InputError>
+    requires { steps ≤ STEP_LIMIT }
+    ensures { Gives input_fault (λ plan. plan) result (plan_of_input p.now steps input.now) }
 {
     let value = read_value(alloc, input)?;
     let Some(items) = value.as_array() else {
@@ -31,9 +37,86 @@ pub(crate) fn read_plan(alloc: Global, p: &Policy, f: FlowId, input: &[u8]) -> R
     if !are_texts(items) {
         return Err(InputError::Fault(InputFault::Syntax));
     }
-    if items.len() != p.flow(f).steps().len() as usize {
+    if items.len() != steps as usize {
         return Err(InputError::Fault(InputFault::Length));
     }
     let users = read_users(alloc, p, items)?;
     Ok(Plan::of(&users))
+}
+
+// The JSON value of the input.
+#[tactic(auto, unfolding(crate::specs::Inputs::value_of))]
+fn read_value(alloc: Global, input: &[u8]) -> Result<Value, InputError>
+    ensures { Gives input_fault view result (or_fault (value_of input.now) Syntax) }
+{
+    let Ok(text) = str::from_utf8(input) else {
+        return Err(InputError::Fault(InputFault::Syntax));
+    };
+    match Value::from_str(alloc, text) {
+        Ok(value) => Ok(value),
+        Err(e) if e.is_memory() => Err(InputError::NoMemory),
+        Err(_) => Err(InputError::Fault(InputFault::Syntax)),
+    }
+}
+
+// Whether each item is a text.
+fn are_texts(items: &[Value]) -> bool
+    ensures { result ≡ list_all is_text (listed_items (items_view items.now)) }
+{
+    'texts: for item in items {
+        if item.as_str().is_none() {
+            return false;
+        }
+    }
+    true
+}
+
+// The users that the items name.
+fn read_users(alloc: Global, p: &Policy, items: &[Value]) -> Result<Vec<UserId>, InputError>
+    requires { length items.now ≤ STEP_LIMIT }
+    ensures users { Gives input_fault (λ users. users.items) result (each (next_user p.now) [] (listed_items (items_view items.now))) }
+{
+    let mut users = Vec::new(alloc);
+    'users: for item in items {
+        read_user(p, &mut users, item)?;
+    }
+    Ok(users)
+}
+
+// The user that an item names, behind those before.
+#[tactic(auto, unfolding(crate::specs::Inputs::next_user))]
+fn read_user(p: &Policy, users: &mut Vec<UserId>, item: &Value) -> Result<(), InputError>
+    requires { length users.old.items < 2 ^ 32 }
+    ensures { Gives input_fault (λ _. users.new.items) result (next_user p.now users.old.items (view item.now)) }
+{
+    match user_of(p, item) {
+        Some(u) => match users.push(u) {
+            Ok(()) => Ok(()),
+            Err(_) => Err(InputError::NoMemory),
+        },
+        None => Err(InputError::Fault(InputFault::NoUser(users.len() as u32))),
+    }
+}
+
+// The user that an item names, if it is a text and names one.
+fn user_of(p: &Policy, item: &Value) -> Option<UserId>
+    ensures { result ≡ option_and_then (user_named p.now) (as_str (view item.now)) }
+{
+    match item.as_str() {
+        Some(text) => find_user(p, text),
+        None => None,
+    }
+}
+
+// The user of a name, if the text is one.
+fn find_user(p: &Policy, text: &str) -> Option<UserId>
+    ensures { result ≡ user_named p.now text.now }
+{
+    match Name::read(text) {
+        Some(name) => match p.roster().users().find(&name) {
+            Some(number) => Some(UserId(number)),
+            None => None,
+        },
+        None => None,
+    }
 }

@@ -1,5 +1,5 @@
 //! The words of the command line.
-ghost use Rattle.std.specs.Prelude.{◌≡◌, map, option_map, string_bytes};
+ghost use Rattle.std.specs.Prelude.{◌≡◌, [], ◌∷◌, map, option_map, string_bytes};
 ghost use Rattle.wf_server.specs.Words.{command_of};
 ghost use Rattle.wf_server.specs.Asked.{asked};
 
