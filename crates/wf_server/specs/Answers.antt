@@ -50,3 +50,9 @@ JudgesInput p word input fault text =
 -- `show` writes a text that is a file of the same policy
 abbrev pub Shows : PolicyShape → RunFault → List ℕ → Type 0
 Shows p fault text = (fault ≡ Nothing) × (policy_of_file text ≡ Ok p)
+
+-- what the run of a command over its policy file and the input answers
+abbrev pub IsRun : Command → List ℕ → List ℕ → RunFault → List ℕ → Type 0
+IsRun (plan policy flow) file input fault text = OverPolicy file (λ p. JudgesInput p flow input) fault text
+IsRun (showing policy) file input fault text = OverPolicy file Shows fault text
+IsRun (solve policy) file input fault text = OverPolicy file Solves fault text
