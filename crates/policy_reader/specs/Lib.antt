@@ -1,0 +1,7 @@
+pub mod Faults
+pub mod Parts
+pub mod Rosters
+pub mod Relations
+pub mod Rules
+pub mod Flows
+pub mod Files

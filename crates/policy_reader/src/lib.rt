@@ -1,0 +1,6 @@
+//! The policy file: reads a policy from TOML, or tells the first fault of the text.
+#![tactic(auto)]
+
+mod fault;
+
+pub use fault::{PolicyFault, PolicyKind, PolicyPart, ReadFault};
