@@ -2,7 +2,7 @@
 use Rattle.std.specs.Prelude.{ℕ, ◌+◌, Bool, true, false, ◌&&◌, ◌||◌, List, [], length, slice_index_or, slice_set}
 use Rattle.std.specs.FinSet as set
 use Rattle.rbac_state.specs.Rosters.{RosterShape, has_role}
-use Rattle.user_relations.specs.Relations.{is_related}
+use Rattle.user_relations.specs.Relations.{is_related, with_kind, listed}
 use Rattle.pair_set.specs.Pairs.{Pairs}
 use Rattle.policy_book.specs.Shapes.{PolicyShape, WorkflowShape}
 use Rattle.policy_book.specs.Plans.{Problem}
@@ -38,6 +38,10 @@ problem_of p f = record {
 -- a policy with another roster
 abbrev pub with_roster : PolicyShape → RosterShape → PolicyShape
 with_roster p roster = record p { roster = roster }
+
+-- a policy with other pairs in one of its relations
+abbrev pub with_pairs : PolicyShape → ℕ → Pairs → PolicyShape
+with_pairs p rho pairs = record p { relations = with_kind p.relations rho (listed pairs) }
 
 -- a policy with another workflow at a number
 abbrev pub with_flow : PolicyShape → ℕ → WorkflowShape → PolicyShape

@@ -1,10 +1,12 @@
 //! The policy over its parts.
-ghost use Rattle.std.specs.Prelude.{◌≡◌, ◌<◌, ◌≤◌, ◌+◌, ◌↔◌, ℕ, List, [], ◌∷◌, ◌++◌, length, is_some, true, false, IfOk, IfSome, OnOk, OnErr, IsErrOf, IsTrue, not};
+ghost use Rattle.std.specs.Prelude.{◌≡◌, ◌<◌, ◌≤◌, ◌+◌, ◌↔◌, ℕ, List, [], ◌∷◌, ◌++◌, length, is_some, true, false, IfOk, IfSome, OnOk, OnErr, IsErrOf, IsTrue, not, ◌&&◌};
 ghost use Rattle.std.specs.FinSet as set;
 ghost use Rattle.wf_names.specs.declared.limits.TheConstants.{FLOW_LIMIT, RULE_LIMIT, USER_LIMIT};
 ghost use Rattle.rbac_state.specs.Rosters.{has_role};
 ghost use Rattle.wf_names.specs.Table.{place_of};
-ghost use Rattle.policy_book.specs.Policies.{flow_at, is_authorised, problem_of, with_roster, with_permits, with_flow};
+ghost use Rattle.user_relations.specs.Relations.{pairs_of};
+ghost use Rattle.user_relations.specs.Faults.{AnswersFault, relate_fault, unrelate_fault};
+ghost use Rattle.policy_book.specs.Policies.{any_below, flow_at, is_authorised, problem_of, with_roster, with_pairs, with_permits, with_flow};
 ghost use Rattle.policy_book.specs.Plans.{IsWellFormed};
 ghost use Rattle.policy_book.specs.Facts.{AreOfUsers, AreSoundRules, PermitsRolesBelow};
 
@@ -27,6 +29,20 @@ pub struct Policy {
     flows: Vec<Workflow>,
     admin: RoleId,
     alloc: Global,
+}
+
+impl Model for Policy {
+    ghost use Rattle.policy_book.specs.Shapes.{PolicyShape, policy_code};
+
+    ghost Value = { PolicyShape };
+
+    ghost coded = { policy_code };
+
+    ghost use Rattle.policy_book.specs.Stored.{IsStored, shape_of};
+
+    ghost view = { λ p. shape_of p.roster p.relations p.names p.flows.items p.admin };
+
+    ghost invariant = { λ p. IsStored p.roster p.relations p.names p.flows.items p.admin };
 }
 
 impl Policy {
@@ -222,6 +238,28 @@ impl Policy {
         self.roster.dismiss(u, r)
     }
 
+    /// Puts a pair of users into a listed relation.
+    pub fn relate(&mut self, rho: RelId, u: UserId, v: UserId) -> Result<(), RelationFault>
+        requires first { u < length self.old.roster.users }
+        requires second { v < length self.old.roster.users }
+        ensures related { OnOk result (self.new ≡ with_pairs self.old rho (set.insert (pairs_of self.old.relations rho) (u, v))) }
+        ensures fault { AnswersFault (relate_fault self.old.relations rho u v) result }
+        ensures unchanged { OnErr result (self.new ≡ self.old) }
+    {
+        self.relations.relate(rho, u, v)
+    }
+
+    /// Takes a pair of users out of a listed relation.
+    pub fn unrelate(&mut self, rho: RelId, u: UserId, v: UserId) -> Result<(), RelationFault>
+        requires first { u < length self.old.roster.users }
+        requires second { v < length self.old.roster.users }
+        ensures unrelated { OnOk result (self.new ≡ with_pairs self.old rho (set.remove (pairs_of self.old.relations rho) (u, v))) }
+        ensures fault { AnswersFault (unrelate_fault self.old.relations rho u v) result }
+        ensures unchanged { OnErr result (self.new ≡ self.old) }
+    {
+        self.relations.unrelate(rho, u, v)
+    }
+
     /// Permits a step of a workflow to a role, and answers whether that changes anything.
     pub fn permit(&mut self, f: FlowId, r: RoleId, s: StepId) -> bool
         requires flow { f < length self.old.flows }
@@ -254,4 +292,58 @@ impl Policy {
         let workflow = &mut self.flows[f.0 as usize];
         workflow.retired = true;
     }
+}
+
+impl Holds for Policy {
+    ghost use Rattle.user_relations.specs.Relations.{is_related};
+
+    ghost related = { λ p. is_related p.relations };
+
+    fn holds(&self, rho: RelId, u: UserId, v: UserId) -> bool {
+        self.relations.holds(rho, u, v)
+    }
+}
+
+// Whether some role is held by a user and permitted for a step.
+fn some_role(roster: &Roster, flow: &Flow, s: StepId, u: UserId) -> bool
+    ensures { result ≡ any_below (length roster.now.roles) (λ r. has_role roster.now u r && set.contains flow.now.permits (r, s)) }
+{
+    'roles: for r in 0..roster.roles().len() {
+        let role = RoleId(r as u8);
+        if roster.has(u, role) && flow.permits(role, s) {
+            return true;
+        }
+    }
+    false
+}
+
+// The number that a new workflow gets, where its name is new and there is room.
+fn free_place(names: &NameTable, name: &Name) -> Result<FlowId, NameFault>
+    requires { names.now.limit ≡ FLOW_LIMIT }
+    ensures place { IfOk result (λ f. f ≡ length names.now.names) }
+    ensures fresh { OnOk result (is_some (place_of names.now.names name.now) ≡ false) }
+    ensures room { OnOk result (length names.now.names < FLOW_LIMIT) }
+    ensures twice { IsErrOf result NameFault.Twice ↔ (is_some (place_of names.now.names name.now) ≡ true) }
+    ensures full { IsErrOf result NameFault.Full ↔ ((is_some (place_of names.now.names name.now) ≡ false) × (length names.now.names ≡ FLOW_LIMIT)) }
+    ensures memory { ¬ IsErrOf result NameFault.NoMemory }
+{
+    if names.find(name).is_some() {
+        return Err(NameFault::Twice);
+    }
+    let count = names.len();
+    if count >= FLOW_LIMIT {
+        return Err(NameFault::Full);
+    }
+    Ok(FlowId(count as u8))
+}
+
+// Copies of workflows.
+fn copies(alloc: Global, flows: &[Workflow]) -> Result<Vec<Workflow>, AllocError>
+    ensures { IfOk result (λ copies. copies.items ≡ flows.now) }
+{
+    let mut copies = Vec::new(alloc);
+    'flows: for workflow in flows {
+        copies.push(workflow.copy(alloc)?)?;
+    }
+    Ok(copies)
 }
