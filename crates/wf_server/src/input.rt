@@ -7,7 +7,7 @@ ghost use Rattle.first_fault.specs.Reading.{Gives, or_fault, each};
 ghost use Rattle.wf_names.specs.declared.limits.TheConstants.{STEP_LIMIT};
 ghost use Rattle.policy_book.specs.Policies.{flow_at};
 ghost use Rattle.wf_server.specs.declared.fault.InputFault.TheVariants.{Syntax};
-ghost use Rattle.wf_server.specs.Inputs.{plan_of_input, user_named, next_user, value_of, is_text, listed_items, input_fault};
+ghost use Rattle.wf_server.specs.Inputs.{plan_of_input, number_named, next_user, value_of, is_text, listed_items, input_fault};
 
 use policy_book::{Plan, Policy};
 use serde_json::Value;
@@ -100,7 +100,7 @@ fn read_user(p: &Policy, users: &mut Vec<UserId>, item: &Value) -> Result<(), In
 
 // The user that an item names, if it is a text and names one.
 fn user_of(p: &Policy, item: &Value) -> Option<UserId>
-    ensures { result ≡ option_and_then (user_named p.now) (as_str (view item.now)) }
+    ensures { result ≡ option_and_then (number_named p.now.roster.users) (as_str (view item.now)) }
 {
     match item.as_str() {
         Some(text) => find_user(p, text),
@@ -110,7 +110,7 @@ fn user_of(p: &Policy, item: &Value) -> Option<UserId>
 
 // The user of a name, if the text is one.
 fn find_user(p: &Policy, text: &str) -> Option<UserId>
-    ensures { result ≡ user_named p.now text.now }
+    ensures { result ≡ number_named p.now.roster.users text.now }
 {
     match Name::read(text) {
         Some(name) => match p.roster().users().find(&name) {
