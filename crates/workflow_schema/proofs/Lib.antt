@@ -1,0 +1,5 @@
+pub mod Tests
+pub mod Words
+pub mod Rows
+pub mod Chains
+pub mod PairLists
