@@ -1,5 +1,5 @@
 -- Tests joined by `and` and `or`, and tests of equal numbers.
-use Rattle.std.proofs.Common.{◌≡◌, ◌≢◌, ℕ, ◌+◌, ◌<◌, ◌≤◌, ◌⊎◌, inl, inr, Bool, true, false, not, ◌&&◌, ◌||◌, nat_eq, nat_lt, refl, sym, ap, ◌∙◌, arith, eq-eqb}
+use Rattle.std.proofs.Common.{◌≡◌, ◌≢◌, ℕ, ◌+◌, ◌<◌, ◌≤◌, ◌⊎◌, inl, inr, Bool, true, false, not, ◌&&◌, ◌||◌, nat_eq, nat_lt, nat_le, refl, sym, ap, ◌∙◌, arith, eq-eqb}
 
 pub or_cases : (a b : Bool) → (a || b) ≡ true → (a ≡ true) ⊎ (b ≡ true)
 or_cases true b h = inl refl
@@ -77,3 +77,9 @@ lt_back m n h = grind arith
 
 pub lt_back_no : (m n : ℕ) → nat_lt m n ≡ false → n ≤ m
 lt_back_no m n h = grind arith
+
+pub eq_back : (m n : ℕ) → nat_eq m n ≡ true → m ≡ n
+eq_back m n h = grind arith
+
+pub le_back : (m n : ℕ) → nat_le m n ≡ true → m ≤ n
+le_back m n h = grind arith
