@@ -5,3 +5,4 @@ pub mod Chains
 pub mod PairLists
 pub mod Permits
 pub mod Kept
+pub mod Built

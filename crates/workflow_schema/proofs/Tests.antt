@@ -83,3 +83,10 @@ eq_back m n h = grind arith
 
 pub le_back : (m n : ℕ) → nat_le m n ≡ true → m ≤ n
 le_back m n h = grind arith
+
+pub le_yes : (m n : ℕ) → m ≤ n → nat_le m n ≡ true
+le_yes m n h = grind arith
+
+pub not_false : (a : Bool) → not a ≡ false → a ≡ true
+not_false true h = refl
+not_false false h = absurd (cc)

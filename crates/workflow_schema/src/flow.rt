@@ -55,11 +55,10 @@ impl Flow {
         if count == 0 || STEP_LIMIT < count {
             return Err(FlowFault::TooMany);
         }
-        let (later, roles) = match (order_table(order), permit_table(permits)) {
+        let (mut later, roles) = match (order_table(order), permit_table(permits)) {
             (Some(later), Some(roles)) => (later, roles),
             _ => return Err(FlowFault::Twice),
         };
-        let mut later = later;
         close(&mut later);
         if let Some(s) = first_own_flag(&later) {
             return Err(FlowFault::Cycle(s));

@@ -5,7 +5,6 @@ use Rattle.pair_set.specs.PairLaws.{pair_cmp_total, pair_cmp-IsAntisymmetric, in
 use Rattle.wf_names.specs.declared.limits.TheConstants.{ROLE_LIMIT}
 use Rattle.workflow_schema.specs.Tables.{pairs_of}
 use Rattle.workflow_schema.specs.Flows.{FlowShape}
-use Rattle.workflow_schema.proofs.Tests.{not_true}
 use Rattle.workflow_schema.proofs.Permits.{pairs_of-has, pairs_of-with, pairs_of-without}
 use Rattle.workflow_schema.proofs.Kept.{keeps_permitted, keeps_forbidden}
 use Rattle.workflow_schema.proofs.flow.Flow.forbid.Goals as goal
@@ -28,4 +27,9 @@ returns-clause-changed c =
     (c.has_flag-held.ensures ∙ sym (pairs_of-has c.self.inside.roles c.r.inside.0 c.s.inside.0))
 
 pub returns-clause-unchanged : goal.returns-clause-unchanged
-returns-clause-unchanged c h = ?
+returns-clause-unchanged c h =
+    rw (← c.self.view_is)
+    (ap (λ (p : Pairs). record { steps = c.self.inside.steps.names; order = c.self.inside.order; permits = p })
+        (pairs_of-without c.self.inside.roles c.clear_flag.new.rows c.r.inside.0 c.s.inside.0 c.clear_flag.ensures
+         ∙ remove_absent pair_cmp_total pair_cmp-IsAntisymmetric (pairs_of c.self.inside.roles) (c.r.inside.0, c.s.inside.0)
+           (pairs_of-has c.self.inside.roles c.r.inside.0 c.s.inside.0 ∙ sym c.has_flag-held.ensures ∙ h)))
