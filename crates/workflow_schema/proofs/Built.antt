@@ -7,7 +7,7 @@ use Rattle.wf_names.specs.declared.limits.TheConstants.{ROLE_LIMIT, STEP_LIMIT}
 use Rattle.workflow_schema.specs.Tables.{table_has, leads, pairs_of}
 use Rattle.workflow_schema.specs.Flows.{FlowShape, Precedes, is_before, is_count, IsFlow, IsLeastCycle}
 use Rattle.workflow_schema.specs.Stored.{IsStored}
-use Rattle.workflow_schema.proofs.Tests.{or_cases, and_both, and_from, eq_back, lt_yes, le_yes}
+use Rattle.workflow_schema.proofs.Tests.{or_cases, and_both, and_from, eq_back, lt_back, lt_back_no, lt_yes, le_yes}
 use Rattle.workflow_schema.proofs.Chains.{before_is_chain, chain_is_before}
 use Rattle.workflow_schema.proofs.PairLists.{contains-one_more}
 use Rattle.workflow_schema.proofs.Permits.{pairs_of-has}
@@ -44,7 +44,7 @@ module _ (n : ℕ) (ps : List (ℕ × ℕ)) (rows : List ℕ)
     (inside : All (λ (p : ℕ × ℕ). (p.0 < n) × (p.1 < n)) ps)
     (closed : (s t : ℕ) → table_has rows s t ≡ is_before (set.from_list {R = pair_cmp} ps) s t) where
   below : (a b : ℕ) → set.contains (set.from_list {R = pair_cmp} ps) (a, b) ≡ true → b < STEP_LIMIT
-  below a b found = let e = (all_of _ ps a b inside found).1 in omega arith
+  below a b found = let e = all_of (λ (p : ℕ × ℕ). (p.0 < n) × (p.1 < n)) ps a b inside found in let second = e.1 in omega arith
 
   pub own_cycle : (s : ℕ) → table_has rows s s ≡ true → Precedes (set.from_list ps) s s
   own_cycle s h = before_is_chain (set.from_list ps) s s (sym (closed s s) ∙ h)
@@ -58,11 +58,11 @@ module _ (n : ℕ) (ps : List (ℕ × ℕ)) (rows : List ℕ)
 pub one_least : (order : Pairs) (s t : ℕ) → IsLeastCycle order s → IsLeastCycle order t → s ≡ t
 one_least order s t h i =
     elim (nat_lt s t) as (λ b. nat_lt s t ≡ b → s ≡ t) [
-      | true ↦ λ e. absurd (i.least s (omega arith) h.cycle)
+      | true ↦ λ e. absurd (i.least s (lt_back s t e) h.cycle)
       | false ↦ λ e.
           elim (nat_lt t s) as (λ b. nat_lt t s ≡ b → s ≡ t) [
-            | true ↦ λ f. absurd (h.least t (omega arith) i.cycle)
-            | false ↦ λ f. omega arith
+            | true ↦ λ f. absurd (h.least t (lt_back t s f) i.cycle)
+            | false ↦ λ f. let ts = lt_back_no s t e in let st = lt_back_no t s f in omega arith
           ] refl
     ] refl
 
@@ -77,12 +77,12 @@ pub built_flow :
     length roles ≡ STEP_LIMIT →
     IsStored steps (set.from_list order) later roles
 built_flow steps order permits later roles count orders_in permits_in closed none same whole = record {
-    flow = record {
-        counted = count;
-        orders = record { each = λ a b found. all_of _ order a b orders_in found };
-        acyclic = λ s. no_cycle (length steps) order later (few_steps (length steps) count) orders_in closed s (none s);
-        permitted = record { each = λ r s found. all_of _ permits r s permits_in (sym (same s r) ∙ sym (pairs_of-has roles r s) ∙ found) };
-    };
-    closed = closed;
-    rows = whole;
+  flow = record {
+    counted = count;
+    orders = record { each = λ a b found. all_of (λ (p : ℕ × ℕ). (p.0 < length steps) × (p.1 < length steps)) order a b orders_in found };
+    acyclic = λ s. no_cycle (length steps) order later (few_steps (length steps) count) orders_in closed s (none s);
+    permitted = record { each = λ r s found. all_of (λ (p : ℕ × ℕ). (p.0 < ROLE_LIMIT) × (p.1 < length steps)) permits r s permits_in (sym (same s r) ∙ sym (pairs_of-has roles r s) ∙ found) };
+  };
+  closed = closed;
+  rows = whole;
 }

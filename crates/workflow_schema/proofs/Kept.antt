@@ -18,7 +18,7 @@ few_steps n h = le_back n STEP_LIMIT (and_both (nat_lt 0 n) (nat_le n STEP_LIMIT
 pub tells_chains : (f : FlowShape) (s t : ℕ) (answer : Bool) → IsFlow f → answer ≡ is_before f.order s t → (IsTrue answer → Precedes f.order s t) × (Precedes f.order s t → IsTrue answer)
 tells_chains f s t answer kept is =
     let below : (a b : ℕ) → set.contains f.order (a, b) ≡ true → b < STEP_LIMIT =
-        λ a b found. let e = (kept.orders.each a b found).1 in let few = few_steps (length f.steps) kept.counted in omega arith
+    λ a b found. let e = (kept.orders.each a b found).1 in let few = few_steps (length f.steps) kept.counted in omega arith
     in
     (λ h. before_is_chain f.order s t (sym is ∙ h), λ r. is ∙ chain_is_before f.order s t below r)
 
@@ -27,24 +27,24 @@ pub keeps_permitted :
     ((a b : ℕ) → table_has rows a b ≡ ((nat_eq a s && nat_eq b r) || table_has old a b)) →
     r < ROLE_LIMIT → s < length steps → length rows ≡ length old → IsStored steps order later rows
 keeps_permitted steps order later old rows r s kept h role step whole = record {
-    flow = record {
-        counted = kept.flow.counted;
-        orders = kept.flow.orders;
-        acyclic = kept.flow.acyclic;
-        permitted = record {
-            each = λ a b found.
-                elim (or_cases (nat_eq b s && nat_eq a r) (table_has old b a) (sym (h b a) ∙ sym (pairs_of-has rows a b) ∙ found)) [
-                  | inl e ↦
-                      let both = and_both (nat_eq b s) (nat_eq a r) e in
-                      let same_step = eq_back b s both.0 in
-                      let same_role = eq_back a r both.1 in
-                      (omega arith, omega arith)
-                  | inr e ↦ kept.flow.permitted.each a b (pairs_of-has old a b ∙ e)
-                ];
-        };
+  flow = record {
+    counted = kept.flow.counted;
+    orders = kept.flow.orders;
+    acyclic = kept.flow.acyclic;
+    permitted = record {
+      each = λ a b found.
+          elim (or_cases (nat_eq b s && nat_eq a r) (table_has old b a) (sym (h b a) ∙ sym (pairs_of-has rows a b) ∙ found)) [
+            | inl e ↦
+                let both = and_both (nat_eq b s) (nat_eq a r) e in
+                let same_step = eq_back b s both.0 in
+                let same_role = eq_back a r both.1 in
+                (omega arith, omega arith)
+            | inr e ↦ kept.flow.permitted.each a b (pairs_of-has old a b ∙ e)
+          ];
     };
-    closed = kept.closed;
-    rows = whole ∙ kept.rows;
+  };
+  closed = kept.closed;
+  rows = whole ∙ kept.rows;
 }
 
 pub keeps_forbidden :
@@ -52,16 +52,16 @@ pub keeps_forbidden :
     ((a b : ℕ) → table_has rows a b ≡ (not (nat_eq a s && nat_eq b r) && table_has old a b)) →
     length rows ≡ length old → IsStored steps order later rows
 keeps_forbidden steps order later old rows r s kept h whole = record {
-    flow = record {
-        counted = kept.flow.counted;
-        orders = kept.flow.orders;
-        acyclic = kept.flow.acyclic;
-        permitted = record {
-            each = λ a b found.
-                kept.flow.permitted.each a b
-                (pairs_of-has old a b ∙ (and_both (not (nat_eq b s && nat_eq a r)) (table_has old b a) (sym (h b a) ∙ sym (pairs_of-has rows a b) ∙ found)).1);
-        };
+  flow = record {
+    counted = kept.flow.counted;
+    orders = kept.flow.orders;
+    acyclic = kept.flow.acyclic;
+    permitted = record {
+      each = λ a b found.
+          kept.flow.permitted.each a b
+          (pairs_of-has old a b ∙ (and_both (not (nat_eq b s && nat_eq a r)) (table_has old b a) (sym (h b a) ∙ sym (pairs_of-has rows a b) ∙ found)).1);
     };
-    closed = kept.closed;
-    rows = whole ∙ kept.rows;
+  };
+  closed = kept.closed;
+  rows = whole ∙ kept.rows;
 }

@@ -72,13 +72,13 @@ module _ (ps : List (ℕ × ℕ)) (i j s t : ℕ) (d e : ℕ × ℕ) (next : i �
   found_twice found =
       twice-drop ps j
       (twice-step ps j d h
-       ∙ or_left _ _ (subst (λ q. set.contains (set_from ps (j + 1)) q ≡ true) pair_is (subst (λ n. set.contains (set_from ps n) (s, t) ≡ true) next found)))
+      ∙ or_left _ _ (subst (λ q. set.contains (set_from ps (j + 1)) q ≡ true) pair_is (subst (λ n. set.contains (set_from ps n) (s, t) ≡ true) next found)))
 
   pub not_twice : set.contains (set_from ps i) (s, t) ≡ false → has_twice (drop i ps) ≡ false → has_twice (drop j ps) ≡ false
   not_twice absent single =
       twice-step ps j d h
       ∙ (λ k. subst (λ q. set.contains (set_from ps (j + 1)) q ≡ false) pair_is (subst (λ n. set.contains (set_from ps n) (s, t) ≡ false) next absent) k
-          || subst (λ n. has_twice (drop n ps) ≡ false) next single k)
+      || subst (λ n. has_twice (drop n ps) ≡ false) next single k)
 
   pub with_pair : (a b : ℕ) → set.contains (set_from ps j) (a, b) ≡ ((nat_eq a s && nat_eq b t) || set.contains (set_from ps i) (a, b))
   with_pair a b =

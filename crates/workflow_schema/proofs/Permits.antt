@@ -38,23 +38,23 @@ row_pairs-has row word (suc n) r s =
       | true ↦ λ e.
           (λ i. eq_pair r s n row i || rest i)
           ∙ elim (cases_eq r n) [
-              | inl same ↦
-                  subst (λ m. ((nat_eq m n && nat_eq s row) || ((nat_lt m n && is_set word m) && nat_eq s row)) ≡ ((nat_lt m (suc n) && is_set word m) && nat_eq s row)) (sym same)
-                  ((λ i. (eq_same n i && nat_eq s row) || ((lt_no n n (omega arith) i && is_set word n) && nat_eq s row))
-                   ∙ or-false (nat_eq s row)
-                   ∙ sym (λ i. (lt_yes n (suc n) (omega arith) i && e i) && nat_eq s row))
-              | inr other ↦
-                  (λ i. (eq_other r n other i && nat_eq s row) || ((bit_below r n other i && is_set word r) && nat_eq s row))
-            ]
+            | inl same ↦
+                subst (λ m. ((nat_eq m n && nat_eq s row) || ((nat_lt m n && is_set word m) && nat_eq s row)) ≡ ((nat_lt m (suc n) && is_set word m) && nat_eq s row)) (sym same)
+                ((λ i. (eq_same n i && nat_eq s row) || ((lt_no n n (omega arith) i && is_set word n) && nat_eq s row))
+                ∙ or-false (nat_eq s row)
+                ∙ sym (λ i. (lt_yes n (suc n) (omega arith) i && e i) && nat_eq s row))
+            | inr other ↦
+                (λ i. (eq_other r n other i && nat_eq s row) || ((bit_below r n other i && is_set word r) && nat_eq s row))
+          ]
       | false ↦ λ e.
           rest
           ∙ elim (cases_eq r n) [
-              | inl same ↦
-                  subst (λ m. ((nat_lt m n && is_set word m) && nat_eq s row) ≡ ((nat_lt m (suc n) && is_set word m) && nat_eq s row)) (sym same)
-                  ((λ i. (nat_lt n n && e i) && nat_eq s row) ∙ (λ i. and-false (nat_lt n n) i && nat_eq s row)
-                   ∙ sym ((λ i. (nat_lt n (suc n) && e i) && nat_eq s row) ∙ (λ i. and-false (nat_lt n (suc n)) i && nat_eq s row)))
-              | inr other ↦ (λ i. (bit_below r n other i && is_set word r) && nat_eq s row)
-            ]
+            | inl same ↦
+                subst (λ m. ((nat_lt m n && is_set word m) && nat_eq s row) ≡ ((nat_lt m (suc n) && is_set word m) && nat_eq s row)) (sym same)
+                ((λ i. (nat_lt n n && e i) && nat_eq s row) ∙ (λ i. and-false (nat_lt n n) i && nat_eq s row)
+                ∙ sym ((λ i. (nat_lt n (suc n) && e i) && nat_eq s row) ∙ (λ i. and-false (nat_lt n (suc n)) i && nat_eq s row)))
+            | inr other ↦ (λ i. (bit_below r n other i && is_set word r) && nat_eq s row)
+          ]
     ] refl
 
 -- the pairs of a whole row
@@ -95,13 +95,13 @@ pairs_of-is rows pairs h = same_pairs (pairs_of rows) pairs (λ r s. pairs_of-ha
 pub pairs_of-with : (old rows : List ℕ) (r s : ℕ) → ((a b : ℕ) → table_has rows a b ≡ ((nat_eq a s && nat_eq b r) || table_has old a b)) → pairs_of rows ≡ set.insert (pairs_of old) (r, s)
 pairs_of-with old rows r s h =
     pairs_of-is rows _ (λ a b.
-        h a b
-        ∙ (λ i. and_swap (nat_eq a s) (nat_eq b r) i || sym (pairs_of-has old b a) i)
-        ∙ sym (contains-one_more (pairs_of old) r s b a))
+    h a b
+    ∙ (λ i. and_swap (nat_eq a s) (nat_eq b r) i || sym (pairs_of-has old b a) i)
+    ∙ sym (contains-one_more (pairs_of old) r s b a))
 
 pub pairs_of-without : (old rows : List ℕ) (r s : ℕ) → ((a b : ℕ) → table_has rows a b ≡ (not (nat_eq a s && nat_eq b r) && table_has old a b)) → pairs_of rows ≡ set.remove (pairs_of old) (r, s)
 pairs_of-without old rows r s h =
     pairs_of-is rows _ (λ a b.
-        h a b
-        ∙ (λ i. not (and_swap (nat_eq a s) (nat_eq b r) i) && sym (pairs_of-has old b a) i)
-        ∙ sym (set.contains-remove pair_cmp_total (pairs_of old) (r, s) (b, a) ∙ ap (λ x. not x && set.contains (pairs_of old) (b, a)) (eq_pair b a r s)))
+    h a b
+    ∙ (λ i. not (and_swap (nat_eq a s) (nat_eq b r) i) && sym (pairs_of-has old b a) i)
+    ∙ sym (set.contains-remove pair_cmp_total (pairs_of old) (r, s) (b, a) ∙ ap (λ x. not x && set.contains (pairs_of old) (b, a)) (eq_pair b a r s)))

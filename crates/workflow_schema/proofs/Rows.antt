@@ -18,7 +18,7 @@ flag_set rows row bit word h is a b =
       | inl e ↦
           subst (λ c. table_has (set rows row word) c b ≡ ((nat_eq c row && nat_eq b bit) || table_has rows c b)) (sym e)
           (ap (λ w. is_set w b) (get_or-set_same rows row word 0 h) ∙ is b
-           ∙ sym (ap (λ t. (t && nat_eq b bit) || table_has rows row b) (eq_same row)))
+          ∙ sym (ap (λ t. (t && nat_eq b bit) || table_has rows row b) (eq_same row)))
       | inr ne ↦
           ap (λ w. is_set w b) (get_or-set_other rows row a word 0 ne)
           ∙ sym (ap (λ t. (t && nat_eq b bit) || table_has rows a b) (eq_other a row ne))
@@ -30,7 +30,7 @@ flag_cleared rows row bit word h is a b =
       | inl e ↦
           subst (λ c. table_has (set rows row word) c b ≡ (not (nat_eq c row && nat_eq b bit) && table_has rows c b)) (sym e)
           (ap (λ w. is_set w b) (get_or-set_same rows row word 0 h) ∙ is b
-           ∙ sym (ap (λ t. not (t && nat_eq b bit) && table_has rows row b) (eq_same row)))
+          ∙ sym (ap (λ t. not (t && nat_eq b bit) && table_has rows row b) (eq_same row)))
       | inr ne ↦
           ap (λ w. is_set w b) (get_or-set_other rows row a word 0 ne)
           ∙ sym (ap (λ t. not (t && nat_eq b bit) && table_has rows a b) (eq_other a row ne))
@@ -61,8 +61,8 @@ join_step old rows k place word h joined is a b =
       | inl e ↦
           subst (λ c. table_has (set rows place word) c b ≡ joined_before old k (place + 1) c b) (sym e)
           (ap (λ w. is_set w b) (get_or-set_same rows place word 0 h) ∙ is b
-           ∙ (λ i. (joined place b ∙ join_none old k place b place (omega arith)) i || ((joined place k ∙ join_none old k place k place (omega arith)) i && table_has old k b))
-           ∙ sym (ap (λ t. table_has old place b || (t && (table_has old place k && table_has old k b))) (lt_yes place (place + 1) (omega arith))))
+          ∙ (λ i. (joined place b ∙ join_none old k place b place (omega arith)) i || ((joined place k ∙ join_none old k place k place (omega arith)) i && table_has old k b))
+          ∙ sym (ap (λ t. table_has old place b || (t && (table_has old place k && table_has old k b))) (lt_yes place (place + 1) (omega arith))))
       | inr ne ↦
           ap (λ w. is_set w b) (get_or-set_other rows place a word 0 ne) ∙ joined a b
           ∙ ap (λ t. table_has old a b || (t && (table_has old a k && table_has old k b))) (before_next a place ne)
@@ -72,12 +72,12 @@ pub join_end : (old rows : List ℕ) (k place : ℕ) → length rows ≤ place �
 join_end old rows k place h joined a b =
     joined a b
     ∙ elim (nat_lt a place) as (λ t. nat_lt a place ≡ t → (table_has old a b || (t && (table_has old a k && table_has old k b))) ≡ (table_has old a b || (table_has old a k && table_has old k b))) [
-        | true ↦ λ e. refl
-        | false ↦ λ e.
-            let past : place ≤ a = lt_back_no a place e in
-            let none : table_has old a k ≡ false = sym (join_none old k a k place past) ∙ sym (joined a k) ∙ table_past rows a k (le_trans h past) in
-            sym (ap (λ t. table_has old a b || (t && table_has old k b)) none)
-      ] refl
+      | true ↦ λ e. refl
+      | false ↦ λ e.
+          let past : place ≤ a = lt_back_no a place e in
+          let none : table_has old a k ≡ false = sym (join_none old k a k place past) ∙ sym (joined a k) ∙ table_past rows a k (le_trans h past) in
+          sym (ap (λ t. table_has old a b || (t && table_has old k b)) none)
+    ] refl
 
 pub own_none : (rows : List ℕ) (n : ℕ) → length rows ≤ n → ((a : ℕ) → a < n → table_has rows a a ≡ false) → (a : ℕ) → table_has rows a a ≡ false
 own_none rows n h below a =

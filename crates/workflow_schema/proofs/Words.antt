@@ -48,7 +48,7 @@ is_set-with w k i h =
       | inl e ↦
           subst (λ j. (nat_lt j WORD_BITS && nat_eq (bit_at (bit_or w (1 * 2 ^ k % 2 ^ bits w64)) j) 1) ≡ (nat_eq j k || (nat_lt j WORD_BITS && nat_eq (bit_at w j) 1))) (sym e)
           ((λ j. lt_yes k WORD_BITS h j && nat_eq (bit_at_set_same w64 w k h j) 1)
-           ∙ sym (ap (λ t. t || (nat_lt k WORD_BITS && nat_eq (bit_at w k) 1)) (eq_same k)))
+          ∙ sym (ap (λ t. t || (nat_lt k WORD_BITS && nat_eq (bit_at w k) 1)) (eq_same k)))
       | inr ne ↦
           ap (λ n. nat_lt i WORD_BITS && nat_eq n 1) (bit_at_set_other w64 w k h i ne)
           ∙ sym (ap (λ t. t || (nat_lt i WORD_BITS && nat_eq (bit_at w i) 1)) (eq_other i k ne))
@@ -61,7 +61,7 @@ is_set-without w k i h =
       | inl e ↦
           subst (λ j. (nat_lt j WORD_BITS && nat_eq (bit_at (bit_and w (bit_not w64 (1 * 2 ^ k % 2 ^ bits w64))) j) 1) ≡ (not (nat_eq j k) && (nat_lt j WORD_BITS && nat_eq (bit_at w j) 1))) (sym e)
           ((λ j. lt_yes k WORD_BITS h j && nat_eq (bit_at_clear_same w64 w k h j) 1)
-           ∙ sym (ap (λ t. not t && (nat_lt k WORD_BITS && nat_eq (bit_at w k) 1)) (eq_same k)))
+          ∙ sym (ap (λ t. not t && (nat_lt k WORD_BITS && nat_eq (bit_at w k) 1)) (eq_same k)))
       | inr ne ↦
           and_same (nat_lt i WORD_BITS) _ _ (λ t. ap (λ n. nat_eq n 1) (bit_at_clear_other w64 w k h i (lt_back i WORD_BITS t) ne))
           ∙ sym (ap (λ t. not t && (nat_lt i WORD_BITS && nat_eq (bit_at w i) 1)) (eq_other i k ne))

@@ -8,7 +8,7 @@ use Rattle.workflow_schema.proofs.lists.permit_table.Given as goal
 
 abbrev pub invariant-pairs : goal.invariant-pairs
 invariant-pairs l = record {
-    whole : length l.rows ≡ STEP_LIMIT;
-    single : has_twice (drop l.i l.permits) ≡ false;
-    same : (a b : ℕ) → table_has l.rows a b ≡ set.contains (set_from l.permits l.i) (b, a)
+  whole : length l.rows ≡ STEP_LIMIT;
+  single : has_twice (drop l.i l.permits) ≡ false;
+  same : (a b : ℕ) → table_has l.rows a b ≡ set.contains (set_from l.permits l.i) (b, a);
 }

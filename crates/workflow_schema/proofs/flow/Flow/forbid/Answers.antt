@@ -19,7 +19,7 @@ pub returns-clause-forbidden : goal.returns-clause-forbidden
 returns-clause-forbidden c =
     rw (← c.self.view_is, ← c.s.view_is, ← c.r.view_is)
     (ap (λ (p : Pairs). record { steps = c.self.inside.steps.names; order = c.self.inside.order; permits = p })
-        (pairs_of-without c.self.inside.roles c.clear_flag.new.rows c.r.inside.0 c.s.inside.0 c.clear_flag.ensures))
+    (pairs_of-without c.self.inside.roles c.clear_flag.new.rows c.r.inside.0 c.s.inside.0 c.clear_flag.ensures))
 
 pub returns-clause-changed : goal.returns-clause-changed
 returns-clause-changed c =
@@ -30,6 +30,6 @@ pub returns-clause-unchanged : goal.returns-clause-unchanged
 returns-clause-unchanged c h =
     rw (← c.self.view_is)
     (ap (λ (p : Pairs). record { steps = c.self.inside.steps.names; order = c.self.inside.order; permits = p })
-        (pairs_of-without c.self.inside.roles c.clear_flag.new.rows c.r.inside.0 c.s.inside.0 c.clear_flag.ensures
-         ∙ remove_absent pair_cmp_total pair_cmp-IsAntisymmetric (pairs_of c.self.inside.roles) (c.r.inside.0, c.s.inside.0)
-           (pairs_of-has c.self.inside.roles c.r.inside.0 c.s.inside.0 ∙ sym c.has_flag-held.ensures ∙ h)))
+    (pairs_of-without c.self.inside.roles c.clear_flag.new.rows c.r.inside.0 c.s.inside.0 c.clear_flag.ensures
+    ∙ remove_absent pair_cmp_total pair_cmp-IsAntisymmetric (pairs_of c.self.inside.roles) (c.r.inside.0, c.s.inside.0)
+    (pairs_of-has c.self.inside.roles c.r.inside.0 c.s.inside.0 ∙ sym c.has_flag-held.ensures ∙ h)))

@@ -22,7 +22,7 @@ pub returns-clause-permitted : goal.returns-clause-permitted
 returns-clause-permitted c =
     rw (← c.self.view_is, ← c.s.view_is, ← c.r.view_is)
     (ap (λ (p : Pairs). record { steps = c.self.inside.steps.names; order = c.self.inside.order; permits = p })
-        (pairs_of-with c.self.inside.roles c.set_flag.new.rows c.r.inside.0 c.s.inside.0 c.set_flag.ensures))
+    (pairs_of-with c.self.inside.roles c.set_flag.new.rows c.r.inside.0 c.s.inside.0 c.set_flag.ensures))
 
 pub returns-clause-changed : goal.returns-clause-changed
 returns-clause-changed c =
@@ -33,6 +33,6 @@ pub returns-clause-unchanged : goal.returns-clause-unchanged
 returns-clause-unchanged c h =
     rw (← c.self.view_is)
     (ap (λ (p : Pairs). record { steps = c.self.inside.steps.names; order = c.self.inside.order; permits = p })
-        (pairs_of-with c.self.inside.roles c.set_flag.new.rows c.r.inside.0 c.s.inside.0 c.set_flag.ensures
-         ∙ insert_held pair_cmp_total pair_cmp-IsAntisymmetric (pairs_of c.self.inside.roles) (c.r.inside.0, c.s.inside.0)
-           (pairs_of-has c.self.inside.roles c.r.inside.0 c.s.inside.0 ∙ sym c.has_flag-fresh.ensures ∙ not_false c.has_flag-fresh.result h)))
+    (pairs_of-with c.self.inside.roles c.set_flag.new.rows c.r.inside.0 c.s.inside.0 c.set_flag.ensures
+    ∙ insert_held pair_cmp_total pair_cmp-IsAntisymmetric (pairs_of c.self.inside.roles) (c.r.inside.0, c.s.inside.0)
+    (pairs_of-has c.self.inside.roles c.r.inside.0 c.s.inside.0 ∙ sym c.has_flag-fresh.ensures ∙ not_false c.has_flag-fresh.result h)))
