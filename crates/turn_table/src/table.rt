@@ -67,11 +67,7 @@ fn value_of<D>(mut slots: Vec<Option<D>>) -> D
 
 impl<D: Tabled> TurnTable<D> {
     /// A table for `lanes` lanes beside the first one, 1 to 8, and its first lane, which has no number and takes no turns.
-    pub fn new(
-        alloc: Global,
-        value: D,
-        lanes: u8,
-    ) -> Result<(TurnTable<D>, Lane<D>), Refused<D>>
+    pub fn new(alloc: Global, value: D, lanes: u8) -> Result<(TurnTable<D>, Lane<D>), Refused<D>>
         requires { (1 ≤ lanes) × (lanes ≤ 8) }
         ensures first { IfOk result (λ t. t.1 ≡ first_lane t.0 (D.fixed_part value) (D.list value) lanes) }
         ensures refused { IfErr result (λ r. r.value ≡ value) }
