@@ -85,7 +85,7 @@ fn run_lanes<R: Threads + Wait + Sync>(
     requires room { (first.made ≡ next) × (next + count ≤ first.lanes) × (next + count ≤ 8) }
     ensures table { result.table ≡ table.now }
     ensures first { (result.number ≡ None) × (result.out ≡ false) }
-    ensures made { result.made ≡ next + count }
+    ensures same { (result.fixed ≡ first.fixed) × (result.made ≡ next + count) }
     ensures joined { (n : ℕ) → next ≤ n → n < next + count → Contains result.joined n }
     ensures kept { (n : ℕ) → Contains first.joined n → Contains result.joined n }
     ensures seen { StartsWith result.seen first.seen }
@@ -108,7 +108,7 @@ fn run_lanes<R: Threads + Wait + Sync>(
             requires room { (0 < count) × (first.made ≡ next + 1) × (next + count ≤ first.lanes) × (next + count ≤ 8) }
             ensures table { result.table ≡ table.entry.now }
             ensures first { (result.number ≡ None) × (result.out ≡ false) }
-            ensures made { result.made ≡ next + count }
+            ensures same { (result.fixed ≡ first.fixed) × (result.made ≡ next + count) }
             ensures joined { (n : ℕ) → next < n → n < next + count → Contains result.joined n }
             ensures kept { (n : ℕ) → Contains first.joined n → Contains result.joined n }
             ensures seen { StartsWith result.seen first.seen }
