@@ -79,13 +79,13 @@ impl Relations {
         if self.find(&name).is_some() {
             return Err(NameFault::Twice);
         }
-        let count = self.declared.len();
-        if count >= RELATION_LIMIT as usize {
+        let count = self.count();
+        if count as u16 >= RELATION_LIMIT {
             return Err(NameFault::Full);
         }
         let kind = Kind::Listed(PairSet::new(*self.declared.allocator()));
         match self.declared.push(Relation { name, kind }) {
-            Ok(()) => Ok(RelId(count as u8 + 2)),
+            Ok(()) => Ok(RelId(count + 2)),
             Err(_) => Err(NameFault::NoMemory),
         }
     }
