@@ -51,9 +51,11 @@ module _ (table : PolicyPart) (index : ℕ) where
   unfoldable pub name_in : List ℕ → Reading (Unit {0})
   name_in text = check (is_name text) (fault kind.Name table index)
 
-  -- the number of a name that is declared
+  -- the number of a name that is declared; a text of another form names nothing
   unfoldable pub number_in : List (List ℕ) → List ℕ → Reading ℕ
-  number_in names text = or_fault (place_of names text) (fault_about kind.Unknown table index text)
+  number_in names text = do
+    _ ← check (is_name text) (fault kind.Unknown table index)
+    or_fault (place_of names text) (fault_about kind.Unknown table index text)
 
   -- what is not yet there
   unfoldable pub once : List ℕ → Bool → Reading (Unit {0})

@@ -37,7 +37,7 @@ listed_in users n d = do
 unfoldable pub complement_in : Members → ℕ → Data → Reading RelationKind
 complement_in all n d = do
   text ← text_in Relations n d
-  _ ← check (is_name text) (fault_about kind.Unknown Relations n text)
+  _ ← check (is_name text) (fault kind.Unknown Relations n)
   place ← or_fault (place_of (map (λ entry. entry.0) (entries all)) text) (fault_about kind.Unknown Relations n text)
   _ ← check (not (is_complement (get_member text all))) (fault_about kind.Chain Relations n text)
   Ok (complement (first_declared + place))

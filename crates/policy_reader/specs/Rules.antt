@@ -3,8 +3,8 @@ use Rattle.std.specs.Prelude.{codes, ℕ, ◌+◌, Bool, true, false, not, List,
 use Rattle.toml.specs.Data.{Data, string, Members, get_member, same_key}
 use Rattle.wf_names.specs.declared.limits.TheConstants.{STEP_LIMIT, RULE_LIMIT}
 use Rattle.wf_names.specs.Table.{place_of}
-use Rattle.user_relations.specs.Relations.{RelationShape}
-use Rattle.constraint_forms.specs.Rules.{is_member}
+use Rattle.user_relations.specs.Relations.{RelationShape, known_names}
+use Rattle.constraint_forms.specs.Assigned.{is_member}
 use Rattle.constraint_forms.specs.declared.rule.Rule.{Rule}
 use Rattle.constraint_forms.specs.declared.rule.Rule.TheVariants as rule
 use Rattle.first_fault.specs.Reading.{◌>>=◌, or_fault, check, each}
@@ -12,20 +12,12 @@ use Rattle.policy_reader.specs.declared.fault.PolicyPart.TheVariants.{Flows}
 use Rattle.policy_reader.specs.declared.fault.PolicyKind.TheVariants as kind
 use Rattle.policy_reader.specs.Faults.{Reading, fault, fault_about}
 use Rattle.policy_reader.specs.Parts.{items, value_at, text_in, array_in, table_in, at_most, at_least_one, number_in, once, no_others}
-use Rattle.policy_reader.specs.Relations.{first_declared}
 
--- the number of a relation by its name: `same`, `other` or a declared one
-abbrev pub relation_named : List RelationShape → List ℕ → Option ℕ
-relation_named relations text =
-    if same_key text (codes "same") then Some 0
-    else if same_key text (codes "other") then Some 1
-    else option_map (λ n. first_declared + n) (place_of (map (λ r. r.name) relations) text)
-
--- the relation that a value names
+-- the relation that a value names: `same`, `other` or a declared one
 unfoldable pub relation_in : ℕ → List RelationShape → Data → Reading ℕ
 relation_in f relations d = do
   text ← text_in Flows f d
-  or_fault (relation_named relations text) (fault_about kind.Unknown Flows f text)
+  number_in Flows f (known_names relations) text
 
 -- the step that a value names
 unfoldable pub step_in : ℕ → List (List ℕ) → Data → Reading ℕ

@@ -1,5 +1,9 @@
 //! What is wrong with a policy file.
+ghost use Rattle.std.specs.Prelude.{◌≡◌};
+ghost use Rattle.policy_reader.specs.declared.fault.ReadFault.TheVariants.{Policy, NoMemory};
+ghost use Rattle.policy_reader.specs.Faults.{fault, fault_about, as_name};
 
+use std::alloc::AllocError;
 use wf_names::Name;
 
 /// What kind of fault it is.
@@ -66,10 +70,53 @@ pub struct PolicyFault {
 }
 
 /// Why a policy file was not read.
-#[derive(Clone, Copy)]
+#[derive(Drop)]
 pub enum ReadFault {
     /// The file has this first fault.
     Policy(PolicyFault),
     /// There was no memory for the policy.
     NoMemory,
+}
+
+impl From<AllocError> for ReadFault {
+    ghost from_gives = { λ _ e. e ≡ NoMemory };
+
+    fn from(_e: AllocError) -> ReadFault {
+        ReadFault::NoMemory
+    }
+}
+
+/// A fault that is about no text.
+pub(crate) fn refuse(kind: PolicyKind, table: PolicyPart, index: u32) -> ReadFault
+    ensures { result ≡ Policy (fault kind table index) }
+{
+    ReadFault::Policy(PolicyFault {
+        kind,
+        table,
+        index,
+        name: None,
+    })
+}
+
+/// A fault that is about a text.
+pub(crate) fn refuse_text(
+    kind: PolicyKind,
+    table: PolicyPart,
+    index: u32,
+    text: &str,
+) -> ReadFault
+    ensures { result ≡ Policy (fault_about kind table index text.now) }
+{
+    ReadFault::Policy(PolicyFault {
+        kind,
+        table,
+        index,
+        name: name_of(text),
+    })
+}
+
+fn name_of(text: &str) -> Option<Name>
+    ensures { result ≡ as_name text.now }
+{
+    Name::read(text)
 }

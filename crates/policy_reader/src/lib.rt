@@ -2,5 +2,7 @@
 #![tactic(auto)]
 
 mod fault;
+mod parts;
+mod rosters;
 
 pub use fault::{PolicyFault, PolicyKind, PolicyPart, ReadFault};
