@@ -53,10 +53,12 @@ pub pairs_of_users : (n : ℕ) (rs : List RelationShape) (rho : ℕ) → AreOfUs
 pairs_of_users n rs rho old = ?
 
 pub all_inserted : (n : ℕ) (s : Pairs) (u v : ℕ) → AllPairs (λ u v. (u < n) × (v < n)) s → u < n → v < n → AllPairs (λ u v. (u < n) × (v < n)) (set.insert s (u, v))
-all_inserted n s u v old hu hv = record { each = λ a b here. elim (either_inserted pair_cmp_total pair_cmp-IsAntisymmetric s (u, v) (a, b) here) [
+all_inserted n s u v old hu hv = record {
+  each = λ a b here. elim (either_inserted pair_cmp_total pair_cmp-IsAntisymmetric s (u, v) (a, b) here) [
     | inl same ↦ ?
     | inr there ↦ old.each a b there
-  ] }
+  ];
+}
 
 pub all_removed : (n : ℕ) (s : Pairs) (u v : ℕ) → AllPairs (λ u v. (u < n) × (v < n)) s → AllPairs (λ u v. (u < n) × (v < n)) (set.remove s (u, v))
 all_removed n s u v old = record { each = λ a b here. old.each a b (was_there pair_cmp_total pair_cmp-IsAntisymmetric s (u, v) (a, b) here) }

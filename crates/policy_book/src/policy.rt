@@ -10,6 +10,7 @@ ghost use Rattle.policy_book.specs.Policies.{any_below, flow_at, is_authorised, 
 ghost use Rattle.policy_book.specs.Plans.{IsWellFormed};
 ghost use Rattle.policy_book.specs.Facts.{AreOfUsers, AreSoundRules, PermitsRolesBelow};
 
+use crate::workflow::Workflow;
 use constraint_forms::{Holds, Rules};
 use rbac_state::{Roster, RosterFault};
 use std::alloc::{AllocError, Global};
@@ -17,8 +18,6 @@ use std::marker::Model;
 use user_relations::{RelationFault, Relations};
 use wf_names::{FLOW_LIMIT, FlowId, Name, NameFault, NameTable, RelId, RoleId, StepId, UserId};
 use workflow_schema::Flow;
-
-use crate::workflow::Workflow;
 
 /// A policy: a roster, relations, workflows with their rules, and the role of its administrators.
 #[derive(Drop)]
@@ -75,8 +74,9 @@ impl Policy {
 
         ensures place { IfOk result (λ f. f ≡ length self.old.flows) }
         ensures added { OnOk result (self.new ≡ record self.old {
-            flow_names = self.old.flow_names ++ name ∷ [];
-            flows = self.old.flows ++ record { flow = flow; rules = rules; retired = false } ∷ [] }) }
+          flow_names = self.old.flow_names ++ name ∷ [];
+          flows = self.old.flows ++ record { flow = flow; rules = rules; retired = false } ∷ [];
+        }) }
         ensures fresh { OnOk result (is_some (place_of self.old.flow_names name) ≡ false) }
 
         ensures twice { IsErrOf result NameFault.Twice ↔ (is_some (place_of self.old.flow_names name) ≡ true) }
