@@ -1,5 +1,5 @@
 -- What a policy says.
-use Rattle.std.specs.Prelude.{ℕ, zero, suc, Bool, true, false, ◌&&◌, ◌||◌, List, [], length, slice_index_or, slice_set}
+use Rattle.std.specs.Prelude.{ℕ, zero, suc, Bool, false, ◌&&◌, ◌||◌, [], length, slice_index_or, slice_set}
 use Rattle.std.specs.FinSet as set
 use Rattle.rbac_state.specs.Rosters.{RosterShape, has_role}
 use Rattle.user_relations.specs.Relations.{is_related, with_kind, listed}
