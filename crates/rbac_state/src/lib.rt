@@ -6,6 +6,9 @@ ghost use Rattle.std.specs.FinSet as set;
 ghost use Rattle.wf_names.specs.Table.{place_of};
 ghost use Rattle.rbac_state.specs.Rosters.{RosterShape, has_role, IsSoundRoster};
 
+#[cfg(test)]
+mod tests;
+
 use pair_set::PairSet;
 use std::alloc::{AllocError, Global};
 use std::marker::Model;
