@@ -15,7 +15,10 @@ fn roles_are_given_and_taken_away(rt: HostRuntime) -> Result<(), Fail> {
         roster.add_user(read("bob")?),
         roster.add_user(read("ann")?),
     ];
-    assert_eq!(rt; users, [Ok(UserId(0)), Ok(UserId(1)), Err(NameFault::Twice)]);
+    assert_eq!(rt;
+        users,
+        [Ok(UserId(0)), Ok(UserId(1)), Err(NameFault::Twice)]
+    );
     let (ann, bob, clerk, admin) = (UserId(0), UserId(1), RoleId(0), RoleId(1));
     assert!(rt; roster.users().len() == 2 && roster.roles().len() == 2);
     let enrolled = [
@@ -39,7 +42,11 @@ fn roles_are_given_and_taken_away(rt: HostRuntime) -> Result<(), Fail> {
     );
     assert_eq!(rt;
         (
-            [roster.has(ann, clerk), roster.has(ann, admin), roster.has(bob, clerk)],
+            [
+                roster.has(ann, clerk),
+                roster.has(ann, admin),
+                roster.has(bob, clerk)
+            ],
             [copy.has(bob, clerk), copy.has(bob, admin)],
             copy.users().find(&read("bob")?),
             copy.roles().find(&read("admin")?)

@@ -1,7 +1,7 @@
 -- Every change leaves the relations sound.
 use Rattle.std.proofs.Common.{◌≡◌, ℕ, zero, suc, ◌+◌, ◌-◌, ◌<◌, ◌≤◌, Bool, true, false, cond, List, [], ◌∷◌, ◌++◌, length, map, take, drop, refl, sym, ap, ◌∙◌, subst, ◌⊎◌, inl, inr, arith, length-append}
-use Rattle.std.specs.Prelude.{Option, Some, None, option_map, slice_get, is_some, nat_eq, nat_le, codes, Result, Ok, Err, OnOk, OnErr}
-use Rattle.std.specs.List.{IsDistinct, list_any}
+use Rattle.std.specs.Prelude.{Some, None, option_map, slice_get, is_some, nat_eq, nat_le, codes, Result, Ok, Err, OnOk, OnErr}
+use Rattle.std.specs.List.{IsDistinct}
 use Rattle.std.specs.FinSet as set
 use Rattle.std.specs.Cmp.Lexicographic.{pointwise, nat_list_eq_equiv}
 use Rattle.std.proofs.lemmas.Bool.{cases_eq, leb-false}
@@ -13,7 +13,7 @@ use Rattle.pair_set.specs.PairLaws.{pair_cmp_total, all_empty, all_insert, all_r
 use Rattle.wf_names.specs.Table.{place_of}
 use Rattle.wf_names.specs.declared.limits.TheConstants.{USER_LIMIT, RELATION_LIMIT, PAIR_LIMIT}
 use Rattle.user_relations.specs.declared.RelationFault.{RelationFault}
-use Rattle.user_relations.specs.declared.RelationFault.TheVariants.{Fixed, Already, Absent, Full, NoMemory}
+use Rattle.user_relations.specs.declared.RelationFault.TheVariants.{Already, Full}
 use Rattle.user_relations.specs.Relations.{RelationShape, RelationKind, listed, complement, kind_of, has_list, is_listed, complemented, complement_of, listed_pairs, pairs_of, known_names, change_kind, with_kind}
 use Rattle.user_relations.specs.Faults.{AnswersFault, put_fault, take_fault, relate_fault, unrelate_fault}
 use Rattle.user_relations.specs.Soundness.{AreSound}

@@ -94,7 +94,7 @@ fn a_complement_may_come_before_its_relation(rt: HostRuntime) -> Result<(), Fail
                 copy.find(&read("other")?),
                 copy.find(&read("mentor")?)
             ],
-            copy.name(clear) == read("clear")?,
+            copy.name(RelId::OTHER) == read("other")?,
             copy.count()
         ),
         (
