@@ -169,11 +169,12 @@ impl Relations {
     }
 
     /// The pairs of a listed relation in ascending order; none where it is no listed relation.
-    pub fn pairs(&self, rho: RelId) -> &[(u16, u16)]
-        ensures pairs { set.from_list result.now ≡ pairs_of self.now rho }
-        ensures ascending { IsAscending result.now }
+    pub fn pairs(&self, rho: RelId) -> Result<Vec<(u16, u16)>, AllocError>
+        ensures pairs { IfOk result (λ pairs. set.from_list pairs.items ≡ pairs_of self.now rho) }
+        ensures ascending { IfOk result (λ pairs. IsAscending pairs.items) }
     {
-        kinds::pairs(&self.declared, rho)
+        let pairs = kinds::pairs(&self.declared, rho);
+        Vec::from_slice(*self.declared.allocator(), pairs)
     }
 
     /// The same relations.
