@@ -42,69 +42,63 @@ impl Holds for NoConflict {
     }
 }
 
+// The assignment that a row says: one letter a step, `-` for a free one.
+fn assigned(row: &str) -> Assign {
+    let mut given = Assign::empty();
+    for step in 0..3u8 {
+        given = match row.as_bytes().get(step as usize) {
+            Some(b'k') => given.with(StepId(step), KIM),
+            Some(b'l') => given.with(StepId(step), LEE),
+            Some(b'm') => given.with(StepId(step), MAX),
+            _ => given,
+        };
+    }
+    given
+}
+
 #[test]
 fn duo_falsifies_a_pair_once_both_steps_are_assigned(rt: HostRuntime) {
-    let other = Rule::Pair {
-        rho: RelId::OTHER,
-        first: A,
-        second: B,
-    };
-    let same = Rule::Pair {
-        rho: RelId::SAME,
-        first: A,
-        second: B,
-    };
-    let kim = Assign::empty().with(A, KIM);
-    let kim_kim = kim.with(B, KIM);
-    let kim_lee = kim.with(B, LEE);
-    let of = |a: Assign| (falsified(&other, &Mentors, &a), falsified(&same, &Mentors, &a));
-    assert_eq!(rt;
-        [of(Assign::empty()), of(kim), of(kim_kim), of(kim_lee)],
-        [(false, false), (false, false), (true, false), (false, true)]
-    );
+    let (rho, first, second) = (RelId::OTHER, A, B);
+    let other = Rule::Pair { rho, first, second };
+    let rho = RelId::SAME;
+    let same = Rule::Pair { rho, first, second };
+    let rows = [
+        ("--", false, false),
+        ("k-", false, false),
+        ("-k", false, false),
+        ("kk", true, false),
+        ("kl", false, true),
+    ];
+    for (row, breaks_other, breaks_same) in rows {
+        let a = assigned(row);
+        let got = (falsified(&other, &Mentors, &a), falsified(&same, &Mentors, &a));
+        assert_eq!(rt; got, (breaks_other, breaks_same), "{row}");
+    }
 }
 
 #[test]
 fn trio_mentor_falsifies_some_once_all_are_assigned(rt: HostRuntime) {
-    let some = Rule::SomeOf {
-        rho: LISTED,
-        group: StepSet::empty().with(A).with(B),
-        step: C,
-    };
-    let all = Rule::AllOf {
-        rho: LISTED,
-        group: StepSet::empty().with(A).with(B),
-        step: C,
-    };
-    let of = |a: Assign| (falsified(&some, &Mentors, &a), falsified(&all, &Mentors, &a));
-    let lee_last = Assign::empty().with(C, LEE);
-    let kim_last = Assign::empty().with(C, KIM);
-    assert_eq!(rt;
-        [
-            of(lee_last),
-            of(lee_last.with(A, KIM)),
-            of(lee_last.with(A, MAX)),
-            of(lee_last.with(A, MAX).with(B, MAX)),
-            of(lee_last.with(A, KIM).with(B, MAX)),
-            of(lee_last.with(A, KIM).with(B, KIM)),
-            of(kim_last),
-            of(kim_last.with(B, LEE)),
-            of(kim_last.with(A, KIM).with(B, LEE)),
-            of(kim_last.with(A, KIM).with(B, LEE).without(C)),
-        ],
-        [
-            (false, false),
-            (false, false),
-            (false, true),
-            (true, true),
-            (false, true),
-            (false, false),
-            (false, false),
-            (false, true),
-            (true, true),
-            (false, false),
-        ]
-    );
+    let (rho, group, step) = (LISTED, StepSet::empty().with(A).with(B), C);
+    let some = Rule::SomeOf { rho, group, step };
+    let all = Rule::AllOf { rho, group, step };
+    let rows = [
+        ("---", false, false),
+        ("--l", false, false),
+        ("k-l", false, false),
+        ("m-l", false, true),
+        ("mml", true, true),
+        ("kml", false, true),
+        ("kkl", false, false),
+        ("--k", false, false),
+        ("-lk", false, true),
+        ("klk", true, true),
+        ("kl-", false, false),
+    ];
+    for (row, breaks_some, breaks_all) in rows {
+        let a = assigned(row);
+        let got = (falsified(&some, &Mentors, &a), falsified(&all, &Mentors, &a));
+        assert_eq!(rt; got, (breaks_some, breaks_all), "{row}");
+    }
 }
 
 #[test]
