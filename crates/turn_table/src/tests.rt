@@ -26,6 +26,7 @@ struct Journal {
 
 impl Tabled for Journal {
     type Ground = u8;
+
     type Item = u8;
 
     ghost fixed_part = { λ j. j.title };
