@@ -41,6 +41,7 @@ impl<D: Tabled> Model for TurnTable<D> {
 }
 
 /// There was no memory for a table. The value comes back.
+#[derive(Drop)]
 pub struct Refused<D> {
     pub value: D,
 }

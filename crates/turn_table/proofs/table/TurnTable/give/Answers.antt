@@ -1,4 +1,4 @@
-use Rattle.std.proofs.Common.{◌≡◌, true, Some, None, [], ◌∷◌, IfSome, rules, refl, ap, ◌∙◌, sym, subst}
+use Rattle.std.proofs.Common.{◌≡◌, true, Some, None, IfSome, rules, refl, ap, ◌∙◌, sym, subst}
 use mathlib.Core.Option.{some}
 use Rattle.turn_table.specs.Lists.{GrowsByOne}
 use Rattle.turn_table.specs.Lanes.{LaneShape, hold_of, carried_by}

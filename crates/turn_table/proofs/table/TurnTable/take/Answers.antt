@@ -1,4 +1,4 @@
-use Rattle.std.proofs.Common.{◌≡◌, true, Some, ◌∷◌, IsSome, rules, refl, ap, ◌∙◌, sym, subst}
+use Rattle.std.proofs.Common.{◌≡◌, true, Some, IsSome, rules, refl, ap, ◌∙◌, sym, subst}
 use Rattle.turn_table.specs.Lists.{Quiet}
 use Rattle.turn_table.specs.Lanes.{LaneShape, shape_of}
 use Rattle.turn_table.specs.Turns.{entering}
