@@ -1,5 +1,6 @@
 pub mod Faults
 pub mod Parts
+pub mod Bounds
 pub mod Rosters
 pub mod Relations
 pub mod Rules

@@ -1,10 +1,9 @@
 -- The relations of a policy file.
-use Rattle.std.specs.Prelude.{codes, ℕ, ◌+◌, Bool, true, false, not, ◌||◌, List, [], ◌∷◌, ◌++◌, length, map, Option, None, Some, is_some, if◌then◌else◌, Result, Ok, Err}
+use Rattle.std.specs.Prelude.{codes, ℕ, ◌+◌, Bool, true, false, not, ◌||◌, List, [], ◌∷◌, ◌++◌, length, Option, None, Some, is_some, if◌then◌else◌, Result, Ok, Err}
 use Rattle.std.specs.FinSet as set
 use Rattle.toml.specs.Data.{Data, table, Members, no_members, member, get_member, same_key}
 use Rattle.wf_names.specs.declared.limits.TheConstants.{RELATION_LIMIT, PAIR_LIMIT}
 use Rattle.wf_names.specs.Names.{is_name}
-use Rattle.wf_names.specs.Table.{place_of}
 use Rattle.user_relations.specs.Relations.{RelationKind, listed, complement, RelationShape}
 use Rattle.first_fault.specs.Reading.{◌>>=◌, or_fault, check, each}
 use Rattle.policy_reader.specs.declared.fault.PolicyPart.TheVariants.{Relations}
@@ -21,9 +20,14 @@ abbrev pub is_built_in : List ℕ → Bool
 is_built_in text = same_key text (codes "same") || same_key text (codes "other")
 
 -- the value is a table whose one key is `complement`
-abbrev pub is_complement : Option Data → Bool
-is_complement (Some (table (member key d no_members))) = same_key key (codes "complement")
+abbrev pub is_complement : Data → Bool
+is_complement (table (member key d no_members)) = same_key key (codes "complement")
 is_complement _ = false
+
+-- the number and the value of the entry with a key, where the entries are numbered from n
+abbrev pub entry_of : ℕ → List ℕ → List (List ℕ × Data) → Option (ℕ × Data)
+entry_of n key [] = None
+entry_of n key (entry ∷ more) = if same_key key entry.0 then Some (n, entry.1) else entry_of (n + 1) key more
 
 -- the pairs of the relation with number n: an array of distinct pairs of users
 unfoldable pub listed_in : List (List ℕ) → ℕ → Data → Reading RelationKind
@@ -38,9 +42,9 @@ unfoldable pub complement_in : Members → ℕ → Data → Reading RelationKind
 complement_in all n d = do
   text ← text_in Relations n d
   _ ← check (is_name text) (fault kind.Unknown Relations n)
-  place ← or_fault (place_of (map (λ entry. entry.0) (entries all)) text) (fault_about kind.Unknown Relations n text)
-  _ ← check (not (is_complement (get_member text all))) (fault_about kind.Chain Relations n text)
-  Ok (complement (first_declared + place))
+  other ← or_fault (entry_of first_declared text (entries all)) (fault_about kind.Unknown Relations n text)
+  _ ← check (not (is_complement other.1)) (fault_about kind.Chain Relations n text)
+  Ok (complement other.0)
 
 -- what the relation with number n is: a table with one key
 unfoldable pub kind_in : List (List ℕ) → Members → ℕ → Members → Reading RelationKind

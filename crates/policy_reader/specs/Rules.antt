@@ -1,10 +1,10 @@
 -- The rules of a workflow in a policy file. Their faults carry the workflow's number.
-use Rattle.std.specs.Prelude.{codes, ℕ, ◌+◌, Bool, true, false, not, List, [], ◌∷◌, ◌++◌, length, map, replicate, slice_set, Option, None, Some, option_map, if◌then◌else◌, Result, Ok, Err}
+use Rattle.std.specs.Prelude.{codes, ℕ, ◌+◌, Bool, true, false, not, List, [], ◌∷◌, ◌++◌, length, slice_set, Option, None, Some, option_map, if◌then◌else◌, Result, Ok, Err}
 use Rattle.toml.specs.Data.{Data, string, Members, get_member, same_key}
-use Rattle.wf_names.specs.declared.limits.TheConstants.{STEP_LIMIT, RULE_LIMIT}
+use Rattle.wf_names.specs.declared.limits.TheConstants.{RULE_LIMIT}
 use Rattle.wf_names.specs.Table.{place_of}
 use Rattle.user_relations.specs.Relations.{RelationShape, known_names}
-use Rattle.constraint_forms.specs.Assigned.{is_member}
+use Rattle.constraint_forms.specs.Assigned.{is_member, no_steps}
 use Rattle.constraint_forms.specs.declared.rule.Rule.{Rule}
 use Rattle.constraint_forms.specs.declared.rule.Rule.TheVariants as rule
 use Rattle.first_fault.specs.Reading.{◌>>=◌, or_fault, check, each}
@@ -38,7 +38,7 @@ unfoldable pub group_in : ℕ → List (List ℕ) → Data → Reading (List Boo
 group_in f steps d = do
   members ← array_in Flows f d
   _ ← at_least_one Flows f (length (items members))
-  each (next_member f steps) (replicate STEP_LIMIT false) (items members)
+  each (next_member f steps) no_steps (items members)
 
 -- a rule over two steps
 unfoldable pub pair_in : ℕ → List RelationShape → List (List ℕ) → Members → Reading Rule
