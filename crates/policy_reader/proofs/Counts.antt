@@ -1,5 +1,8 @@
 -- How many items an array and how many entries a table has.
-use Rattle.std.proofs.Common.{◌≡◌, List, [], ◌∷◌, length, String, Global, refl, ap, get_or, ◌≢◌, None, arith}
+use Rattle.std.proofs.Common.{◌≡◌, List, [], ◌∷◌, length, String, Global, refl, ap, get_or, ◌≢◌, None, arith, ◌<◌, ◌≤◌, ℕ, true, Bool, nat_lt, nat_le}
+use Rattle.std.proofs.lemmas.Bool.Decides.{nat_tests}
+use Rattle.wf_names.specs.declared.limits.TheConstants.{STEP_LIMIT}
+use Rattle.workflow_schema.specs.Flows.{is_count}
 use Rattle.std.specs.Prelude.{suc}
 use Rattle.toml.specs.declared.value.Value.{Value}
 use Rattle.toml.specs.View.{view, items_view, members_view}
@@ -24,3 +27,9 @@ texts_of_others [] h = refl
 texts_of_others (v ∷ []) h = refl
 texts_of_others (v ∷ w ∷ []) h = absurd (h refl)
 texts_of_others (v ∷ w ∷ x ∷ vs) h = refl
+
+pub counted : (n : ℕ) → 0 < n → n ≤ STEP_LIMIT → is_count n ≡ true
+counted n some few = grind (arith, nat_tests, some, few)
+
+pub few_steps : (n : ℕ) → is_count n ≡ true → n ≤ STEP_LIMIT
+few_steps n h = grind (arith, nat_tests, h)

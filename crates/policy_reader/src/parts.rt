@@ -88,7 +88,8 @@ pub(crate) fn at_most(limit: usize, count: usize, part: PolicyPart, index: u32) 
 /// A count that may not be 0.
 #[tactic(auto, unfolding(crate::specs::Parts::at_least_one))]
 pub(crate) fn at_least_one(count: usize, part: PolicyPart, index: u32) -> Result<(), ReadFault>
-    ensures { Gives fault_of (λ u. u) result (parts.at_least_one part index count) }
+    ensures read { Gives fault_of (λ u. u) result (parts.at_least_one part index count) }
+    ensures some { OnOk result (0 < count) }
 {
     if count == 0 {
         return Err(refuse(PolicyKind::Empty, part, index));
