@@ -40,20 +40,23 @@ module _ {D G I : Type 0} (fixed_part : D → G) (list : D → List (ℕ × I)) 
     alone (suc j) v e live = absurd (some-ne-none v (sym e))
 
     pub starts : TurnRule fixed_part list (fixed_part x) (list x) lanes (opening (0 ∷ []) (Some x ∷ []) front)
-    starts = (refl, record {
-      now = list x;
-      made = 0;
-      first = 0;
-      holder = 0;
-      owner = λ _. 0;
-      free = λ _. (x, refl, refl, refl);
-      held = λ not. absurd (not refl);
-      unmade = quiet_self _ (list x);
-      enough = omega arith;
-      has_first = (front, refl, refl, refl);
-      seated = λ n lt. absurd (omega arith);
-      each_seat = alone;
-    })
+    starts = (
+      refl,
+      record {
+        now = list x;
+        made = 0;
+        first = 0;
+        holder = 0;
+        owner = λ _. 0;
+        free = λ _. (x, refl, refl, refl);
+        held = λ not. absurd (not refl);
+        unmade = quiet_self _ (list x);
+        enough = omega arith;
+        has_first = (front, refl, refl, refl);
+        seated = λ n lt. absurd (omega arith);
+        each_seat = alone;
+      },
+    )
 
   module _ (g : G) (begin : List (ℕ × I)) (lanes word : ℕ) (homes : List (maybe.Option (Option D))) (views : List (View G I)) (k : Kept fixed_part list g begin lanes word homes views) (id : ℕ) (v : View G I) (at : get_elem? views id ≡ some v) (live : v.live ≡ true) (idle : v.hold ≡ Free) (first : v.number ≡ None) (all : (n : ℕ) → n < v.made → Contains v.joined n) where
     -- every number made stands at the first seat
@@ -78,8 +81,8 @@ module _ {D G I : Type 0} (fixed_part : D → G) (list : D → List (ℕ × I)) 
         let q = p.quiet in
         let b = p.begins in
         let none : q.0 ≡ [] = no_pairs q.0 (λ n. dite (dec_le k.made n)
-            (λ unmade. (quiet_parts n k.now begin b.0 k.unmade.0 q.0 k.unmade.1 (k.unmade.2 n unmade) (q.1 ∙ ap (λ l. l ++ q.0) b.1)).1)
-            (λ not. let lt : n < k.made = omega (arith, not) in q.2 n (lt, here n lt))) in
+        (λ unmade. (quiet_parts n k.now begin b.0 k.unmade.0 q.0 k.unmade.1 (k.unmade.2 n unmade) (q.1 ∙ ap (λ l. l ++ q.0) b.1)).1)
+        (λ not. let lt : n < k.made = omega (arith, not) in q.2 n (lt, here n lt))) in
         q.1 ∙ (ap (λ l. v.seen ++ l) none ∙ append-nil v.seen)
 
     last : (x : D) × (get_elem? homes 0 ≡ some (some (Some x))) × (Some (fixed_part x) ≡ v.fixed) × (list x ≡ v.seen)

@@ -85,18 +85,18 @@ module _ {D G I : Type 0} (fixed_part : D → G) (list : D → List (ℕ × I)) 
   locks slots id me live s r _ at _ =
       let word = slice_index s.words 0 in dite (ℕ_discrete word 0)
       (λ hit.
-          let k = subst (λ (n : ℕ). Keeps n s.homes s.views) hit r.1 in
-          let f = k.free refl in
-          let x = f.0 in
-          let w = entering me.0 (list x) in
-          let p = k.each_seat id me.0 at live in
-          let q = p.quiet in (
-            w,
-            takes 0 (Some x),
-            f.1,
-            subst (λ b. Rule (stepped s 0 (either b 1 word) id me.1 w (takes 0 (Some x)))) (sym (eq-eqb word 0 hit)) (rule_at s.words _ _ 1 r.0 (entered s.homes s.views k id me.0 at live (list x) f.3)),
-            ((λ _. (x, refl, ap Some f.2 ∙ sym p.fixed, (q.0, f.3 ∙ q.1, λ n mine. q.2 n (p.numbers n (inl mine))))), λ not. absurd (not hit)),
-          ))
+      let k = subst (λ (n : ℕ). Keeps n s.homes s.views) hit r.1 in
+      let f = k.free refl in
+      let x = f.0 in
+      let w = entering me.0 (list x) in
+      let p = k.each_seat id me.0 at live in
+      let q = p.quiet in (
+        w,
+        takes 0 (Some x),
+        f.1,
+        subst (λ b. Rule (stepped s 0 (either b 1 word) id me.1 w (takes 0 (Some x)))) (sym (eq-eqb word 0 hit)) (rule_at s.words _ _ 1 r.0 (entered s.homes s.views k id me.0 at live (list x) f.3)),
+        ((λ _. (x, refl, ap Some f.2 ∙ sym p.fixed, (q.0, f.3 ∙ q.1, λ n mine. q.2 n (p.numbers n (inl mine))))), λ not. absurd (not hit)),
+      ))
       (λ miss. (
         me.0,
         keeps,

@@ -1,5 +1,5 @@
 //! The table, and the calls by which lanes take turns.
-ghost use Rattle.std.specs.Prelude.{◌≡◌, ℕ, ◌+◌, ◌<◌, ◌≤◌, true, false, ◌++◌, length, drop, [], ◌∷◌, IsSome, IfSome, IfOk, IfErr};
+ghost use Rattle.std.specs.Prelude.{◌≡◌, ◌⊎◌, ℕ, ◌+◌, ◌<◌, ◌≤◌, true, false, ◌++◌, length, drop, [], ◌∷◌, IsSome, IfSome, IfOk, IfErr};
 ghost use Rattle.std.specs.List.{Contains};
 ghost use Rattle.turn_table.specs.Lists.{StartsWith, Quiet, OwnPast, GrowsByOne};
 ghost use Rattle.turn_table.specs.Lanes.{first_lane, next_lane, joined_lane};
@@ -67,11 +67,7 @@ fn value_of<D>(mut slots: Vec<Option<D>>) -> D
 
 impl<D: Tabled> TurnTable<D> {
     /// A table for `lanes` lanes beside the first one, 1 to 8, and its first lane, which has no number and takes no turns.
-    pub fn new(
-        alloc: Global,
-        value: D,
-        lanes: u8,
-    ) -> Result<(TurnTable<D>, Lane<D>), Refused<D>>
+    pub fn new(alloc: Global, value: D, lanes: u8) -> Result<(TurnTable<D>, Lane<D>), Refused<D>>
         requires { (1 ≤ lanes) × (lanes ≤ 8) }
         ensures first { IfOk result (λ t. t.1 ≡ first_lane t.0 (D.fixed_part value) (D.list value) lanes) }
         ensures refused { IfErr result (λ r. r.value ≡ value) }
@@ -149,6 +145,8 @@ impl<D: Tabled> TurnTable<D> {
         requires numbered { IsSome from.number }
         ensures into { into.new ≡ joined_lane into.old from }
         ensures begins { StartsWith into.new.seen into.old.seen × StartsWith into.new.seen from.seen }
+        ensures counted { (n : ℕ) → (from.number ≡ Some n) ⊎ Contains from.joined n → Contains into.new.joined n }
+        ensures kept { (n : ℕ) → Contains into.old.joined n → Contains into.new.joined n }
     {
         let shared = &self.table.shared;
         shared.join_seat::<Unite>(&mut into.seat, from.into_seat());
