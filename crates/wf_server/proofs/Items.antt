@@ -1,12 +1,13 @@
 -- Arrays whose items are pushed one after another.
-use Rattle.std.proofs.Common.{◌≡◌, ℕ, ◌+◌, ◌*◌, ◌<◌, ◌≤◌, List, [], ◌∷◌, ◌++◌, length, get_or, drop, drop-cons, add-one, refl, ap, ◌∙◌, arith}
+use Rattle.std.proofs.Common.{◌≡◌, ℕ, ◌+◌, ◌*◌, ◌<◌, ◌≤◌, List, [], ◌∷◌, ◌++◌, refl, ap, ◌∙◌, arith}
+use Prim.Native.Nat.{zero, suc}
 use Rattle.std.specs.Prelude.{map}
 use Rattle.serde_json.specs.declared.value.Value.{Value}
 use Rattle.serde_json.specs.Data.{Data, Items, no_items, item}
 use Rattle.serde_json.specs.View.{view, items_view}
 use Rattle.refutation_tree.specs.declared.tree.Branch.{Branch}
 use Rattle.refutation_tree.specs.declared.tree.Kid.{Kid, Tree as Tree_kid}
-use Rattle.refutation_tree.specs.Shapes.{Kids, no_kids, tree_kid, kid_onto, branch_onto, kids_of_items, nodes_of_kids}
+use Rattle.refutation_tree.specs.Shapes.{Kids, no_kids, tree_kid, kid_onto, branch_onto, kid_count, kids_from, nodes_of_kids}
 use Rattle.wf_server.specs.TreeTexts.{items_of}
 
 -- values, and other items behind them
@@ -26,9 +27,12 @@ pub items_view-map : (vs : List Value) → items_view vs ≡ items_of (map view 
 items_view-map [] = refl
 items_view-map (v ∷ vs) = ap (item (view v)) (items_view-map vs)
 
--- the branches from place i on are the one there and those after it
-pub kids_at : (bs : List Branch) (i : ℕ) (b : Branch) → i < length bs → b ≡ get_or bs i b → kids_of_items (drop i bs) ≡ branch_onto b (kids_of_items (drop (i + 1) bs))
-kids_at bs i b h e = ap kids_of_items (drop-cons bs i b h) ∙ rw (← e, add-one)
+-- past the last branch there is none
+pub kids_from-all : (kids : Kids) (i : ℕ) → kid_count kids ≤ i → kids_from i kids ≡ no_kids
+kids_from-all no_kids zero h = refl
+kids_from-all no_kids (suc i) h = refl
+kids_from-all (tree_kid u t kids) zero h = absurd (omega arith)
+kids_from-all (tree_kid u t kids) (suc i) h = kids_from-all kids i (omega arith)
 
 nodes_onto_kid : (u : ℕ) (kid : Kid) (rest : Kids) → nodes_of_kids (kid_onto kid u rest) ≡ nodes_of_kids (kid_onto kid u no_kids) + nodes_of_kids rest
 nodes_onto_kid u (Tree_kid t) rest = omega arith

@@ -53,7 +53,10 @@ pub(crate) fn judge(alloc: Global, p: &Policy, f: FlowId, input: &[u8]) -> Resul
     ensures { JudgesAs p.now f input.now result }
 {
     match read_plan(alloc, p, p.flow(f).steps().len() as u8, input) {
-        Ok(plan) => judge_plan(alloc, p, f, &plan),
+        Ok(plan) => match judge_plan(alloc, p, f, &plan) {
+            Ok(answer) => Ok(answer),
+            Err(_) => Err(RunFault::NoMemory),
+        },
         Err(InputError::Fault(fault)) => Err(RunFault::BadInput(fault)),
         Err(InputError::NoMemory) => Err(RunFault::NoMemory),
     }

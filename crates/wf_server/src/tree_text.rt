@@ -2,10 +2,10 @@
 ghost use Rattle.std.specs.Prelude.{◌≡◌, ◌<◌, ℕ, List, length, IfOk};
 ghost use Rattle.serde_json.specs.Data.{array, item};
 ghost use Rattle.serde_json.specs.View.{view, items_view};
-ghost use Rattle.refutation_tree.specs.Shapes.{shape_of, kids_of_items, branch_onto, Kids};
+ghost use Rattle.refutation_tree.specs.Shapes.{shape_of, kids_of, branch_onto, Kids};
 ghost use Rattle.wf_server.specs.TreeTexts.{named, plan_data, tree_data, kids_data};
 
-use refutation_tree::{Branch, Kid, Tree};
+use refutation_tree::{Branch, Branches, Kid, Tree};
 use serde_json::{Value, json};
 use std::alloc::{AllocError, Global};
 use wf_names::{NameTable, UserId};
@@ -43,7 +43,7 @@ pub(crate) fn tree_value(
         Tree::Rule(k) => json!(in alloc; {"rule": (*k)}),
         Tree::Step(s, branches) => {
             let step = name_value(alloc, steps, s.0 as u16)?;
-            let kids = kids_value(alloc, steps, users, branches.as_slice())?;
+            let kids = kids_value(alloc, steps, users, branches)?;
             json!(in alloc; {"step": (&step), "users": (&kids)})
         }
     }
@@ -54,12 +54,15 @@ fn kids_value(
     alloc: Global,
     steps: &NameTable,
     users: &NameTable,
-    branches: &[Branch],
+    branches: &Branches,
 ) -> Result<Value, AllocError>
-    ensures { IfOk result (λ v. view v ≡ array (kids_data steps.now.names users.now.names (kids_of_items branches.now))) }
+    ensures { IfOk result (λ v. view v ≡ array (kids_data steps.now.names users.now.names (kids_of branches.now))) }
 {
     let mut kids = Vec::new(alloc);
-    'branches: for branch in branches {
+    'branches: for i in 0..branches.len() {
+        let Some(branch) = branches.get(i) else {
+            break;
+        };
         kids.push(kid_value(alloc, steps, users, branch)?)?;
     }
     Ok(Value::Array(kids))
