@@ -1,10 +1,7 @@
 -- A command of the code, as the definitions see it.
-use Rattle.wf_server.specs.declared.words.Command.{Command as Asked}
-use Rattle.wf_server.specs.declared.words.Command.TheVariants.{Plan, Show, Solve}
-use Rattle.wf_server.specs.Words.{Command, plan, showing, solve}
+use Rattle.wf_server.specs.declared.words.PlanWords.{PlanWords}
+use Rattle.wf_server.specs.Words.{Command, plan}
 
 -- the command with its words
-abbrev pub asked : Asked → Command
-asked (Plan policy flow) = plan policy.now flow.now
-asked (Show policy) = showing policy.now
-asked (Solve policy) = solve policy.now
+abbrev pub asked : PlanWords → Command
+asked words = plan words.policy.now words.flow.now

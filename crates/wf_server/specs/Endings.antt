@@ -98,6 +98,21 @@ JudgesAs p f input (Err (BadInput fault)) = plan_of_input p (length (flow_at p f
 JudgesAs p f input (Err NoMemory) = Unit {0}
 JudgesAs p f input (Err fault) = ⊥
 
+-- the endings of a command that was done
+abbrev pub IsJudgement : RunFault → Type 0
+IsJudgement Nothing = Unit {0}
+IsJudgement Found = Unit {0}
+IsJudgement fault = ⊥
+
+-- an answer is a judgement; an ending without one is none, and neither a faulty command line nor a write fault
+abbrev pub IsAnswer : Result Answer RunFault → Type 0
+IsAnswer (Ok answer) = IsJudgement answer.fault
+IsAnswer (Err Nothing) = ⊥
+IsAnswer (Err Found) = ⊥
+IsAnswer (Err Usage) = ⊥
+IsAnswer (Err Write) = ⊥
+IsAnswer (Err fault) = Unit {0}
+
 -- an answer is one of those of Run; so is the ending without one, where the outside and memory did not fail
 abbrev pub AnswersAs : (RunFault → List ℕ → Type 0) → Result Answer RunFault → Type 0
 AnswersAs Run (Ok answer) = Run answer.fault (string_bytes answer.text)

@@ -1,17 +1,18 @@
 -- The input of `plan`: one JSON array of the users' names in the order of the steps.
-use Rattle.std.specs.Prelude.{ℕ, ◌==◌, ◌&&◌, Bool, true, List, [], ◌∷◌, ◌++◌, length, Option, None, Some, is_some, option_and_then, Result, Ok, Err, if◌then◌else◌}
+use Rattle.std.specs.Prelude.{◌≡◌, ℕ, ◌<◌, ◌==◌, ◌&&◌, Bool, true, List, [], ◌∷◌, ◌++◌, length, Option, None, Some, is_some, option_and_then, Result, Ok, Err, if◌then◌else◌}
 use Rattle.std.specs.List.{list_all}
 use Rattle.std.specs.Str.Lossy.{utf8_valid_len}
 use Rattle.serde_json.specs.Data.{Data, Items, no_items, item}
 use Rattle.serde_json.specs.Find.{as_str, as_array}
 use Rattle.serde_json.specs.Read.{read}
 use Rattle.first_fault.specs.Reading.{◌>>=◌, or_fault, check, each}
+use Rattle.constraint_forms.specs.Assigned.{planned}
 use Rattle.wf_names.specs.Names.{is_name}
 use Rattle.wf_names.specs.Table.{place_of}
 use Rattle.policy_book.specs.Shapes.{PolicyShape}
 use Rattle.policy_book.specs.Policies.{flow_at}
 use Rattle.wf_server.specs.declared.fault.InputFault.{InputFault}
-use Rattle.wf_server.specs.declared.fault.InputFault.TheVariants.{Syntax, Length, NoUser}
+use Rattle.wf_server.specs.declared.fault.InputFault.TheVariants.{NoFlow, Syntax, Length, NoUser}
 use Rattle.wf_server.specs.declared.input.InputError.{InputError}
 use Rattle.wf_server.specs.declared.input.InputError.TheVariants.{Fault, NoMemory}
 
@@ -47,7 +48,22 @@ plan_of_input p steps input = do
   _ ← check (length (listed_items items) == steps) Length
   each (next_user p) [] (listed_items items)
 
+-- each user of a plan is among the first so many
+abbrev pub AreBelow : ℕ → List ℕ → Type 0
+AreBelow n users = (s : ℕ) → s < length users → planned users s < n
+
+-- a plan has one more user, among the first so many
+pub record HasOneMore (n : ℕ) (before after : List ℕ) : Type 0 where
+  pub user : ℕ
+  pub known : user < n
+  pub pushed : after ≡ before ++ user ∷ []
+
 -- the fault of the input where an error is one; want of memory is none
 abbrev pub input_fault : InputError → Option InputFault
 input_fault (Fault fault) = Some fault
 input_fault NoMemory = None
+
+-- a fault of the input itself, or want of memory
+abbrev pub IsOfInput : InputError → Type 0
+IsOfInput (Fault NoFlow) = ⊥
+IsOfInput error = Unit {0}

@@ -4,4 +4,3 @@ pub mod Answers
 pub mod Endings
 pub mod Asked
 pub mod Statuses
-pub mod TreeTexts

@@ -1,5 +1,5 @@
 //! The input of `plan`, read as a plan.
-ghost use Rattle.std.specs.Prelude.{◌≡◌, ◌<◌, ◌≤◌, ◌==◌, ℕ, List, [], ◌∷◌, ◌++◌, length, option_and_then};
+ghost use Rattle.std.specs.Prelude.{◌≡◌, ◌<◌, ◌≤◌, ◌^◌, ◌==◌, ℕ, List, [], ◌∷◌, ◌++◌, length, option_and_then, IfErr, IfOk, IfSome, OnOk};
 ghost use Rattle.std.specs.List.{list_all};
 ghost use Rattle.serde_json.specs.View.{view, items_view};
 ghost use Rattle.serde_json.specs.Find.{as_str};
@@ -7,7 +7,7 @@ ghost use Rattle.first_fault.specs.Reading.{Gives, or_fault, each};
 ghost use Rattle.wf_names.specs.declared.limits.TheConstants.{STEP_LIMIT};
 ghost use Rattle.policy_book.specs.Policies.{flow_at};
 ghost use Rattle.wf_server.specs.declared.fault.InputFault.TheVariants.{Syntax};
-ghost use Rattle.wf_server.specs.Inputs.{plan_of_input, number_named, next_user, value_of, is_text, listed_items, input_fault};
+ghost use Rattle.wf_server.specs.Inputs.{plan_of_input, number_named, next_user, value_of, is_text, listed_items, input_fault, AreBelow, HasOneMore, IsOfInput};
 
 use crate::InputFault;
 use policy_book::{Plan, Policy};
@@ -24,7 +24,7 @@ pub(crate) enum InputError {
 }
 
 /// The plan that an input is for a workflow.
-#[tactic(auto, unfolding(crate::specs::Inputs::plan_of_input))]
+#[tactic(auto, using(crate::proofs::Values::length_listed), unfolding(crate::specs::Inputs::plan_of_input))]
 pub(crate) fn read_plan(
     alloc: Global,
     p: &Policy,
@@ -32,7 +32,10 @@ pub(crate) fn read_plan(
     input: &[u8],
 ) -> Result<Plan, InputError>
     requires { steps ≤ STEP_LIMIT }
-    ensures { Gives input_fault (λ plan. plan) result (plan_of_input p.now steps input.now) }
+    ensures plan { Gives input_fault (λ plan. plan) result (plan_of_input p.now steps input.now) }
+    ensures whole { IfOk result (λ plan. length plan ≡ steps) }
+    ensures fault { IfErr result IsOfInput }
+    ensures users { IfOk result (λ plan. AreBelow (length p.now.roster.users) plan) }
 {
     let value = read_value(alloc, input)?;
     let Some(items) = value.as_array() else {
@@ -51,7 +54,8 @@ pub(crate) fn read_plan(
 // The JSON value of the input.
 #[tactic(auto, unfolding(crate::specs::Inputs::value_of))]
 fn read_value(alloc: Global, input: &[u8]) -> Result<Value, InputError>
-    ensures { Gives input_fault view result (or_fault (value_of input.now) Syntax) }
+    ensures value { Gives input_fault view result (or_fault (value_of input.now) Syntax) }
+    ensures fault { IfErr result IsOfInput }
 {
     let Ok(text) = str::from_utf8(input) else {
         return Err(InputError::Fault(InputFault::Syntax));
@@ -79,6 +83,9 @@ fn are_texts(items: &[Value]) -> bool
 fn read_users(alloc: Global, p: &Policy, items: &[Value]) -> Result<Vec<UserId>, InputError>
     requires { length items.now ≤ STEP_LIMIT }
     ensures users { Gives input_fault (λ users. users.items) result (each (next_user p.now) [] (listed_items (items_view items.now))) }
+    ensures whole { IfOk result (λ users. length users.items ≡ length items.now) }
+    ensures fault { IfErr result IsOfInput }
+    ensures known { IfOk result (λ users. AreBelow (length p.now.roster.users) users.items) }
 {
     let mut users = Vec::new(alloc);
     'users: for item in items {
@@ -91,7 +98,9 @@ fn read_users(alloc: Global, p: &Policy, items: &[Value]) -> Result<Vec<UserId>,
 #[tactic(auto, unfolding(crate::specs::Inputs::next_user))]
 fn read_user(p: &Policy, users: &mut Vec<UserId>, item: &Value) -> Result<(), InputError>
     requires { length users.old.items < 2 ^ 32 }
-    ensures { Gives input_fault (λ _. users.new.items) result (next_user p.now users.old.items (view item.now)) }
+    ensures user { Gives input_fault (λ _. users.new.items) result (next_user p.now users.old.items (view item.now)) }
+    ensures fault { IfErr result IsOfInput }
+    ensures pushed { OnOk result (HasOneMore (length p.now.roster.users) users.old.items users.new.items) }
 {
     match user_of(p, item) {
         Some(u) => match users.push(u) {
@@ -104,7 +113,8 @@ fn read_user(p: &Policy, users: &mut Vec<UserId>, item: &Value) -> Result<(), In
 
 // The user that an item names, if it is a text and names one.
 fn user_of(p: &Policy, item: &Value) -> Option<UserId>
-    ensures { result ≡ option_and_then (number_named p.now.roster.users) (as_str (view item.now)) }
+    ensures user { result ≡ option_and_then (number_named p.now.roster.users) (as_str (view item.now)) }
+    ensures known { IfSome result (λ u. u < length p.now.roster.users) }
 {
     match item.as_str() {
         Some(text) => find_user(p, text),
@@ -114,7 +124,8 @@ fn user_of(p: &Policy, item: &Value) -> Option<UserId>
 
 // The user of a name, if the text is one.
 fn find_user(p: &Policy, text: &str) -> Option<UserId>
-    ensures { result ≡ number_named p.now.roster.users text.now }
+    ensures user { result ≡ number_named p.now.roster.users text.now }
+    ensures known { IfSome result (λ u. u < length p.now.roster.users) }
 {
     match Name::read(text) {
         Some(name) => match p.roster().users().find(&name) {

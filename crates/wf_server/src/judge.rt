@@ -1,12 +1,12 @@
 //! The judgement of a plan.
-ghost use Rattle.std.specs.Prelude.{◌≡◌, ◌<◌, ◌≤◌, ℕ, List, length, string_bytes, None, Some, Ok, Err, IfOk, IfSome, IfErr, MatchResult};
+ghost use Rattle.std.specs.Prelude.{◌≡◌, ◌<◌, ◌≤◌, ℕ, List, [], length, slice_index_or, string_bytes, None, Some, Ok, Err, false, IfOk, IfSome, IfErr, MatchResult};
 ghost use Rattle.wf_outside.specs.Outside.{Rose};
 ghost use Rattle.certificate_check.specs.Faults.{plan_verdict};
 ghost use Rattle.constraint_forms.specs.Assigned.{no_steps, no_users, planned};
 ghost use Rattle.policy_book.specs.Policies.{flow_at, problem_of};
 ghost use Rattle.wf_server.specs.Inputs.{number_named};
 ghost use Rattle.wf_server.specs.Answers.{Judges, fault_line};
-ghost use Rattle.wf_server.specs.Endings.{GivesInput, IsInputEnding, JudgesAs};
+ghost use Rattle.wf_server.specs.Endings.{GivesInput, IsAnswer, IsInputEnding, IsJudgement, JudgesAs, is_before_input};
 
 use crate::answer::Answer;
 use crate::input::{InputError, read_plan};
@@ -14,7 +14,7 @@ use crate::{InputFault, RunFault};
 use certificate_check::{PlanFault, check_plan};
 use policy_book::{Assign, Plan, Policy, StepSet};
 use std::alloc::{AllocError, Global};
-use wf_names::{FlowId, LINE_LIMIT, Name};
+use wf_names::{FlowId, LINE_LIMIT, Name, NameTable};
 use wf_outside::{LoadFault, Loaded, Source, take_all};
 
 /// How many bytes of the input are taken at once.
@@ -50,7 +50,9 @@ pub(crate) fn take_input<S: Source>(alloc: Global, source: &mut S) -> Result<Loa
 /// Reads an input as a plan, and judges it.
 pub(crate) fn judge(alloc: Global, p: &Policy, f: FlowId, input: &[u8]) -> Result<Answer, RunFault>
     requires { f < length p.now.flows }
-    ensures { JudgesAs p.now f input.now result }
+    ensures judged { JudgesAs p.now f input.now result }
+    ensures ending { IsAnswer result }
+    ensures late { IfErr result (λ fault. is_before_input fault ≡ false) }
 {
     match read_plan(alloc, p, p.flow(f).steps().len() as u8, input) {
         Ok(plan) => match judge_plan(alloc, p, f, &plan) {
@@ -67,7 +69,8 @@ fn judge_plan(alloc: Global, p: &Policy, f: FlowId, plan: &Plan) -> Result<Answe
     requires flow { f < length p.now.flows }
     requires whole { length plan.now ≡ length (flow_at p.now f).flow.steps }
     requires users { (s : ℕ) → s < length plan.now → planned plan.now s < length p.now.roster.users }
-    ensures { IfOk result (λ answer. Judges p.now f plan.now answer.fault (string_bytes answer.text)) }
+    ensures judged { IfOk result (λ answer. Judges p.now f plan.now answer.fault (string_bytes answer.text)) }
+    ensures ending { IfOk result (λ answer. IsJudgement answer.fault) }
 {
     match check_plan(p, f, &Assign::empty(), &StepSet::empty(), plan) {
         Ok(()) => Ok(Answer {
@@ -89,15 +92,20 @@ fn fault_text(alloc: Global, p: &Policy, f: FlowId, fault: PlanFault) -> Result<
     match fault {
         PlanFault::Moved(_) => Ok(String::new(alloc)),
         PlanFault::Role(s) => {
-            let names = p.flow(f).steps();
-            if (s.0 as u16) < names.len() {
-                let step = names.name(s.0 as u16);
-                let text = step.as_str();
-                format!(in alloc; "role {text}\n")
-            } else {
-                format!(in alloc; "role \n")
-            }
+            let step = name_text(alloc, p.flow(f).steps(), s.0 as u16)?;
+            format!(in alloc; "role {step}\n")
         }
         PlanFault::Rule(k) => format!(in alloc; "rule {k}\n"),
+    }
+}
+
+// The name with a number; the empty text where there is none.
+fn name_text(alloc: Global, names: &NameTable, n: u16) -> Result<String, AllocError>
+    ensures { IfOk result (λ text. string_bytes text ≡ slice_index_or names.now.names n []) }
+{
+    if n < names.len() {
+        String::from_str(alloc, names.name(n).as_str())
+    } else {
+        Ok(String::new(alloc))
     }
 }

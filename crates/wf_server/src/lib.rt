@@ -5,7 +5,10 @@ mod answer;
 mod fault;
 mod input;
 mod judge;
-mod tree_text;
+mod load;
+mod plan;
+mod run;
 mod words;
 
 pub use fault::{InputFault, RunFault};
+pub use run::{Report, run_alone};

@@ -3,42 +3,28 @@ ghost use Rattle.std.specs.Prelude.{◌≡◌, [], ◌∷◌, map, option_map, s
 ghost use Rattle.wf_server.specs.Words.{command_of};
 ghost use Rattle.wf_server.specs.Asked.{asked};
 
-/// What the program is asked to do.
+/// The words of `plan`: the policy file, and the workflow that the plan is for.
 #[derive(Clone, Copy)]
-pub(crate) enum Command<'a> {
-    Plan { policy: &'a str, flow: &'a str },
-    Show { policy: &'a str },
-    Solve { policy: &'a str },
+pub(crate) struct PlanWords<'a> {
+    pub(crate) policy: &'a str,
+    pub(crate) flow: &'a str,
 }
 
 /// The command that the words are, where they are one.
-pub(crate) fn read_words<'a>(words: &'a [String]) -> Option<Command<'a>>
+pub(crate) fn read_words<'a>(words: &'a [String]) -> Option<PlanWords<'a>>
     ensures { option_map asked result ≡ command_of (map string_bytes words.now) }
 {
     match words {
-        [word, policy] => read_two(word.as_str(), policy.as_str()),
         [word, policy, flow] => read_three(word.as_str(), policy.as_str(), flow.as_str()),
         _ => None,
     }
 }
 
-fn read_two<'a>(word: &str, policy: &'a str) -> Option<Command<'a>>
-    ensures { option_map asked result ≡ command_of (word.now ∷ policy.now ∷ []) }
-{
-    if word == "show" {
-        return Some(Command::Show { policy });
-    }
-    if word == "solve" {
-        return Some(Command::Solve { policy });
-    }
-    None
-}
-
-fn read_three<'a>(word: &str, policy: &'a str, flow: &'a str) -> Option<Command<'a>>
+fn read_three<'a>(word: &str, policy: &'a str, flow: &'a str) -> Option<PlanWords<'a>>
     ensures { option_map asked result ≡ command_of (word.now ∷ policy.now ∷ flow.now ∷ []) }
 {
     if word == "plan" {
-        return Some(Command::Plan { policy, flow });
+        return Some(PlanWords { policy, flow });
     }
     None
 }
