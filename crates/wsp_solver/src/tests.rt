@@ -1,7 +1,8 @@
 //! What no clause shows: that the search answers while there is memory, and what it answers.
-ghost use Rattle.std.specs.Prelude.{◌≡◌, ◌<◌, ◌≤◌, ℕ, length, IfOk};
+ghost use Rattle.std.specs.Prelude.{◌≡◌, ◌<◌, ◌≤◌, ℕ, length, IfOk, OnOk, IsTrue, [], ◌∷◌};
 ghost use Rattle.wf_names.specs.declared.limits.TheConstants.{STEP_LIMIT};
 ghost use Rattle.constraint_forms.specs.Assigned.{planned};
+ghost use Rattle.std.specs.FinSet as set;
 ghost use Rattle.policy_book.specs.Facts.{AreSoundRules};
 ghost use Rattle.policy_book.specs.Plans.{AreAssigned, IsWithin};
 ghost use Rattle.policy_book.specs.Policies.{problem_of};
@@ -16,6 +17,7 @@ use wf_names::{FlowId, Name, NameTable, RULE_LIMIT, RelId, RoleId, STEP_LIMIT, S
 
 // A policy of four users with one workflow: who holds which of the roles 0 and 1, which role may
 // perform each step, and the steps whose users must be one (0) or two (1).
+#[derive(Clone, Copy)]
 struct Small<'a> {
     members: &'a [(u16, u8)],
     permits: &'a [u8],
@@ -44,7 +46,7 @@ const LONE: Small = Small {
 fn small_policies_are_decided(rt: HostRuntime) -> Result<(), Fail> {
     // A plan is PLAN and its users; a holder leaf is HOLDER and its step; a rule leaf is RULE and
     // its number; a node is NODE, its step, how many branches it has, and of each user and tree.
-    let rows: [(&Small, &[(u8, u16)], &[u8], &[u16]); 4] = [
+    let rows: [(&Small, &[(u8, u16)], &[u8], &[u64]); 4] = [
         (&LONE, &[], &[], &[NODE, 0, 0]),
         (
             &DUO,
@@ -71,10 +73,103 @@ fn small_policies_are_decided(rt: HostRuntime) -> Result<(), Fail> {
     Ok(())
 }
 
-const PLAN: u16 = 100;
-const HOLDER: u16 = 101;
-const RULE: u16 = 102;
-const NODE: u16 = 103;
+#[test]
+fn the_search_agrees_with_trying_every_plan(rt: HostRuntime) -> Result<(), Fail> {
+    let rules: [&[(u8, u8, u8)]; 4] = [
+        &[],
+        &[(1, 0, 1), (1, 1, 2), (1, 0, 2)],
+        &[(0, 0, 2), (1, 1, 2)],
+        &[(1, 0, 2), (0, 0, 1)],
+    ];
+    let starts: [(&[(u8, u16)], &[u8]); 3] = [
+        (&[], &[]),
+        (&[(1, 1)], &[]),
+        (&[(0, 2), (2, 1)], &[0]),
+    ];
+    // How often there is a plan, and how often the search and the trial agree.
+    let mut planned = 0;
+    let mut agreed = 0;
+    for bits in 0..64 {
+        let members = members_of(rt.alloc(), bits)?;
+        for rules in rules {
+            let small = Small {
+                members: &members,
+                permits: &[0, 1, 0],
+                rules,
+            };
+            let (p, f) = policy(rt.alloc(), &small)?;
+            for (held, done) in starts {
+                let found = decided(rt.alloc(), &p, f, held, done)?;
+                let has_plan = found.first() == Some(&PLAN);
+                planned += has_plan as u32;
+                agreed += (has_plan == some_plan_is_valid(&p, f, held, done)) as u32;
+            }
+        }
+    }
+    assert_eq!(rt;
+        (agreed, 0 < planned && planned < agreed),
+        (64 * 4 * 3, true)
+    );
+    Ok(())
+}
+
+// Which of three users hold the roles 0 and 1, by the bits of a number.
+fn members_of(alloc: Global, bits: u16) -> Result<Vec<(u16, u8)>, AllocError> {
+    let mut members = Vec::new(alloc);
+    for u in 0..3 {
+        if bits >> (2 * u) & 1 == 1 {
+            members.push((u, 0))?;
+        }
+        if bits >> (2 * u + 1) & 1 == 1 {
+            members.push((u, 1))?;
+        }
+    }
+    Ok(members)
+}
+
+// Whether some plan of three steps is valid: each is tried.
+fn some_plan_is_valid(p: &Policy, f: FlowId, held: &[(u8, u16)], done: &[u8]) -> bool
+    requires { f < length p.now.flows }
+{
+    let users = p.roster().users().len();
+    for u in 0..users {
+        for v in 0..users {
+            for w in 0..users {
+                if is_valid(p, f, held, done, (u, v, w)) {
+                    return true;
+                }
+            }
+        }
+    }
+    false
+}
+
+fn is_valid(p: &Policy, f: FlowId, held: &[(u8, u16)], done: &[u8], users: (u16, u16, u16)) -> bool
+    requires flow { f < length p.now.flows }
+    requires first { users.0 < (problem_of p.now f).users }
+    requires second { users.1 < (problem_of p.now f).users }
+    requires third { users.2 < (problem_of p.now f).users }
+{
+    if p.flow(f).steps().len() != 3 {
+        return false;
+    }
+    let a = given(p, f, held);
+    check_plan(p, f, &a, &finished(&a, done), &plan_of(users)).is_ok()
+}
+
+fn plan_of(users: (u16, u16, u16)) -> Plan
+    ensures { result ≡ users.0 ∷ users.1 ∷ users.2 ∷ [] }
+{
+    Plan::of(&[UserId(users.0), UserId(users.1), UserId(users.2)])
+}
+
+const PLAN: u64 = 100;
+
+const HOLDER: u64 = 101;
+
+const RULE: u64 = 102;
+
+const NODE: u64 = 103;
 
 // What the search answers, as numbers.
 fn decided(
@@ -83,7 +178,7 @@ fn decided(
     f: FlowId,
     held: &[(u8, u16)],
     done: &[u8],
-) -> Result<Vec<u16>, Fail>
+) -> Result<Vec<u64>, Fail>
     requires { f < length p.now.flows }
 {
     let a = given(p, f, held);
@@ -93,7 +188,7 @@ fn decided(
         Outcome::Plan(plan) => {
             numbers.push(PLAN)?;
             for s in 0..plan.len() {
-                numbers.push(plan.at(StepId(s)).0)?;
+                numbers.push(plan.at(StepId(s)).0 as u64)?;
             }
         }
         Outcome::Refuted(tree) => write_tree(&tree, &mut numbers)?,
@@ -101,14 +196,14 @@ fn decided(
     Ok(numbers)
 }
 
-fn write_tree(tree: &Tree, numbers: &mut Vec<u16>) -> Result<(), AllocError> {
+fn write_tree(tree: &Tree, numbers: &mut Vec<u64>) -> Result<(), AllocError> {
     match tree {
-        Tree::Holder(s) => numbers.extend_from_slice(&[HOLDER, s.0 as u16]),
-        Tree::Rule(k) => numbers.extend_from_slice(&[RULE, *k as u16]),
+        Tree::Holder(s) => numbers.extend_from_slice(&[HOLDER, s.0 as u64]),
+        Tree::Rule(k) => numbers.extend_from_slice(&[RULE, *k as u64]),
         Tree::Step(s, branches) => {
-            numbers.extend_from_slice(&[NODE, s.0 as u16, branches.len() as u16])?;
+            numbers.extend_from_slice(&[NODE, s.0 as u64, branches.len() as u64])?;
             for branch in &branches.items {
-                numbers.push(branch.user.0)?;
+                numbers.push(branch.user.0 as u64)?;
                 match &branch.kid {
                     Kid::Tree(tree) => write_tree(tree, numbers)?,
                 }
@@ -147,11 +242,22 @@ fn finished(a: &Assign, steps: &[u8]) -> StepSet
 {
     let mut done = StepSet::empty();
     'steps: for s in steps {
-        if (*s as usize) < STEP_LIMIT && a.at(StepId(*s)).is_some() {
-            done = done.with(StepId(*s));
-        }
+        done = finished_too(a, done, StepId(*s));
     }
     done
+}
+
+fn finished_too(a: &Assign, done: StepSet, s: StepId) -> StepSet
+    requires { AreAssigned done a.now }
+    ensures { AreAssigned result a.now }
+{
+    if s.0 as usize >= STEP_LIMIT {
+        return done;
+    }
+    match a.at(s) {
+        Some(_) => done.with(s),
+        None => done,
+    }
 }
 
 fn policy(alloc: Global, small: &Small) -> Result<(Policy, FlowId), Fail>
@@ -224,15 +330,33 @@ fn rules(alloc: Global, steps: u16, pairs: &[(u8, u8, u8)]) -> Result<Rules, Fai
 {
     let mut rules = Rules::new(alloc);
     'pairs: for (rho, first, second) in pairs {
-        if *rho < 2 && (*first as u16) < steps && (*second as u16) < steps {
-            rules.push(Rule::Pair {
-                rho: RelId(*rho),
-                first: StepId(*first),
-                second: StepId(*second),
-            })?;
-        }
+        add_rule(
+            &mut rules,
+            steps,
+            RelId(*rho),
+            StepId(*first),
+            StepId(*second),
+        )?;
     }
     Ok(rules)
+}
+
+// Adds a rule, where what it names is in range.
+fn add_rule(
+    rules: &mut Rules,
+    steps: u16,
+    rho: RelId,
+    first: StepId,
+    second: StepId,
+) -> Result<(), Fail>
+    requires { AreSoundRules steps 0 rules.old }
+    ensures { OnOk result (AreSoundRules steps 0 rules.new) }
+{
+    if 2 <= rho.0 || steps <= first.0 as u16 || steps <= second.0 as u16 {
+        return Ok(());
+    }
+    rules.push(Rule::Pair { rho, first, second })?;
+    Ok(())
 }
 
 fn read(text: &str) -> Result<Name, Fail> {
