@@ -1,15 +1,12 @@
 -- A refuting tree excludes every valid plan.
-use Rattle.std.proofs.Common.{◌≡◌, ◌≢◌, refl, sym, ap, subst, ◌∙◌, ℕ, zero, suc, ◌+◌, ◌<◌, ◌≤◌, Bool, true, false, not, ◌&&◌, ◌||◌, ◌==◌, ltb, List, [], ◌∷◌, length, get_or, set, Option, None, Some, is_some, slice_get, slice_set, arith, cond, eqb, nat_lt, eq-eqb, ◌⊎◌, inl, inr, if◌then◌else◌}
-use Rattle.std.specs.Bool.{IsTrue}
+use Rattle.std.proofs.Common.{◌≡◌, ◌≢◌, refl, sym, ap, subst, ◌∙◌, ℕ, zero, suc, ◌+◌, ◌<◌, ◌≤◌, Bool, true, false, not, ◌&&◌, ◌||◌, ◌==◌, List, [], ◌∷◌, Option, None, Some, is_some, slice_get, slice_set, arith, eqb, nat_lt, ◌⊎◌, inl, inr, if◌then◌else◌}
 use Rattle.std.proofs.lemmas.Bool.{false≢true, ltb-true, eqb-true}
 use Rattle.std.proofs.lemmas.Bool.Decides.{nat_tests, eqb_tells}
 use Rattle.constraint_forms.specs.declared.rule.Rule.{Rule}
 use Rattle.constraint_forms.specs.Assigned.{user_at, planned, is_member}
-use Rattle.constraint_forms.specs.Rules.{is_falsified, is_satisfied}
-use Rattle.constraint_forms.specs.Laws.{IsExtension}
 use Rattle.constraint_forms.proofs.RuleLaws.{totals_decide, stays_falsified}
 use Rattle.refutation_tree.specs.Shapes.{Shape, Kids, holder, rule, node, no_kids, tree_kid}
-use Rattle.policy_book.specs.Plans.{Problem, IsValidPlan, IsCompletable, AreAssigned}
+use Rattle.policy_book.specs.Plans.{Problem, IsValidPlan, AreAssigned}
 use Rattle.policy_book.specs.Refuting.{refutes, all_refute, have_users, candidates, passing, is_misheld, is_broken, is_free}
 use Rattle.certificate_check.specs.Laws.{RefutesSoundly}
 use Rattle.certificate_check.proofs.Assigned.{and_parts, not_true, not_some, none_not_some, same_some, given, given_other, either}

@@ -1,5 +1,5 @@
 -- A plan has no first fault exactly where it is valid.
-use Rattle.std.proofs.Common.{◌≡◌, ◌≢◌, ◌⊎◌, inl, inr, eqb, refl, sym, ap, subst, ◌∙◌, ℕ, zero, suc, ◌+◌, ◌-◌, ◌<◌, ◌≤◌, ◌↔◌, Bool, true, false, not, ◌&&◌, ◌||◌, ◌==◌, List, length, Option, None, Some, Result, Ok, Err, IsOk, slice_get, if◌then◌else◌, arith}
+use Rattle.std.proofs.Common.{◌≡◌, ◌≢◌, ◌⊎◌, inl, inr, eqb, refl, sym, ap, subst, ◌∙◌, ℕ, zero, suc, ◌+◌, ◌<◌, ◌≤◌, ◌↔◌, Bool, true, false, ◌||◌, List, length, Option, None, Some, Ok, IsOk, slice_get, if◌then◌else◌, arith}
 use Rattle.std.specs.Bool.{IsTrue}
 use Rattle.std.proofs.lemmas.Bool.{false≢true, eqb-true, eq-eqb}
 use Rattle.std.proofs.lemmas.Bool.Decides.{eqb_tells}
@@ -10,7 +10,6 @@ use Rattle.constraint_forms.specs.Rules.{is_satisfied}
 use Rattle.policy_book.specs.Plans.{Problem, IsValidPlan, IsWithin}
 use Rattle.certificate_check.specs.Faults.{first_failing, is_kept, may_perform, is_obeyed, or_else, plan_verdict}
 use Rattle.certificate_check.specs.declared.plan.PlanFault.TheVariants.{Moved, Role, Rule as Rule_fault}
-use Rattle.certificate_check.specs.declared.plan.PlanFault.{PlanFault}
 use Rattle.certificate_check.proofs.Assigned.{same_some, none_not_some}
 
 -- where nothing fails, all pass

@@ -1,10 +1,10 @@
 -- Trees as code keeps them and as pure data.
-use Rattle.std.proofs.Common.{◌≡◌, refl, sym, ap, ◌∙◌, ℕ, zero, suc, ◌+◌, ◌-◌, ◌^◌, ◌<◌, ◌≤◌, List, [], ◌∷◌, ◌++◌, length, drop, slice_get, Some, get_or, min, arith}
+use Rattle.std.proofs.Common.{◌≡◌, refl, sym, ap, ◌∙◌, ℕ, zero, suc, ◌+◌, ◌<◌, List, [], ◌∷◌, ◌++◌, length, drop, get_or, min, arith}
 use Rattle.std.proofs.lemmas.List.{drop_more}
-use Rattle.refutation_tree.specs.Shapes.{Kids, no_kids, tree_kid, branch_onto, joined, kid_count, kid_onto, kids_from, kids_of, kids_of_items, kids_of_row, capped, nodes_of, nodes_of_kids}
+use Rattle.refutation_tree.specs.Shapes.{Kids, no_kids, tree_kid, branch_onto, joined, kid_count, kid_onto, kids_from, kids_of, kids_of_items, kids_of_row, nodes_of_kids}
 use Rattle.refutation_tree.specs.declared.tree.Branch.{Branch}
 use Rattle.refutation_tree.specs.declared.tree.Kid.{Kid, Tree as Tree_kid}
-use Rattle.refutation_tree.specs.declared.tree.Branches.{Branches, Branches', Branches-F, Row_of-Branch, end_of-Branch, more_of-Branch, items-the_row-Branch, items_shown-the_row-Branch-0, out-Branches, roll-Branches, out-roll-Branches, outs-Branches'}
+use Rattle.refutation_tree.specs.declared.tree.Branches.{Branches, Branches', Row_of-Branch, end_of-Branch, more_of-Branch, items-the_row-Branch, items_shown-the_row-Branch-0, out-Branches, roll-Branches, out-roll-Branches, outs-Branches'}
 
 row_kept : {n : _} (row : Row_of-Branch n) → kids_of_row row ≡ kids_of_items (items-the_row-Branch n row)
 row_kept end_of-Branch = refl

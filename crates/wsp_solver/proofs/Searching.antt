@@ -1,17 +1,14 @@
 -- What a search may conclude from what it has tried.
-use Rattle.std.proofs.Common.{◌≡◌, ◌≢◌, refl, sym, ap, subst, ◌∙◌, ℕ, zero, suc, ◌+◌, ◌-◌, ◌*◌, ◌<◌, ◌≤◌, Bool, true, false, not, ◌&&◌, ◌||◌, ◌==◌, nat_lt, List, [], ◌∷◌, length, Option, None, Some, is_some, slice_get, slice_set, if◌then◌else◌, cond, arith, ◌⊎◌, inl, inr, eqb, eq-eqb}
-use Rattle.std.specs.Bool.{IsTrue}
-use Rattle.std.proofs.lemmas.Bool.{false≢true, ltb-true, lt-ltb, and_from}
-use Rattle.std.proofs.lemmas.Bool.Decides.{eqb_tells, nat_tests}
-use Rattle.constraint_forms.specs.declared.rule.Rule.{Rule}
+use Rattle.std.proofs.Common.{◌≡◌, ◌≢◌, refl, sym, ap, ◌∙◌, ℕ, zero, suc, ◌+◌, ◌-◌, ◌<◌, ◌≤◌, Bool, true, false, not, ◌&&◌, ◌==◌, nat_lt, List, ◌∷◌, length, Option, None, Some, is_some, slice_set, if◌then◌else◌, arith, ◌⊎◌, inl, inr, eqb, eq-eqb}
+use Rattle.std.proofs.lemmas.Bool.{false≢true, lt-ltb, and_from}
+use Rattle.std.proofs.lemmas.Bool.Decides.{eqb_tells}
 use Rattle.constraint_forms.specs.Assigned.{user_at, planned, is_member}
-use Rattle.constraint_forms.specs.Rules.{is_falsified, is_satisfied, names}
 use Rattle.constraint_forms.proofs.RuleLaws.{totals_decide, falsified_by_named}
-use Rattle.refutation_tree.specs.Shapes.{Shape, Kids, holder, rule, node, no_kids, tree_kid, joined, shape_of}
+use Rattle.refutation_tree.specs.Shapes.{Shape, Kids, no_kids, tree_kid, joined}
 use Rattle.refutation_tree.proofs.ShapeLaws.{joined-assoc, joined-none}
-use Rattle.policy_book.specs.Plans.{Problem, IsValidPlan, IsWellFormed, IsWithin, AreAssigned}
-use Rattle.policy_book.specs.Refuting.{refutes, all_refute, have_users, candidates, passing, is_misheld, is_broken, is_free}
-use Rattle.certificate_check.proofs.Assigned.{and_parts, not_some, none_not_some, same_some, given_other, given_same}
+use Rattle.policy_book.specs.Plans.{Problem, IsValidPlan, IsWellFormed, IsWithin}
+use Rattle.policy_book.specs.Refuting.{refutes, all_refute, have_users, passing, is_misheld, is_broken}
+use Rattle.certificate_check.proofs.Assigned.{and_parts, none_not_some, given_other, given_same}
 use Rattle.certificate_check.proofs.Trees.{passing_at}
 use Rattle.wsp_solver.specs.Searches.{AreOfUsersBelow, IsPlanOf, NoLeafRefutes, free_count}
 

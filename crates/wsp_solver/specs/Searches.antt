@@ -1,5 +1,5 @@
 -- What a search answers, and how far it has come.
-use Rattle.std.specs.Prelude.{◌≡◌, ℕ, zero, suc, ◌+◌, ◌-◌, ◌<◌, Bool, true, false, List, Option, Some, is_some, if◌then◌else◌, IsTrue, length}
+use Rattle.std.specs.Prelude.{◌≡◌, ℕ, zero, suc, ◌+◌, ◌-◌, ◌<◌, Bool, false, List, Option, Some, is_some, if◌then◌else◌, IsTrue, length}
 use Rattle.constraint_forms.specs.Assigned.{user_at, planned}
 use Rattle.refutation_tree.specs.Shapes.{Kids, holder, rule, joined, shape_of}
 use Rattle.policy_book.specs.Plans.{Problem, IsValidPlan}

@@ -4,6 +4,3 @@
 mod search;
 
 pub use search::{Outcome, solve};
-
-#[cfg(test)]
-mod tests;

@@ -1,7 +1,6 @@
-use Rattle.std.proofs.Common.{rules, ◌≡◌, ◌<◌, ◌-◌, ◌+◌, ◌||◌, ℕ, length, slice_get, Bool, true, false, not, Some, None, sym, ap, ◌∙◌, arith, if◌then◌else◌}
-use Rattle.constraint_forms.specs.Assigned.{planned, user_at}
+use Rattle.std.proofs.Common.{◌<◌, ◌-◌, ◌+◌, length, slice_get, Some, sym, ap, ◌∙◌, arith, if◌then◌else◌}
 use Rattle.policy_book.specs.Policies.{problem_of}
-use Rattle.certificate_check.specs.Faults.{first_failing, is_kept, is_obeyed, may_perform, plan_verdict}
+use Rattle.certificate_check.specs.Faults.{first_failing, is_obeyed}
 use Rattle.certificate_check.proofs.Failing.{first_failing_at}
 use Rattle.certificate_check.proofs.plan.first_disobeyed.Goals as goal
 

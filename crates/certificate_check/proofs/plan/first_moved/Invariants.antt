@@ -1,7 +1,6 @@
-use Rattle.std.proofs.Common.{◌≡◌, ◌-◌, length, slice_get}
+use Rattle.std.proofs.Common.{◌≡◌, ◌-◌, length}
 use Rattle.constraint_forms.specs.Assigned.{planned, user_at}
-use Rattle.policy_book.specs.Policies.{problem_of}
-use Rattle.certificate_check.specs.Faults.{first_failing, is_kept, is_obeyed, may_perform}
+use Rattle.certificate_check.specs.Faults.{first_failing, is_kept}
 use Rattle.certificate_check.proofs.plan.first_moved.Given as goal
 
 abbrev pub invariant-steps : goal.invariant-steps

@@ -1,17 +1,15 @@
-use Rattle.std.proofs.Common.{rules, Option, not, ◌≡◌, ◌<◌, ◌≤◌, ◌+◌, ◌-◌, ◌*◌, ◌&&◌, ◌||◌, nat_lt, nat_eq, ℕ, length, slice_get, [], ◌∷◌, drop, Bool, true, false, List, refl, sym, ap, subst, ◌∙◌, arith}
+use Rattle.std.proofs.Common.{Option, ◌≡◌, ◌+◌, ◌&&◌, ℕ, [], drop, Bool, true, false, List, sym, ap, ◌∙◌, arith}
 use denote.Param.Weighed.{at_most}
 use Rattle.refutation_tree.proofs.tree.Branch.TheLaws.{the_size}
-use Rattle.wf_names.specs.declared.limits.TheConstants.{STEP_LIMIT}
-use Rattle.refutation_tree.specs.Shapes.{branch_onto, kids_of_items, kids_from, shape_of, no_kids, Kids, kids_of}
+use Rattle.refutation_tree.specs.Shapes.{kids_of_items, shape_of, kids_of}
 use Rattle.refutation_tree.specs.declared.tree.Branch.{Branch}
 use Rattle.refutation_tree.specs.declared.tree.Branches.{Branches, out-Branches}
 use Rattle.refutation_tree.specs.declared.tree.Tree.{Tree, Step}
-use Rattle.refutation_tree.proofs.ShapeLaws.{kids_of_items-drop, kids_of-out}
-use Rattle.policy_book.specs.Plans.{Problem, IsWithin}
+use Rattle.refutation_tree.proofs.ShapeLaws.{kids_of-out}
+use Rattle.policy_book.specs.Plans.{Problem}
 use Rattle.policy_book.specs.Policies.{problem_of}
-use Rattle.policy_book.specs.Refuting.{all_refute, any_mentions, candidates, have_users, passing, is_free, mentions, refutes}
-use Rattle.certificate_check.specs.Walks.{begins_with}
-use Rattle.certificate_check.proofs.Trees.{mentions_at, refutes_at, have_users-begin, passing_at, passing_below, user_below, nodes_within, within_given, users_next, none_next, branch_user}
+use Rattle.policy_book.specs.Refuting.{all_refute, candidates, have_users, is_free, refutes}
+use Rattle.certificate_check.proofs.Trees.{refutes_at, branch_user}
 use Rattle.certificate_check.proofs.tree.+check.Goals as goal
 
 pub all_refute-branch_refutes-requires : goal.all_refute-branch_refutes-requires

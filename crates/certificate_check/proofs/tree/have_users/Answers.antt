@@ -1,12 +1,8 @@
-use Rattle.std.proofs.Common.{rules, zero, if◌then◌else◌, ◌≡◌, ◌<◌, ◌≤◌, ◌+◌, ◌-◌, ◌*◌, ◌&&◌, ◌||◌, nat_lt, nat_eq, ℕ, length, slice_get, [], ◌∷◌, drop, Bool, true, false, List, refl, sym, ap, subst, ◌∙◌, arith}
-use Rattle.wf_names.specs.declared.limits.TheConstants.{STEP_LIMIT}
-use Rattle.refutation_tree.specs.Shapes.{branch_onto, kids_of_items, kids_from, shape_of, no_kids, Kids}
-use Rattle.refutation_tree.proofs.ShapeLaws.{kids_of_items-drop, kids_of-out}
-use Rattle.policy_book.specs.Plans.{IsWithin}
+use Rattle.std.proofs.Common.{zero, if◌then◌else◌, ◌≡◌, ◌+◌, ◌-◌, ℕ, length, ◌∷◌, drop, true, List, refl, sym, ap, ◌∙◌, arith}
+use Rattle.refutation_tree.specs.Shapes.{kids_of_items}
 use Rattle.policy_book.specs.Policies.{problem_of}
-use Rattle.policy_book.specs.Refuting.{all_refute, any_mentions, candidates, have_users, passing, is_free, mentions, refutes}
-use Rattle.certificate_check.specs.Walks.{begins_with}
-use Rattle.certificate_check.proofs.Trees.{mentions_at, refutes_at, have_users-begin, passing_at, passing_below, user_below, nodes_within, within_given, users_next, none_next, branch_user}
+use Rattle.policy_book.specs.Refuting.{have_users, passing}
+use Rattle.certificate_check.proofs.Trees.{passing_at, users_next, none_next}
 use Rattle.certificate_check.proofs.tree.have_users.Goals as goal
 
 users_known : (n : ℕ) (names users : List (List ℕ)) → n ≡ length names → names ≡ users → n ≡ length users

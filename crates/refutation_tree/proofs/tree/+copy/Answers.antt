@@ -1,7 +1,7 @@
-use Rattle.std.proofs.Common.{rules, ◌≡◌, ◌≤◌, ◌+◌, IfOk, OnOk, OnErr, MatchOption, ℕ, ◌-◌, ◌*◌, ◌<◌, length, List, [], ◌∷◌, ◌++◌, sym, ap, ◌∙◌, drop, arith}
-use Rattle.refutation_tree.specs.Shapes.{Kids, no_kids, branch_onto, capped, joined, kid_count, kids_from, kids_of, kids_of_items, nodes_of, nodes_of_kids, shape_of}
+use Rattle.std.proofs.Common.{◌+◌, sym, ap, ◌∙◌, drop}
+use Rattle.refutation_tree.specs.Shapes.{no_kids, branch_onto, joined, kids_of, kids_of_items}
 use Rattle.std.proofs.lemmas.List.{drop_all}
-use Rattle.refutation_tree.proofs.ShapeLaws.{kids_of-out, kids_of-roll, kids_of_items-push, kid_count-items, kids_from-items, kids_of_items-drop, kid_onto-joined, joined-assoc, joined-none}
+use Rattle.refutation_tree.proofs.ShapeLaws.{kids_of-out, kids_of_items-drop, kid_onto-joined, joined-assoc, joined-none}
 use Rattle.refutation_tree.proofs.tree.+copy.Goals as goal
 
 pub Branches::copy-branches-preserved : goal.Branches::copy-branches-preserved

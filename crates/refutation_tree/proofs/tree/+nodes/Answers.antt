@@ -1,7 +1,7 @@
-use Rattle.std.proofs.Common.{rules, ◌≡◌, ◌≤◌, ◌+◌, IfOk, OnOk, OnErr, MatchOption, ℕ, ◌-◌, ◌*◌, ◌<◌, length, List, [], ◌∷◌, ◌++◌, sym, ap, ◌∙◌, drop, ◌^◌, min, arith}
-use Rattle.refutation_tree.specs.Shapes.{Kids, no_kids, branch_onto, capped, joined, kid_count, kids_from, kids_of, kids_of_items, nodes_of, nodes_of_kids, shape_of}
+use Rattle.std.proofs.Common.{◌≡◌, ◌+◌, ◌-◌, sym, ap, ◌∙◌, drop, ◌^◌, min, arith}
+use Rattle.refutation_tree.specs.Shapes.{no_kids, branch_onto, capped, kids_of_items, nodes_of_kids}
 use Rattle.std.proofs.lemmas.List.{drop_all}
-use Rattle.refutation_tree.proofs.ShapeLaws.{kids_of-out, kids_of-roll, kids_of_items-push, kid_count-items, kids_from-items, nodes-drop, capped-sum}
+use Rattle.refutation_tree.proofs.ShapeLaws.{kids_of-out, nodes-drop, capped-sum}
 use Rattle.refutation_tree.proofs.tree.+nodes.Goals as goal
 
 pub Branches::nodes-branches-preserved : goal.Branches::nodes-branches-preserved

@@ -1,16 +1,14 @@
-use Rattle.std.proofs.Common.{rules, ◌≡◌, ◌<◌, ◌≤◌, ℕ, length, is_some, Some, None, true, false, not, IsTrue, ◌+◌, ◌-◌, ◌*◌, ◌&&◌, Bool, nat_lt, List, [], ◌∷◌, Option, sym, ap, subst, ◌∙◌, refl, arith, slice_set}
+use Rattle.std.proofs.Common.{◌≡◌, ◌<◌, ℕ, length, is_some, None, true, not, ◌+◌, ◌&&◌, nat_lt, List, [], Option, sym, ap, subst, ◌∙◌, arith}
 use Rattle.std.proofs.lemmas.Bool.{and_from, ltb-true}
-use Rattle.wf_names.specs.declared.limits.TheConstants.{STEP_LIMIT}
 use Rattle.constraint_forms.specs.Assigned.{user_at}
-use Rattle.refutation_tree.specs.Shapes.{Kids, kids_of, shape_of, no_kids, tree_kid, joined}
+use Rattle.refutation_tree.specs.Shapes.{kids_of, shape_of}
 use Rattle.policy_book.specs.Plans.{Problem, AreAssigned, IsWithin, IsValidPlan}
 use Rattle.policy_book.specs.Policies.{problem_of}
 use Rattle.policy_book.specs.Refuting.{all_refute, candidates, have_users, is_free, refutes}
 use Rattle.certificate_check.proofs.Assigned.{and_parts, not_some}
 use Rattle.certificate_check.proofs.Refuted.{assigned_given}
 use Rattle.certificate_check.proofs.Trees.{within_given}
-use Rattle.wsp_solver.specs.Searches.{AreOfUsersBelow, Decides, IsPlanOf, NoLeafRefutes, free_count}
-use Rattle.wsp_solver.specs.declared.search.Outcome.TheVariants.{Plan, Refuted}
+use Rattle.wsp_solver.specs.Searches.{AreOfUsersBelow, Decides, free_count}
 use Rattle.wsp_solver.proofs.Searching.{valid_full, valid_without, users_skip, users_push, users_end, refute_push, count_less}
 use Rattle.wsp_solver.proofs.search.+search.Goals as goal
 

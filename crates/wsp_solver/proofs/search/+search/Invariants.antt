@@ -1,4 +1,4 @@
-use Rattle.std.proofs.Common.{◌≡◌, ◌<◌, ◌+◌, ◌*◌, ℕ, [], true}
+use Rattle.std.proofs.Common.{◌≡◌, ◌+◌, ◌*◌, [], true}
 use Rattle.refutation_tree.specs.Shapes.{kids_of}
 use Rattle.policy_book.specs.Policies.{problem_of}
 use Rattle.policy_book.specs.Refuting.{all_refute}

@@ -1,6 +1,6 @@
-use Rattle.std.proofs.Common.{Bor, Option, None, Some, MatchOption, IfSome, is_some, true, false, ltb, get_or, arith, ◌≡◌, ◌≤◌, ◌+◌, IfOk, OnOk, OnErr, MatchOption, ℕ, ◌-◌, ◌*◌, ◌<◌, length, List, [], ◌∷◌, ◌++◌, sym, ap, ◌∙◌, drop}
-use Rattle.refutation_tree.specs.Shapes.{Kids, no_kids, branch_onto, capped, joined, kid_count, kids_from, kids_of, kids_of_items, nodes_of, nodes_of_kids, shape_of}
-use Rattle.refutation_tree.proofs.ShapeLaws.{kids_of-out, kids_of-roll, kids_of_items-push, kid_count-items, kids_from-items, kids_of_items-drop}
+use Rattle.std.proofs.Common.{Bor, Option, None, Some, MatchOption, IfSome, is_some, ltb, get_or, arith, ◌≡◌, ◌≤◌, ◌+◌, MatchOption, ℕ, ◌<◌, length, List, sym, ap, ◌∙◌}
+use Rattle.refutation_tree.specs.Shapes.{Kids, branch_onto, kid_count, kids_from, kids_of, kids_of_items}
+use Rattle.refutation_tree.proofs.ShapeLaws.{kids_of-out, kid_count-items, kids_from-items, kids_of_items-drop}
 use Rattle.std.proofs.lemmas.Bool.Decides.{nat_tests}
 use Rattle.refutation_tree.specs.declared.tree.Branch.{Branch}
 use Rattle.refutation_tree.proofs.tree.Branches.get.Goals as goal

@@ -1,6 +1,6 @@
-use Rattle.std.proofs.Common.{rules, ◌≡◌, ◌≤◌, ◌+◌, IfOk, OnOk, OnErr, MatchOption, ℕ, ◌-◌, ◌*◌, ◌<◌, length, List, [], ◌∷◌, ◌++◌, sym, ap, ◌∙◌, drop, arith}
-use Rattle.refutation_tree.specs.Shapes.{Kids, no_kids, branch_onto, capped, joined, kid_count, kids_from, kids_of, kids_of_items, nodes_of, nodes_of_kids, shape_of}
-use Rattle.refutation_tree.proofs.ShapeLaws.{kids_of-out, kids_of-roll, kids_of_items-push, kid_count-items, kids_from-items}
+use Rattle.std.proofs.Common.{ap, arith}
+use Rattle.refutation_tree.specs.Shapes.{kid_count}
+use Rattle.refutation_tree.proofs.ShapeLaws.{kids_of-out, kid_count-items}
 use Rattle.refutation_tree.specs.declared.tree.Branches.{out-Branches}
 use Rattle.refutation_tree.proofs.tree.Branches.len.Goals as goal
 

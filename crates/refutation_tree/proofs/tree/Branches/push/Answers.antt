@@ -1,6 +1,6 @@
-use Rattle.std.proofs.Common.{Result, Ok, Err, ◌≡◌, ◌≤◌, ◌+◌, IfOk, OnOk, OnErr, MatchOption, ℕ, ◌-◌, ◌*◌, ◌<◌, length, List, [], ◌∷◌, ◌++◌, sym, ap, ◌∙◌, drop}
-use Rattle.refutation_tree.specs.Shapes.{Kids, no_kids, branch_onto, capped, joined, kid_count, kids_from, kids_of, kids_of_items, nodes_of, nodes_of_kids, shape_of}
-use Rattle.refutation_tree.proofs.ShapeLaws.{kids_of-out, kids_of-roll, kids_of_items-push, kid_count-items, kids_from-items}
+use Rattle.std.proofs.Common.{Result, Ok, Err, OnErr, sym, ap, ◌∙◌}
+use Rattle.refutation_tree.specs.Shapes.{no_kids, branch_onto, joined, kids_of_items}
+use Rattle.refutation_tree.proofs.ShapeLaws.{kids_of-out, kids_of-roll, kids_of_items-push}
 use Rattle.refutation_tree.proofs.tree.Branches.push.Goals as goal
 
 always : {T E P : Type 0} (r : Result T E) → P → OnErr r P
