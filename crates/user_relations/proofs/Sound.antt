@@ -193,30 +193,6 @@ listed_still rs r m e = elim (kind_pushed rs r m) [
   | inr new ↦ let none : false ≡ true = sym (ap has_list new.0) ∙ e in cc
 ]
 
-pub sound_add : (rs : List RelationShape) (name : List ℕ) → AreSound rs → length rs < RELATION_LIMIT → is_some (place_of (known_names rs) name) ≡ false
-    → AreSound (rs ++ (record { name = name; kind = listed set.empty }) ∷ [])
-sound_add rs name s below fresh =
-    let r : RelationShape = record { name = name; kind = listed set.empty } in
-    let longer : length (rs ++ r ∷ []) ≡ length rs + 1 = length-append rs (r ∷ []) in
-    record {
-      count = omega arith;
-      names = subst (λ ns. IsDistinct (pointwise nat_eq) (codes "same" ∷ codes "other" ∷ ns)) (sym (map-append (λ (x : RelationShape). x.name) rs (r ∷ [])))
-          (IsDistinct-push nat_list_eq_equiv (known_names rs) name s.names (unknown (known_names rs) name fresh));
-      few = λ m pairs e. elim (kind_pushed rs r m) [
-        | inl same ↦ s.few m pairs (sym same ∙ e)
-        | inr new ↦ let is : Some (listed set.empty) ≡ Some (listed pairs) = sym new.1 ∙ e in let empty : set.empty ≡ pairs = cc in
-            subst (λ p. set.len p ≤ PAIR_LIMIT) empty (subst (λ n. n ≤ PAIR_LIMIT) (sym (set.len-empty pair_cmp)) (omega arith))
-      ];
-      users = λ m pairs e. elim (kind_pushed rs r m) [
-        | inl same ↦ s.users m pairs (sym same ∙ e)
-        | inr new ↦ let is : Some (listed set.empty) ≡ Some (listed pairs) = sym new.1 ∙ e in let empty : set.empty ≡ pairs = cc in subst (AllPairs AreUsers) empty (all_empty AreUsers)
-      ];
-      complements = λ m n e. elim (kind_pushed rs r m) [
-        | inl same ↦ listed_still rs r n (s.complements m n (sym same ∙ e))
-        | inr new ↦ let is : Some (listed set.empty) ≡ Some (complement n) = sym new.1 ∙ e in cc
-      ];
-    }
-
 none_declared : (m : ℕ) → kind_of [] m ≡ None
 none_declared zero = refl
 none_declared (suc zero) = refl
@@ -232,11 +208,34 @@ sound_none = record {
   complements = λ m n e. cc (none_declared m);
 }
 
+-- a relation with its pairs at the end
+sound_add_pairs : (rs : List RelationShape) (name : List ℕ) (own : Pairs) → AreSound rs → length rs < RELATION_LIMIT → is_some (place_of (known_names rs) name) ≡ false
+    → set.len own ≤ PAIR_LIMIT → AllPairs AreUsers own → AreSound (rs ++ (record { name = name; kind = listed own }) ∷ [])
+sound_add_pairs rs name own s below fresh little users =
+    let r : RelationShape = record { name = name; kind = listed own } in
+    let longer : length (rs ++ r ∷ []) ≡ length rs + 1 = length-append rs (r ∷ []) in
+    record {
+      count = omega arith;
+      names = subst (λ ns. IsDistinct (pointwise nat_eq) (codes "same" ∷ codes "other" ∷ ns)) (sym (map-append (λ (x : RelationShape). x.name) rs (r ∷ [])))
+          (IsDistinct-push nat_list_eq_equiv (known_names rs) name s.names (unknown (known_names rs) name fresh));
+      few = λ m pairs e. elim (kind_pushed rs r m) [
+        | inl same ↦ s.few m pairs (sym same ∙ e)
+        | inr new ↦ let is : Some (listed own) ≡ Some (listed pairs) = sym new.1 ∙ e in let same : own ≡ pairs = cc in subst (λ p. set.len p ≤ PAIR_LIMIT) same little
+      ];
+      users = λ m pairs e. elim (kind_pushed rs r m) [
+        | inl same ↦ s.users m pairs (sym same ∙ e)
+        | inr new ↦ let is : Some (listed own) ≡ Some (listed pairs) = sym new.1 ∙ e in let same : own ≡ pairs = cc in subst (AllPairs AreUsers) same users
+      ];
+      complements = λ m n e. elim (kind_pushed rs r m) [
+        | inl same ↦ listed_still rs r n (s.complements m n (sym same ∙ e))
+        | inr new ↦ let is : Some (listed own) ≡ Some (complement n) = sym new.1 ∙ e in cc
+      ];
+    }
+
 -- the view of what a push leaves
-pub sound_push : (ds new : List Relation) (x : Relation) (b : Bool) → new ≡ cond b (ds ++ x ∷ []) ds → x.kind ≡ Listed set.empty
-    → AreSound (shapes ds) → length (shapes ds) < RELATION_LIMIT → is_some (place_of (known_names (shapes ds)) x.name) ≡ false → AreSound (shapes new)
-sound_push ds new x true is bare s below fresh =
-    let r : RelationShape = record { name = x.name; kind = listed set.empty } in
-    let end : relation_view x ≡ r = ap (λ (k : Kind). record { name = x.name; kind = kind_view k }) bare in
-    subst AreSound (sym (ap shapes is ∙ map-append relation_view ds (x ∷ []) ∙ ap (λ (y : RelationShape). shapes ds ++ y ∷ []) end)) (sound_add (shapes ds) x.name s below fresh)
-sound_push ds new x false is bare s below fresh = subst (λ (es : List Relation). AreSound (shapes es)) (sym is) s
+pub sound_push_pairs : (ds new : List Relation) (name : List ℕ) (own : Pairs) (b : Bool) → new ≡ cond b (ds ++ (record { name = name; kind = Listed own }) ∷ []) ds
+    → AreSound (shapes ds) → length (shapes ds) < RELATION_LIMIT → is_some (place_of (known_names (shapes ds)) name) ≡ false
+    → set.len own ≤ PAIR_LIMIT → AllPairs AreUsers own → AreSound (shapes new)
+sound_push_pairs ds new name own true is s below fresh little users =
+    subst AreSound (sym (ap shapes is ∙ map-append relation_view ds (record { name = name; kind = Listed own } ∷ []))) (sound_add_pairs (shapes ds) name own s below fresh little users)
+sound_push_pairs ds new name own false is s below fresh little users = subst (λ (es : List Relation). AreSound (shapes es)) (sym is) s
