@@ -4,3 +4,4 @@ pub mod Sets
 pub mod Groups
 pub mod RuleLists
 pub mod Orders
+pub mod Drafts

@@ -4,6 +4,7 @@ pub mod Bounds
 pub mod Kept
 pub mod Rosters
 pub mod Relations
+pub mod Drafts
 pub mod Rules
 pub mod Flows
 pub mod Files

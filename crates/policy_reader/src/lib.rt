@@ -3,6 +3,7 @@
 
 mod fault;
 mod parts;
+mod relations;
 mod rosters;
 mod rules;
 mod workflows;

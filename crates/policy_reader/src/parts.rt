@@ -257,7 +257,8 @@ fn known_key(key: &str, known: &[&str], part: PolicyPart, index: u32) -> Result<
     }
 }
 
-fn is_among(texts: &[&str], text: &str) -> bool
+/// Whether a text is one of some texts.
+pub(crate) fn is_among(texts: &[&str], text: &str) -> bool
     ensures { result ≡ parts.is_among (map (λ k. k.now) texts.now) text.now }
 {
     'texts: for word in texts {

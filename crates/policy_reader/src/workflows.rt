@@ -1,13 +1,14 @@
 //! Reads the steps, the order and the permissions of a workflow. Their faults carry the
 //! workflow's number.
-ghost use Rattle.std.specs.Prelude.{◌≡◌, ◌<◌, ◌≤◌, length, slice_index_or, IfOk, OnOk, true, []};
+ghost use Rattle.std.specs.Prelude.{◌≡◌, ◌<◌, ◌≤◌, ℕ, ◌↔◌, false, length, slice_index_or, IsErrOf, IfErr, IfOk, OnOk, true, []};
 ghost use Rattle.std.specs.List.{All};
 ghost use Rattle.std.specs.FinSet as set;
 ghost use Rattle.toml.specs.View.{view, items_view, table_view};
 ghost use Rattle.wf_names.specs.declared.limits.TheConstants.{ROLE_LIMIT, STEP_LIMIT};
-ghost use Rattle.workflow_schema.specs.Flows.{is_count};
+ghost use Rattle.workflow_schema.specs.Flows.{is_count, has_twice, IsLeastCycle};
 ghost use Rattle.policy_book.specs.Facts.{PermitsRolesBelow};
 ghost use Rattle.policy_reader.specs.Bounds.{AreBelow};
+ghost use Rattle.policy_reader.specs.Kept.{IsCycleOrMemory};
 ghost use Rattle.policy_reader.specs.Faults.{fault_of, fault_about};
 ghost use Rattle.policy_reader.specs.declared.fault.ReadFault.TheVariants.{Policy};
 ghost use Rattle.policy_reader.specs.declared.fault.PolicyKind.TheVariants as kind;
@@ -58,7 +59,7 @@ fn all_steps(alloc: Global, items: &[Value], flow: u32) -> Result<NameTable, Rea
 }
 
 /// Reads the pairs of a workflow's order.
-#[tactic(auto, unfolding(crate::specs::Flows::pairs_of))]
+#[tactic(auto, unfolding(crate::specs::Flows::pairs_of), using(pair_set::specs::PairLaws::all_empty))]
 pub(crate) fn read_order(
     alloc: Global,
     steps: &NameTable,
@@ -104,12 +105,27 @@ pub(crate) fn make_flow(
 {
     let pairs = step_pairs(alloc, order.as_slice())?;
     let names = steps.copy()?;
-    match Flow::build(alloc, names, &pairs, &[]) {
+    match order_flow(alloc, names, &pairs) {
         Ok(made) => Ok(made),
         Err(FlowFault::Cycle(s)) => Err(cycle_fault(steps, s, flow)),
         Err(FlowFault::NoMemory) => Err(ReadFault::NoMemory),
         Err(_) => unreachable!(),
     }
+}
+
+fn order_flow(
+    alloc: Global,
+    steps: NameTable,
+    pairs: &[(StepId, StepId)],
+) -> Result<Flow, FlowFault>
+    requires counted { is_count (length steps.names) ≡ true }
+    requires within { All (λ p. (p.0 < length steps.names) × (p.1 < length steps.names)) pairs.now }
+    requires once { has_twice pairs.now ≡ false }
+    ensures made { IfOk result (λ f. f ≡ record { steps = steps.names; order = set.from_list pairs.now; permits = set.empty }) }
+    ensures cycle { (s : ℕ) → IsErrOf result (FlowFault.Cycle s) ↔ IsLeastCycle (set.from_list pairs.now) s }
+    ensures known { IfErr result IsCycleOrMemory }
+{
+    Flow::build(alloc, steps, pairs, &[])
 }
 
 fn cycle_fault(steps: &NameTable, s: StepId, flow: u32) -> ReadFault
