@@ -4,4 +4,5 @@ pub mod Sets
 pub mod Groups
 pub mod RuleLists
 pub mod Orders
+pub mod Cycles
 pub mod Drafts

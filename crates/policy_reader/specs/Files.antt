@@ -13,9 +13,13 @@ use Rattle.policy_reader.specs.Rosters.{roles_of, roster_of, is_held}
 use Rattle.policy_reader.specs.Relations.{relations_of}
 use Rattle.policy_reader.specs.Flows.{flows_of}
 
+-- the TOML document that a text is
+abbrev pub document_in_text : List ℕ → Reading Members
+document_in_text text = or_fault (parse_document text) (fault kind.Syntax File 0)
+
 -- the TOML document that bytes are, which have to be UTF-8
-unfoldable pub document_of : List ℕ → Option Members
-document_of bytes = if utf8_valid_len bytes == length bytes then parse_document bytes else None
+unfoldable pub document_in : List ℕ → Reading Members
+document_in bytes = if utf8_valid_len bytes == length bytes then document_in_text bytes else Err (fault kind.Syntax File 0)
 
 -- the only format
 abbrev pub is_known_format : ℤ → Bool
@@ -56,4 +60,4 @@ policy_in file = do
 
 -- the policy that the bytes of a file are, or their first fault
 unfoldable pub policy_of_file : List ℕ → Reading PolicyShape
-policy_of_file bytes = or_fault (document_of bytes) (fault kind.Syntax File 0) >>= policy_in
+policy_of_file bytes = document_in bytes >>= policy_in

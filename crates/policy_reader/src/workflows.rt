@@ -10,7 +10,7 @@ ghost use Rattle.policy_book.specs.Facts.{PermitsRolesBelow};
 ghost use Rattle.policy_reader.specs.Bounds.{AreBelow};
 ghost use Rattle.policy_reader.specs.Kept.{IsCycleOrMemory};
 ghost use Rattle.policy_reader.specs.Faults.{fault_of, fault_about};
-ghost use Rattle.policy_reader.specs.declared.fault.ReadFault.TheVariants.{Policy};
+ghost use Rattle.policy_reader.specs.declared.fault.ReadFault.TheVariants.{Policy, NoMemory};
 ghost use Rattle.policy_reader.specs.declared.fault.PolicyKind.TheVariants as kind;
 ghost use Rattle.policy_reader.specs.Parts as parts;
 ghost use Rattle.policy_reader.specs.Parts.{items as part_items, entries};
@@ -107,9 +107,20 @@ pub(crate) fn make_flow(
     let names = steps.copy()?;
     match order_flow(alloc, names, &pairs) {
         Ok(made) => Ok(made),
-        Err(FlowFault::Cycle(s)) => Err(cycle_fault(steps, s, flow)),
-        Err(FlowFault::NoMemory) => Err(ReadFault::NoMemory),
-        Err(_) => unreachable!(),
+        Err(fault) => Err(flow_fault(steps, fault, flow)),
+    }
+}
+
+fn flow_fault(steps: &NameTable, fault: FlowFault, flow: u32) -> ReadFault
+    requires known { IsCycleOrMemory fault }
+    requires within { (s : ℕ) → fault ≡ FlowFault.Cycle s → s < length steps.now.names }
+    ensures cycle { (s : ℕ) → fault ≡ FlowFault.Cycle s → result ≡ Policy (fault_about kind.Cycle Flows flow (slice_index_or steps.now.names s [])) }
+    ensures memory { fault ≡ FlowFault.NoMemory → result ≡ NoMemory }
+{
+    match fault {
+        FlowFault::Cycle(s) => cycle_fault(steps, s, flow),
+        FlowFault::NoMemory => ReadFault::NoMemory,
+        _ => unreachable!(),
     }
 }
 
