@@ -1,6 +1,6 @@
 -- What each command answers: how its run ends, faults of the outside and want of memory aside, and
 -- the text that it writes.
-use Rattle.std.specs.Prelude.{◌≡◌, ℕ, List, [], ◌∷◌, ◌++◌, length, Result, Ok, Err, MatchOption, MatchResult, MatchBool, nat_lt, codes, decimal, slice_index_or}
+use Rattle.std.specs.Prelude.{◌≡◌, ℕ, ◌+◌, List, [], ◌∷◌, ◌++◌, length, IsTrue, Result, Ok, Err, MatchOption, MatchResult, MatchBool, nat_lt, codes, decimal, slice_index_or}
 use Rattle.wf_names.specs.declared.limits.TheConstants.{POLICY_FILE_LIMIT, LINE_LIMIT}
 use Rattle.constraint_forms.specs.Assigned.{no_users, no_steps}
 use Rattle.policy_book.specs.Shapes.{PolicyShape}
@@ -14,6 +14,12 @@ use Rattle.wf_server.specs.declared.fault.RunFault.{RunFault}
 use Rattle.wf_server.specs.declared.fault.RunFault.TheVariants.{Nothing, Found, Policy, FileTooLong, LineTooLong, BadInput}
 use Rattle.wf_server.specs.declared.fault.InputFault.TheVariants.{NoFlow}
 use Rattle.wf_server.specs.Inputs.{plan_of_input, number_named}
+use Rattle.std.proofs.Common.{◌⊎◌}
+use Rattle.serde_json.specs.Data.{object, member, no_members}
+use Rattle.serde_json.specs.Written.{compact_text}
+use Rattle.refutation_tree.specs.Shapes.{Shape}
+use Rattle.policy_book.specs.Refuting.{refutes}
+use Rattle.wf_server.specs.TreeTexts.{named, plan_data, tree_data}
 use Rattle.wf_server.specs.Words.{Command, plan, showing, solve}
 
 -- the line that names the first fault of a plan; a plan from nothing moves no step
@@ -37,18 +43,27 @@ Refuses expected fault text = (fault ≡ expected) × (text ≡ [])
 abbrev pub OverPolicy : List ℕ → (PolicyShape → RunFault → List ℕ → Type 0) → RunFault → List ℕ → Type 0
 OverPolicy file Run fault text =
     MatchBool (nat_lt POLICY_FILE_LIMIT (length file)) (Refuses FileTooLong fault text)
-        (MatchResult (policy_of_file file) (λ p. Run p fault text) (λ e. Refuses (Policy e) fault text))
+    (MatchResult (policy_of_file file) (λ p. Run p fault text) (λ e. Refuses (Policy e) fault text))
 
 -- `plan` judges the plan in the input for the workflow that is named
 abbrev pub JudgesInput : PolicyShape → List ℕ → List ℕ → RunFault → List ℕ → Type 0
 JudgesInput p word input fault text =
     MatchOption (number_named p.flow_names word) (Refuses (BadInput NoFlow) fault text) (λ f.
-        MatchBool (nat_lt LINE_LIMIT (length input)) (Refuses (LineTooLong 0) fault text)
-            (MatchResult (plan_of_input p (length (flow_at p f).flow.steps) input) (λ users. Judges p f users fault text) (λ e. Refuses (BadInput e) fault text)))
+    MatchBool (nat_lt LINE_LIMIT (length input)) (Refuses (LineTooLong 0) fault text)
+    (MatchResult (plan_of_input p (length (flow_at p f).flow.steps) input) (λ users. Judges p f users fault text) (λ e. Refuses (BadInput e) fault text)))
 
 -- `show` writes a text that is a file of the same policy
 abbrev pub Shows : PolicyShape → RunFault → List ℕ → Type 0
 Shows p fault text = (fault ≡ Nothing) × (policy_of_file text ≡ Ok p)
+
+-- the line of a workflow: its name with a plan, or with a tree
+abbrev pub plan_line : PolicyShape → ℕ → List ℕ → List ℕ
+plan_line p f users =
+    compact_text (object (member (codes "flow") (named p.flow_names f) (member (codes "plan") (plan_data p.roster.users users) no_members))) ++ codes "\n"
+
+abbrev pub tree_line : PolicyShape → ℕ → Shape → List ℕ
+tree_line p f tree =
+    compact_text (object (member (codes "flow") (named p.flow_names f) (member (codes "tree") (tree_data (flow_at p f).flow.steps p.roster.users tree) no_members))) ++ codes "\n"
 
 -- `solve` writes for each workflow in turn its name with a valid plan, or with a tree that shows that there is none
 abbrev pub SolvesFlow : PolicyShape → ℕ → List ℕ → Type 0

@@ -9,13 +9,12 @@ ghost use Rattle.policy_book.specs.Policies.{flow_at};
 ghost use Rattle.wf_server.specs.declared.fault.InputFault.TheVariants.{Syntax};
 ghost use Rattle.wf_server.specs.Inputs.{plan_of_input, number_named, next_user, value_of, is_text, listed_items, input_fault};
 
+use crate::InputFault;
 use policy_book::{Plan, Policy};
 use serde_json::Value;
 use std::alloc::{AllocError, Global};
 use std::str;
 use wf_names::{FlowId, Name, UserId};
-
-use crate::InputFault;
 
 /// Why an input was not read as a plan.
 #[derive(Clone, Copy, Debug)]
@@ -26,7 +25,12 @@ pub(crate) enum InputError {
 
 /// The plan that an input is for a workflow.
 #[tactic(auto, unfolding(crate::specs::Inputs::plan_of_input))]
-pub(crate) fn read_plan(alloc: Global, p: &Policy, steps: u8, input: &[u8]) -> Result<Plan, InputError>
+pub(crate) fn read_plan(
+    alloc: Global,
+    p: &Policy,
+    steps: u8,
+    input: &[u8],
+) -> Result<Plan, InputError>
     requires { steps ≤ STEP_LIMIT }
     ensures { Gives input_fault (λ plan. plan) result (plan_of_input p.now steps input.now) }
 {

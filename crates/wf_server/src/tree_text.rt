@@ -11,7 +11,11 @@ use std::alloc::{AllocError, Global};
 use wf_names::{NameTable, UserId};
 
 /// The names of a plan's users.
-pub(crate) fn plan_value(alloc: Global, users: &NameTable, plan: &[UserId]) -> Result<Value, AllocError>
+pub(crate) fn plan_value(
+    alloc: Global,
+    users: &NameTable,
+    plan: &[UserId],
+) -> Result<Value, AllocError>
     ensures { IfOk result (λ v. view v ≡ plan_data users.now.names plan.now) }
 {
     let mut names = Vec::new(alloc);
@@ -23,7 +27,12 @@ pub(crate) fn plan_value(alloc: Global, users: &NameTable, plan: &[UserId]) -> R
 
 /// A tree with the names of its steps and users.
 #[cycle(tree_text)]
-pub(crate) fn tree_value(alloc: Global, steps: &NameTable, users: &NameTable, tree: &Tree) -> Result<Value, AllocError>
+pub(crate) fn tree_value(
+    alloc: Global,
+    steps: &NameTable,
+    users: &NameTable,
+    tree: &Tree,
+) -> Result<Value, AllocError>
     ensures { IfOk result (λ v. view v ≡ tree_data steps.now.names users.now.names (shape_of tree.now)) }
 {
     match tree {
@@ -41,7 +50,12 @@ pub(crate) fn tree_value(alloc: Global, steps: &NameTable, users: &NameTable, tr
 }
 
 #[cycle(tree_text)]
-fn kids_value(alloc: Global, steps: &NameTable, users: &NameTable, branches: &[Branch]) -> Result<Value, AllocError>
+fn kids_value(
+    alloc: Global,
+    steps: &NameTable,
+    users: &NameTable,
+    branches: &[Branch],
+) -> Result<Value, AllocError>
     ensures { IfOk result (λ v. view v ≡ array (kids_data steps.now.names users.now.names (kids_of_items branches.now))) }
 {
     let mut kids = Vec::new(alloc);
@@ -52,7 +66,12 @@ fn kids_value(alloc: Global, steps: &NameTable, users: &NameTable, branches: &[B
 }
 
 #[cycle(tree_text)]
-fn kid_value(alloc: Global, steps: &NameTable, users: &NameTable, branch: &Branch) -> Result<Value, AllocError>
+fn kid_value(
+    alloc: Global,
+    steps: &NameTable,
+    users: &NameTable,
+    branch: &Branch,
+) -> Result<Value, AllocError>
     ensures { IfOk result (λ v. (rest : Kids) → kids_data steps.now.names users.now.names (branch_onto branch.now rest) ≡ item (view v) (kids_data steps.now.names users.now.names rest)) }
 {
     let user = name_value(alloc, users, branch.user.0)?;
