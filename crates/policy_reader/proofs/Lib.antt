@@ -6,3 +6,7 @@ pub mod RuleLists
 pub mod Orders
 pub mod Cycles
 pub mod Drafts
+pub mod Held
+pub mod Permitted
+pub mod Texts
+pub mod Ends

@@ -44,9 +44,9 @@ admin_of file = do
 abbrev pub file_keys : List (List ℕ)
 file_keys = codes "admin" ∷ codes "flows" ∷ codes "format" ∷ codes "relations" ∷ codes "roles" ∷ codes "users" ∷ []
 
--- the policy in a document
-unfoldable pub policy_in : Members → Reading PolicyShape
-policy_in file = do
+-- what a document says before its workflows
+unfoldable pub start_of : Members → Reading PolicyShape
+start_of file = do
   _ ← format_of file
   name ← admin_of file
   roles ← roles_of file
@@ -54,7 +54,13 @@ policy_in file = do
   roster ← roster_of roles file
   _ ← check (is_held roster admin) (fault kind.NoAdmin Users 0)
   relations ← relations_of roster.users file
-  policy ← flows_of (record { roster = roster; relations = relations; flow_names = []; flows = []; admin = admin }) file
+  Ok (record { roster = roster; relations = relations; flow_names = []; flows = []; admin = admin })
+
+-- the policy in a document
+unfoldable pub policy_in : Members → Reading PolicyShape
+policy_in file = do
+  start ← start_of file
+  policy ← flows_of start file
   _ ← no_others File 0 file_keys file
   Ok policy
 

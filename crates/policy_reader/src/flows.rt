@@ -21,7 +21,7 @@ use crate::rules::read_rules;
 use crate::workflows::{make_flow, read_order, read_permits, read_steps};
 
 /// Reads the workflow in a table and adds it under its name.
-#[tactic(auto, unfolding(crate::specs::Flows::workflow_in), using(crate::proofs::Counts::few_steps, crate::proofs::Flows::none_permitted))]
+#[tactic(auto, unfolding(crate::specs::Flows::workflow_in), using(crate::proofs::Counts::few_steps, crate::proofs::Permitted::none_permitted))]
 fn add_workflow(
     alloc: Global,
     policy: &mut Policy,

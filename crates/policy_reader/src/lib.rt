@@ -2,13 +2,13 @@
 #![tactic(auto)]
 
 mod fault;
+mod file;
 mod flows;
 mod parts;
-mod read;
 mod relations;
 mod rosters;
 mod rules;
 mod workflows;
 
 pub use fault::{PolicyFault, PolicyKind, PolicyPart, ReadFault};
-pub use read::read;
+pub use file::read;

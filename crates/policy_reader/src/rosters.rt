@@ -62,6 +62,7 @@ fn next_held(roster: &mut Roster, u: UserId, value: &Value) -> Result<(), ReadFa
     requires user { u < length roster.old.users }
     ensures read { Gives fault_of (λ _. roster.new) result (rosters.next_held u roster.old (view value.now)) }
     ensures users { OnOk result (roster.new.users ≡ roster.old.users) }
+    ensures roles { OnOk result (roster.new.roles ≡ roster.old.roles) }
 {
     let number = u.0 as u32;
     let text = text_of(value, PolicyPart::Users, number)?;
@@ -78,6 +79,7 @@ fn all_held(roster: &mut Roster, u: UserId, items: &[Value]) -> Result<(), ReadF
     requires user { u < length roster.old.users }
     ensures read { Gives fault_of (λ _. roster.new) result (each (rosters.next_held u) roster.old (part_items (items_view items.now))) }
     ensures users { OnOk result (roster.new.users ≡ roster.old.users) }
+    ensures roles { OnOk result (roster.new.roles ≡ roster.old.roles) }
 {
     'items: for value in items {
         match next_held(roster, u, value) {
@@ -94,6 +96,7 @@ fn next_user(roster: &mut Roster, key: &str, value: &Value) -> Result<(), ReadFa
     requires room { length roster.old.users < USER_LIMIT }
     ensures read { Gives fault_of (λ _. roster.new) result (rosters.next_user roster.old (key.now, view value.now)) }
     ensures users { OnOk result (roster.new.users ≡ roster.old.users ++ key.now ∷ []) }
+    ensures roles { OnOk result (roster.new.roles ≡ roster.old.roles) }
 {
     let number = roster.users().len() as u32;
     let name = name_of(key, PolicyPart::Users, number)?;
@@ -110,6 +113,7 @@ fn next_user(roster: &mut Roster, key: &str, value: &Value) -> Result<(), ReadFa
 pub(crate) fn read_roster(alloc: Global, roles: NameTable, file: &Table) -> Result<Roster, ReadFault>
     requires roles { length roles.names ≤ ROLE_LIMIT }
     ensures read { Gives fault_of (λ r. r) result (rosters.roster_of roles.names (table_view file.now)) }
+    ensures roles { IfOk result (λ r. r.roles ≡ roles.names) }
 {
     let value = value_at(file, "users", PolicyPart::Users, 0)?;
     let users = table_of(value, PolicyPart::Users, 0)?;
@@ -124,6 +128,7 @@ fn all_users(roster: &mut Roster, users: &Table) -> Result<(), ReadFault>
     requires none { roster.old.users ≡ [] }
     requires room { length users.now.entries ≤ USER_LIMIT }
     ensures read { Gives fault_of (λ _. roster.new) result (each rosters.next_user roster.old (entries (table_view users.now))) }
+    ensures roles { OnOk result (roster.new.roles ≡ roster.old.roles) }
 {
     'entries: for (key, value) in users {
         if let Err(fault) = next_user(roster, key.as_str(), value) {

@@ -1,5 +1,5 @@
 //! Reads a policy file.
-ghost use Rattle.std.specs.Prelude.{◌≡◌, Bool, true, length, Option, option_map, IfErr, MatchResult, Some, None};
+ghost use Rattle.std.specs.Prelude.{◌≡◌, Bool, true, [], length, Option, option_map, IfOk, IfErr, MatchResult, Some, None};
 ghost use Rattle.std.specs.List.{list_any};
 ghost use Rattle.toml.specs.View.{table_view};
 ghost use Rattle.policy_reader.specs.declared.fault.ReadFault.TheVariants.{NoMemory};
@@ -60,6 +60,27 @@ fn document_of_text(alloc: Global, text: &str) -> Result<Table, ReadFault>
 fn policy_in(alloc: Global, file: &Table) -> Result<Policy, ReadFault>
     ensures { Gives fault_of (λ p. p) result (spec.policy_in (table_view file.now)) }
 {
+    let mut policy = read_start(alloc, file)?;
+    if let Err(fault) = read_flows(alloc, &mut policy, file) {
+        return Err(fault);
+    }
+    match no_others(
+        file,
+        &["admin", "flows", "format", "relations", "roles", "users"],
+        PolicyPart::File,
+        0,
+    ) {
+        Ok(()) => Ok(policy),
+        Err(fault) => Err(fault),
+    }
+}
+
+/// Reads what a document says before its workflows.
+#[tactic(auto, unfolding(crate::specs::Files::start_of))]
+fn read_start(alloc: Global, file: &Table) -> Result<Policy, ReadFault>
+    ensures read { Gives fault_of (λ p. p) result (spec.start_of (table_view file.now)) }
+    ensures bare { IfOk result (λ p. p.flow_names ≡ []) }
+{
     read_format(file)?;
     let name = read_admin(file)?;
     let roles = read_roles(alloc, file)?;
@@ -70,17 +91,7 @@ fn policy_in(alloc: Global, file: &Table) -> Result<Policy, ReadFault>
         return Err(refuse(PolicyKind::NoAdmin, PolicyPart::Users, 0));
     }
     let relations = read_relations(alloc, roster.users(), file)?;
-    let mut policy = Policy::start(alloc, roster, relations, admin)?;
-    if let Err(fault) = read_flows(alloc, &mut policy, file) {
-        return Err(fault);
-    }
-    no_others(
-        file,
-        &["admin", "flows", "format", "relations", "roles", "users"],
-        PolicyPart::File,
-        0,
-    )?;
-    Ok(policy)
+    Ok(Policy::start(alloc, roster, relations, admin)?)
 }
 
 #[tactic(auto, unfolding(crate::specs::Files::format_of))]
