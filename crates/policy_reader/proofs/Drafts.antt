@@ -179,14 +179,14 @@ entry_target n key [] m b e = cc
 entry_target n key (x ∷ es) m b e =
     elim (pointwise nat_eq key x.0) as (λ t. cond t (Some (n, is_complement x.1)) (entry_of (n + 1) key es) ≡ Some (m, b) → (is_marked n (x ∷ es) m ≡ b) × (n ≤ m) × (m < n + length (x ∷ es))) [
       | true ↦ λ found.
-        let made : ℕ × Bool = (n, is_complement x.1) in
-        let p : made ≡ (m, b) = same_some made (m, b) found in
-        let number : n ≡ m = ap (λ (q : ℕ × Bool). q.0) p in
-        let told : is_complement x.1 ≡ b = ap (λ (q : ℕ × Bool). q.1) p in
-        (subst (λ k. cond (nat_eq n k) (is_complement x.1) (is_marked (n + 1) es k) ≡ b) number (rw (eq_same n) told), omega (arith, number), omega (arith, number))
+          let made : ℕ × Bool = (n, is_complement x.1) in
+          let p : made ≡ (m, b) = same_some made (m, b) found in
+          let number : n ≡ m = ap (λ (q : ℕ × Bool). q.0) p in
+          let told : is_complement x.1 ≡ b = ap (λ (q : ℕ × Bool). q.1) p in
+          (subst (λ k. cond (nat_eq n k) (is_complement x.1) (is_marked (n + 1) es k) ≡ b) number (rw (eq_same n) told), omega (arith, number), omega (arith, number))
       | false ↦ λ found.
-        let later = entry_target (n + 1) key es m b found in
-        (rw (differs n m (omega (arith, later.1))) later.0, omega (arith, later.1), omega (arith, later.2))
+          let later = entry_target (n + 1) key es m b found in
+          (rw (differs n m (omega (arith, later.1))) later.0, omega (arith, later.1), omega (arith, later.2))
     ] e
 
 pub target_of : (key : List ℕ) (all : List (List ℕ × Data)) (m : ℕ) → entry_of first_declared key all ≡ Some (m, false) → IsTarget all m
@@ -259,13 +259,15 @@ module _ (marks : ℕ → Bool) (bound : ℕ) (rs : List RelationShape) (w : ℕ
 
   waits_after : (vs : List (ℕ × ℕ)) → AllByRecursion (λ v. w.0 < v.0) vs → AllByRecursion (WaitsFor marks rs) vs → AllByRecursion (WaitsFor marks after) vs
   waits_after [] above all = tt
-  waits_after (v ∷ vs) above all =
-      (record {
+  waits_after (v ∷ vs) above all = (
+    record {
       bare = kind_there rs w.0 v.0 (complement w.1) (λ e. omega (arith, e, above.0)) ∙ all.0.bare;
       of_listed = ap has_list (kind_there rs w.0 v.1 (complement w.1) (λ e. apart marks w.0 v.1 h.waits.0.marked all.0.other (sym e))) ∙ all.0.of_listed;
       marked = all.0.marked;
       other = all.0.other;
-    }, waits_after vs above.1 all.1)
+    },
+    waits_after vs above.1 all.1,
+  )
 
   target_is : (m : ℕ) → complemented (Some (complement w.1)) ≡ Some m → w.1 ≡ m
   target_is m e = cc
@@ -273,8 +275,8 @@ module _ (marks : ℕ → Bool) (bound : ℕ) (rs : List RelationShape) (w : ℕ
   free_after : (n m : ℕ) → complement_of after n ≡ Some m → marks m ≡ false
   free_after n m e = elim (cases_eq n w.0) [
     | inl same ↦
-      let now : complement_of after n ≡ Some w.1 = ap complemented (ap (kind_of after) same ∙ kind_here rs w.0 (listed set.empty) (complement w.1) ready_bare) in
-      subst (λ k. marks k ≡ false) (target_is m (sym now ∙ e)) h.waits.0.other
+        let now : complement_of after n ≡ Some w.1 = ap complemented (ap (kind_of after) same ∙ kind_here rs w.0 (listed set.empty) (complement w.1) ready_bare) in
+        subst (λ k. marks k ≡ false) (target_is m (sym now ∙ e)) h.waits.0.other
     | inr other ↦ h.free n m (sym (ap complemented (kind_there rs w.0 n (complement w.1) other)) ∙ e)
   ]
 

@@ -40,9 +40,9 @@ least_is (suc n) test s lt here before =
     elim (cases_lt s n) [
       | inl below ↦ rw (least_is n test s below here before) refl
       | inr above ↦
-        let same : n ≡ s = omega (arith, lt, above) in
-        let none : least_below n test ≡ None = least_none n test (λ t less. before t (omega (arith, less, same))) in
-        rw (none, ap test same ∙ here) (ap Some same)
+          let same : n ≡ s = omega (arith, lt, above) in
+          let none : least_below n test ≡ None = least_none n test (λ t less. before t (omega (arith, less, same))) in
+          rw (none, ap test same ∙ here) (ap Some same)
     ]
 
 record IsLeast (n : ℕ) (test : ℕ → Bool) (s : ℕ) : Type 0 where
@@ -107,9 +107,10 @@ or_true false = refl
 
 below_each : (n : ℕ) (ps : List (ℕ × ℕ)) → AreBelow n (set.from_list ps) → AllByRecursion (λ p. (p.0 < n) × (p.1 < n)) ps
 below_each n [] h = tt
-below_each n (p ∷ ps) h =
-    (h.each p.0 p.1 (contains_inserted pair_cmp_total pair_cmp-IsAntisymmetric (set.from_list ps) p),
-    below_each n ps (record { each = λ a b here. h.each a b (set.contains-insert pair_cmp_total (set.from_list ps) p (a, b) ∙ ap (λ x. eq_by_cmp pair_cmp (a, b) p || x) here ∙ or_true _) }))
+below_each n (p ∷ ps) h = (
+  h.each p.0 p.1 (contains_inserted pair_cmp_total pair_cmp-IsAntisymmetric (set.from_list ps) p),
+  below_each n ps (record { each = λ a b here. h.each a b (set.contains-insert pair_cmp_total (set.from_list ps) p (a, b) ∙ ap (λ x. eq_by_cmp pair_cmp (a, b) p || x) here ∙ or_true _) }),
+)
 
 -- the pairs of a list whose set is below n
 pub all_below : (n : ℕ) (ps : List (ℕ × ℕ)) → AreBelow n (set.from_list ps) → All (λ p. (p.0 < n) × (p.1 < n)) ps

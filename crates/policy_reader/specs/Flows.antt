@@ -31,9 +31,9 @@ order_in f steps d = do
 -- the pairs of the order, where there are any
 unfoldable pub pairs_of : ℕ → List (List ℕ) → Members → Reading Pairs
 pairs_of f steps ms = elim (get_member (codes "order") ms) [
-    | None ↦ Ok set.empty
-    | Some d ↦ order_in f steps d
-  ]
+  | None ↦ Ok set.empty
+  | Some d ↦ order_in f steps d
+]
 
 -- the number n where it passes and no lower one was found
 abbrev pub found_or : Option ℕ → ℕ → Bool → Option ℕ

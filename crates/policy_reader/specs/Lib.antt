@@ -1,4 +1,5 @@
 pub mod Faults
+pub mod Words
 pub mod Parts
 pub mod Bounds
 pub mod Kept

@@ -64,12 +64,12 @@ unfoldable pub kind_in : List (List ℕ) → Members → ℕ → Members → Rea
 kind_in users all n ms = do
   _ ← check (has_one ms) (fault kind.Shape Relations n)
   elim (get_member (codes "pairs") ms) [
-      | Some d ↦ listed_in users n d
-      | None ↦ elim (get_member (codes "complement") ms) [
-          | Some d ↦ complement_in all n d
-          | None ↦ Err (fault kind.Shape Relations n)
-        ]
+    | Some d ↦ listed_in users n d
+    | None ↦ elim (get_member (codes "complement") ms) [
+      | Some d ↦ complement_in all n d
+      | None ↦ Err (fault kind.Shape Relations n)
     ]
+  ]
 
 -- the next relation of the table
 unfoldable pub next_relation : List (List ℕ) → Members → List RelationShape → List ℕ × Data → Reading (List RelationShape)
@@ -91,6 +91,6 @@ relations_in users d = do
 -- the relations, where there are any
 unfoldable pub relations_of : List (List ℕ) → Members → Reading (List RelationShape)
 relations_of users file = elim (get_member (codes "relations") file) [
-    | None ↦ Ok []
-    | Some d ↦ relations_in users d
-  ]
+  | None ↦ Ok []
+  | Some d ↦ relations_in users d
+]

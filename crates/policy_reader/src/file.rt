@@ -8,17 +8,16 @@ ghost use Rattle.policy_reader.specs.Files as spec;
 ghost use Rattle.policy_reader.specs.Rosters.{is_held};
 ghost use Rattle.first_fault.specs.Reading.{Gives};
 
-use policy_book::Policy;
-use rbac_state::Roster;
-use std::alloc::Global;
-use toml::value::Table;
-use wf_names::{Name, RoleId, UserId};
-
 use crate::fault::{PolicyKind, PolicyPart, ReadFault, refuse};
 use crate::flows::read_flows;
 use crate::parts::{name_of, no_others, number_of, text_of, value_at};
 use crate::relations::read_relations;
 use crate::rosters::{read_roles, read_roster};
+use policy_book::Policy;
+use rbac_state::Roster;
+use std::alloc::Global;
+use toml::value::Table;
+use wf_names::{Name, RoleId, UserId};
 
 /// Reads the policy in the bytes of a TOML file, or tells their first fault.
 #[tactic(auto, unfolding(crate::specs::Files::policy_of_file))]

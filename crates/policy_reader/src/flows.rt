@@ -9,16 +9,15 @@ ghost use Rattle.policy_reader.specs.Parts.{entries};
 ghost use Rattle.policy_reader.specs.Flows as spec;
 ghost use Rattle.first_fault.specs.Reading.{Gives, each};
 
+use crate::fault::{PolicyPart, ReadFault};
+use crate::parts::{at_least_one, at_most, name_of, no_others, table_of, value_at};
+use crate::rules::read_rules;
+use crate::workflows::{make_flow, read_order, read_permits, read_steps};
 use policy_book::Policy;
 use std::alloc::Global;
 use toml::Value;
 use toml::value::Table;
 use wf_names::{FLOW_LIMIT, Name, NameFault};
-
-use crate::fault::{PolicyPart, ReadFault};
-use crate::parts::{at_least_one, at_most, name_of, no_others, table_of, value_at};
-use crate::rules::read_rules;
-use crate::workflows::{make_flow, read_order, read_permits, read_steps};
 
 /// Reads the workflow in a table and adds it under its name.
 #[tactic(auto, unfolding(crate::specs::Flows::workflow_in), using(crate::proofs::Counts::few_steps, crate::proofs::Permitted::none_permitted))]
@@ -34,7 +33,12 @@ fn add_workflow(
     ensures names { OnOk result (policy.new.flow_names ≡ policy.old.flow_names ++ name ∷ []) }
 {
     let number = policy.flows().len() as u32;
-    no_others(table, &["order", "permit", "rules", "steps"], PolicyPart::Flows, number)?;
+    no_others(
+        table,
+        &["order", "permit", "rules", "steps"],
+        PolicyPart::Flows,
+        number,
+    )?;
     let steps = read_steps(alloc, table, number)?;
     let order = read_order(alloc, &steps, table, number)?;
     let mut made = make_flow(alloc, &steps, &order, number)?;
@@ -51,12 +55,7 @@ fn add_workflow(
 
 /// Reads the next workflow.
 #[tactic(auto, unfolding(crate::specs::Flows::next_flow))]
-fn next_flow(
-    alloc: Global,
-    policy: &mut Policy,
-    key: &str,
-    value: &Value,
-) -> Result<(), ReadFault>
+fn next_flow(alloc: Global, policy: &mut Policy, key: &str, value: &Value) -> Result<(), ReadFault>
     requires fresh { is_some (place_of policy.old.flow_names key.now) ≡ false }
     requires room { length policy.old.flow_names < FLOW_LIMIT }
     ensures read { Gives fault_of (λ _. policy.new) result (spec.next_flow policy.old (key.now, view value.now)) }

@@ -12,3 +12,6 @@ mod workflows;
 
 pub use fault::{PolicyFault, PolicyKind, PolicyPart, ReadFault};
 pub use file::read;
+
+#[cfg(test)]
+mod tests;

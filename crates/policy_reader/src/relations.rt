@@ -15,15 +15,14 @@ ghost use Rattle.policy_reader.specs.Relations.{first_declared};
 ghost use Rattle.policy_reader.specs.declared.fault.ReadFault.TheVariants.{NoMemory};
 ghost use Rattle.first_fault.specs.Reading.{Gives, each};
 
+use crate::fault::{PolicyKind, PolicyPart, ReadFault, refuse, refuse_text};
+use crate::parts::{array_of, at_most, find, is_among, name_of, read_pairs, table_of, text_of};
 use pair_set::PairSet;
 use std::alloc::Global;
 use toml::Value;
 use toml::value::Table;
 use user_relations::Relations;
 use wf_names::{Name, NameFault, NameTable, PAIR_LIMIT, RELATION_LIMIT, RelId};
-
-use crate::fault::{PolicyKind, PolicyPart, ReadFault, refuse, refuse_text};
-use crate::parts::{array_of, at_most, find, is_among, name_of, read_pairs, table_of, text_of};
 
 /// What a relation is, as the file says it.
 #[derive(Drop)]
@@ -222,9 +221,15 @@ fn all_relations(alloc: Global, users: &NameTable, all: &Table) -> Result<Relati
     let mut relations = Relations::new(alloc)?;
     let mut waiting = Vec::new(alloc);
     'entries: for (key, value) in all {
-        if let Err(fault) =
-            next_relation(alloc, users, all, &mut relations, &mut waiting, key.as_str(), value)
-        {
+        if let Err(fault) = next_relation(
+            alloc,
+            users,
+            all,
+            &mut relations,
+            &mut waiting,
+            key.as_str(),
+            value,
+        ) {
             return Err(fault);
         }
     }

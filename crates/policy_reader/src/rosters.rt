@@ -8,14 +8,15 @@ ghost use Rattle.policy_reader.specs.Parts.{items as part_items, entries};
 ghost use Rattle.policy_reader.specs.Rosters as rosters;
 ghost use Rattle.first_fault.specs.Reading.{Gives, each};
 
+use crate::fault::{PolicyKind, PolicyPart, ReadFault, refuse_text};
+use crate::parts::{
+    array_of, at_least_one, at_most, name_of, next_name, number_of, table_of, text_of, value_at,
+};
 use rbac_state::{Roster, RosterFault};
 use std::alloc::Global;
 use toml::Value;
 use toml::value::Table;
 use wf_names::{NameFault, NameTable, ROLE_LIMIT, RoleId, USER_LIMIT, UserId};
-
-use crate::fault::{PolicyKind, PolicyPart, ReadFault, refuse_text};
-use crate::parts::{array_of, at_least_one, at_most, name_of, next_name, number_of, table_of, text_of, value_at};
 
 /// Reads the roles.
 #[tactic(auto, unfolding(crate::specs::Rosters::roles_of), using(crate::proofs::Counts::count_items))]
@@ -69,7 +70,12 @@ fn next_held(roster: &mut Roster, u: UserId, value: &Value) -> Result<(), ReadFa
     let role = number_of(roster.roles(), text, PolicyPart::Users, number)?;
     match roster.enrol(u, RoleId(role as u8)) {
         Ok(()) => Ok(()),
-        Err(RosterFault::Already) => Err(refuse_text(PolicyKind::Twice, PolicyPart::Users, number, text)),
+        Err(RosterFault::Already) => Err(refuse_text(
+            PolicyKind::Twice,
+            PolicyPart::Users,
+            number,
+            text,
+        )),
         Err(RosterFault::Absent) => unreachable!(),
         Err(RosterFault::NoMemory) => Err(ReadFault::NoMemory),
     }
@@ -110,7 +116,11 @@ fn next_user(roster: &mut Roster, key: &str, value: &Value) -> Result<(), ReadFa
 
 /// Reads the users and the roles that they hold.
 #[tactic(auto, unfolding(crate::specs::Rosters::roster_of), using(crate::proofs::Counts::count_entries))]
-pub(crate) fn read_roster(alloc: Global, roles: NameTable, file: &Table) -> Result<Roster, ReadFault>
+pub(crate) fn read_roster(
+    alloc: Global,
+    roles: NameTable,
+    file: &Table,
+) -> Result<Roster, ReadFault>
     requires roles { length roles.names ≤ ROLE_LIMIT }
     ensures read { Gives fault_of (λ r. r) result (rosters.roster_of roles.names (table_view file.now)) }
     ensures roles { IfOk result (λ r. r.roles ≡ roles.names) }

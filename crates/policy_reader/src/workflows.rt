@@ -18,18 +18,17 @@ ghost use Rattle.policy_reader.specs.declared.fault.PolicyPart.TheVariants.{Flow
 ghost use Rattle.policy_reader.specs.Flows as spec;
 ghost use Rattle.first_fault.specs.Reading.{Gives, each};
 
+use crate::fault::{PolicyKind, PolicyPart, ReadFault, refuse_text};
+use crate::parts::{
+    array_of, at_least_one, at_most, find, next_name, number_of, read_pairs, table_of, text_of,
+    value_at,
+};
 use pair_set::PairSet;
 use std::alloc::{AllocError, Global};
 use toml::Value;
 use toml::value::Table;
 use wf_names::{NameTable, RoleId, STEP_LIMIT, StepId};
 use workflow_schema::{Flow, FlowFault};
-
-use crate::fault::{PolicyKind, PolicyPart, ReadFault, refuse_text};
-use crate::parts::{
-    array_of, at_least_one, at_most, find, next_name, number_of, read_pairs, table_of, text_of,
-    value_at,
-};
 
 /// Reads the steps of a workflow.
 #[tactic(auto, unfolding(crate::specs::Flows::steps_of), using(crate::proofs::Counts::count_items, crate::proofs::Counts::counted))]
@@ -153,7 +152,10 @@ fn step_pairs(alloc: Global, pairs: &[(u16, u16)]) -> Result<Vec<(StepId, StepId
 {
     let mut steps = Vec::new(alloc);
     'pairs: for pair in pairs {
-        if steps.push((StepId(pair.0 as u8), StepId(pair.1 as u8))).is_err() {
+        if steps
+            .push((StepId(pair.0 as u8), StepId(pair.1 as u8)))
+            .is_err()
+        {
             return Err(AllocError);
         }
     }

@@ -33,20 +33,26 @@ next_relation-requires-clause-here c =
 
 pub entries-preserved : goal.entries-preserved
 entries-preserved c =
-    let longer = names_longer c.entries.relations c.next_relation.new.relations _ c.in_default.ensures.names in
-    (left_next (next_relation c.args.users.now.names (table_view c.args.all.now)) (λ rs. map (λ r. r.name) rs) RELATION_LIMIT _ (completed c.entries.relations c.entries.waiting.items) (completed c.next_relation.new.relations c.next_relation.new.waiting.items)
-    c.entries.key-iterator (c.in-Some.key.now, c.in-Some.value.now) c.next.new.self c.in-Some.ensures.steps c.entries.invariant.0
-    (rw (← c.as_str.ensures.value) c.in_default.ensures.read)
-    (completed_names c.next_relation.new.relations c.next_relation.new.waiting.items ∙ rw (← c.as_str.ensures.value, completed_names c.entries.relations c.entries.waiting.items) c.in_default.ensures.names),
-    c.in_default.ensures.draft,
-    rw longer (drop_next (length c.entries.relations) (entries (table_view c.args.all.now)) (string_bytes c.in-Some.key.now, view c.in-Some.value.now) (entries (members_view c.next.new.self)) (c.entries.invariant.2 ∙ ap (λ es. entries (members_view es)) c.in-Some.ensures.steps)))
+    let longer = names_longer c.entries.relations c.next_relation.new.relations _ c.in_default.ensures.names in (
+      left_next (next_relation c.args.users.now.names (table_view c.args.all.now)) (λ rs. map (λ r. r.name) rs) RELATION_LIMIT _ (completed c.entries.relations c.entries.waiting.items) (completed c.next_relation.new.relations c.next_relation.new.waiting.items)
+          c.entries.key-iterator (c.in-Some.key.now, c.in-Some.value.now) c.next.new.self c.in-Some.ensures.steps c.entries.invariant.0
+          (rw (← c.as_str.ensures.value) c.in_default.ensures.read)
+          (completed_names c.next_relation.new.relations c.next_relation.new.waiting.items ∙ rw (← c.as_str.ensures.value, completed_names c.entries.relations c.entries.waiting.items) c.in_default.ensures.names),
+      c.in_default.ensures.draft,
+      rw longer (drop_next (length c.entries.relations) (entries (table_view c.args.all.now)) (string_bytes c.in-Some.key.now, view c.in-Some.value.now) (entries (members_view c.next.new.self)) (c.entries.invariant.2 ∙ ap (λ es. entries (members_view es)) c.in-Some.ensures.steps)),
+    )
 
 pub complete-requires : goal.complete-requires
 complete-requires c =
     let all = entries (table_view c.args.all.now) in
     let rest = c.entries.invariant.2 ∙ ap (λ es. entries (members_view es)) c.in-None.ensures.steps.0 in
-    record { ready = (is_marked first_declared all, first_declared + length c.entries.relations,
-        rw c.deref.ensures.value (draft_ready (length c.args.users.now.names) all c.entries.relations c.entries.waiting.items c.entries.invariant.1 (none_left (length c.entries.relations) all rest))) }
+    record {
+      ready = (
+        is_marked first_declared all,
+        first_declared + length c.entries.relations,
+        rw c.deref.ensures.value (draft_ready (length c.args.users.now.names) all c.entries.relations c.entries.waiting.items c.entries.invariant.1 (none_left (length c.entries.relations) all rest)),
+      );
+    }
 
 pub returns-clause-related : goal.returns-clause-related
 returns-clause-related c = rw c.complete.ensures (related_completed (length c.args.users.now.names) c.entries.relations c.deref.result.now c.entries.invariant.1.related)
