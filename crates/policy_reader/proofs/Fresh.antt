@@ -1,5 +1,5 @@
 -- The keys of a table are distinct: none is among the names that were read from those before it.
-use Rattle.std.proofs.Common.{◌≡◌, ℕ, Bool, true, false, List, [], ◌∷◌, ◌++◌, String, Global, string_bytes, refl, sym, ap, ◌∙◌, ◌+◌, ◌≤◌, length, Result, Ok, subst, arith, nat_cmp, is_eq}
+use Rattle.std.proofs.Common.{◌≡◌, ℕ, Bool, true, false, List, [], ◌∷◌, ◌++◌, String, Global, string_bytes, refl, sym, ap, ◌∙◌, ◌+◌, ◌<◌, ◌≤◌, length, Result, Ok, subst, arith, nat_cmp, is_eq}
 use Rattle.std.proofs.lemmas.Grind.{common_steps}
 use Rattle.std.proofs.lemmas.List.{length-append}
 use Rattle.std.specs.Prelude.{is_some, nat_eq, position}
@@ -73,3 +73,16 @@ left_next read names limit whole s t all e es steps left given named =
       fresh = subst (λ x. AreFresh x es) (sym named) (fresh_rest (names s) e es h.fresh);
       room = omega (arith, h.room, ap length named, length-append (names s) (string_bytes e.0 ∷ []));
     }
+
+pub left_start : {S : Type 0} (read : S → List ℕ × Data → Reading S) (names : S → List (List ℕ)) (limit : ℕ) (s : S) (es : List Entry) → names s ≡ [] → IsStrictlySortedBy string_cmp (keys_of es) → length es ≤ limit
+    → IsLeft read names limit (each read s (entries (members_view es))) s es
+left_start read names limit s es none sorted few =
+    record { reads = refl; fresh = subst (λ x. AreFresh x es) (sym none) (fresh_start es sorted); room = omega (arith, ap length none, few) }
+
+pub left_new : {S : Type 0} (read : S → List ℕ × Data → Reading S) (names : S → List (List ℕ)) (limit : ℕ) (whole : Reading S) (s : S) (all : List Entry) (e : Entry) (es : List Entry)
+    → all ≡ e ∷ es → IsLeft read names limit whole s all → IsNew (names s) e
+left_new read names limit whole s all e es steps left = fresh_first (names s) e es (subst (λ x. AreFresh (names s) x) steps left.fresh)
+
+pub left_room : {S : Type 0} (read : S → List ℕ × Data → Reading S) (names : S → List (List ℕ)) (limit : ℕ) (whole : Reading S) (s : S) (all : List Entry) (e : Entry) (es : List Entry)
+    → all ≡ e ∷ es → IsLeft read names limit whole s all → length (names s) < limit
+left_room read names limit whole s all e es steps left = omega (arith, left.room, ap length steps)

@@ -4,3 +4,9 @@ pub mod Sets
 pub mod Groups
 pub mod RuleLists
 pub mod Orders
+pub mod Cycles
+pub mod Drafts
+pub mod Held
+pub mod Permitted
+pub mod Texts
+pub mod Ends

@@ -1,14 +1,15 @@
 -- The order of a workflow, read as a set of pairs: the list of its pairs, and the least step before itself.
-use Rattle.std.proofs.Common.{◌≡◌, ℕ, zero, suc, ◌<◌, ◌≤◌, Bool, true, false, List, [], ◌∷◌, length, Option, None, Some, refl, sym, ap, subst, ◌∙◌, ◌⊎◌, inl, inr, arith}
+use Rattle.std.proofs.Common.{◌≡◌, ℕ, zero, suc, ◌<◌, ◌≤◌, Bool, true, false, ◌||◌, List, [], ◌∷◌, length, Option, None, Some, refl, sym, ap, subst, ◌∙◌, ◌⊎◌, inl, inr, arith}
 use Rattle.std.proofs.lemmas.Bool.{cases_lt}
-use Rattle.std.specs.List.{list_any, AllByRecursion}
+use Rattle.std.specs.List.{list_any, All, AllByRecursion}
+use Rattle.std.proofs.lemmas.List.Elements.{All-from_recursion}
 use Rattle.std.specs.Ordering.{eq_by_cmp}
 use Rattle.std.specs.declared.cmp.Ordering.TheVariants.{Less}
 use Rattle.std.specs.FinSet as set
 use Rattle.std.proofs.lemmas.Map.Keys.{sorted_head, sorted_tail}
 use Rattle.wf_names.specs.declared.limits.TheConstants.{STEP_LIMIT}
 use Rattle.pair_set.specs.Pairs.{Pairs, pair_cmp, IsAscending}
-use Rattle.pair_set.specs.PairLaws.{pair_cmp_total, all_insert}
+use Rattle.pair_set.specs.PairLaws.{pair_cmp_total, pair_cmp-IsAntisymmetric, all_insert, contains_inserted}
 use Rattle.workflow_schema.specs.Flows.{Precedes, next, through, is_before, IsLeastCycle, has_twice, is_count}
 use Rattle.workflow_schema.proofs.Chains.{before_is_chain, chain_is_before}
 use Rattle.policy_reader.specs.Bounds.{AreBelow}
@@ -39,9 +40,9 @@ least_is (suc n) test s lt here before =
     elim (cases_lt s n) [
       | inl below ↦ rw (least_is n test s below here before) refl
       | inr above ↦
-        let same : n ≡ s = omega (arith, lt, above) in
-        let none : least_below n test ≡ None = least_none n test (λ t less. before t (omega (arith, less, same))) in
-        rw (none, ap test same ∙ here) (ap Some same)
+          let same : n ≡ s = omega (arith, lt, above) in
+          let none : least_below n test ≡ None = least_none n test (λ t less. before t (omega (arith, less, same))) in
+          rw (none, ap test same ∙ here) (ap Some same)
     ]
 
 record IsLeast (n : ℕ) (test : ℕ → Bool) (s : ℕ) : Type 0 where
@@ -50,21 +51,21 @@ record IsLeast (n : ℕ) (test : ℕ → Bool) (s : ℕ) : Type 0 where
   pub before : (t : ℕ) → t < s → test t ≡ false
 
 -- what a search that ended at s, or found none, tells
-Tells : ℕ → (ℕ → Bool) → Option ℕ → Type 0
+abbrev Tells : ℕ → (ℕ → Bool) → Option ℕ → Type 0
 Tells n test None = (t : ℕ) → t < n → test t ≡ false
 Tells n test (Some s) = IsLeast n test s
 
 tells_more : (n : ℕ) (test : ℕ → Bool) (o : Option ℕ) (b : Bool) → test n ≡ b → Tells n test o → Tells (suc n) test (found_or o n b)
 tells_more n test (Some s) b e h = record { within = omega (arith, h.within); here = h.here; before = h.before }
 tells_more n test None true e h = record { within = omega arith; here = e; before = h }
-tells_more n test None false e h t lt =
+tells_more n test None false e h = λ t lt.
     elim (cases_lt t n) [
       | inl below ↦ h t below
       | inr above ↦ let same : n ≡ t = omega (arith, lt, above) in subst (λ x. test x ≡ false) same e
     ]
 
 least_tells : (n : ℕ) (test : ℕ → Bool) → Tells n test (least_below n test)
-least_tells zero test t lt = absurd (omega (arith, lt))
+least_tells zero test = λ t lt. absurd (omega (arith, lt))
 least_tells (suc n) test = tells_more n test (least_below n test) (test n) refl (least_tells n test)
 
 -- the step at which a chain begins is in range
@@ -99,3 +100,21 @@ cycle_within n order s within h = first_below n order s s within h.cycle
 -- the roles of permissions, with one more
 pub permits_insert : (n : ℕ) (permits : Pairs) (r s : ℕ) → ((a b : ℕ) → set.contains permits (a, b) ≡ true → a < n) → r < n → (a b : ℕ) → set.contains (set.insert permits (r, s)) (a, b) ≡ true → a < n
 permits_insert n permits r s old here = (all_insert (λ a b. a < n) permits r s here (record { each = old })).each
+
+or_true : (a : Bool) → (a || true) ≡ true
+or_true true = refl
+or_true false = refl
+
+below_each : (n : ℕ) (ps : List (ℕ × ℕ)) → AreBelow n (set.from_list ps) → AllByRecursion (λ p. (p.0 < n) × (p.1 < n)) ps
+below_each n [] h = tt
+below_each n (p ∷ ps) h = (
+  h.each p.0 p.1 (contains_inserted pair_cmp_total pair_cmp-IsAntisymmetric (set.from_list ps) p),
+  below_each n ps (record { each = λ a b here. h.each a b (set.contains-insert pair_cmp_total (set.from_list ps) p (a, b) ∙ ap (λ x. eq_by_cmp pair_cmp (a, b) p || x) here ∙ or_true _) }),
+)
+
+-- the pairs of a list whose set is below n
+pub all_below : (n : ℕ) (ps : List (ℕ × ℕ)) → AreBelow n (set.from_list ps) → All (λ p. (p.0 < n) × (p.1 < n)) ps
+all_below n ps h = All-from_recursion (λ (p : ℕ × ℕ). (p.0 < n) × (p.1 < n)) ps (below_each n ps h)
+
+pub below_limit : (n m : ℕ) (pairs : Pairs) → n ≤ m → AreBelow n pairs → AreBelow m pairs
+below_limit n m pairs le h = record { each = λ a b here. let both = h.each a b here in (omega (arith, le, both.0), omega (arith, le, both.1)) }

@@ -13,9 +13,13 @@ use Rattle.policy_reader.specs.Rosters.{roles_of, roster_of, is_held}
 use Rattle.policy_reader.specs.Relations.{relations_of}
 use Rattle.policy_reader.specs.Flows.{flows_of}
 
+-- the TOML document that a text is
+abbrev pub document_in_text : List ℕ → Reading Members
+document_in_text text = or_fault (parse_document text) (fault kind.Syntax File 0)
+
 -- the TOML document that bytes are, which have to be UTF-8
-unfoldable pub document_of : List ℕ → Option Members
-document_of bytes = if utf8_valid_len bytes == length bytes then parse_document bytes else None
+unfoldable pub document_in : List ℕ → Reading Members
+document_in bytes = if utf8_valid_len bytes == length bytes then document_in_text bytes else Err (fault kind.Syntax File 0)
 
 -- the only format
 abbrev pub is_known_format : ℤ → Bool
@@ -40,9 +44,9 @@ admin_of file = do
 abbrev pub file_keys : List (List ℕ)
 file_keys = codes "admin" ∷ codes "flows" ∷ codes "format" ∷ codes "relations" ∷ codes "roles" ∷ codes "users" ∷ []
 
--- the policy in a document
-unfoldable pub policy_in : Members → Reading PolicyShape
-policy_in file = do
+-- what a document says before its workflows
+unfoldable pub start_of : Members → Reading PolicyShape
+start_of file = do
   _ ← format_of file
   name ← admin_of file
   roles ← roles_of file
@@ -50,10 +54,16 @@ policy_in file = do
   roster ← roster_of roles file
   _ ← check (is_held roster admin) (fault kind.NoAdmin Users 0)
   relations ← relations_of roster.users file
-  policy ← flows_of (record { roster = roster; relations = relations; flow_names = []; flows = []; admin = admin }) file
+  Ok (record { roster = roster; relations = relations; flow_names = []; flows = []; admin = admin })
+
+-- the policy in a document
+unfoldable pub policy_in : Members → Reading PolicyShape
+policy_in file = do
+  start ← start_of file
+  policy ← flows_of start file
   _ ← no_others File 0 file_keys file
   Ok policy
 
 -- the policy that the bytes of a file are, or their first fault
 unfoldable pub policy_of_file : List ℕ → Reading PolicyShape
-policy_of_file bytes = or_fault (document_of bytes) (fault kind.Syntax File 0) >>= policy_in
+policy_of_file bytes = document_in bytes >>= policy_in

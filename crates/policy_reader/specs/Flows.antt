@@ -31,9 +31,9 @@ order_in f steps d = do
 -- the pairs of the order, where there are any
 unfoldable pub pairs_of : ℕ → List (List ℕ) → Members → Reading Pairs
 pairs_of f steps ms = elim (get_member (codes "order") ms) [
-    | None ↦ Ok set.empty
-    | Some d ↦ order_in f steps d
-  ]
+  | None ↦ Ok set.empty
+  | Some d ↦ order_in f steps d
+]
 
 -- the number n where it passes and no lower one was found
 abbrev pub found_or : Option ℕ → ℕ → Bool → Option ℕ
@@ -46,12 +46,14 @@ abbrev pub least_below : ℕ → (ℕ → Bool) → Option ℕ
 least_below zero test = None
 least_below (suc n) test = found_or (least_below n test) n (test n)
 
+-- the step that was found before itself is at fault
+abbrev pub cycle_at : ℕ → List (List ℕ) → Option ℕ → Reading (Unit {0})
+cycle_at f steps None = Ok tt
+cycle_at f steps (Some s) = Err (fault_about kind.Cycle Flows f (slice_index_or steps s []))
+
 -- no step is before itself; the least such step is at fault
 unfoldable pub no_cycle : ℕ → List (List ℕ) → Pairs → Reading (Unit {0})
-no_cycle f steps order = elim (least_below (length steps) (λ s. is_before order s s)) [
-    | None ↦ Ok tt
-    | Some s ↦ Err (fault_about kind.Cycle Flows f (slice_index_or steps s []))
-  ]
+no_cycle f steps order = cycle_at f steps (least_below (length steps) (λ s. is_before order s s))
 
 -- the next role that is permitted for the step s
 unfoldable pub next_permitted : ℕ → List (List ℕ) → ℕ → FlowShape → Data → Reading FlowShape
@@ -87,14 +89,17 @@ workflow_in p ms = do
   rules ← rules_of f p.relations steps ms
   Ok (record { flow = flow; rules = rules; retired = false })
 
+-- the policy with a workflow that was read
+abbrev pub with_workflow : PolicyShape → List ℕ → Reading WorkflowShape → Reading PolicyShape
+with_workflow p name read = read >>= (λ workflow. Ok (record p { flow_names = p.flow_names ++ name ∷ []; flows = p.flows ++ workflow ∷ [] }))
+
 -- the next workflow: a name, and a table
 unfoldable pub next_flow : PolicyShape → List ℕ × Data → Reading PolicyShape
 next_flow p entry = do
   let f = length p.flows
   _ ← name_in Flows f entry.0
   ms ← table_in Flows f entry.1
-  workflow ← workflow_in p ms
-  Ok (record p { flow_names = p.flow_names ++ entry.0 ∷ []; flows = p.flows ++ workflow ∷ [] })
+  with_workflow p entry.0 (workflow_in p ms)
 
 -- the workflows: a table of them by name
 unfoldable pub flows_of : PolicyShape → Members → Reading PolicyShape

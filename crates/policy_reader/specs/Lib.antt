@@ -1,9 +1,11 @@
 pub mod Faults
+pub mod Words
 pub mod Parts
 pub mod Bounds
 pub mod Kept
 pub mod Rosters
 pub mod Relations
+pub mod Drafts
 pub mod Rules
 pub mod Flows
 pub mod Files

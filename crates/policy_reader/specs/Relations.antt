@@ -1,8 +1,8 @@
 -- The relations of a policy file.
-use Rattle.std.specs.Prelude.{codes, ℕ, ◌+◌, Bool, true, false, not, nat_eq, List, [], ◌∷◌, ◌++◌, length, Option, None, Some, is_some, if◌then◌else◌, Result, Ok, Err}
+use Rattle.std.specs.Prelude.{codes, ℕ, ◌+◌, Bool, true, false, not, nat_eq, ◌&&◌, ◌==◌, List, [], ◌∷◌, ◌++◌, length, Option, None, Some, is_some, if◌then◌else◌, Result, Ok, Err}
 use Rattle.std.specs.FinSet as set
 use Rattle.std.specs.Cmp.Lexicographic.{pointwise}
-use Rattle.toml.specs.Data.{Data, table, Members, no_members, member, get_member}
+use Rattle.toml.specs.Data.{Data, Members, get_member, as_table}
 use Rattle.wf_names.specs.declared.limits.TheConstants.{RELATION_LIMIT, PAIR_LIMIT}
 use Rattle.wf_names.specs.Names.{is_name}
 use Rattle.user_relations.specs.Relations.{RelationKind, listed, complement, RelationShape}
@@ -20,15 +20,27 @@ first_declared = 2
 abbrev pub is_built_in : List ℕ → Bool
 is_built_in text = is_among (codes "same" ∷ codes "other" ∷ []) text
 
--- the value is a table whose one key is `complement`
-abbrev pub is_complement : Data → Bool
-is_complement (table (member key d no_members)) = pointwise nat_eq key (codes "complement")
-is_complement _ = false
+-- a table has one entry
+abbrev pub has_one : Members → Bool
+has_one ms = length (entries ms) == 1
 
--- the number and the value of the entry with a key, where the entries are numbered from n
-abbrev pub entry_of : ℕ → List ℕ → List (List ℕ × Data) → Option (ℕ × Data)
+-- a table whose one key is `complement`
+abbrev pub is_complement_table : Members → Bool
+is_complement_table ms = has_one ms && is_some (get_member (codes "complement") ms)
+
+-- there is a table and it passes
+abbrev pub passes : (Members → Bool) → Option Members → Bool
+passes test None = false
+passes test (Some ms) = test ms
+
+-- the value is that of a complement
+abbrev pub is_complement : Data → Bool
+is_complement d = passes is_complement_table (as_table d)
+
+-- the number of the entry with a key and whether it is a complement, where the entries are numbered from n
+abbrev pub entry_of : ℕ → List ℕ → List (List ℕ × Data) → Option (ℕ × Bool)
 entry_of n key [] = None
-entry_of n key (entry ∷ more) = if pointwise nat_eq key entry.0 then Some (n, entry.1) else entry_of (n + 1) key more
+entry_of n key (entry ∷ more) = if pointwise nat_eq key entry.0 then Some (n, is_complement entry.1) else entry_of (n + 1) key more
 
 -- the pairs of the relation with number n: an array of distinct pairs of users
 unfoldable pub listed_in : List (List ℕ) → ℕ → Data → Reading RelationKind
@@ -44,16 +56,20 @@ complement_in all n d = do
   text ← text_in Relations n d
   _ ← check (is_name text) (fault kind.Unknown Relations n)
   other ← or_fault (entry_of first_declared text (entries all)) (fault_about kind.Unknown Relations n text)
-  _ ← check (not (is_complement other.1)) (fault_about kind.Chain Relations n text)
+  _ ← check (not other.1) (fault_about kind.Chain Relations n text)
   Ok (complement other.0)
 
--- what the relation with number n is: a table with one key
+-- what the relation with number n is: a table with one key, `pairs` or `complement`
 unfoldable pub kind_in : List (List ℕ) → Members → ℕ → Members → Reading RelationKind
-kind_in users all n (member key d no_members) =
-    if pointwise nat_eq key (codes "pairs") then listed_in users n d
-    else if pointwise nat_eq key (codes "complement") then complement_in all n d
-    else Err (fault kind.Shape Relations n)
-kind_in users all n _ = Err (fault kind.Shape Relations n)
+kind_in users all n ms = do
+  _ ← check (has_one ms) (fault kind.Shape Relations n)
+  elim (get_member (codes "pairs") ms) [
+    | Some d ↦ listed_in users n d
+    | None ↦ elim (get_member (codes "complement") ms) [
+      | Some d ↦ complement_in all n d
+      | None ↦ Err (fault kind.Shape Relations n)
+    ]
+  ]
 
 -- the next relation of the table
 unfoldable pub next_relation : List (List ℕ) → Members → List RelationShape → List ℕ × Data → Reading (List RelationShape)
@@ -75,6 +91,6 @@ relations_in users d = do
 -- the relations, where there are any
 unfoldable pub relations_of : List (List ℕ) → Members → Reading (List RelationShape)
 relations_of users file = elim (get_member (codes "relations") file) [
-    | None ↦ Ok []
-    | Some d ↦ relations_in users d
-  ]
+  | None ↦ Ok []
+  | Some d ↦ relations_in users d
+]

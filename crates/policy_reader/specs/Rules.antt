@@ -81,9 +81,9 @@ rule_in f relations steps d = do
   ms ← table_in Flows f d
   form ← value_at Flows f (codes "form") ms
   if is_text (codes "pair") form then pair_in f relations steps ms
-    else if is_text (codes "some") form then grouped_in false f relations steps ms
-    else if is_text (codes "all") form then grouped_in true f relations steps ms
-    else Err (fault kind.Form Flows f)
+      else if is_text (codes "some") form then grouped_in false f relations steps ms
+      else if is_text (codes "all") form then grouped_in true f relations steps ms
+      else Err (fault kind.Form Flows f)
 
 -- the next rule
 unfoldable pub next_rule : ℕ → List RelationShape → List (List ℕ) → List Rule → Data → Reading (List Rule)
@@ -101,6 +101,6 @@ rules_in f relations steps d = do
 -- the rules of a workflow's table, where there are any
 unfoldable pub rules_of : ℕ → List RelationShape → List (List ℕ) → Members → Reading (List Rule)
 rules_of f relations steps ms = elim (get_member (codes "rules") ms) [
-    | None ↦ Ok []
-    | Some d ↦ rules_in f relations steps d
-  ]
+  | None ↦ Ok []
+  | Some d ↦ rules_in f relations steps d
+]

@@ -1,9 +1,11 @@
 //! What is wrong with a policy file.
-ghost use Rattle.std.specs.Prelude.{◌≡◌};
+ghost use Rattle.std.specs.Prelude.{◌≡◌, Some};
+ghost use Rattle.policy_reader.specs.Words.{kind_word, part_word, fault_text};
 ghost use Rattle.policy_reader.specs.declared.fault.ReadFault.TheVariants.{Policy, NoMemory};
 ghost use Rattle.policy_reader.specs.Faults.{fault, fault_about, as_name};
 
 use std::alloc::AllocError;
+use std::fmt;
 use wf_names::Name;
 
 /// What kind of fault it is.
@@ -70,12 +72,74 @@ pub struct PolicyFault {
 }
 
 /// Why a policy file was not read.
-#[derive(Drop)]
+#[derive(Debug, Drop)]
 pub enum ReadFault {
     /// The file has this first fault.
     Policy(PolicyFault),
     /// There was no memory for the policy.
     NoMemory,
+}
+
+impl PolicyKind {
+    /// The word for the kind in a fault's text.
+    pub fn word(&self) -> &'static str
+        ensures { result.now ≡ kind_word self.now }
+    {
+        match self {
+            PolicyKind::Syntax => "syntax",
+            PolicyKind::Missing => "missing",
+            PolicyKind::Shape => "shape",
+            PolicyKind::Version => "version",
+            PolicyKind::Name => "name",
+            PolicyKind::Empty => "empty",
+            PolicyKind::TooMany => "too_many",
+            PolicyKind::Twice => "twice",
+            PolicyKind::Unknown => "unknown",
+            PolicyKind::NoAdmin => "no_admin",
+            PolicyKind::Reserved => "reserved",
+            PolicyKind::Chain => "chain",
+            PolicyKind::Extra => "extra",
+            PolicyKind::Cycle => "cycle",
+            PolicyKind::Form => "form",
+        }
+    }
+}
+
+impl PolicyPart {
+    /// The word for the table in a fault's text.
+    pub fn word(&self) -> &'static str
+        ensures { result.now ≡ part_word self.now }
+    {
+        match self {
+            PolicyPart::File => "file",
+            PolicyPart::Roles => "roles",
+            PolicyPart::Users => "users",
+            PolicyPart::Relations => "relations",
+            PolicyPart::Flows => "flows",
+        }
+    }
+}
+
+/// Prints the kind, the table and the index, and the name where there is one.
+impl fmt::Display for PolicyFault {
+    ghost output = { λ fault. Some (fault_text fault) };
+
+    fn fmt<W: fmt::Write>(&self, f: &mut fmt::Formatter<W>) -> fmt::Result {
+        let (kind, table, index) = (self.kind.word(), self.table.word(), self.index);
+        match self.name {
+            None => write!(f, "{kind} {table} {index}"),
+            Some(name) => {
+                let name = name.as_str();
+                write!(f, "{kind} {table} {index} {name}")
+            }
+        }
+    }
+}
+
+impl fmt::Debug for PolicyFault {
+    fn fmt<W: fmt::Write>(&self, f: &mut fmt::Formatter<W>) -> fmt::Result {
+        fmt::Display::fmt(self, f)
+    }
 }
 
 impl From<AllocError> for ReadFault {
@@ -99,12 +163,7 @@ pub(crate) fn refuse(kind: PolicyKind, table: PolicyPart, index: u32) -> ReadFau
 }
 
 /// A fault that is about a text.
-pub(crate) fn refuse_text(
-    kind: PolicyKind,
-    table: PolicyPart,
-    index: u32,
-    text: &str,
-) -> ReadFault
+pub(crate) fn refuse_text(kind: PolicyKind, table: PolicyPart, index: u32, text: &str) -> ReadFault
     ensures { result ≡ Policy (fault_about kind table index text.now) }
 {
     ReadFault::Policy(PolicyFault {

@@ -2,9 +2,16 @@
 #![tactic(auto)]
 
 mod fault;
+mod file;
+mod flows;
 mod parts;
+mod relations;
 mod rosters;
 mod rules;
 mod workflows;
 
 pub use fault::{PolicyFault, PolicyKind, PolicyPart, ReadFault};
+pub use file::read;
+
+#[cfg(test)]
+mod tests;

@@ -9,13 +9,12 @@ ghost use Rattle.policy_reader.specs.Faults.{fault_of};
 ghost use Rattle.policy_reader.specs.Parts as parts;
 ghost use Rattle.first_fault.specs.Reading.{Gives, each};
 
+use crate::fault::{PolicyKind, PolicyPart, ReadFault, refuse, refuse_text};
 use pair_set::PairSet;
 use std::alloc::Global;
 use toml::Value;
 use toml::value::{Array, Table};
 use wf_names::{Name, NameFault, NameTable};
-
-use crate::fault::{PolicyKind, PolicyPart, ReadFault, refuse, refuse_text};
 
 /// The value at a key that has to be there.
 #[tactic(auto, unfolding(crate::specs::Parts::value_at))]
@@ -75,7 +74,12 @@ pub(crate) fn table_of(value: &Value, part: PolicyPart, index: u32) -> Result<&T
 
 /// A count that may not pass a limit.
 #[tactic(auto, unfolding(crate::specs::Parts::at_most))]
-pub(crate) fn at_most(limit: usize, count: usize, part: PolicyPart, index: u32) -> Result<(), ReadFault>
+pub(crate) fn at_most(
+    limit: usize,
+    count: usize,
+    part: PolicyPart,
+    index: u32,
+) -> Result<(), ReadFault>
     ensures read { Gives fault_of (λ u. u) result (parts.at_most part index limit count) }
     ensures few { OnOk result (count ≤ limit) }
 {
@@ -257,7 +261,8 @@ fn known_key(key: &str, known: &[&str], part: PolicyPart, index: u32) -> Result<
     }
 }
 
-fn is_among(texts: &[&str], text: &str) -> bool
+/// Whether a text is one of some texts.
+pub(crate) fn is_among(texts: &[&str], text: &str) -> bool
     ensures { result ≡ parts.is_among (map (λ k. k.now) texts.now) text.now }
 {
     'texts: for word in texts {

@@ -8,14 +8,15 @@ ghost use Rattle.policy_reader.specs.Parts.{items as part_items, entries};
 ghost use Rattle.policy_reader.specs.Rosters as rosters;
 ghost use Rattle.first_fault.specs.Reading.{Gives, each};
 
+use crate::fault::{PolicyKind, PolicyPart, ReadFault, refuse_text};
+use crate::parts::{
+    array_of, at_least_one, at_most, name_of, next_name, number_of, table_of, text_of, value_at,
+};
 use rbac_state::{Roster, RosterFault};
 use std::alloc::Global;
 use toml::Value;
 use toml::value::Table;
 use wf_names::{NameFault, NameTable, ROLE_LIMIT, RoleId, USER_LIMIT, UserId};
-
-use crate::fault::{PolicyKind, PolicyPart, ReadFault, refuse_text};
-use crate::parts::{array_of, at_least_one, at_most, name_of, next_name, number_of, table_of, text_of, value_at};
 
 /// Reads the roles.
 #[tactic(auto, unfolding(crate::specs::Rosters::roles_of), using(crate::proofs::Counts::count_items))]
@@ -62,13 +63,19 @@ fn next_held(roster: &mut Roster, u: UserId, value: &Value) -> Result<(), ReadFa
     requires user { u < length roster.old.users }
     ensures read { Gives fault_of (λ _. roster.new) result (rosters.next_held u roster.old (view value.now)) }
     ensures users { OnOk result (roster.new.users ≡ roster.old.users) }
+    ensures roles { OnOk result (roster.new.roles ≡ roster.old.roles) }
 {
     let number = u.0 as u32;
     let text = text_of(value, PolicyPart::Users, number)?;
     let role = number_of(roster.roles(), text, PolicyPart::Users, number)?;
     match roster.enrol(u, RoleId(role as u8)) {
         Ok(()) => Ok(()),
-        Err(RosterFault::Already) => Err(refuse_text(PolicyKind::Twice, PolicyPart::Users, number, text)),
+        Err(RosterFault::Already) => Err(refuse_text(
+            PolicyKind::Twice,
+            PolicyPart::Users,
+            number,
+            text,
+        )),
         Err(RosterFault::Absent) => unreachable!(),
         Err(RosterFault::NoMemory) => Err(ReadFault::NoMemory),
     }
@@ -78,6 +85,7 @@ fn all_held(roster: &mut Roster, u: UserId, items: &[Value]) -> Result<(), ReadF
     requires user { u < length roster.old.users }
     ensures read { Gives fault_of (λ _. roster.new) result (each (rosters.next_held u) roster.old (part_items (items_view items.now))) }
     ensures users { OnOk result (roster.new.users ≡ roster.old.users) }
+    ensures roles { OnOk result (roster.new.roles ≡ roster.old.roles) }
 {
     'items: for value in items {
         match next_held(roster, u, value) {
@@ -94,6 +102,7 @@ fn next_user(roster: &mut Roster, key: &str, value: &Value) -> Result<(), ReadFa
     requires room { length roster.old.users < USER_LIMIT }
     ensures read { Gives fault_of (λ _. roster.new) result (rosters.next_user roster.old (key.now, view value.now)) }
     ensures users { OnOk result (roster.new.users ≡ roster.old.users ++ key.now ∷ []) }
+    ensures roles { OnOk result (roster.new.roles ≡ roster.old.roles) }
 {
     let number = roster.users().len() as u32;
     let name = name_of(key, PolicyPart::Users, number)?;
@@ -107,9 +116,14 @@ fn next_user(roster: &mut Roster, key: &str, value: &Value) -> Result<(), ReadFa
 
 /// Reads the users and the roles that they hold.
 #[tactic(auto, unfolding(crate::specs::Rosters::roster_of), using(crate::proofs::Counts::count_entries))]
-pub(crate) fn read_roster(alloc: Global, roles: NameTable, file: &Table) -> Result<Roster, ReadFault>
+pub(crate) fn read_roster(
+    alloc: Global,
+    roles: NameTable,
+    file: &Table,
+) -> Result<Roster, ReadFault>
     requires roles { length roles.names ≤ ROLE_LIMIT }
     ensures read { Gives fault_of (λ r. r) result (rosters.roster_of roles.names (table_view file.now)) }
+    ensures roles { IfOk result (λ r. r.roles ≡ roles.names) }
 {
     let value = value_at(file, "users", PolicyPart::Users, 0)?;
     let users = table_of(value, PolicyPart::Users, 0)?;
@@ -124,6 +138,7 @@ fn all_users(roster: &mut Roster, users: &Table) -> Result<(), ReadFault>
     requires none { roster.old.users ≡ [] }
     requires room { length users.now.entries ≤ USER_LIMIT }
     ensures read { Gives fault_of (λ _. roster.new) result (each rosters.next_user roster.old (entries (table_view users.now))) }
+    ensures roles { OnOk result (roster.new.roles ≡ roster.old.roles) }
 {
     'entries: for (key, value) in users {
         if let Err(fault) = next_user(roster, key.as_str(), value) {

@@ -12,17 +12,16 @@ ghost use Rattle.policy_reader.specs.Parts.{items as part_items};
 ghost use Rattle.policy_reader.specs.Rules as spec;
 ghost use Rattle.first_fault.specs.Reading.{Gives, each};
 
+use crate::fault::{PolicyKind, PolicyPart, ReadFault, refuse, refuse_text};
+use crate::parts::{
+    array_of, at_least_one, at_most, find, no_others, number_of, table_of, text_of, value_at,
+};
 use constraint_forms::{Rule, Rules, StepSet};
 use std::alloc::Global;
 use toml::Value;
 use toml::value::Table;
 use user_relations::Relations;
 use wf_names::{Name, NameTable, RULE_LIMIT, RelId, StepId};
-
-use crate::fault::{PolicyKind, PolicyPart, ReadFault, refuse, refuse_text};
-use crate::parts::{
-    array_of, at_least_one, at_most, find, no_others, number_of, table_of, text_of, value_at,
-};
 
 /// The relation that a value names.
 #[tactic(auto, unfolding(crate::specs::Rules::relation_in, crate::specs::Parts::number_in))]
@@ -120,7 +119,12 @@ fn pair_of(
     let relation = value_at(table, "relation", PolicyPart::Flows, flow)?;
     let first = value_at(table, "first", PolicyPart::Flows, flow)?;
     let second = value_at(table, "second", PolicyPart::Flows, flow)?;
-    no_others(table, &["first", "form", "relation", "second"], PolicyPart::Flows, flow)?;
+    no_others(
+        table,
+        &["first", "form", "relation", "second"],
+        PolicyPart::Flows,
+        flow,
+    )?;
     let rho = relation_of(relations, relation, flow)?;
     let first = step_of(steps, first, flow)?;
     let second = step_of(steps, second, flow)?;
@@ -143,7 +147,12 @@ fn grouped_of(
     let relation = value_at(table, "relation", PolicyPart::Flows, flow)?;
     let group = value_at(table, "group", PolicyPart::Flows, flow)?;
     let step = value_at(table, "step", PolicyPart::Flows, flow)?;
-    no_others(table, &["form", "group", "relation", "step"], PolicyPart::Flows, flow)?;
+    no_others(
+        table,
+        &["form", "group", "relation", "step"],
+        PolicyPart::Flows,
+        flow,
+    )?;
     let rho = relation_of(relations, relation, flow)?;
     let step = step_of(steps, step, flow)?;
     let group = group_of(steps, group, flow)?;

@@ -1,15 +1,16 @@
 //! Reads the steps, the order and the permissions of a workflow. Their faults carry the
 //! workflow's number.
-ghost use Rattle.std.specs.Prelude.{◌≡◌, ◌<◌, ◌≤◌, length, slice_index_or, IfOk, OnOk, true, []};
+ghost use Rattle.std.specs.Prelude.{◌≡◌, ◌<◌, ◌≤◌, ℕ, ◌↔◌, false, length, slice_index_or, IsErrOf, IfErr, IfOk, OnOk, true, []};
 ghost use Rattle.std.specs.List.{All};
 ghost use Rattle.std.specs.FinSet as set;
 ghost use Rattle.toml.specs.View.{view, items_view, table_view};
 ghost use Rattle.wf_names.specs.declared.limits.TheConstants.{ROLE_LIMIT, STEP_LIMIT};
-ghost use Rattle.workflow_schema.specs.Flows.{is_count};
+ghost use Rattle.workflow_schema.specs.Flows.{is_count, has_twice, IsLeastCycle};
 ghost use Rattle.policy_book.specs.Facts.{PermitsRolesBelow};
 ghost use Rattle.policy_reader.specs.Bounds.{AreBelow};
+ghost use Rattle.policy_reader.specs.Kept.{IsCycleOrMemory};
 ghost use Rattle.policy_reader.specs.Faults.{fault_of, fault_about};
-ghost use Rattle.policy_reader.specs.declared.fault.ReadFault.TheVariants.{Policy};
+ghost use Rattle.policy_reader.specs.declared.fault.ReadFault.TheVariants.{Policy, NoMemory};
 ghost use Rattle.policy_reader.specs.declared.fault.PolicyKind.TheVariants as kind;
 ghost use Rattle.policy_reader.specs.Parts as parts;
 ghost use Rattle.policy_reader.specs.Parts.{items as part_items, entries};
@@ -17,18 +18,17 @@ ghost use Rattle.policy_reader.specs.declared.fault.PolicyPart.TheVariants.{Flow
 ghost use Rattle.policy_reader.specs.Flows as spec;
 ghost use Rattle.first_fault.specs.Reading.{Gives, each};
 
+use crate::fault::{PolicyKind, PolicyPart, ReadFault, refuse_text};
+use crate::parts::{
+    array_of, at_least_one, at_most, find, next_name, number_of, read_pairs, table_of, text_of,
+    value_at,
+};
 use pair_set::PairSet;
 use std::alloc::{AllocError, Global};
 use toml::Value;
 use toml::value::Table;
 use wf_names::{NameTable, RoleId, STEP_LIMIT, StepId};
 use workflow_schema::{Flow, FlowFault};
-
-use crate::fault::{PolicyKind, PolicyPart, ReadFault, refuse_text};
-use crate::parts::{
-    array_of, at_least_one, at_most, find, next_name, number_of, read_pairs, table_of, text_of,
-    value_at,
-};
 
 /// Reads the steps of a workflow.
 #[tactic(auto, unfolding(crate::specs::Flows::steps_of), using(crate::proofs::Counts::count_items, crate::proofs::Counts::counted))]
@@ -58,7 +58,7 @@ fn all_steps(alloc: Global, items: &[Value], flow: u32) -> Result<NameTable, Rea
 }
 
 /// Reads the pairs of a workflow's order.
-#[tactic(auto, unfolding(crate::specs::Flows::pairs_of))]
+#[tactic(auto, unfolding(crate::specs::Flows::pairs_of), using(pair_set::specs::PairLaws::all_empty))]
 pub(crate) fn read_order(
     alloc: Global,
     steps: &NameTable,
@@ -104,12 +104,38 @@ pub(crate) fn make_flow(
 {
     let pairs = step_pairs(alloc, order.as_slice())?;
     let names = steps.copy()?;
-    match Flow::build(alloc, names, &pairs, &[]) {
+    match order_flow(alloc, names, &pairs) {
         Ok(made) => Ok(made),
-        Err(FlowFault::Cycle(s)) => Err(cycle_fault(steps, s, flow)),
-        Err(FlowFault::NoMemory) => Err(ReadFault::NoMemory),
-        Err(_) => unreachable!(),
+        Err(fault) => Err(flow_fault(steps, fault, flow)),
     }
+}
+
+fn flow_fault(steps: &NameTable, fault: FlowFault, flow: u32) -> ReadFault
+    requires known { IsCycleOrMemory fault }
+    requires within { (s : ℕ) → fault ≡ FlowFault.Cycle s → s < length steps.now.names }
+    ensures cycle { (s : ℕ) → fault ≡ FlowFault.Cycle s → result ≡ Policy (fault_about kind.Cycle Flows flow (slice_index_or steps.now.names s [])) }
+    ensures memory { fault ≡ FlowFault.NoMemory → result ≡ NoMemory }
+{
+    match fault {
+        FlowFault::Cycle(s) => cycle_fault(steps, s, flow),
+        FlowFault::NoMemory => ReadFault::NoMemory,
+        _ => unreachable!(),
+    }
+}
+
+fn order_flow(
+    alloc: Global,
+    steps: NameTable,
+    pairs: &[(StepId, StepId)],
+) -> Result<Flow, FlowFault>
+    requires counted { is_count (length steps.names) ≡ true }
+    requires within { All (λ p. (p.0 < length steps.names) × (p.1 < length steps.names)) pairs.now }
+    requires once { has_twice pairs.now ≡ false }
+    ensures made { IfOk result (λ f. f ≡ record { steps = steps.names; order = set.from_list pairs.now; permits = set.empty }) }
+    ensures cycle { (s : ℕ) → IsErrOf result (FlowFault.Cycle s) ↔ IsLeastCycle (set.from_list pairs.now) s }
+    ensures known { IfErr result IsCycleOrMemory }
+{
+    Flow::build(alloc, steps, pairs, &[])
 }
 
 fn cycle_fault(steps: &NameTable, s: StepId, flow: u32) -> ReadFault
@@ -126,7 +152,10 @@ fn step_pairs(alloc: Global, pairs: &[(u16, u16)]) -> Result<Vec<(StepId, StepId
 {
     let mut steps = Vec::new(alloc);
     'pairs: for pair in pairs {
-        if steps.push((StepId(pair.0 as u8), StepId(pair.1 as u8))).is_err() {
+        if steps
+            .push((StepId(pair.0 as u8), StepId(pair.1 as u8)))
+            .is_err()
+        {
             return Err(AllocError);
         }
     }

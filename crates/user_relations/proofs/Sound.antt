@@ -30,12 +30,12 @@ AreUsers u v = (u < USER_LIMIT) × (v < USER_LIMIT)
 pub written_back : {X : Type 0} (new old : List X) (n : ℕ) → n ≡ length old → length new ≡ length old → take n (new ++ drop (length new) old) ≡ new
 written_back new old n e same = ap (λ k. take k (new ++ drop (length new) old)) (e ∙ sym same) ∙ take-append_seam new (drop (length new) old)
 
-names_kept : (rs : List RelationShape) (n : ℕ) (k : RelationKind) → map (λ r. r.name) (change_kind rs n k) ≡ map (λ r. r.name) rs
+pub names_kept : (rs : List RelationShape) (n : ℕ) (k : RelationKind) → map (λ r. r.name) (change_kind rs n k) ≡ map (λ r. r.name) rs
 names_kept [] n k = refl
 names_kept (r ∷ rs) zero k = refl
 names_kept (r ∷ rs) (suc n) k = ap (λ ns. r.name ∷ ns) (names_kept rs n k)
 
-length_kept : (rs : List RelationShape) (n : ℕ) (k : RelationKind) → length (change_kind rs n k) ≡ length rs
+pub length_kept : (rs : List RelationShape) (n : ℕ) (k : RelationKind) → length (change_kind rs n k) ≡ length rs
 length_kept [] n k = refl
 length_kept (r ∷ rs) zero k = refl
 length_kept (r ∷ rs) (suc n) k = ap suc (length_kept rs n k)
@@ -45,7 +45,7 @@ known_names_kept rs zero k = refl
 known_names_kept rs (suc zero) k = refl
 known_names_kept rs (suc (suc n)) k = ap (λ ns. codes "same" ∷ codes "other" ∷ ns) (names_kept rs n k)
 
-count_kept : (rs : List RelationShape) (rho : ℕ) (k : RelationKind) → length (with_kind rs rho k) ≡ length rs
+pub count_kept : (rs : List RelationShape) (rho : ℕ) (k : RelationKind) → length (with_kind rs rho k) ≡ length rs
 count_kept rs zero k = refl
 count_kept rs (suc zero) k = refl
 count_kept rs (suc (suc n)) k = length_kept rs n k
@@ -56,7 +56,7 @@ got_here (r ∷ rs) zero k0 k e = refl
 got_here (r ∷ rs) (suc n) k0 k e = got_here rs n k0 k e
 
 -- a declared relation has its new kind
-kind_here : (rs : List RelationShape) (rho : ℕ) (k0 k : RelationKind) → kind_of rs rho ≡ Some k0 → kind_of (with_kind rs rho k) rho ≡ Some k
+pub kind_here : (rs : List RelationShape) (rho : ℕ) (k0 k : RelationKind) → kind_of rs rho ≡ Some k0 → kind_of (with_kind rs rho k) rho ≡ Some k
 kind_here rs zero k0 k e = cc
 kind_here rs (suc zero) k0 k e = cc
 kind_here rs (suc (suc n)) k0 k e = got_here rs n k0 k e
@@ -69,14 +69,14 @@ got_there (r ∷ rs) (suc n) zero k differ = refl
 got_there (r ∷ rs) (suc n) (suc m) k differ = got_there rs n m k (λ e. differ (ap suc e))
 
 -- and the others have theirs
-kind_there : (rs : List RelationShape) (rho m : ℕ) (k : RelationKind) → (m ≡ rho → ⊥) → kind_of (with_kind rs rho k) m ≡ kind_of rs m
+pub kind_there : (rs : List RelationShape) (rho m : ℕ) (k : RelationKind) → (m ≡ rho → ⊥) → kind_of (with_kind rs rho k) m ≡ kind_of rs m
 kind_there rs zero m k differ = refl
 kind_there rs (suc zero) m k differ = refl
 kind_there rs (suc (suc n)) zero k differ = refl
 kind_there rs (suc (suc n)) (suc zero) k differ = refl
 kind_there rs (suc (suc n)) (suc (suc m)) k differ = got_there rs n m k (λ e. differ (ap (λ i. suc (suc i)) e))
 
-kind_is : (rs : List RelationShape) (rho m : ℕ) (k0 k k1 : RelationKind) → kind_of rs rho ≡ Some k0 → m ≡ rho → kind_of (with_kind rs rho k) m ≡ Some k1 → k ≡ k1
+pub kind_is : (rs : List RelationShape) (rho m : ℕ) (k0 k k1 : RelationKind) → kind_of rs rho ≡ Some k0 → m ≡ rho → kind_of (with_kind rs rho k) m ≡ Some k1 → k ≡ k1
 kind_is rs rho m k0 k k1 was same e =
     let here : Some k ≡ Some k1 = sym (kind_here rs rho k0 k was) ∙ sym (ap (kind_of (with_kind rs rho k)) same) ∙ e in
     cc
@@ -179,7 +179,7 @@ pushed [] r (suc n) = inl refl
 pushed (x ∷ rs) r zero = inl refl
 pushed (x ∷ rs) r (suc n) = pushed rs r n
 
-kind_pushed : (rs : List RelationShape) (r : RelationShape) (m : ℕ) → (kind_of (rs ++ r ∷ []) m ≡ kind_of rs m) ⊎ ((kind_of rs m ≡ None) × (kind_of (rs ++ r ∷ []) m ≡ Some r.kind))
+pub kind_pushed : (rs : List RelationShape) (r : RelationShape) (m : ℕ) → (kind_of (rs ++ r ∷ []) m ≡ kind_of rs m) ⊎ ((kind_of rs m ≡ None) × (kind_of (rs ++ r ∷ []) m ≡ Some r.kind))
 kind_pushed rs r zero = inl refl
 kind_pushed rs r (suc zero) = inl refl
 kind_pushed rs r (suc (suc n)) = elim (pushed rs r n) [
@@ -192,30 +192,6 @@ listed_still rs r m e = elim (kind_pushed rs r m) [
   | inl same ↦ ap has_list same ∙ e
   | inr new ↦ let none : false ≡ true = sym (ap has_list new.0) ∙ e in cc
 ]
-
-pub sound_add : (rs : List RelationShape) (name : List ℕ) → AreSound rs → length rs < RELATION_LIMIT → is_some (place_of (known_names rs) name) ≡ false
-    → AreSound (rs ++ (record { name = name; kind = listed set.empty }) ∷ [])
-sound_add rs name s below fresh =
-    let r : RelationShape = record { name = name; kind = listed set.empty } in
-    let longer : length (rs ++ r ∷ []) ≡ length rs + 1 = length-append rs (r ∷ []) in
-    record {
-      count = omega arith;
-      names = subst (λ ns. IsDistinct (pointwise nat_eq) (codes "same" ∷ codes "other" ∷ ns)) (sym (map-append (λ (x : RelationShape). x.name) rs (r ∷ [])))
-          (IsDistinct-push nat_list_eq_equiv (known_names rs) name s.names (unknown (known_names rs) name fresh));
-      few = λ m pairs e. elim (kind_pushed rs r m) [
-        | inl same ↦ s.few m pairs (sym same ∙ e)
-        | inr new ↦ let is : Some (listed set.empty) ≡ Some (listed pairs) = sym new.1 ∙ e in let empty : set.empty ≡ pairs = cc in
-            subst (λ p. set.len p ≤ PAIR_LIMIT) empty (subst (λ n. n ≤ PAIR_LIMIT) (sym (set.len-empty pair_cmp)) (omega arith))
-      ];
-      users = λ m pairs e. elim (kind_pushed rs r m) [
-        | inl same ↦ s.users m pairs (sym same ∙ e)
-        | inr new ↦ let is : Some (listed set.empty) ≡ Some (listed pairs) = sym new.1 ∙ e in let empty : set.empty ≡ pairs = cc in subst (AllPairs AreUsers) empty (all_empty AreUsers)
-      ];
-      complements = λ m n e. elim (kind_pushed rs r m) [
-        | inl same ↦ listed_still rs r n (s.complements m n (sym same ∙ e))
-        | inr new ↦ let is : Some (listed set.empty) ≡ Some (complement n) = sym new.1 ∙ e in cc
-      ];
-    }
 
 none_declared : (m : ℕ) → kind_of [] m ≡ None
 none_declared zero = refl
@@ -232,11 +208,34 @@ sound_none = record {
   complements = λ m n e. cc (none_declared m);
 }
 
+-- a relation with its pairs at the end
+sound_add_pairs : (rs : List RelationShape) (name : List ℕ) (own : Pairs) → AreSound rs → length rs < RELATION_LIMIT → is_some (place_of (known_names rs) name) ≡ false
+    → set.len own ≤ PAIR_LIMIT → AllPairs AreUsers own → AreSound (rs ++ (record { name = name; kind = listed own }) ∷ [])
+sound_add_pairs rs name own s below fresh little users =
+    let r : RelationShape = record { name = name; kind = listed own } in
+    let longer : length (rs ++ r ∷ []) ≡ length rs + 1 = length-append rs (r ∷ []) in
+    record {
+      count = omega arith;
+      names = subst (λ ns. IsDistinct (pointwise nat_eq) (codes "same" ∷ codes "other" ∷ ns)) (sym (map-append (λ (x : RelationShape). x.name) rs (r ∷ [])))
+          (IsDistinct-push nat_list_eq_equiv (known_names rs) name s.names (unknown (known_names rs) name fresh));
+      few = λ m pairs e. elim (kind_pushed rs r m) [
+        | inl same ↦ s.few m pairs (sym same ∙ e)
+        | inr new ↦ let is : Some (listed own) ≡ Some (listed pairs) = sym new.1 ∙ e in let same : own ≡ pairs = cc in subst (λ p. set.len p ≤ PAIR_LIMIT) same little
+      ];
+      users = λ m pairs e. elim (kind_pushed rs r m) [
+        | inl same ↦ s.users m pairs (sym same ∙ e)
+        | inr new ↦ let is : Some (listed own) ≡ Some (listed pairs) = sym new.1 ∙ e in let same : own ≡ pairs = cc in subst (AllPairs AreUsers) same users
+      ];
+      complements = λ m n e. elim (kind_pushed rs r m) [
+        | inl same ↦ listed_still rs r n (s.complements m n (sym same ∙ e))
+        | inr new ↦ let is : Some (listed own) ≡ Some (complement n) = sym new.1 ∙ e in cc
+      ];
+    }
+
 -- the view of what a push leaves
-pub sound_push : (ds new : List Relation) (x : Relation) (b : Bool) → new ≡ cond b (ds ++ x ∷ []) ds → x.kind ≡ Listed set.empty
-    → AreSound (shapes ds) → length (shapes ds) < RELATION_LIMIT → is_some (place_of (known_names (shapes ds)) x.name) ≡ false → AreSound (shapes new)
-sound_push ds new x true is bare s below fresh =
-    let r : RelationShape = record { name = x.name; kind = listed set.empty } in
-    let end : relation_view x ≡ r = ap (λ (k : Kind). record { name = x.name; kind = kind_view k }) bare in
-    subst AreSound (sym (ap shapes is ∙ map-append relation_view ds (x ∷ []) ∙ ap (λ (y : RelationShape). shapes ds ++ y ∷ []) end)) (sound_add (shapes ds) x.name s below fresh)
-sound_push ds new x false is bare s below fresh = subst (λ (es : List Relation). AreSound (shapes es)) (sym is) s
+pub sound_push_pairs : (ds new : List Relation) (name : List ℕ) (own : Pairs) (b : Bool) → new ≡ cond b (ds ++ (record { name = name; kind = Listed own }) ∷ []) ds
+    → AreSound (shapes ds) → length (shapes ds) < RELATION_LIMIT → is_some (place_of (known_names (shapes ds)) name) ≡ false
+    → set.len own ≤ PAIR_LIMIT → AllPairs AreUsers own → AreSound (shapes new)
+sound_push_pairs ds new name own true is s below fresh little users =
+    subst AreSound (sym (ap shapes is ∙ map-append relation_view ds (record { name = name; kind = Listed own } ∷ []))) (sound_add_pairs (shapes ds) name own s below fresh little users)
+sound_push_pairs ds new name own false is s below fresh little users = subst (λ (es : List Relation). AreSound (shapes es)) (sym is) s

@@ -4,7 +4,8 @@
 
 ghost use Rattle.std.specs.Prelude.{◌≡◌, ◌≢◌, ◌<◌, ◌≤◌, ◌+◌, ◌↔◌, ℕ, List, [], ◌∷◌, ◌++◌, length, is_some, IfOk, IfSome, OnOk, OnErr, IsErrOf, true, false, slice_get, Some, Err};
 ghost use Rattle.std.specs.FinSet as set;
-ghost use Rattle.pair_set.specs.Pairs.{IsAscending};
+ghost use Rattle.pair_set.specs.Pairs.{AllPairs, IsAscending};
+ghost use Rattle.wf_names.specs.declared.limits.TheConstants.{PAIR_LIMIT, RELATION_LIMIT, USER_LIMIT};
 ghost use Rattle.wf_names.specs.Table.{place_of};
 ghost use Rattle.user_relations.specs.Relations.{RelationShape, listed, complement, kind_of, pairs_of, is_listed, complement_of, is_related, known_names, with_kind};
 ghost use Rattle.user_relations.specs.Soundness.{AreSound};
@@ -78,6 +79,23 @@ impl Relations {
         ensures full { IsErrOf result NameFault.Full ↔ ((is_some (place_of (known_names self.old) name) ≡ false) × (length self.old ≡ RELATION_LIMIT)) }
         ensures unchanged { OnErr result (self.new ≡ self.old) }
     {
+        let none = PairSet::new(*self.declared.allocator());
+        self.add_pairs(name, none)
+    }
+
+    /// Declares a listed relation with these pairs, and answers its number.
+    pub fn add_pairs(&mut self, name: Name, pairs: PairSet) -> Result<RelId, NameFault>
+        requires few { set.len pairs ≤ PAIR_LIMIT }
+        requires users { AllPairs (λ u v. (u < USER_LIMIT) × (v < USER_LIMIT)) pairs }
+        ensures number { IfOk result (λ rho. rho ≡ length self.old + 2) }
+        ensures added { OnOk result (self.new ≡ self.old ++ (record { name = name; kind = listed pairs }) ∷ []) }
+        ensures fresh { OnOk result (is_some (place_of (known_names self.old) name) ≡ false) }
+        ensures room { OnOk result (length self.old < RELATION_LIMIT) }
+
+        ensures twice { IsErrOf result NameFault.Twice ↔ (is_some (place_of (known_names self.old) name) ≡ true) }
+        ensures full { IsErrOf result NameFault.Full ↔ ((is_some (place_of (known_names self.old) name) ≡ false) × (length self.old ≡ RELATION_LIMIT)) }
+        ensures unchanged { OnErr result (self.new ≡ self.old) }
+    {
         if self.find(&name).is_some() {
             return Err(NameFault::Twice);
         }
@@ -85,7 +103,7 @@ impl Relations {
         if count as u16 >= RELATION_LIMIT {
             return Err(NameFault::Full);
         }
-        let kind = Kind::Listed(PairSet::new(*self.declared.allocator()));
+        let kind = Kind::Listed(pairs);
         match self.declared.push(Relation { name, kind }) {
             Ok(()) => Ok(RelId(count + 2)),
             Err(_) => Err(NameFault::NoMemory),

@@ -1,0 +1,129 @@
+//! Reads a policy file.
+ghost use Rattle.std.specs.Prelude.{◌≡◌, Bool, true, [], length, Option, option_map, IfOk, IfErr, MatchResult, Some, None};
+ghost use Rattle.std.specs.List.{list_any};
+ghost use Rattle.toml.specs.View.{table_view};
+ghost use Rattle.policy_reader.specs.declared.fault.ReadFault.TheVariants.{NoMemory};
+ghost use Rattle.policy_reader.specs.Faults.{fault_of};
+ghost use Rattle.policy_reader.specs.Files as spec;
+ghost use Rattle.policy_reader.specs.Rosters.{is_held};
+ghost use Rattle.first_fault.specs.Reading.{Gives};
+
+use crate::fault::{PolicyKind, PolicyPart, ReadFault, refuse};
+use crate::flows::read_flows;
+use crate::parts::{name_of, no_others, number_of, text_of, value_at};
+use crate::relations::read_relations;
+use crate::rosters::{read_roles, read_roster};
+use policy_book::Policy;
+use rbac_state::Roster;
+use std::alloc::Global;
+use toml::value::Table;
+use wf_names::{Name, RoleId, UserId};
+
+/// Reads the policy in the bytes of a TOML file, or tells their first fault.
+#[tactic(auto, unfolding(crate::specs::Files::policy_of_file))]
+pub fn read(alloc: Global, bytes: &[u8]) -> Result<Policy, ReadFault>
+    ensures { Gives fault_of (λ p. p) result (spec.policy_of_file bytes.now) }
+{
+    let file = document_of(alloc, bytes)?;
+    policy_in(alloc, &file)
+}
+
+/// Reads the TOML document that bytes are.
+#[tactic(auto, unfolding(crate::specs::Files::document_in))]
+fn document_of(alloc: Global, bytes: &[u8]) -> Result<Table, ReadFault>
+    ensures { Gives fault_of (λ t. table_view t) result (spec.document_in bytes.now) }
+{
+    match std::str::from_utf8(bytes) {
+        Ok(text) => document_of_text(alloc, text),
+        Err(_) => Err(refuse(PolicyKind::Syntax, PolicyPart::File, 0)),
+    }
+}
+
+fn document_of_text(alloc: Global, text: &str) -> Result<Table, ReadFault>
+    ensures { Gives fault_of (λ t. table_view t) result (spec.document_in_text text.now) }
+{
+    match toml::table_from_str(alloc, text) {
+        Ok(table) => Ok(table),
+        Err(e) => {
+            if e.is_memory() {
+                Err(ReadFault::NoMemory)
+            } else {
+                Err(refuse(PolicyKind::Syntax, PolicyPart::File, 0))
+            }
+        }
+    }
+}
+
+/// Reads the policy in a document.
+#[tactic(auto, unfolding(crate::specs::Files::policy_in))]
+fn policy_in(alloc: Global, file: &Table) -> Result<Policy, ReadFault>
+    ensures { Gives fault_of (λ p. p) result (spec.policy_in (table_view file.now)) }
+{
+    let mut policy = read_start(alloc, file)?;
+    if let Err(fault) = read_flows(alloc, &mut policy, file) {
+        return Err(fault);
+    }
+    match no_others(
+        file,
+        &["admin", "flows", "format", "relations", "roles", "users"],
+        PolicyPart::File,
+        0,
+    ) {
+        Ok(()) => Ok(policy),
+        Err(fault) => Err(fault),
+    }
+}
+
+/// Reads what a document says before its workflows.
+#[tactic(auto, unfolding(crate::specs::Files::start_of))]
+fn read_start(alloc: Global, file: &Table) -> Result<Policy, ReadFault>
+    ensures read { Gives fault_of (λ p. p) result (spec.start_of (table_view file.now)) }
+    ensures bare { IfOk result (λ p. p.flow_names ≡ []) }
+{
+    read_format(file)?;
+    let name = read_admin(file)?;
+    let roles = read_roles(alloc, file)?;
+    let admin = number_of(&roles, name.as_str(), PolicyPart::File, 0)?;
+    let roster = read_roster(alloc, roles, file)?;
+    let admin = RoleId(admin as u8);
+    if !is_held(&roster, admin) {
+        return Err(refuse(PolicyKind::NoAdmin, PolicyPart::Users, 0));
+    }
+    let relations = read_relations(alloc, roster.users(), file)?;
+    Ok(Policy::start(alloc, roster, relations, admin)?)
+}
+
+#[tactic(auto, unfolding(crate::specs::Files::format_of))]
+fn read_format(file: &Table) -> Result<(), ReadFault>
+    ensures { Gives fault_of (λ u. u) result (spec.format_of (table_view file.now)) }
+{
+    let value = value_at(file, "format", PolicyPart::File, 0)?;
+    let Some(version) = value.as_integer() else {
+        return Err(refuse(PolicyKind::Shape, PolicyPart::File, 0));
+    };
+    if version != 1 {
+        return Err(refuse(PolicyKind::Version, PolicyPart::File, 0));
+    }
+    Ok(())
+}
+
+#[tactic(auto, unfolding(crate::specs::Files::admin_of))]
+fn read_admin(file: &Table) -> Result<Name, ReadFault>
+    ensures { Gives fault_of (λ n. n) result (spec.admin_of (table_view file.now)) }
+{
+    let value = value_at(file, "admin", PolicyPart::File, 0)?;
+    let text = text_of(value, PolicyPart::File, 0)?;
+    name_of(text, PolicyPart::File, 0)
+}
+
+/// Whether some user holds a role.
+fn is_held(roster: &Roster, r: RoleId) -> bool
+    ensures { result ≡ is_held roster.now r }
+{
+    'users: for u in 0..roster.users().len() {
+        if roster.has(UserId(u), r) {
+            return true;
+        }
+    }
+    false
+}
