@@ -5,7 +5,7 @@ ghost use Rattle.std.specs.List.{All};
 use crate::{Flow, FlowFault};
 use std::alloc::{AllocError, Global};
 use std::test::Fail;
-use wf_names::{Name, NameTable, StepId};
+use wf_names::{Name, NameTable, RoleId, StepId};
 
 #[test]
 fn closures_are_those_of_a_plain_program(rt: HostRuntime) -> Result<(), Fail> {
@@ -119,4 +119,43 @@ fn least_cycle(walks: u16) -> Option<u8> {
         }
     }
     None
+}
+
+#[test]
+fn a_workflow_answers_its_calls(rt: HostRuntime) -> Result<(), Fail> {
+    let names = four_names(rt.alloc())?;
+    assert_eq!(rt; names.len(), 4);
+    let (a, b, c) = (StepId(0), StepId(1), StepId(2));
+    let (boss, clerk) = (RoleId(0), RoleId(63));
+    let made = Flow::build(rt.alloc(), names.copy()?, &[(a, b), (b, c)], &[(clerk, a)]);
+    let mut flow = made.ok().ok_or("refused")?;
+    let len = flow.steps().len();
+    assert_eq!(rt; len, 4);
+    let changes = [
+        flow.permit(clerk, a),
+        flow.permit(boss, a),
+        flow.forbid(clerk, a),
+        flow.forbid(clerk, a),
+    ];
+    let copy = flow.copy()?;
+    let permitted = (
+        copy.permits(boss, a),
+        copy.permits(clerk, a),
+        copy.permits(boss, b),
+    );
+    let order = (
+        copy.ordered(a, b),
+        copy.ordered(a, c),
+        copy.before(a, c),
+        copy.before(c, a),
+    );
+    assert_eq!(rt;
+        (changes, permitted, order),
+        (
+            [false, true, true, false],
+            (true, false, false),
+            (true, false, true, false)
+        )
+    );
+    Ok(())
 }
