@@ -7,12 +7,18 @@ use std::alloc::{AllocError, Global};
 use std::test::Fail;
 use wf_names::{Name, NameTable, RoleId, StepId};
 
+// The edges from a step to itself.
+const LOOPS: u16 = 0x8421;
+
 #[test]
 fn closures_are_those_of_a_plain_program(rt: HostRuntime) -> Result<(), Fail> {
     let names = four_names(rt.alloc())?;
     assert_eq!(rt; names.len(), 4);
     let (mut wrong, mut acyclic) = (0u32, 0u32);
     for graph in 0..=u16::MAX {
+        if graph & LOOPS != 0 {
+            continue;
+        }
         let (walks, cycle) = told_of(rt.alloc(), &names, graph)?;
         let plain = closed(graph);
         if cycle != least_cycle(plain) || cycle.is_none() && walks != plain {
@@ -157,5 +163,38 @@ fn a_workflow_answers_its_calls(rt: HostRuntime) -> Result<(), Fail> {
             (true, false, true, false)
         )
     );
+    Ok(())
+}
+
+#[test]
+fn faulty_lists_are_refused(rt: HostRuntime) -> Result<(), Fail> {
+    let names = four_names(rt.alloc())?;
+    assert_eq!(rt; names.len(), 4);
+    let (a, b) = (StepId(0), StepId(1));
+    let role = RoleId(1);
+    let none = NameTable::new(rt.alloc(), 4)?;
+    let faults = (
+        Flow::build(rt.alloc(), none, &[], &[]).err(),
+        Flow::build(rt.alloc(), names.copy()?, &[(a, b), (b, a), (a, b)], &[]).err(),
+        Flow::build(rt.alloc(), names.copy()?, &[(a, a)], &[(role, b), (role, b)]).err(),
+    );
+    assert_eq!(rt;
+        faults,
+        (
+            Some(FlowFault::TooMany),
+            Some(FlowFault::Twice),
+            Some(FlowFault::Twice),
+        )
+    );
+    Ok(())
+}
+
+#[test]
+fn the_least_step_of_a_cycle_is_named(rt: HostRuntime) -> Result<(), Fail> {
+    let names = four_names(rt.alloc())?;
+    assert_eq!(rt; names.len(), 4);
+    let order = [(StepId(2), StepId(1)), (StepId(1), StepId(2))];
+    let fault = Flow::build(rt.alloc(), names, &order, &[]).err();
+    assert_eq!(rt; fault, Some(FlowFault::Cycle(StepId(1))));
     Ok(())
 }
