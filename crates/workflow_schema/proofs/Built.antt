@@ -1,11 +1,11 @@
 -- A workflow that is made of lists of pairs, and the cycles of such a list.
-use Rattle.std.proofs.Common.{◌≡◌, ◌≢◌, ℕ, zero, suc, ◌+◌, ◌<◌, ◌≤◌, ◌⊎◌, inl, inr, Bool, true, false, not, ◌&&◌, ◌||◌, nat_eq, nat_lt, nat_le, List, [], ◌∷◌, length, refl, sym, ap, subst, ◌∙◌, arith}
+use Rattle.std.proofs.Common.{◌≡◌, ◌≢◌, ℕ, suc, ◌<◌, ◌≤◌, inl, inr, true, false, ◌&&◌, nat_eq, nat_lt, nat_le, List, [], ◌∷◌, length, refl, sym, subst, ◌∙◌, arith}
 use Rattle.std.specs.List.{All}
 use Rattle.std.specs.FinSet as set
-use Rattle.pair_set.specs.Pairs.{Pairs, pair_cmp, AllPairs}
+use Rattle.pair_set.specs.Pairs.{Pairs, pair_cmp}
 use Rattle.wf_names.specs.declared.limits.TheConstants.{ROLE_LIMIT, STEP_LIMIT}
-use Rattle.workflow_schema.specs.Tables.{table_has, leads, pairs_of}
-use Rattle.workflow_schema.specs.Flows.{FlowShape, Precedes, is_before, is_count, IsFlow, IsLeastCycle}
+use Rattle.workflow_schema.specs.Tables.{table_has, leads}
+use Rattle.workflow_schema.specs.Flows.{Precedes, is_before, is_count, IsLeastCycle}
 use Rattle.workflow_schema.specs.Stored.{IsStored}
 use Rattle.workflow_schema.proofs.Booleans.{or_cases, and_both, and_from, eq_back, lt_back, lt_back_no, lt_yes, le_yes}
 use Rattle.workflow_schema.proofs.Chains.{before_is_chain, chain_is_before}

@@ -1,8 +1,8 @@
 -- The test of a chain of pairs, and the chains themselves.
-use Rattle.std.proofs.Common.{◌≡◌, ◌≢◌, ℕ, zero, suc, ◌+◌, ◌<◌, ◌≤◌, ◌⊎◌, inl, inr, Bool, true, false, ◌&&◌, ◌||◌, List, refl, sym, ap, subst, ◌∙◌, arith}
+use Rattle.std.proofs.Common.{◌≡◌, ℕ, zero, suc, ◌<◌, ◌⊎◌, inl, inr, Bool, true, subst, arith}
 use Rattle.std.proofs.lemmas.Bool.{cases_eq}
 use Rattle.std.specs.FinSet as set
-use Rattle.pair_set.specs.Pairs.{Pairs, pair_cmp, AllPairs}
+use Rattle.pair_set.specs.Pairs.{Pairs}
 use Rattle.wf_names.specs.declared.limits.TheConstants.{STEP_LIMIT}
 use Rattle.workflow_schema.specs.Tables.{leads}
 use Rattle.workflow_schema.specs.Flows.{Precedes, next, through, is_before}

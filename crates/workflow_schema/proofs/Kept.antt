@@ -1,10 +1,10 @@
 -- What a workflow keeps, from its tables.
-use Rattle.std.proofs.Common.{◌≡◌, ℕ, ◌+◌, ◌<◌, ◌≤◌, ◌⊎◌, inl, inr, Bool, true, false, not, ◌&&◌, ◌||◌, nat_eq, nat_lt, nat_le, List, length, refl, sym, ap, subst, ◌∙◌, arith}
+use Rattle.std.proofs.Common.{◌≡◌, ℕ, ◌<◌, ◌≤◌, inl, inr, Bool, true, not, ◌&&◌, ◌||◌, nat_eq, nat_lt, nat_le, List, length, sym, ◌∙◌, arith}
 use Rattle.std.specs.Bool.{IsTrue}
 use Rattle.std.specs.FinSet as set
-use Rattle.pair_set.specs.Pairs.{Pairs, pair_cmp, AllPairs}
+use Rattle.pair_set.specs.Pairs.{Pairs}
 use Rattle.wf_names.specs.declared.limits.TheConstants.{ROLE_LIMIT, STEP_LIMIT}
-use Rattle.workflow_schema.specs.Tables.{table_has, pairs_of}
+use Rattle.workflow_schema.specs.Tables.{table_has}
 use Rattle.workflow_schema.specs.Flows.{FlowShape, Precedes, is_before, is_count, IsFlow}
 use Rattle.workflow_schema.specs.Stored.{IsStored}
 use Rattle.workflow_schema.proofs.Booleans.{or_cases, and_both, eq_back, le_back}

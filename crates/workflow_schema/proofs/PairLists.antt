@@ -1,5 +1,5 @@
 -- Lists of pairs, read from their ends.
-use Rattle.std.proofs.Common.{◌≡◌, ◌≢◌, ℕ, zero, suc, ◌+◌, ◌<◌, ◌≤◌, Bool, true, false, ◌&&◌, ◌||◌, nat_eq, List, [], ◌∷◌, length, drop, get_or, refl, sym, ap, subst, ◌∙◌, arith, add-one, drop-cons, replicate}
+use Rattle.std.proofs.Common.{◌≡◌, ℕ, zero, suc, ◌+◌, ◌<◌, true, false, ◌&&◌, ◌||◌, nat_eq, List, [], ◌∷◌, length, drop, get_or, refl, sym, ap, subst, ◌∙◌, add-one, drop-cons, replicate}
 use Rattle.std.proofs.lemmas.List.{get_or_default}
 use Rattle.std.specs.FinSet as set
 use Rattle.std.specs.Ordering.{eq_by_cmp, is_eq, nat_cmp, ordering_then}
@@ -11,7 +11,7 @@ use Rattle.workflow_schema.proofs.Words.{is_set-zero}
 use Rattle.pair_set.specs.Pairs.{Pairs, pair_cmp}
 use Rattle.pair_set.specs.PairLaws.{pair_cmp_total}
 use Rattle.workflow_schema.specs.Flows.{has_twice}
-use Rattle.workflow_schema.proofs.Booleans.{or_left, or_right, and_swap}
+use Rattle.workflow_schema.proofs.Booleans.{or_left, or_right}
 
 -- the set of the pairs from a place on
 abbrev pub set_from : List (ℕ × ℕ) → ℕ → Pairs

@@ -1,15 +1,14 @@
 -- A table as the set of its pairs (bit, row).
-use Rattle.std.proofs.Common.{◌≡◌, ◌≢◌, ℕ, zero, suc, ◌+◌, ◌<◌, ◌≤◌, ◌⊎◌, inl, inr, Bool, true, false, cond, not, ◌&&◌, ◌||◌, nat_eq, nat_lt, List, [], ◌∷◌, ◌++◌, length, get_or, refl, sym, ap, subst, ◌∙◌, arith, add-zero}
+use Rattle.std.proofs.Common.{◌≡◌, ◌≢◌, ℕ, zero, suc, ◌+◌, ◌<◌, inl, inr, Bool, true, false, cond, not, ◌&&◌, ◌||◌, nat_eq, nat_lt, List, [], ◌∷◌, ◌++◌, get_or, refl, sym, ap, subst, ◌∙◌, arith}
 use Rattle.std.proofs.lemmas.Bool.{cases_eq}
 use Rattle.std.specs.List.{list_any}
 use Rattle.std.specs.FinSet as set
 use Rattle.std.specs.Ordering.{eq_by_cmp}
-use Rattle.pair_set.specs.Pairs.{Pairs, pair_cmp, AllPairs}
+use Rattle.pair_set.specs.Pairs.{Pairs, pair_cmp}
 use Rattle.pair_set.specs.PairLaws.{pair_cmp_total, pair_cmp-IsAntisymmetric}
-use Rattle.wf_names.specs.declared.limits.TheConstants.{ROLE_LIMIT}
 use Rattle.workflow_schema.specs.declared.table.TheConstants.{WORD_BITS}
 use Rattle.workflow_schema.specs.Tables.{is_set, table_has, row_pairs, table_pairs, pairs_of}
-use Rattle.workflow_schema.proofs.Booleans.{or-false, and-false, or_cases, and_both, and_swap, eq_same, eq_other, lt_yes, lt_no}
+use Rattle.workflow_schema.proofs.Booleans.{or-false, and-false, and_swap, eq_same, eq_other, lt_yes, lt_no}
 use Rattle.workflow_schema.proofs.Words.{is_set-zero, is_set-cut}
 use Rattle.workflow_schema.proofs.PairLists.{eq_pair, contains-one_more}
 

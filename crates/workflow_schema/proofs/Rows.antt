@@ -1,9 +1,8 @@
 -- What the flags of tables are after a step of the code.
-use Rattle.std.proofs.Common.{◌≡◌, ◌≢◌, ℕ, zero, suc, ◌+◌, ◌<◌, ◌≤◌, ◌⊎◌, inl, inr, Bool, true, false, not, ◌&&◌, ◌||◌, nat_eq, nat_lt, List, [], ◌∷◌, length, get_or, set, refl, sym, ap, subst, ◌∙◌, arith, add-one, get_or-set_same, get_or-set_other}
+use Rattle.std.proofs.Common.{◌≡◌, ◌≢◌, ℕ, ◌+◌, ◌<◌, ◌≤◌, inl, inr, Bool, true, false, not, ◌&&◌, ◌||◌, nat_eq, nat_lt, List, length, get_or, set, refl, sym, ap, subst, ◌∙◌, arith, add-one, get_or-set_same, get_or-set_other}
 use Rattle.std.proofs.Math.Nat.{le_trans}
 use Rattle.std.proofs.lemmas.List.{get_or_past}
 use Rattle.std.proofs.lemmas.Bool.{cases_eq}
-use Rattle.workflow_schema.specs.declared.table.TheConstants.{WORD_BITS}
 use Rattle.workflow_schema.specs.Tables.{is_set, table_has, leads}
 use Rattle.workflow_schema.proofs.Booleans.{or-false, eq_same, eq_other, lt_yes, lt_no, lt_back, lt_back_no}
 use Rattle.workflow_schema.proofs.Words.{is_set-zero}

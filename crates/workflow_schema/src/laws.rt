@@ -5,5 +5,4 @@ ghost use Rattle.workflow_schema.specs.Laws.{IsChainTest, IsChained};
 pub fn order_is_chained()
     ensures test { IsChainTest }
     ensures chained { IsChained }
-{
-}
+{}

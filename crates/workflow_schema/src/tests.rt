@@ -5,7 +5,10 @@ ghost use Rattle.std.specs.List.{All};
 use crate::{Flow, FlowFault};
 use std::alloc::{AllocError, Global};
 use std::test::Fail;
-use wf_names::{Name, NameTable, StepId};
+use wf_names::{Name, NameTable, RoleId, StepId};
+
+// The edges from a step to itself.
+const LOOPS: u16 = 0x8421;
 
 #[test]
 fn closures_are_those_of_a_plain_program(rt: HostRuntime) -> Result<(), Fail> {
@@ -13,6 +16,9 @@ fn closures_are_those_of_a_plain_program(rt: HostRuntime) -> Result<(), Fail> {
     assert_eq!(rt; names.len(), 4);
     let (mut wrong, mut acyclic) = (0u32, 0u32);
     for graph in 0..=u16::MAX {
+        if graph & LOOPS != 0 {
+            continue;
+        }
         let (walks, cycle) = told_of(rt.alloc(), &names, graph)?;
         let plain = closed(graph);
         if cycle != least_cycle(plain) || cycle.is_none() && walks != plain {
@@ -119,4 +125,76 @@ fn least_cycle(walks: u16) -> Option<u8> {
         }
     }
     None
+}
+
+#[test]
+fn a_workflow_answers_its_calls(rt: HostRuntime) -> Result<(), Fail> {
+    let names = four_names(rt.alloc())?;
+    assert_eq!(rt; names.len(), 4);
+    let (a, b, c) = (StepId(0), StepId(1), StepId(2));
+    let (boss, clerk) = (RoleId(0), RoleId(63));
+    let made = Flow::build(rt.alloc(), names.copy()?, &[(a, b), (b, c)], &[(clerk, a)]);
+    let mut flow = made.ok().ok_or("refused")?;
+    let len = flow.steps().len();
+    assert_eq!(rt; len, 4);
+    let changes = [
+        flow.permit(clerk, a),
+        flow.permit(boss, a),
+        flow.forbid(clerk, a),
+        flow.forbid(clerk, a),
+    ];
+    let copy = flow.copy()?;
+    let permitted = (
+        copy.permits(boss, a),
+        copy.permits(clerk, a),
+        copy.permits(boss, b),
+    );
+    let order = (
+        copy.ordered(a, b),
+        copy.ordered(a, c),
+        copy.before(a, c),
+        copy.before(c, a),
+    );
+    assert_eq!(rt;
+        (changes, permitted, order),
+        (
+            [false, true, true, false],
+            (true, false, false),
+            (true, false, true, false)
+        )
+    );
+    Ok(())
+}
+
+#[test]
+fn faulty_lists_are_refused(rt: HostRuntime) -> Result<(), Fail> {
+    let names = four_names(rt.alloc())?;
+    assert_eq!(rt; names.len(), 4);
+    let (a, b) = (StepId(0), StepId(1));
+    let role = RoleId(1);
+    let none = NameTable::new(rt.alloc(), 4)?;
+    let faults = (
+        Flow::build(rt.alloc(), none, &[], &[]).err(),
+        Flow::build(rt.alloc(), names.copy()?, &[(a, b), (b, a), (a, b)], &[]).err(),
+        Flow::build(rt.alloc(), names.copy()?, &[(a, a)], &[(role, b), (role, b)]).err(),
+    );
+    assert_eq!(rt;
+        faults,
+        (
+            Some(FlowFault::TooMany),
+            Some(FlowFault::Twice),
+            Some(FlowFault::Twice),
+        )
+    );
+    Ok(())
+}
+
+#[test]
+fn the_least_step_of_a_cycle_is_named(rt: HostRuntime) -> Result<(), Fail> {
+    let names = four_names(rt.alloc())?;
+    assert_eq!(rt; names.len(), 4);
+    let order = [(StepId(2), StepId(1)), (StepId(1), StepId(2))];
+    let fault = Flow::build(rt.alloc(), names, &order, &[]).err();
+    assert_eq!(rt; fault, Some(FlowFault::Cycle(StepId(1))));
+    Ok(())
 }

@@ -1,10 +1,8 @@
-use Rattle.std.proofs.Common.{◌≡◌, ◌≤◌, ℕ, length, true, false, ◌||◌, ◌∙◌, sym, ap, subst, arith}
+use Rattle.std.proofs.Common.{◌≡◌, length, false, ◌||◌, sym, ap, subst}
 use Rattle.std.specs.FinSet as set
 use Rattle.pair_set.specs.Pairs.{Pairs, pair_cmp}
-use Rattle.wf_names.specs.declared.limits.TheConstants.{STEP_LIMIT}
 use Rattle.workflow_schema.specs.declared.fault.FlowFault.TheVariants.{Cycle}
-use Rattle.workflow_schema.specs.Flows.{has_twice, is_before, IsLeastCycle}
-use Rattle.workflow_schema.specs.Tables.{table_has, pairs_of}
+use Rattle.workflow_schema.specs.Flows.{has_twice, IsLeastCycle}
 use Rattle.workflow_schema.specs.Stored.{IsStored}
 use Rattle.workflow_schema.proofs.Permits.{pairs_of-is}
 use Rattle.workflow_schema.proofs.Kept.{few_steps}

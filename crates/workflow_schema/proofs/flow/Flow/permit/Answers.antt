@@ -1,13 +1,12 @@
-use Rattle.std.proofs.Common.{◌≡◌, ◌<◌, ℕ, List, length, true, false, not, ◌∙◌, sym, ap, arith}
+use Rattle.std.proofs.Common.{length, not, ◌∙◌, sym, ap, arith}
 use Rattle.std.specs.FinSet as set
-use Rattle.pair_set.specs.Pairs.{Pairs, pair_cmp}
-use Rattle.pair_set.specs.PairLaws.{pair_cmp_total, pair_cmp-IsAntisymmetric, insert_held, remove_absent}
-use Rattle.wf_names.specs.declared.limits.TheConstants.{ROLE_LIMIT}
+use Rattle.pair_set.specs.Pairs.{Pairs}
+use Rattle.pair_set.specs.PairLaws.{pair_cmp_total, pair_cmp-IsAntisymmetric, insert_held}
 use Rattle.workflow_schema.specs.Tables.{pairs_of}
 use Rattle.workflow_schema.specs.Flows.{FlowShape}
 use Rattle.workflow_schema.proofs.Booleans.{not_false}
-use Rattle.workflow_schema.proofs.Permits.{pairs_of-has, pairs_of-with, pairs_of-without}
-use Rattle.workflow_schema.proofs.Kept.{keeps_permitted, keeps_forbidden}
+use Rattle.workflow_schema.proofs.Permits.{pairs_of-has, pairs_of-with}
+use Rattle.workflow_schema.proofs.Kept.{keeps_permitted}
 use Rattle.workflow_schema.proofs.flow.Flow.permit.Goals as goal
 
 pub invariant_of-self : goal.invariant_of-self
