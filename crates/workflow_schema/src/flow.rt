@@ -1,0 +1,145 @@
+//! Workflows: steps with their order and permissions.
+ghost use Rattle.std.specs.Prelude.{◌≡◌, ℕ, ◌<◌, ◌↔◌, true, false, not, ◌||◌, length, IfOk, IsErrOf, IsTrue};
+ghost use Rattle.std.specs.List.{All};
+ghost use Rattle.std.specs.FinSet as set;
+ghost use Rattle.wf_names.specs.declared.limits.TheConstants.{ROLE_LIMIT};
+ghost use Rattle.workflow_schema.specs.Flows.{has_twice, is_before, is_count, IsFlow, IsLeastCycle, Precedes};
+
+use pair_set::PairSet;
+use std::alloc::{AllocError, Global};
+use std::marker::Model;
+use wf_names::{NameTable, RoleId, STEP_LIMIT, StepId};
+
+use crate::FlowFault;
+use crate::lists::{order_set, order_table, permit_table};
+use crate::table::{clear_flag, close, first_own_flag, has_flag, set_flag};
+
+/// The steps of a workflow, the order in which they come, and the roles permitted for each.
+#[derive(Drop)]
+pub struct Flow {
+    steps: NameTable,
+    order: PairSet,
+    // Row s has the flag t where s comes before t.
+    later: [u64; STEP_LIMIT],
+    // Row s has the flag r where the role r is permitted for s.
+    roles: [u64; STEP_LIMIT],
+}
+
+impl Model for Flow {
+    ghost use Rattle.workflow_schema.specs.Flows.{FlowShape, flow_code};
+
+    ghost Value = { FlowShape };
+
+    ghost coded = { flow_code };
+
+    ghost use Rattle.workflow_schema.specs.Tables.{pairs_of};
+    ghost use Rattle.workflow_schema.specs.Stored.{IsStored};
+
+    ghost view = { λ f. record { steps = f.steps.names; order = f.order; permits = pairs_of f.roles } };
+
+    ghost invariant = { λ f. IsStored f.steps.names f.order f.later f.roles };
+}
+
+impl Flow {
+    /// A workflow of these steps, where `order` has the pairs (before, after) and `permits` the
+    /// pairs (role, step).
+    pub fn build(alloc: Global, steps: NameTable, order: &[(StepId, StepId)], permits: &[(RoleId, StepId)]) -> Result<Flow, FlowFault>
+        requires order_in { All (λ p. (p.0 < length steps.names) × (p.1 < length steps.names)) order.now }
+        requires permits_in { All (λ p. (p.0 < ROLE_LIMIT) × (p.1 < length steps.names)) permits.now }
+        ensures built { IfOk result (λ f. f ≡ record { steps = steps.names; order = set.from_list order.now; permits = set.from_list permits.now }) }
+        ensures too_many { IsErrOf result FlowFault.TooMany ↔ (is_count (length steps.names) ≡ false) }
+        ensures twice { IsErrOf result FlowFault.Twice ↔ ((is_count (length steps.names) ≡ true) × ((has_twice order.now || has_twice permits.now) ≡ true)) }
+        ensures cycle { (s : ℕ) → IsErrOf result (FlowFault.Cycle s) ↔ ((is_count (length steps.names) ≡ true) × ((has_twice order.now || has_twice permits.now) ≡ false) × IsLeastCycle (set.from_list order.now) s) }
+    {
+        let count = steps.len() as usize;
+        if count == 0 || STEP_LIMIT < count {
+            return Err(FlowFault::TooMany);
+        }
+        let (later, roles) = match (order_table(order), permit_table(permits)) {
+            (Some(later), Some(roles)) => (later, roles),
+            _ => return Err(FlowFault::Twice),
+        };
+        let mut later = later;
+        close(&mut later);
+        if let Some(s) = first_own_flag(&later) {
+            return Err(FlowFault::Cycle(s));
+        }
+        match order_set(alloc, order) {
+            Ok(order) => Ok(Flow {
+                steps,
+                order,
+                later,
+                roles,
+            }),
+            Err(_) => Err(FlowFault::NoMemory),
+        }
+    }
+
+    /// The names of the steps.
+    pub fn steps(&self) -> &NameTable
+        ensures names { result.now.names ≡ self.now.steps }
+        ensures kept { IsFlow self.now }
+    {
+        &self.steps
+    }
+
+    /// Whether a step comes before another, in constant time.
+    pub fn before(&self, s: StepId, t: StepId) -> bool
+        ensures answer { result ≡ is_before self.now.order s t }
+        ensures chain { IsTrue result ↔ Precedes self.now.order s t }
+    {
+        has_flag(&self.later, s.0 as usize, t.0)
+    }
+
+    /// Whether the pair itself was handed in.
+    pub fn ordered(&self, s: StepId, t: StepId) -> bool
+        ensures { result ≡ set.contains self.now.order (s, t) }
+    {
+        self.order.has(s.0 as u16, t.0 as u16)
+    }
+
+    /// Whether a role is permitted for a step.
+    pub fn permits(&self, r: RoleId, s: StepId) -> bool
+        ensures { result ≡ set.contains self.now.permits (r, s) }
+    {
+        has_flag(&self.roles, s.0 as usize, r.0)
+    }
+
+    /// Permits a role for a step; false where it was permitted already. Takes no memory.
+    pub fn permit(&mut self, r: RoleId, s: StepId) -> bool
+        requires role_in { r < ROLE_LIMIT }
+        requires step_in { s < length self.old.steps }
+        ensures permitted { self.new ≡ record self.old { permits = set.insert self.old.permits (r, s) } }
+        ensures changed { result ≡ not (set.contains self.old.permits (r, s)) }
+        ensures unchanged { result ≡ false → self.new ≡ self.old }
+    {
+        let fresh = !has_flag(&self.roles, s.0 as usize, r.0);
+        set_flag(&mut self.roles, s.0 as usize, r.0);
+        fresh
+    }
+
+    /// Forbids a role for a step; false where it was not permitted. Takes no memory.
+    pub fn forbid(&mut self, r: RoleId, s: StepId) -> bool
+        requires role_in { r < ROLE_LIMIT }
+        requires step_in { s < length self.old.steps }
+        ensures forbidden { self.new ≡ record self.old { permits = set.remove self.old.permits (r, s) } }
+        ensures changed { result ≡ set.contains self.old.permits (r, s) }
+        ensures unchanged { result ≡ false → self.new ≡ self.old }
+    {
+        let held = has_flag(&self.roles, s.0 as usize, r.0);
+        clear_flag(&mut self.roles, s.0 as usize, r.0);
+        held
+    }
+
+    /// A workflow with the same steps, order and permissions.
+    pub fn copy(&self) -> Result<Flow, AllocError>
+        ensures { IfOk result (λ f. f ≡ self.now) }
+    {
+        Ok(Flow {
+            steps: self.steps.copy()?,
+            order: self.order.copy()?,
+            later: self.later,
+            roles: self.roles,
+        })
+    }
+}

@@ -1,0 +1,10 @@
+//! A workflow's steps, their order, and the roles that are permitted for them.
+#![tactic(auto)]
+
+mod flow;
+mod fault;
+mod lists;
+mod table;
+
+pub use fault::FlowFault;
+pub use flow::Flow;
