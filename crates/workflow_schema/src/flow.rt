@@ -5,14 +5,13 @@ ghost use Rattle.std.specs.FinSet as set;
 ghost use Rattle.wf_names.specs.declared.limits.TheConstants.{ROLE_LIMIT};
 ghost use Rattle.workflow_schema.specs.Flows.{has_twice, is_before, is_count, IsFlow, IsLeastCycle, Precedes};
 
+use crate::FlowFault;
+use crate::lists::{order_set, order_table, permit_table};
+use crate::table::{clear_flag, close, first_own_flag, has_flag, set_flag};
 use pair_set::PairSet;
 use std::alloc::{AllocError, Global};
 use std::marker::Model;
 use wf_names::{NameTable, RoleId, STEP_LIMIT, StepId};
-
-use crate::FlowFault;
-use crate::lists::{order_set, order_table, permit_table};
-use crate::table::{clear_flag, close, first_own_flag, has_flag, set_flag};
 
 /// The steps of a workflow, the order in which they come, and the roles permitted for each.
 #[derive(Drop)]
@@ -43,7 +42,12 @@ impl Model for Flow {
 impl Flow {
     /// A workflow of these steps, where `order` has the pairs (before, after) and `permits` the
     /// pairs (role, step).
-    pub fn build(alloc: Global, steps: NameTable, order: &[(StepId, StepId)], permits: &[(RoleId, StepId)]) -> Result<Flow, FlowFault>
+    pub fn build(
+        alloc: Global,
+        steps: NameTable,
+        order: &[(StepId, StepId)],
+        permits: &[(RoleId, StepId)],
+    ) -> Result<Flow, FlowFault>
         requires order_in { All (λ p. (p.0 < length steps.names) × (p.1 < length steps.names)) order.now }
         requires permits_in { All (λ p. (p.0 < ROLE_LIMIT) × (p.1 < length steps.names)) permits.now }
         ensures built { IfOk result (λ f. f ≡ record { steps = steps.names; order = set.from_list order.now; permits = set.from_list permits.now }) }
@@ -55,11 +59,10 @@ impl Flow {
         if count == 0 || STEP_LIMIT < count {
             return Err(FlowFault::TooMany);
         }
-        let (later, roles) = match (order_table(order), permit_table(permits)) {
+        let (mut later, roles) = match (order_table(order), permit_table(permits)) {
             (Some(later), Some(roles)) => (later, roles),
             _ => return Err(FlowFault::Twice),
         };
-        let mut later = later;
         close(&mut later);
         if let Some(s) = first_own_flag(&later) {
             return Err(FlowFault::Cycle(s));

@@ -1,8 +1,8 @@
 //! A workflow's steps, their order, and the roles that are permitted for them.
 #![tactic(auto)]
 
-mod flow;
 mod fault;
+mod flow;
 mod lists;
 mod table;
 

@@ -7,11 +7,10 @@ ghost use Rattle.wf_names.specs.declared.limits.TheConstants.{ROLE_LIMIT, STEP_L
 ghost use Rattle.workflow_schema.specs.Flows.{has_twice};
 ghost use Rattle.workflow_schema.specs.Tables.{table_has};
 
+use crate::table::{has_flag, set_flag};
 use pair_set::PairSet;
 use std::alloc::{AllocError, Global};
 use wf_names::{RoleId, STEP_LIMIT, StepId};
-
-use crate::table::{has_flag, set_flag};
 
 /// The table with the flag `t` in row `s` for each pair (s, t), where no pair is repeated.
 pub(crate) fn order_table(order: &[(StepId, StepId)]) -> Option<[u64; STEP_LIMIT]>

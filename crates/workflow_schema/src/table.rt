@@ -19,10 +19,7 @@ pub(crate) fn has_bit(word: u64, bit: u8) -> bool
 pub(crate) fn has_flag(rows: &[u64], row: usize, bit: u8) -> bool
     ensures { result ≡ table_has rows.now row bit }
 {
-    match rows.get(row) {
-        Some(word) => has_bit(*word, bit),
-        None => false,
-    }
+    row < rows.len() && has_bit(rows[row], bit)
 }
 
 /// Sets a flag.
@@ -43,6 +40,13 @@ pub(crate) fn clear_flag(rows: &mut [u64], row: usize, bit: u8)
     rows[row] &= !(1 << bit);
 }
 
+// A row with the flags of `through` too, where it has the flag `k`.
+fn joined(row: u64, k: u8, through: u64) -> u64
+    ensures { (b : ℕ) → is_set result b ≡ (is_set row b || (is_set row k && is_set through b)) }
+{
+    if has_bit(row, k) { row | through } else { row }
+}
+
 /// Adds all flags of row `k` to each row that has the flag `k`.
 pub(crate) fn join_through(rows: &mut [u64], k: usize)
     requires k_in { k < length rows.old }
@@ -51,9 +55,7 @@ pub(crate) fn join_through(rows: &mut [u64], k: usize)
 {
     let through = rows[k];
     'rows: for row in rows.iter_mut() {
-        if has_bit(*row, k as u8) {
-            *row |= through;
-        }
+        *row = joined(*row, k as u8, through);
     }
 }
 
@@ -73,7 +75,7 @@ pub(crate) fn first_own_flag(rows: &[u64]) -> Option<StepId>
     ensures { MatchOption result ((a : ℕ) → table_has rows.now a a ≡ false) (λ s. (table_has rows.now s s ≡ true) × ((a : ℕ) → a < s → table_has rows.now a a ≡ false)) }
 {
     'rows: for row in 0..rows.len() {
-        if has_bit(rows[row], row as u8) {
+        if has_flag(rows, row, row as u8) {
             return Some(StepId(row as u8));
         }
     }

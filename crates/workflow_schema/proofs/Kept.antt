@@ -1,0 +1,67 @@
+-- What a workflow keeps, from its tables.
+use Rattle.std.proofs.Common.{◌≡◌, ℕ, ◌+◌, ◌<◌, ◌≤◌, ◌⊎◌, inl, inr, Bool, true, false, not, ◌&&◌, ◌||◌, nat_eq, nat_lt, nat_le, List, length, refl, sym, ap, subst, ◌∙◌, arith}
+use Rattle.std.specs.Bool.{IsTrue}
+use Rattle.std.specs.FinSet as set
+use Rattle.pair_set.specs.Pairs.{Pairs, pair_cmp, AllPairs}
+use Rattle.wf_names.specs.declared.limits.TheConstants.{ROLE_LIMIT, STEP_LIMIT}
+use Rattle.workflow_schema.specs.Tables.{table_has, pairs_of}
+use Rattle.workflow_schema.specs.Flows.{FlowShape, Precedes, is_before, is_count, IsFlow}
+use Rattle.workflow_schema.specs.Stored.{IsStored}
+use Rattle.workflow_schema.proofs.Tests.{or_cases, and_both, eq_back, le_back}
+use Rattle.workflow_schema.proofs.Chains.{before_is_chain, chain_is_before}
+use Rattle.workflow_schema.proofs.Permits.{pairs_of-has}
+
+pub few_steps : (n : ℕ) → is_count n ≡ true → n ≤ STEP_LIMIT
+few_steps n h = le_back n STEP_LIMIT (and_both (nat_lt 0 n) (nat_le n STEP_LIMIT) h).1
+
+-- the test of the closed table tells the chains
+pub tells_chains : (f : FlowShape) (s t : ℕ) (answer : Bool) → IsFlow f → answer ≡ is_before f.order s t → (IsTrue answer → Precedes f.order s t) × (Precedes f.order s t → IsTrue answer)
+tells_chains f s t answer kept is =
+    let below : (a b : ℕ) → set.contains f.order (a, b) ≡ true → b < STEP_LIMIT =
+    λ a b found. let e = (kept.orders.each a b found).1 in let few = few_steps (length f.steps) kept.counted in omega arith
+    in
+    (λ h. before_is_chain f.order s t (sym is ∙ h), λ r. is ∙ chain_is_before f.order s t below r)
+
+pub keeps_permitted :
+    (steps : List (List ℕ)) (order : Pairs) (later old rows : List ℕ) (r s : ℕ) → IsStored steps order later old →
+    ((a b : ℕ) → table_has rows a b ≡ ((nat_eq a s && nat_eq b r) || table_has old a b)) →
+    r < ROLE_LIMIT → s < length steps → length rows ≡ length old → IsStored steps order later rows
+keeps_permitted steps order later old rows r s kept h role step whole = record {
+  flow = record {
+    counted = kept.flow.counted;
+    orders = kept.flow.orders;
+    acyclic = kept.flow.acyclic;
+    permitted = record {
+      each = λ a b found.
+          elim (or_cases (nat_eq b s && nat_eq a r) (table_has old b a) (sym (h b a) ∙ sym (pairs_of-has rows a b) ∙ found)) [
+            | inl e ↦
+                let both = and_both (nat_eq b s) (nat_eq a r) e in
+                let same_step = eq_back b s both.0 in
+                let same_role = eq_back a r both.1 in
+                (omega arith, omega arith)
+            | inr e ↦ kept.flow.permitted.each a b (pairs_of-has old a b ∙ e)
+          ];
+    };
+  };
+  closed = kept.closed;
+  rows = whole ∙ kept.rows;
+}
+
+pub keeps_forbidden :
+    (steps : List (List ℕ)) (order : Pairs) (later old rows : List ℕ) (r s : ℕ) → IsStored steps order later old →
+    ((a b : ℕ) → table_has rows a b ≡ (not (nat_eq a s && nat_eq b r) && table_has old a b)) →
+    length rows ≡ length old → IsStored steps order later rows
+keeps_forbidden steps order later old rows r s kept h whole = record {
+  flow = record {
+    counted = kept.flow.counted;
+    orders = kept.flow.orders;
+    acyclic = kept.flow.acyclic;
+    permitted = record {
+      each = λ a b found.
+          kept.flow.permitted.each a b
+          (pairs_of-has old a b ∙ (and_both (not (nat_eq b s && nat_eq a r)) (table_has old b a) (sym (h b a) ∙ sym (pairs_of-has rows a b) ∙ found)).1);
+    };
+  };
+  closed = kept.closed;
+  rows = whole ∙ kept.rows;
+}

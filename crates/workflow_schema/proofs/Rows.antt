@@ -1,0 +1,104 @@
+-- What the flags of tables are after a step of the code.
+use Rattle.std.proofs.Common.{◌≡◌, ◌≢◌, ℕ, zero, suc, ◌+◌, ◌<◌, ◌≤◌, ◌⊎◌, inl, inr, Bool, true, false, not, ◌&&◌, ◌||◌, nat_eq, nat_lt, List, [], ◌∷◌, length, get_or, set, refl, sym, ap, subst, ◌∙◌, arith, add-one, get_or-set_same, get_or-set_other}
+use Rattle.std.proofs.Math.Nat.{le_trans}
+use Rattle.std.proofs.lemmas.List.{get_or_past}
+use Rattle.std.proofs.lemmas.Bool.{cases_eq}
+use Rattle.workflow_schema.specs.declared.table.TheConstants.{WORD_BITS}
+use Rattle.workflow_schema.specs.Tables.{is_set, table_has, leads}
+use Rattle.workflow_schema.proofs.Tests.{or-false, eq_same, eq_other, lt_yes, lt_no, lt_back, lt_back_no}
+use Rattle.workflow_schema.proofs.Words.{is_set-zero}
+
+pub table_past : (rows : List ℕ) (a b : ℕ) → length rows ≤ a → table_has rows a b ≡ false
+table_past rows a b h = ap (λ w. is_set w b) (get_or_past rows a 0 h) ∙ is_set-zero b
+
+-- a row is replaced by one that differs in one flag
+pub flag_set : (rows : List ℕ) (row bit word : ℕ) → row < length rows → ((b : ℕ) → is_set word b ≡ (nat_eq b bit || is_set (get_or rows row 0) b)) → (a b : ℕ) → table_has (set rows row word) a b ≡ ((nat_eq a row && nat_eq b bit) || table_has rows a b)
+flag_set rows row bit word h is a b =
+    elim (cases_eq a row) [
+      | inl e ↦
+          subst (λ c. table_has (set rows row word) c b ≡ ((nat_eq c row && nat_eq b bit) || table_has rows c b)) (sym e)
+          (ap (λ w. is_set w b) (get_or-set_same rows row word 0 h) ∙ is b
+          ∙ sym (ap (λ t. (t && nat_eq b bit) || table_has rows row b) (eq_same row)))
+      | inr ne ↦
+          ap (λ w. is_set w b) (get_or-set_other rows row a word 0 ne)
+          ∙ sym (ap (λ t. (t && nat_eq b bit) || table_has rows a b) (eq_other a row ne))
+    ]
+
+pub flag_cleared : (rows : List ℕ) (row bit word : ℕ) → row < length rows → ((b : ℕ) → is_set word b ≡ (not (nat_eq b bit) && is_set (get_or rows row 0) b)) → (a b : ℕ) → table_has (set rows row word) a b ≡ (not (nat_eq a row && nat_eq b bit) && table_has rows a b)
+flag_cleared rows row bit word h is a b =
+    elim (cases_eq a row) [
+      | inl e ↦
+          subst (λ c. table_has (set rows row word) c b ≡ (not (nat_eq c row && nat_eq b bit) && table_has rows c b)) (sym e)
+          (ap (λ w. is_set w b) (get_or-set_same rows row word 0 h) ∙ is b
+          ∙ sym (ap (λ t. not (t && nat_eq b bit) && table_has rows row b) (eq_same row)))
+      | inr ne ↦
+          ap (λ w. is_set w b) (get_or-set_other rows row a word 0 ne)
+          ∙ sym (ap (λ t. not (t && nat_eq b bit) && table_has rows a b) (eq_other a row ne))
+    ]
+
+before_next : (a n : ℕ) → a ≢ n → nat_lt a n ≡ nat_lt a (n + 1)
+before_next a n h = grind arith
+
+-- a table in which the rows before a place are joined through row k
+abbrev pub joined_before : List ℕ → ℕ → ℕ → ℕ → ℕ → Bool
+joined_before old k place a b = table_has old a b || (nat_lt a place && (table_has old a k && table_has old k b))
+
+abbrev pub AreJoined : List ℕ → List ℕ → ℕ → ℕ → Type 0
+AreJoined old rows k place = (a b : ℕ) → table_has rows a b ≡ joined_before old k place a b
+
+join_none : (old : List ℕ) (k a b : ℕ) (place : ℕ) → place ≤ a → joined_before old k place a b ≡ table_has old a b
+join_none old k a b place h = ap (λ t. table_has old a b || (t && (table_has old a k && table_has old k b))) (lt_no a place h) ∙ or-false _
+
+pub join_start : (old : List ℕ) (k : ℕ) → AreJoined old old k 0
+join_start old k a b = sym (join_none old k a b 0 (omega arith))
+
+pub join_step :
+    (old rows : List ℕ) (k place word : ℕ) → place < length rows → AreJoined old rows k place →
+    ((b : ℕ) → is_set word b ≡ (is_set (get_or rows place 0) b || (is_set (get_or rows place 0) k && table_has old k b))) →
+    AreJoined old (set rows place word) k (place + 1)
+join_step old rows k place word h joined is a b =
+    elim (cases_eq a place) [
+      | inl e ↦
+          subst (λ c. table_has (set rows place word) c b ≡ joined_before old k (place + 1) c b) (sym e)
+          (ap (λ w. is_set w b) (get_or-set_same rows place word 0 h) ∙ is b
+          ∙ (λ i. (joined place b ∙ join_none old k place b place (omega arith)) i || ((joined place k ∙ join_none old k place k place (omega arith)) i && table_has old k b))
+          ∙ sym (ap (λ t. table_has old place b || (t && (table_has old place k && table_has old k b))) (lt_yes place (place + 1) (omega arith))))
+      | inr ne ↦
+          ap (λ w. is_set w b) (get_or-set_other rows place a word 0 ne) ∙ joined a b
+          ∙ ap (λ t. table_has old a b || (t && (table_has old a k && table_has old k b))) (before_next a place ne)
+    ]
+
+pub join_end : (old rows : List ℕ) (k place : ℕ) → length rows ≤ place → AreJoined old rows k place → (a b : ℕ) → table_has rows a b ≡ (table_has old a b || (table_has old a k && table_has old k b))
+join_end old rows k place h joined a b =
+    joined a b
+    ∙ elim (nat_lt a place) as (λ t. nat_lt a place ≡ t → (table_has old a b || (t && (table_has old a k && table_has old k b))) ≡ (table_has old a b || (table_has old a k && table_has old k b))) [
+      | true ↦ λ e. refl
+      | false ↦ λ e.
+          let past : place ≤ a = lt_back_no a place e in
+          let none : table_has old a k ≡ false = sym (join_none old k a k place past) ∙ sym (joined a k) ∙ table_past rows a k (le_trans h past) in
+          sym (ap (λ t. table_has old a b || (t && table_has old k b)) none)
+    ] refl
+
+pub own_none : (rows : List ℕ) (n : ℕ) → length rows ≤ n → ((a : ℕ) → a < n → table_has rows a a ≡ false) → (a : ℕ) → table_has rows a a ≡ false
+own_none rows n h below a =
+    elim (nat_lt a n) as (λ t. nat_lt a n ≡ t → table_has rows a a ≡ false) [
+      | true ↦ λ e. below a (lt_back a n e)
+      | false ↦ λ e. table_past rows a a (le_trans h (lt_back_no a n e))
+    ] refl
+
+-- ---- closing a table
+
+abbrev pub AreClosed : (ℕ → ℕ → Bool) → List ℕ → ℕ → Type 0
+AreClosed next rows k = (a b : ℕ) → table_has rows a b ≡ leads k next a b
+
+pub close_start : (rows : List ℕ) → AreClosed (table_has rows) rows 0
+unfolding leads
+close_start rows a b = refl
+
+pub close_step :
+    (next : ℕ → ℕ → Bool) (old rows : List ℕ) (k : ℕ) → AreClosed next old k →
+    ((a b : ℕ) → table_has rows a b ≡ (table_has old a b || (table_has old a k && table_has old k b))) →
+    AreClosed next rows (k + 1)
+unfolding leads
+close_step next old rows k closed is a b =
+    rw (add-one k) (is a b ∙ (λ i. closed a b i || (closed a k i && closed k b i)))

@@ -1,0 +1,8 @@
+use Rattle.std.proofs.Common.{◌∙◌}
+use Rattle.workflow_schema.proofs.Kept.{tells_chains}
+use Rattle.workflow_schema.proofs.flow.Flow.before.Goals as goal
+
+pub returns-clause-chain : goal.returns-clause-chain
+returns-clause-chain c =
+    rw (← c.self.view_is, ← c.s.view_is, ← c.t.view_is)
+    (tells_chains _ c.s.inside.0 c.t.inside.0 c.has_flag.result c.self.invariant.flow (c.has_flag.ensures ∙ c.self.invariant.closed c.s.inside.0 c.t.inside.0))

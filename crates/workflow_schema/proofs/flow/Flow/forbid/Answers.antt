@@ -1,0 +1,35 @@
+use Rattle.std.proofs.Common.{◌≡◌, ◌<◌, ℕ, List, length, true, false, not, ◌∙◌, sym, ap, arith}
+use Rattle.std.specs.FinSet as set
+use Rattle.pair_set.specs.Pairs.{Pairs, pair_cmp}
+use Rattle.pair_set.specs.PairLaws.{pair_cmp_total, pair_cmp-IsAntisymmetric, insert_held, remove_absent}
+use Rattle.wf_names.specs.declared.limits.TheConstants.{ROLE_LIMIT}
+use Rattle.workflow_schema.specs.Tables.{pairs_of}
+use Rattle.workflow_schema.specs.Flows.{FlowShape}
+use Rattle.workflow_schema.proofs.Permits.{pairs_of-has, pairs_of-with, pairs_of-without}
+use Rattle.workflow_schema.proofs.Kept.{keeps_permitted, keeps_forbidden}
+use Rattle.workflow_schema.proofs.flow.Flow.forbid.Goals as goal
+
+pub invariant_of-self : goal.invariant_of-self
+invariant_of-self c =
+    keeps_forbidden c.self.inside.steps.names c.self.inside.order c.self.inside.later c.self.inside.roles c.clear_flag.new.rows c.r.inside.0 c.s.inside.0
+    c.self.invariant c.clear_flag.ensures
+    (omega (arith, c.clear_flag.auto.rows))
+
+pub returns-clause-forbidden : goal.returns-clause-forbidden
+returns-clause-forbidden c =
+    rw (← c.self.view_is, ← c.s.view_is, ← c.r.view_is)
+    (ap (λ (p : Pairs). record { steps = c.self.inside.steps.names; order = c.self.inside.order; permits = p })
+    (pairs_of-without c.self.inside.roles c.clear_flag.new.rows c.r.inside.0 c.s.inside.0 c.clear_flag.ensures))
+
+pub returns-clause-changed : goal.returns-clause-changed
+returns-clause-changed c =
+    rw (← c.self.view_is, ← c.s.view_is, ← c.r.view_is)
+    (c.has_flag-held.ensures ∙ sym (pairs_of-has c.self.inside.roles c.r.inside.0 c.s.inside.0))
+
+pub returns-clause-unchanged : goal.returns-clause-unchanged
+returns-clause-unchanged c h =
+    rw (← c.self.view_is)
+    (ap (λ (p : Pairs). record { steps = c.self.inside.steps.names; order = c.self.inside.order; permits = p })
+    (pairs_of-without c.self.inside.roles c.clear_flag.new.rows c.r.inside.0 c.s.inside.0 c.clear_flag.ensures
+    ∙ remove_absent pair_cmp_total pair_cmp-IsAntisymmetric (pairs_of c.self.inside.roles) (c.r.inside.0, c.s.inside.0)
+    (pairs_of-has c.self.inside.roles c.r.inside.0 c.s.inside.0 ∙ sym c.has_flag-held.ensures ∙ h)))
