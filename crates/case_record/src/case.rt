@@ -8,13 +8,12 @@ ghost use Rattle.workflow_schema.specs.Flows.{Precedes};
 ghost use Rattle.case_record.specs.Cases.{assigned_of, finished_of, fresh_case, finished_case, state_at, with_phase, with_state};
 ghost use Rattle.case_record.specs.Ready.{first_missing, is_ready, IsFirstMissing, IsReady};
 
+use crate::order::{first_unfinished, is_free_step};
+use crate::steps::{all_free, as_finished, assigned, finished, phase_after};
 use constraint_forms::{Assign, StepSet};
 use std::marker::Model;
 use wf_names::{FlowId, Phase, STEP_LIMIT, StepId, StepState, UserId};
 use workflow_schema::Flow;
-
-use crate::order::{first_unfinished, is_free};
-use crate::steps::{as_finished, assigned, finished, phase_after};
 
 /// A case: an instance of a workflow with where each of its steps stands.
 ///
@@ -53,7 +52,7 @@ impl Case {
     {
         Case {
             flow,
-            cells: [StepState::Free; STEP_LIMIT],
+            cells: all_free(),
             steps,
             phase: Phase::Live,
         }
@@ -98,7 +97,7 @@ impl Case {
         ensures answer { result ≡ is_ready self.now f.now.order s }
         ensures meaning { IsTrue result ↔ IsReady self.now f.now.order s }
     {
-        s.0 < self.steps && is_free(self.state(s)) && self.first_missing(f, s).is_none()
+        is_free_step(self, s) && self.first_missing(f, s).is_none()
     }
 
     /// The least step that comes before a step and is not finished.
@@ -107,7 +106,7 @@ impl Case {
         ensures answer { result ≡ first_missing self.now f.now.order s }
         ensures meaning { MatchOption result ((t : ℕ) → Precedes f.now.order t s → IsTrue (is_finished (state_at self.now t))) (λ t. IsFirstMissing self.now f.now.order s t) }
     {
-        first_unfinished(&self.cells[..self.steps as usize], f, s)
+        first_unfinished(self, f, s)
     }
 
     /// Gives a free step to a user.

@@ -4,5 +4,7 @@
 mod case;
 mod order;
 mod steps;
+#[cfg(test)]
+mod tests;
 
 pub use case::Case;

@@ -1,11 +1,20 @@
 //! What the steps of a case come to, as assignments and sets.
-ghost use Rattle.std.specs.Prelude.{◌≡◌, ℕ, ◌<◌, ◌≤◌, length, map, slice_set};
+ghost use Rattle.std.specs.Prelude.{◌≡◌, ℕ, ◌<◌, ◌≤◌, length, map, slice_set, replicate};
+ghost use Rattle.std.specs.List.{list_all};
+ghost use Rattle.wf_names.specs.declared.states.StepState.TheVariants.{Free};
 ghost use Rattle.wf_names.specs.declared.limits.TheConstants.{STEP_LIMIT};
 ghost use Rattle.wf_names.specs.States.{user_of, is_finished};
 ghost use Rattle.case_record.specs.Cases.{as_finished, phase_after};
 
 use constraint_forms::{Assign, StepSet};
-use wf_names::{Phase, StepId, StepState, UserId};
+use wf_names::{Phase, STEP_LIMIT, StepId, StepState, UserId};
+
+/// Every step free.
+pub(crate) fn all_free() -> [StepState; STEP_LIMIT]
+    ensures { result ≡ replicate STEP_LIMIT Free }
+{
+    [StepState::Free; STEP_LIMIT]
+}
 
 /// The users of the steps that are held or finished.
 pub(crate) fn assigned(cells: &[StepState]) -> Assign
@@ -58,9 +67,15 @@ pub(crate) fn as_finished(state: StepState) -> StepState
 pub(crate) fn phase_after(states: &[StepState], phase: Phase) -> Phase
     ensures { result ≡ phase_after states.now phase }
 {
-    if states.iter().all(|state| state.is_finished()) {
+    if are_finished(states) {
         Phase::Done
     } else {
         phase
     }
+}
+
+fn are_finished(states: &[StepState]) -> bool
+    ensures { result ≡ list_all is_finished states.now }
+{
+    states.iter().all(|state| state.is_finished())
 }
