@@ -1,10 +1,10 @@
 -- How the cells of a case change.
-use Rattle.std.proofs.Common.{◌≡◌, ℕ, zero, suc, ◌+◌, ◌<◌, ◌≤◌, Bool, true, false, List, [], ◌∷◌, ◌++◌, length, map, take, drop, replicate, slice_index_or, slice_set, get_or, refl, sym, ap, subst, ◌∙◌, arith}
+use Rattle.std.proofs.Common.{◌≡◌, ℕ, zero, suc, ◌+◌, ◌<◌, ◌≤◌, true, List, [], ◌∷◌, ◌++◌, length, map, take, drop, replicate, slice_index_or, slice_set, get_or, refl, sym, ap, subst, ◌∙◌, arith}
 use Rattle.std.proofs.Math.Seq.{take-set-lt}
-use Rattle.std.proofs.lemmas.List.{take-replicate, drop-replicate, get_or_default, get_or-take, length-replicate}
+use Rattle.std.proofs.lemmas.List.{drop-replicate, get_or_default, get_or-take, length-replicate}
 use Rattle.wf_names.specs.declared.limits.TheConstants.{STEP_LIMIT}
 use Rattle.wf_names.specs.declared.states.StepState.{StepState}
-use Rattle.wf_names.specs.declared.states.StepState.TheVariants.{Free, Held, Finished}
+use Rattle.wf_names.specs.declared.states.StepState.TheVariants.{Free}
 use Rattle.wf_names.specs.States.{is_held}
 use Rattle.case_record.specs.Cells.{AreKept, length-kept}
 use Rattle.case_record.specs.Cases.{as_finished}

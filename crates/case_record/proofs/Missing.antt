@@ -1,15 +1,13 @@
 -- The search for a step that comes before another and is not finished.
-use Rattle.std.proofs.Common.{◌≡◌, ℕ, zero, suc, ◌+◌, ◌<◌, ◌≤◌, Bool, true, false, not, ◌&&◌, ◌||◌, ◌⊎◌, nat_lt, IsTrue, List, [], ◌∷◌, length, drop, slice_index_or, get_or, Option, None, Some, is_none, MatchOption, if◌then◌else◌, ◌↔◌, refl, sym, ap, subst, ◌∙◌, arith, inl, inr}
+use Rattle.std.proofs.Common.{◌≡◌, ℕ, suc, ◌+◌, ◌<◌, Bool, true, false, not, ◌&&◌, ◌⊎◌, List, length, drop, slice_index_or, Option, Some, if◌then◌else◌, refl, sym, subst, ◌∙◌, arith, inl, inr}
 use Rattle.std.proofs.Math.Seq.{drop-cons}
 use Rattle.std.proofs.lemmas.Bool.{cases_eq}
-use Rattle.std.specs.FinSet as set
 use Rattle.pair_set.specs.Pairs.{Pairs}
-use Rattle.workflow_schema.specs.Flows.{FlowShape, IsFlow, Precedes, next, through, is_before}
+use Rattle.workflow_schema.specs.Flows.{is_before}
 use Rattle.wf_names.specs.States.{is_finished}
 use Rattle.wf_names.specs.declared.states.StepState.{StepState}
-use Rattle.wf_names.specs.declared.states.StepState.TheVariants.{Free, Held, Finished}
-use Rattle.case_record.specs.Cases.{CaseShape, state_at}
-use Rattle.case_record.specs.Ready.{IsReady, IsFirstMissing, first_missing, first_missing_from, is_free, is_ready}
+use Rattle.wf_names.specs.declared.states.StepState.TheVariants.{Free}
+use Rattle.case_record.specs.Ready.{first_missing_from}
 
 -- one step of the search
 searched : (order : Pairs) (s t : ℕ) (states : List StepState) (b : Bool) → t < length states →

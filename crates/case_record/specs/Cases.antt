@@ -1,11 +1,11 @@
 -- Cases, as contracts see them.
-use Rattle.std.specs.Prelude.{ℕ, Bool, true, false, List, Option, map, replicate, slice_index_or, slice_set, if◌then◌else◌, refl}
+use Rattle.std.specs.Prelude.{ℕ, Bool, List, Option, map, replicate, slice_index_or, slice_set, if◌then◌else◌}
 use Rattle.std.specs.List.{list_all}
 use Rattle.wf_names.specs.States.{user_of, is_finished, is_live}
 use Rattle.wf_names.specs.declared.states.StepState.{StepState}
 use Rattle.wf_names.specs.declared.states.StepState.TheVariants.{Free, Held, Finished}
 use Rattle.wf_names.specs.declared.states.Phase.{Phase}
-use Rattle.wf_names.specs.declared.states.Phase.TheVariants.{Live, Done, Withdrawn}
+use Rattle.wf_names.specs.declared.states.Phase.TheVariants.{Live, Done}
 use Rattle.case_record.specs.Cells.{all_steps}
 
 -- the workflow's number, where each step stands, and where the case stands

@@ -1,9 +1,10 @@
 //! A case of a workflow.
-ghost use Rattle.std.specs.Prelude.{◌≡◌, ℕ, ◌<◌, ◌≤◌, ◌↔◌, true, false, length, IsTrue, MatchOption};
+ghost use Rattle.std.specs.Prelude.{◌≡◌, ℕ, ◌<◌, ◌≤◌, ◌↔◌, true, length, slice_set, IsTrue, MatchOption};
 ghost use Rattle.wf_names.specs.declared.limits.TheConstants.{STEP_LIMIT};
 ghost use Rattle.wf_names.specs.declared.states.StepState.TheVariants.{Free, Held, Finished};
 ghost use Rattle.wf_names.specs.declared.states.Phase.TheVariants.{Live, Done, Withdrawn};
-ghost use Rattle.wf_names.specs.States.{is_held, is_finished, is_done};
+ghost use Rattle.wf_names.specs.States.{is_held, is_finished, is_done, user_of};
+ghost use Rattle.constraint_forms.specs.Assigned.{user_at, is_member};
 ghost use Rattle.workflow_schema.specs.Flows.{Precedes};
 ghost use Rattle.case_record.specs.Cases.{assigned_of, finished_of, fresh_case, finished_case, state_at, with_phase, with_state};
 ghost use Rattle.case_record.specs.Ready.{first_missing, is_ready, IsFirstMissing, IsReady};
@@ -113,7 +114,9 @@ impl Case {
     pub fn hold(&mut self, s: StepId, u: UserId)
         requires step { s < length self.old.states }
         requires free { state_at self.old s ≡ Free }
-        ensures { self.new ≡ with_state self.old s (Held u) }
+        ensures held { self.new ≡ with_state self.old s (Held u) }
+        ensures assigned { assigned_of self.new ≡ slice_set (assigned_of self.old) s (Some u) }
+        ensures finished { finished_of self.new ≡ finished_of self.old }
     {
         self.cells[s.0 as usize] = StepState::Held(u);
     }
@@ -121,7 +124,9 @@ impl Case {
     /// Takes a held step from its holder.
     pub fn release(&mut self, s: StepId)
         requires { is_held (state_at self.old s) ≡ true }
-        ensures { self.new ≡ with_state self.old s Free }
+        ensures released { self.new ≡ with_state self.old s Free }
+        ensures assigned { assigned_of self.new ≡ slice_set (assigned_of self.old) s None }
+        ensures finished { finished_of self.new ≡ finished_of self.old }
     {
         self.cells[s.0 as usize] = StepState::Free;
     }
@@ -129,7 +134,9 @@ impl Case {
     /// Finishes a held step for its holder, and answers whether the case is now done.
     pub fn finish(&mut self, s: StepId) -> bool
         requires { is_held (state_at self.old s) ≡ true }
-        ensures finished { self.new ≡ finished_case self.old s }
+        ensures case { self.new ≡ finished_case self.old s }
+        ensures assigned { assigned_of self.new ≡ assigned_of self.old }
+        ensures finished { finished_of self.new ≡ slice_set (finished_of self.old) s true }
         ensures done { result ≡ is_done self.new.phase }
     {
         let at = s.0 as usize;
@@ -147,14 +154,16 @@ impl Case {
 
     /// The users of the steps that are held or finished.
     pub fn assigned(&self) -> Assign
-        ensures { result ≡ assigned_of self.now }
+        ensures value { result ≡ assigned_of self.now }
+        ensures users { (s : ℕ) → user_at result s ≡ user_of (state_at self.now s) }
     {
         assigned(&self.cells)
     }
 
     /// The steps that are finished.
     pub fn finished(&self) -> StepSet
-        ensures { result ≡ finished_of self.now }
+        ensures value { result ≡ finished_of self.now }
+        ensures members { (s : ℕ) → is_member result s ≡ is_finished (state_at self.now s) }
     {
         finished(&self.cells)
     }

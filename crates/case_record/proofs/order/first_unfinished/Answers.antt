@@ -1,4 +1,4 @@
-use Rattle.std.proofs.Common.{◌≡◌, ℕ, ◌<◌, ◌%◌, ◌+◌, IsTrue, arith, sym, ap, subst, inl, inr, ◌∙◌, true, false, length, slice_index_or}
+use Rattle.std.proofs.Common.{◌≡◌, ℕ, ◌<◌, IsTrue, sym, ap, subst, inl, inr, ◌∙◌, true, length, slice_index_or}
 use Rattle.workflow_schema.specs.Flows.{Precedes}
 use Rattle.wf_names.specs.States.{is_finished}
 use Rattle.wf_names.specs.declared.states.StepState.TheVariants.{Free}

@@ -1,4 +1,4 @@
-use Rattle.std.proofs.Common.{◌≡◌, ℕ, ◌++◌, length, map, take, drop}
+use Rattle.std.proofs.Common.{◌≡◌, ◌++◌, length, map, take, drop}
 use Rattle.wf_names.specs.States.{user_of}
 use Rattle.case_record.proofs.steps.assigned.Given as goal
 
