@@ -1,0 +1,14 @@
+use Rattle.std.proofs.Common.{◌≡◌, ◌+◌, cond, true, refl, sym, ap, ◌∙◌, arith}
+use Rattle.case_record.specs.Cases.{CaseShape, is_open}
+use Rattle.grant_table.specs.Tables.{HasFreeStep}
+use Rattle.grant_table.specs.Tables.{ones, held_row}
+use Rattle.grant_table.proofs.Keeping.{known, some_there, there_again, table_put, finish_counts, plan_kept, case_changed}
+use Rattle.grant_table.proofs.cases.Cases.hold_step.Goals as goal
+
+pub put_row-requires-clause-there : goal.put_row-requires-clause-there
+put_row-requires-clause-there c =
+    there_again (λ r. ones r ≡ ones c.held.result + 0) c.args.c c.args.self.now.rows c.row-row.result c.held.result c.row-row.ensures.row
+    (ap (λ r. r.number) c.held.ensures) (omega (arith, ap ones c.held.ensures))
+
+pub returns : goal.returns
+returns c = c.put_row.ensures ∙ table_put c.args.self.now c.args.c c.row-row.result c.held.result (held_row c.args.s c.args.u c.args.plan) c.row-row.ensures.row c.held.ensures refl

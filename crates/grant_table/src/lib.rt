@@ -1,0 +1,8 @@
+//! The table of cases: each case at its number, and a kept plan for each open one.
+#![tactic(auto)]
+
+mod cases;
+mod changes;
+mod rows;
+
+pub use cases::Cases;
