@@ -1,16 +1,16 @@
 -- Who has which step of a case, and how that changes with a step's state.
-use Rattle.std.proofs.Common.{◌≡◌, ℕ, zero, suc, ◌-◌, ◌<◌, true, false, List, [], ◌∷◌, ◌++◌, length, map, replicate, slice_index_or, slice_set, get_or, None, Some, refl, sym, ap, ◌∙◌}
-use Rattle.std.proofs.lemmas.List.{map-set, set-append_left, length-set}
+use Rattle.std.proofs.Common.{◌≡◌, ◌≤◌, ℕ, zero, suc, ◌-◌, ◌<◌, true, false, List, [], ◌∷◌, ◌++◌, length, map, replicate, slice_index_or, slice_set, get_or, None, Some, refl, sym, ap, ◌∙◌}
+use Rattle.std.proofs.lemmas.List.{map-set, set-append_left, length-set, take-replicate}
 use Rattle.std.proofs.Math.Seq.{map-set_same}
 use Rattle.std.proofs.Math.ListN.{get_or-map}
 use Rattle.wf_names.specs.declared.limits.TheConstants.{STEP_LIMIT}
 use Rattle.wf_names.specs.declared.states.StepState.{StepState}
 use Rattle.wf_names.specs.declared.states.StepState.TheVariants.{Free, Held, Finished}
 use Rattle.wf_names.specs.States.{is_held, is_finished, user_of}
-use Rattle.constraint_forms.specs.Assigned.{user_at, is_member}
-use Rattle.case_record.specs.Cells.{all_steps}
-use Rattle.case_record.specs.Cases.{CaseShape, as_finished, assigned_of, finished_case, finished_of, state_at, with_state}
-use Rattle.case_record.proofs.Changes.{held_within}
+use Rattle.constraint_forms.specs.Assigned.{is_member, no_steps, no_users, user_at}
+use Rattle.case_record.specs.Cells.{all_steps, all_steps-take}
+use Rattle.case_record.specs.Cases.{CaseShape, as_finished, assigned_of, finished_case, finished_of, fresh_case, state_at, with_state}
+use Rattle.case_record.proofs.Changes.{free_kept, held_within}
 
 blank_at : {X : Type 0} (n k : ℕ) (d : X) → get_or (replicate n d) k d ≡ d
 blank_at zero k d = refl
@@ -94,3 +94,20 @@ pub finished_of-finish : (c : CaseShape) (s : ℕ) → is_held (state_at c s) �
 finished_of-finish c s held =
     finished_of-set c s (as_finished (state_at c s)) (held_within c.states s held)
     ∙ ap (slice_set (finished_of c) s) (held_finishes (state_at c s) held)
+
+all_steps-free : (n : ℕ) → n ≤ STEP_LIMIT → all_steps (replicate n Free) ≡ replicate STEP_LIMIT Free
+all_steps-free n h =
+    ap all_steps (sym (take-replicate n STEP_LIMIT Free h)) ∙ all_steps-take (replicate STEP_LIMIT Free) n (free_kept n h)
+
+map_blank : {X Y : Type 0} (f : X → Y) (n : ℕ) (x : X) → map f (replicate n x) ≡ replicate n (f x)
+map_blank f zero x = refl
+map_blank f (suc n) x = ap (λ ys. f x ∷ ys) (map_blank f n x)
+
+-- in a fresh case no step is anybody's, and none is finished
+pub assigned_of-fresh : (flow n : ℕ) → n ≤ STEP_LIMIT → assigned_of (fresh_case flow n) ≡ no_users
+unfolding no_users
+assigned_of-fresh flow n h = ap (map user_of) (all_steps-free n h) ∙ map_blank user_of STEP_LIMIT Free
+
+pub finished_of-fresh : (flow n : ℕ) → n ≤ STEP_LIMIT → finished_of (fresh_case flow n) ≡ no_steps
+unfolding no_steps
+finished_of-fresh flow n h = ap (map is_finished) (all_steps-free n h) ∙ map_blank is_finished STEP_LIMIT Free

@@ -4,7 +4,7 @@ ghost use Rattle.wf_names.specs.declared.limits.TheConstants.{STEP_LIMIT};
 ghost use Rattle.wf_names.specs.declared.states.StepState.TheVariants.{Free, Held, Finished};
 ghost use Rattle.wf_names.specs.declared.states.Phase.TheVariants.{Live, Done, Withdrawn};
 ghost use Rattle.wf_names.specs.States.{is_held, is_finished, is_done, user_of};
-ghost use Rattle.constraint_forms.specs.Assigned.{user_at, is_member};
+ghost use Rattle.constraint_forms.specs.Assigned.{is_member, no_steps, no_users, user_at};
 ghost use Rattle.workflow_schema.specs.Flows.{Precedes};
 ghost use Rattle.case_record.specs.Cases.{assigned_of, finished_of, fresh_case, finished_case, state_at, with_phase, with_state};
 ghost use Rattle.case_record.specs.Ready.{first_missing, is_ready, IsFirstMissing, IsReady};
@@ -49,7 +49,9 @@ impl Case {
     /// An open case of a workflow with so many steps, each of them free.
     pub fn fresh(flow: FlowId, steps: u8) -> Case
         requires { steps ≤ STEP_LIMIT }
-        ensures { result ≡ fresh_case flow steps }
+        ensures case { result ≡ fresh_case flow steps }
+        ensures assigned { assigned_of result ≡ no_users }
+        ensures finished { finished_of result ≡ no_steps }
     {
         Case {
             flow,

@@ -38,7 +38,7 @@ partitioned low n (r ∷ rs) order (suc i) (suc j) d up h later = partitioned (r
 not_equal : (a n : ℕ) → a < n → nat_eq a n ≡ false
 not_equal a n h = grind arith
 
-not_equal_above : (a n : ℕ) → n < a → nat_eq a n ≡ false
+pub not_equal_above : (a n : ℕ) → n < a → nat_eq a n ≡ false
 not_equal_above a n h = grind arith
 
 equal : (a n : ℕ) → a ≡ n → nat_eq a n ≡ true
@@ -95,7 +95,7 @@ place_put n [] i new h = absurd h
 place_put n (r ∷ rs) zero new h = rw h refl
 place_put n (r ∷ rs) (suc i) new h = rw h.0 (ap (λ xs. r ∷ xs) (place_put n rs i new h.1))
 
-ascend_from_less : (low less : ℕ) (rows : List Row) → less ≤ low → AscendFrom low rows → AscendFrom less rows
+pub ascend_from_less : (low less : ℕ) (rows : List Row) → less ≤ low → AscendFrom low rows → AscendFrom less rows
 ascend_from_less low less [] h order = tt
 ascend_from_less low less (r ∷ rs) h order = (omega (arith, h, order.0), order.1)
 

@@ -1,5 +1,5 @@
 -- How a table of cases is kept.
-use Rattle.std.specs.Prelude.{◌≡◌, ℕ, zero, suc, ◌+◌, ◌<◌, ◌≤◌, Bool, true, false, nat_eq, List, [], ◌∷◌, length, slice_get, is_some}
+use Rattle.std.specs.Prelude.{◌≡◌, ℕ, zero, suc, ◌+◌, ◌<◌, ◌≤◌, Bool, true, false, nat_eq, List, [], ◌∷◌, length, slice_get, Option, None, Some, is_some}
 use Rattle.wf_names.specs.declared.limits.TheConstants.{OPEN_CASE_LIMIT, CASE_LIMIT}
 use Rattle.case_record.specs.Cases.{is_open}
 use Rattle.grant_table.specs.declared.rows.Row.{Row}
@@ -39,3 +39,8 @@ pub record IsFound (n : ℕ) (rows : List Row) (i : ℕ) : Type 0 where
   pub place : IsPlace n rows i
   pub found : row_at n rows ≡ slice_get rows i
   pub within : i < length rows
+
+-- the rows of a table with at most one case
+abbrev pub rows_of : Option Row → List Row
+rows_of None = []
+rows_of (Some r) = r ∷ []

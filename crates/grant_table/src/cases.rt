@@ -12,7 +12,7 @@ use std::marker::Model;
 use wf_names::{CaseId, FlowId, StepId, UserId};
 
 use crate::changes::{finished, freed, held, replanned, withdrawn};
-use crate::rows::{Row, case_of, next_open, plan_in, put, row_of, still_open};
+use crate::rows::{Row, case_of, next_open, one_live, only, open_rows, plan_in, put, row_of, still_open};
 
 /// Cases at their numbers and, for each open one, a plan by which it can be completed.
 ///
@@ -167,6 +167,39 @@ impl Cases {
             Some(number) => Some(CaseId(number)),
             None => None,
         }
+    }
+
+    /// A table with the same cases and plans at the same numbers.
+    pub fn copy(&self) -> Result<Cases, AllocError>
+        ensures { IfOk result (λ t. t ≡ record self.now { spare = t.spare }) }
+    {
+        Ok(Cases {
+            rows: self.rows.clone()?,
+            ever: self.ever,
+            live: self.live,
+        })
+    }
+
+    /// A table with one case alone, at its number, and with none where there is no such case.
+    pub fn copy_one(&self, alloc: Global, c: CaseId) -> Result<Cases, AllocError>
+        ensures { IfOk result (λ t. t ≡ record self.now { rows = only c self.now.rows; spare = t.spare }) }
+    {
+        Ok(Cases {
+            rows: only(alloc, &self.rows, c.0)?,
+            ever: self.ever,
+            live: one_live(row_of(&self.rows, c.0)),
+        })
+    }
+
+    /// A table with the open cases alone, each at its number.
+    pub fn copy_open(&self, alloc: Global) -> Result<Cases, AllocError>
+        ensures { IfOk result (λ t. t ≡ record self.now { rows = open_rows self.now.rows; spare = t.spare }) }
+    {
+        Ok(Cases {
+            rows: open_rows(alloc, &self.rows)?,
+            ever: self.ever,
+            live: self.live,
+        })
     }
 
     /// The row of a case.

@@ -1,12 +1,13 @@
 //! The rows of a table of cases, ascending by number.
-ghost use Rattle.std.specs.Prelude.{◌≡◌, ℕ, ◌+◌, ◌<◌, ◌≤◌, Bool, true, cond, nat_lt, length, is_some, None, Some, slice_get, slice_set, MatchOption};
+ghost use Rattle.std.specs.Prelude.{◌≡◌, ℕ, ◌+◌, ◌<◌, ◌≤◌, Bool, true, cond, nat_lt, length, is_some, None, Some, slice_get, slice_set, IfOk, MatchOption};
 ghost use Rattle.std.specs.List.{prefix_len};
 ghost use Rattle.std.specs.Vec.{vec_capacity, vec_len};
-ghost use Rattle.grant_table.specs.Tables.{case_in, change_row, next_open, plan_of, row_at};
-ghost use Rattle.grant_table.specs.Kept.{AscendFrom, IsFound};
+ghost use Rattle.grant_table.specs.Tables.{case_in, change_row, next_open, only, open_count, open_rows, plan_of, row_at};
+ghost use Rattle.grant_table.specs.Kept.{AscendFrom, IsFound, rows_of};
 
 use case_record::Case;
 use constraint_forms::Plan;
+use std::alloc::{AllocError, Global};
 
 /// A case at its number with the plan that is kept for it.
 #[derive(Clone, Copy)]
@@ -106,4 +107,40 @@ pub(crate) fn still_open(live: u16, has_ended: bool) -> u16
     ensures { result + cond has_ended 1 0 ≡ live }
 {
     if has_ended { live - 1 } else { live }
+}
+
+/// The row with a number alone.
+pub(crate) fn only(alloc: Global, rows: &[Row], n: u16) -> Result<Vec<Row>, AllocError>
+    requires { AscendFrom 0 rows.now }
+    ensures { IfOk result (λ some. some.items ≡ only n rows.now) }
+{
+    let mut some = Vec::new(alloc);
+    let Some(i) = find(rows, n) else {
+        return Ok(some);
+    };
+    some.push(rows[i])?;
+    Ok(some)
+}
+
+/// How many cases are open in a table with this row alone.
+pub(crate) fn one_live(row: Option<Row>) -> u16
+    ensures { result ≡ open_count (rows_of row) }
+{
+    match row {
+        Some(row) if row.case.phase().is_live() => 1,
+        _ => 0,
+    }
+}
+
+/// The rows of the open cases.
+pub(crate) fn open_rows(alloc: Global, rows: &[Row]) -> Result<Vec<Row>, AllocError>
+    ensures { IfOk result (λ some. some.items ≡ open_rows rows.now) }
+{
+    let mut some = Vec::new(alloc);
+    'rows: for row in rows {
+        if row.case.phase().is_live() {
+            some.push(*row)?;
+        }
+    }
+    Ok(some)
 }

@@ -9,5 +9,5 @@ pub invariant_of-self : goal.invariant_of-self
 invariant_of-self c =
     let few : open_count c.self.inside.rows.items < OPEN_CASE_LIMIT = rw (← c.self.view_is) at c.requires.open in
     rw c.push_reserved.ensures.items
-    (kept_added c.self.inside.ever c.self.inside.live c.self.inside.rows.items _ c.self.invariant refl (ap is_open c.fresh.ensures) refl
+    (kept_added c.self.inside.ever c.self.inside.live c.self.inside.rows.items _ c.self.invariant refl (ap is_open c.fresh.ensures.case) refl
     (omega (arith, c.self.invariant.counted, few)) (rw (← c.self.view_is) at c.requires.ever))
