@@ -59,7 +59,3 @@ pub empty_tells : (pairs : List (ℕ × ℕ)) (s : Pairs) → set.from_list pair
 empty_tells pairs s is up b e =
     let count : set.len s ≡ length pairs = set_len pairs s is up in
     (λ yes. set.empty_of_len s (count ∙ eqb-true (length pairs) 0 (sym e ∙ yes)), λ none. e ∙ eq-eqb (length pairs) 0 (sym count ∙ ap set.len none ∙ set.len-empty pair_cmp))
-
-pub ascending_none : IsAscending []
-unfolding Rattle.std.specs.List.Sorted.IsStrictlySortedBy
-ascending_none = tt

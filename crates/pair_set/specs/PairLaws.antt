@@ -1,5 +1,5 @@
 -- Laws of finite sets of pairs.
-use Rattle.std.specs.Prelude.{◌≡◌, ℕ, true, false, not, ◌&&◌, ◌||◌}
+use Rattle.std.specs.Prelude.{[], ◌≡◌, ℕ, true, false, not, ◌&&◌, ◌||◌}
 use Rattle.std.proofs.Common.{refl, sym, ap, subst, ◌∙◌, ◌⊎◌, inl, inr}
 use Rattle.std.specs.Cmp.{IsTotalOrder, nat_cmp_total}
 use Rattle.std.proofs.lemmas.Cmp.{on_total, then_total, tied_itself}
@@ -9,7 +9,8 @@ use Rattle.std.specs.declared.cmp.Ordering.{Ordering}
 use Rattle.std.specs.declared.cmp.Ordering.TheVariants.{Less, Equal, Greater}
 use Rattle.std.specs.FinSet as set
 use Rattle.std.specs.FinSet.{IsAntisymmetric, nat_cmp-IsAntisymmetric}
-use Rattle.pair_set.specs.Pairs.{pair_cmp, Pairs, AllPairs}
+use Rattle.pair_set.specs.Pairs.{pair_cmp, Pairs, IsAscending, AllPairs}
+use Rattle.std.specs.List.Sorted.{IsStrictlySortedBy}
 
 pub pair_cmp_total : IsTotalOrder pair_cmp
 pair_cmp_total = then_total (on_total (λ (x : ℕ × ℕ). x.0) nat_cmp_total) (on_total (λ (x : ℕ × ℕ). x.1) nat_cmp_total)
@@ -92,3 +93,7 @@ all_insert P s a b here all = record {
 
 pub all_remove : (P : ℕ → ℕ → Type 0) (s : Pairs) (a b : ℕ) → AllPairs P s → AllPairs P (set.remove s (a, b))
 all_remove P s a b all = record { each = λ x y h. all.each x y (was_there pair_cmp_total pair_cmp-IsAntisymmetric s (a, b) (x, y) h) }
+
+pub ascending_none : IsAscending []
+unfolding IsStrictlySortedBy
+ascending_none = tt

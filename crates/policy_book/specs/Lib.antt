@@ -3,3 +3,4 @@ pub mod Policies
 pub mod Plans
 pub mod Facts
 pub mod Refuting
+pub mod Stored

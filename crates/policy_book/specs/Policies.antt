@@ -1,8 +1,8 @@
 -- What a policy says.
-use Rattle.std.specs.Prelude.{ℕ, ◌+◌, Bool, true, false, ◌&&◌, ◌||◌, List, [], length, slice_index_or, slice_set}
+use Rattle.std.specs.Prelude.{ℕ, zero, suc, Bool, false, ◌&&◌, ◌||◌, [], length, slice_index_or, slice_set}
 use Rattle.std.specs.FinSet as set
 use Rattle.rbac_state.specs.Rosters.{RosterShape, has_role}
-use Rattle.user_relations.specs.Relations.{is_related}
+use Rattle.user_relations.specs.Relations.{is_related, with_kind, listed}
 use Rattle.pair_set.specs.Pairs.{Pairs}
 use Rattle.policy_book.specs.Shapes.{PolicyShape, WorkflowShape}
 use Rattle.policy_book.specs.Plans.{Problem}
@@ -28,16 +28,20 @@ is_authorised p f s u =
 -- all that a policy says of one of its workflows
 abbrev pub problem_of : PolicyShape → ℕ → Problem
 problem_of p f = record {
-    steps = length (flow_at p f).flow.steps;
-    users = length p.roster.users;
-    authorised = is_authorised p f;
-    related = is_related p.relations;
-    rules = (flow_at p f).rules
+  steps = length (flow_at p f).flow.steps;
+  users = length p.roster.users;
+  authorised = is_authorised p f;
+  related = is_related p.relations;
+  rules = (flow_at p f).rules;
 }
 
 -- a policy with another roster
 abbrev pub with_roster : PolicyShape → RosterShape → PolicyShape
 with_roster p roster = record p { roster = roster }
+
+-- a policy with other pairs in one of its relations
+abbrev pub with_pairs : PolicyShape → ℕ → Pairs → PolicyShape
+with_pairs p rho pairs = record p { relations = with_kind p.relations rho (listed pairs) }
 
 -- a policy with another workflow at a number
 abbrev pub with_flow : PolicyShape → ℕ → WorkflowShape → PolicyShape

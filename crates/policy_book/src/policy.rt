@@ -1,22 +1,26 @@
 //! The policy over its parts.
-ghost use Rattle.std.specs.Prelude.{◌≡◌, ◌<◌, ◌≤◌, ◌+◌, ◌↔◌, ℕ, List, [], ◌∷◌, ◌++◌, length, is_some, true, false, IfOk, IfSome, OnOk, OnErr, IsErrOf, IsTrue, not};
+ghost use Rattle.std.specs.Prelude.{◌≡◌, ◌<◌, ◌≤◌, ◌+◌, ◌↔◌, ℕ, List, [], ◌∷◌, ◌++◌, length, is_some, true, false, IfOk, IfSome, OnOk, OnErr, IsErrOf, IsTrue, not, ◌&&◌};
 ghost use Rattle.std.specs.FinSet as set;
 ghost use Rattle.wf_names.specs.declared.limits.TheConstants.{FLOW_LIMIT, RULE_LIMIT, USER_LIMIT};
 ghost use Rattle.rbac_state.specs.Rosters.{has_role};
 ghost use Rattle.wf_names.specs.Table.{place_of};
-ghost use Rattle.policy_book.specs.Policies.{flow_at, is_authorised, problem_of, with_roster, with_permits, with_flow};
+ghost use Rattle.user_relations.specs.Relations.{pairs_of};
+ghost use Rattle.user_relations.specs.Faults.{AnswersFault, relate_fault, unrelate_fault};
+ghost use Rattle.policy_book.specs.Policies.{any_below, flow_at, is_authorised, problem_of, with_roster, with_pairs, with_permits, with_flow};
 ghost use Rattle.policy_book.specs.Plans.{IsWellFormed};
 ghost use Rattle.policy_book.specs.Facts.{AreOfUsers, AreSoundRules, PermitsRolesBelow};
 
+use crate::workflow::Workflow;
 use constraint_forms::{Holds, Rules};
 use rbac_state::{Roster, RosterFault};
 use std::alloc::{AllocError, Global};
 use std::marker::Model;
 use user_relations::{RelationFault, Relations};
-use wf_names::{FLOW_LIMIT, FlowId, Name, NameFault, NameTable, RelId, RoleId, StepId, UserId};
+use wf_names::{
+    FLOW_LIMIT, FlowId, Name, NameFault, NameTable, ROLE_LIMIT, RelId, RoleId, StepId, USER_LIMIT,
+    UserId,
+};
 use workflow_schema::Flow;
-
-use crate::workflow::Workflow;
 
 /// A policy: a roster, relations, workflows with their rules, and the role of its administrators.
 #[derive(Drop)]
@@ -27,6 +31,20 @@ pub struct Policy {
     flows: Vec<Workflow>,
     admin: RoleId,
     alloc: Global,
+}
+
+impl Model for Policy {
+    ghost use Rattle.policy_book.specs.Shapes.{PolicyShape, policy_code};
+
+    ghost Value = { PolicyShape };
+
+    ghost coded = { policy_code };
+
+    ghost use Rattle.policy_book.specs.Stored.{IsStored, shape_of};
+
+    ghost view = { λ p. shape_of p.roster p.relations p.names p.flows.items p.admin };
+
+    ghost invariant = { λ p. IsStored p.roster p.relations p.names p.flows.items p.admin };
 }
 
 impl Policy {
@@ -41,6 +59,8 @@ impl Policy {
         requires admin { admin < length roster.roles }
         ensures { IfOk result (λ p. p ≡ record { roster = roster; relations = relations; flow_names = []; flows = []; admin = admin }) }
     {
+        let (users, roles) = (roster.users().len(), roster.roles().len());
+        prove!(users <= USER_LIMIT && roles <= ROLE_LIMIT);
         Ok(Policy {
             roster,
             relations,
@@ -59,8 +79,9 @@ impl Policy {
 
         ensures place { IfOk result (λ f. f ≡ length self.old.flows) }
         ensures added { OnOk result (self.new ≡ record self.old {
-            flow_names = self.old.flow_names ++ name ∷ [];
-            flows = self.old.flows ++ record { flow = flow; rules = rules; retired = false } ∷ [] }) }
+          flow_names = self.old.flow_names ++ name ∷ [];
+          flows = self.old.flows ++ record { flow = flow; rules = rules; retired = false } ∷ [];
+        }) }
         ensures fresh { OnOk result (is_some (place_of self.old.flow_names name) ≡ false) }
 
         ensures twice { IsErrOf result NameFault.Twice ↔ (is_some (place_of self.old.flow_names name) ≡ true) }
@@ -192,7 +213,10 @@ impl Policy {
         ensures full { IsErrOf result NameFault.Full ↔ ((is_some (place_of self.old.roster.users name) ≡ false) × (length self.old.roster.users ≡ USER_LIMIT)) }
         ensures unchanged { OnErr result (self.new ≡ self.old) }
     {
-        self.roster.add_user(name)
+        match self.roster.add_user(name) {
+            Ok(u) => Ok(u),
+            Err(fault) => Err(fault),
+        }
     }
 
     /// Gives a user a role.
@@ -220,6 +244,34 @@ impl Policy {
         ensures unchanged { OnErr result (self.new ≡ self.old) }
     {
         self.roster.dismiss(u, r)
+    }
+
+    /// Puts a pair of users into a listed relation.
+    pub fn relate(&mut self, rho: RelId, u: UserId, v: UserId) -> Result<(), RelationFault>
+        requires first { u < length self.old.roster.users }
+        requires second { v < length self.old.roster.users }
+        ensures related { OnOk result (self.new ≡ with_pairs self.old rho (set.insert (pairs_of self.old.relations rho) (u, v))) }
+        ensures fault { AnswersFault (relate_fault self.old.relations rho u v) result }
+        ensures unchanged { OnErr result (self.new ≡ self.old) }
+    {
+        match self.relations.relate(rho, u, v) {
+            Ok(()) => Ok(()),
+            Err(fault) => Err(fault),
+        }
+    }
+
+    /// Takes a pair of users out of a listed relation.
+    pub fn unrelate(&mut self, rho: RelId, u: UserId, v: UserId) -> Result<(), RelationFault>
+        requires first { u < length self.old.roster.users }
+        requires second { v < length self.old.roster.users }
+        ensures unrelated { OnOk result (self.new ≡ with_pairs self.old rho (set.remove (pairs_of self.old.relations rho) (u, v))) }
+        ensures fault { AnswersFault (unrelate_fault self.old.relations rho u v) result }
+        ensures unchanged { OnErr result (self.new ≡ self.old) }
+    {
+        match self.relations.unrelate(rho, u, v) {
+            Ok(()) => Ok(()),
+            Err(fault) => Err(fault),
+        }
     }
 
     /// Permits a step of a workflow to a role, and answers whether that changes anything.
@@ -254,4 +306,58 @@ impl Policy {
         let workflow = &mut self.flows[f.0 as usize];
         workflow.retired = true;
     }
+}
+
+impl Holds for Policy {
+    ghost use Rattle.user_relations.specs.Relations.{is_related};
+
+    ghost related = { λ p. is_related p.relations };
+
+    fn holds(&self, rho: RelId, u: UserId, v: UserId) -> bool {
+        self.relations.holds(rho, u, v)
+    }
+}
+
+// Whether some role is held by a user and permitted for a step.
+fn some_role(roster: &Roster, flow: &Flow, s: StepId, u: UserId) -> bool
+    ensures { result ≡ any_below (length roster.now.roles) (λ r. has_role roster.now u r && set.contains flow.now.permits (r, s)) }
+{
+    'roles: for r in 0..roster.roles().len() {
+        let role = RoleId(r as u8);
+        if roster.has(u, role) && flow.permits(role, s) {
+            return true;
+        }
+    }
+    false
+}
+
+// The number that a new workflow gets, where its name is new and there is room.
+fn free_place(names: &NameTable, name: &Name) -> Result<FlowId, NameFault>
+    requires { names.now.limit ≡ FLOW_LIMIT }
+    ensures place { IfOk result (λ f. f ≡ length names.now.names) }
+    ensures fresh { OnOk result (is_some (place_of names.now.names name.now) ≡ false) }
+    ensures room { OnOk result (length names.now.names < FLOW_LIMIT) }
+    ensures twice { IsErrOf result NameFault.Twice ↔ (is_some (place_of names.now.names name.now) ≡ true) }
+    ensures full { IsErrOf result NameFault.Full ↔ ((is_some (place_of names.now.names name.now) ≡ false) × (length names.now.names ≡ FLOW_LIMIT)) }
+    ensures memory { ¬ IsErrOf result NameFault.NoMemory }
+{
+    if names.find(name).is_some() {
+        return Err(NameFault::Twice);
+    }
+    let count = names.len();
+    if count >= FLOW_LIMIT {
+        return Err(NameFault::Full);
+    }
+    Ok(FlowId(count as u8))
+}
+
+// Copies of workflows.
+fn copies(alloc: Global, flows: &[Workflow]) -> Result<Vec<Workflow>, AllocError>
+    ensures { IfOk result (λ copies. copies.items ≡ flows.now) }
+{
+    let mut copies = Vec::new(alloc);
+    'flows: for workflow in flows {
+        copies.push(workflow.copy(alloc)?)?;
+    }
+    Ok(copies)
 }

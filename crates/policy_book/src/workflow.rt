@@ -14,6 +14,16 @@ pub(crate) struct Workflow {
     pub(crate) retired: bool,
 }
 
+impl Model for Workflow {
+    ghost use Rattle.policy_book.specs.Shapes.{WorkflowShape, workflow_code};
+
+    ghost Value = { WorkflowShape };
+
+    ghost coded = { workflow_code };
+
+    ghost view = { λ w. record { flow = w.flow; rules = w.rules; retired = w.retired } };
+}
+
 impl Workflow {
     /// A workflow that is equal to this one.
     pub(crate) fn copy(&self, alloc: Global) -> Result<Workflow, AllocError>

@@ -1,5 +1,5 @@
 -- The rule of a turn table holds at the start, and what it says at the end.
-use Rattle.std.proofs.Common.{◌≡◌, ◌≢◌, ◌⊎◌, ℕ, zero, suc, ◌+◌, ◌<◌, ◌≤◌, Bool, true, false, List, [], ◌∷◌, ◌++◌, length, slice_index, sym, refl, ap, ◌∙◌, subst, inl, inr, ⊎_elim, arith, Option, Some, None}
+use Rattle.std.proofs.Common.{◌≡◌, ◌≢◌, ℕ, zero, suc, ◌<◌, true, List, [], ◌∷◌, ◌++◌, slice_index, sym, refl, ap, ◌∙◌, subst, inl, inr, ⊎_elim, arith, Option, Some, None}
 use Rattle.std.specs.List.{Contains}
 use Rattle.std.proofs.lemmas.List.{append-nil}
 use mathlib.Core.Option as maybe
@@ -7,12 +7,10 @@ use mathlib.Core.Option.{some, some-injective, some-ne-none}
 use mathlib.Core.Logic.{dite}
 use native.Mathlib.Decide.{ℕ_discrete, dec_le}
 use lib.ListN.{get_elem?}
-use Rattle.atomic_table.specs.Table.{State, opening, Final, Seen}
+use Rattle.atomic_table.specs.Table.{opening, Final, Seen}
 use Rattle.turn_table.specs.declared.view.View.{View}
-use Rattle.turn_table.specs.declared.view.Hold.{Hold}
-use Rattle.turn_table.specs.declared.view.Hold.TheVariants.{Free, Held, Noted}
-use Rattle.turn_table.specs.Lists.{StartsWith, pairs_of, Quiet, OwnPast}
-use Rattle.turn_table.specs.Turns.{word_of, StandsIn, starting, Fits, Kept, TurnRule}
+use Rattle.turn_table.specs.declared.view.Hold.TheVariants.{Free}
+use Rattle.turn_table.specs.Turns.{word_of, starting, Fits, Kept, TurnRule}
 use Rattle.turn_table.proofs.Lists.{quiet_self, quiet_parts, no_pairs}
 use Rattle.turn_table.proofs.Numbers.{contains_none}
 
@@ -40,20 +38,23 @@ module _ {D G I : Type 0} (fixed_part : D → G) (list : D → List (ℕ × I)) 
     alone (suc j) v e live = absurd (some-ne-none v (sym e))
 
     pub starts : TurnRule fixed_part list (fixed_part x) (list x) lanes (opening (0 ∷ []) (Some x ∷ []) front)
-    starts = (refl, record {
-      now = list x;
-      made = 0;
-      first = 0;
-      holder = 0;
-      owner = λ _. 0;
-      free = λ _. (x, refl, refl, refl);
-      held = λ not. absurd (not refl);
-      unmade = quiet_self _ (list x);
-      enough = omega arith;
-      has_first = (front, refl, refl, refl);
-      seated = λ n lt. absurd (omega arith);
-      each_seat = alone;
-    })
+    starts = (
+      refl,
+      record {
+        now = list x;
+        made = 0;
+        first = 0;
+        holder = 0;
+        owner = λ _. 0;
+        free = λ _. (x, refl, refl, refl);
+        held = λ not. absurd (not refl);
+        unmade = quiet_self _ (list x);
+        enough = omega arith;
+        has_first = (front, refl, refl, refl);
+        seated = λ n lt. absurd (omega arith);
+        each_seat = alone;
+      },
+    )
 
   module _ (g : G) (begin : List (ℕ × I)) (lanes word : ℕ) (homes : List (maybe.Option (Option D))) (views : List (View G I)) (k : Kept fixed_part list g begin lanes word homes views) (id : ℕ) (v : View G I) (at : get_elem? views id ≡ some v) (live : v.live ≡ true) (idle : v.hold ≡ Free) (first : v.number ≡ None) (all : (n : ℕ) → n < v.made → Contains v.joined n) where
     -- every number made stands at the first seat
@@ -78,8 +79,8 @@ module _ {D G I : Type 0} (fixed_part : D → G) (list : D → List (ℕ × I)) 
         let q = p.quiet in
         let b = p.begins in
         let none : q.0 ≡ [] = no_pairs q.0 (λ n. dite (dec_le k.made n)
-            (λ unmade. (quiet_parts n k.now begin b.0 k.unmade.0 q.0 k.unmade.1 (k.unmade.2 n unmade) (q.1 ∙ ap (λ l. l ++ q.0) b.1)).1)
-            (λ not. let lt : n < k.made = omega (arith, not) in q.2 n (lt, here n lt))) in
+        (λ unmade. (quiet_parts n k.now begin b.0 k.unmade.0 q.0 k.unmade.1 (k.unmade.2 n unmade) (q.1 ∙ ap (λ l. l ++ q.0) b.1)).1)
+        (λ not. let lt : n < k.made = omega (arith, not) in q.2 n (lt, here n lt))) in
         q.1 ∙ (ap (λ l. v.seen ++ l) none ∙ append-nil v.seen)
 
     last : (x : D) × (get_elem? homes 0 ≡ some (some (Some x))) × (Some (fixed_part x) ≡ v.fixed) × (list x ≡ v.seen)

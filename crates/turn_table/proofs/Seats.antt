@@ -1,6 +1,5 @@
 -- Making a lane and joining two keep the rule of a turn table.
-use Rattle.std.proofs.Common.{◌≡◌, ◌≢◌, ◌⊎◌, ℕ, zero, suc, ◌+◌, ◌<◌, ◌≤◌, Bool, true, false, List, [], ◌∷◌, ◌++◌, length, slice_index, set, sym, refl, ap, ◌∙◌, subst, inl, inr, ⊎_elim, arith, length-set, Option, Some, None}
-use Rattle.std.specs.List.{Contains}
+use Rattle.std.proofs.Common.{◌≡◌, ◌≢◌, ◌⊎◌, ℕ, ◌+◌, ◌<◌, ◌≤◌, true, List, [], ◌∷◌, ◌++◌, length, slice_index, set, sym, refl, ap, ◌∙◌, subst, inl, inr, ⊎_elim, arith, length-set, Option, Some, None}
 use Rattle.std.proofs.lemmas.List.{append-nil}
 use Rattle.std.proofs.lemmas.List.Elements.{Contains-append_left, Contains-append_right, Contains-append_cases}
 use mathlib.Core.Option as maybe
@@ -11,11 +10,10 @@ use lib.ListN.{get_elem?}
 use Rattle.atomic_table.specs.Table.{State, Splits, Joins}
 use Rattle.atomic_table.proofs.Lists.{set_here, set_else, at_longer, at_last}
 use Rattle.turn_table.specs.declared.view.View.{View}
-use Rattle.turn_table.specs.declared.view.Hold.{Hold}
-use Rattle.turn_table.specs.declared.view.Hold.TheVariants.{Free, Held, Noted}
-use Rattle.turn_table.specs.Lists.{StartsWith, pairs_of, Quiet, OwnPast, longer, shorter, brought}
+use Rattle.turn_table.specs.declared.view.Hold.TheVariants.{Free}
+use Rattle.turn_table.specs.Lists.{pairs_of, longer, brought}
 use Rattle.turn_table.specs.Turns.{word_of, StandsIn, parent, newcomer, united, spent, Fits, Kept, TurnRule}
-use Rattle.turn_table.proofs.Lists.{begins_self, begins_trans, longest, quiet_self, quiet_fewer, quiet_parts, own_quiet}
+use Rattle.turn_table.proofs.Lists.{begins_trans, longest, quiet_fewer, quiet_parts, own_quiet}
 use Rattle.turn_table.proofs.Views.{there_below, at_one_more, seats, still}
 use Rattle.turn_table.proofs.Numbers.{moved, moved_hit, moved_miss, placed, placed_hit, placed_miss, brought_has, brought_from, contains_none}
 
@@ -75,11 +73,15 @@ module _ {D G I : Type 0} (fixed_part : D → G) (list : D → List (ℕ × I)) 
           limit = p.limit;
           begins = b;
           holds = λ not. absurd (not refl);
-          quiet = (q.0, q.1, λ n h. dite (ℕ_discrete n k.made)
-              (λ e. (none_of n e).1)
-              (λ ne. let lt = h.0 in let old : n < k.made = omega arith in let t = k.seated n old in
-                  let there : k.owner n ≡ size = sym (placed_miss k.made size k.owner n ne) ∙ h.1 in
-                  let below = there_below views (k.owner n) t.0 t.1 in absurd (omega arith)));
+          quiet = (
+            q.0,
+            q.1,
+            λ n h. dite (ℕ_discrete n k.made)
+                (λ e. (none_of n e).1)
+                (λ ne. let lt = h.0 in let old : n < k.made = omega arith in let t = k.seated n old in
+                let there : k.owner n ≡ size = sym (placed_miss k.made size k.owner n ne) ∙ h.1 in
+                let below = there_below views (k.owner n) t.0 t.1 in absurd (omega arith)),
+          );
           told = (k.now, refl);
           own = λ n mine. let e : n ≡ k.made = (let f : v.made ≡ n = cc in sym f ∙ made_is) in ((b.0, b.1, (none_of n e).0), ([], sym (append-nil v.seen), refl));
           unnumbered = λ none. cc;
@@ -109,15 +111,15 @@ module _ {D G I : Type 0} (fixed_part : D → G) (list : D → List (ℕ × I)) 
           seated = λ n lt. dite (ℕ_discrete n k.made)
               (λ e. (new, ap (get_elem? (after ++ new ∷ [])) (placed_hit k.made size k.owner n e) ∙ at_last after new size same, live, inl (ap Some ((p.unnumbered first).1 ∙ sym e))))
               (λ ne. let old : n < k.made = omega arith in let t = k.seated n old in
-                  let r = still (λ u. (u.live ≡ true) × StandsIn n u) views id v w at (λ h. h) (k.owner n) (t.0, t.1, (t.2, t.3)) in
-                  (r.0, ap (get_elem? (after ++ new ∷ [])) (placed_miss k.made size k.owner n ne) ∙ at_longer after (new ∷ []) (k.owner n) r.0 r.1, r.2.0, r.2.1));
+              let r = still (λ u. (u.live ≡ true) × StandsIn n u) views id v w at (λ h. h) (k.owner n) (t.0, t.1, (t.2, t.3)) in
+              (r.0, ap (get_elem? (after ++ new ∷ [])) (placed_miss k.made size k.owner n ne) ∙ at_longer after (new ∷ []) (k.owner n) r.0 r.1, r.2.0, r.2.1));
           each_seat = λ j u there. ⊎_elim
               (λ old. seats F views id w
-                  (λ _. aged id v here p (v.made + 1) (λ none. let t = p.unnumbered none in let m = t.1 in (t.0, ap (λ n. n + 1) m)))
-                  (λ i x ne was alive. let f = k.each_seat i x was alive in aged i x (there_below views i x was) f x.made (λ none. absurd (ne ((f.unnumbered none).0 ∙ sym (p.unnumbered first).0))))
-                  j u old)
+              (λ _. aged id v here p (v.made + 1) (λ none. let t = p.unnumbered none in let m = t.1 in (t.0, ap (λ n. n + 1) m)))
+              (λ i x ne was alive. let f = k.each_seat i x was alive in aged i x (there_below views i x was) f x.made (λ none. absurd (ne ((f.unnumbered none).0 ∙ sym (p.unnumbered first).0))))
+              j u old)
               (λ t. let F' : View G I → Type 0 = λ x. x.live ≡ true → Fits g opening k.now lanes (k.made + 1) word k.first k.holder owner j x in
-                  subst F' t.1 (λ _. subst (λ i. Fits g opening k.now lanes (k.made + 1) word k.first k.holder owner i new) (sym (t.0 ∙ same)) arrived))
+              subst F' t.1 (λ _. subst (λ i. Fits g opening k.now lanes (k.made + 1) word k.first k.holder owner i new) (sym (t.0 ∙ same)) arrived))
               (at_one_more after new u j there);
         }
 
@@ -181,9 +183,9 @@ module _ {D G I : Type 0} (fixed_part : D → G) (list : D → List (ℕ × I)) 
           numbers = λ n h. ⊎_elim
               (λ mine. let t = p.numbers n (inl mine) in (t.0, stays n id (λ e. apart (sym e)) t.1))
               (λ c. ⊎_elim
-                  (λ c'. let t = q.numbers n (brought_from w.number w.joined n c') in (t.0, moved_hit other id (k.owner n) t.1))
-                  (λ c'. let t = p.numbers n (inr c') in (t.0, stays n id (λ e. apart (sym e)) t.1))
-                  (Contains-append_cases (brought w.number w.joined) v.joined n c))
+              (λ c'. let t = q.numbers n (brought_from w.number w.joined n c') in (t.0, moved_hit other id (k.owner n) t.1))
+              (λ c'. let t = p.numbers n (inr c') in (t.0, stays n id (λ e. apart (sym e)) t.1))
+              (Contains-append_cases (brought w.number w.joined) v.joined n c))
               h;
         }
 
@@ -230,20 +232,20 @@ module _ {D G I : Type 0} (fixed_part : D → G) (list : D → List (ℕ × I)) 
           each_seat = seats F (set views id whole) other spent
               (λ alive. cc)
               (λ j u ne' was. seats (λ i x. i ≢ other → F i x) views id whole
-                  (λ _ _. united_fits)
-                  (λ i x ne was' ne'' alive. let h = k.each_seat i x was' alive in record {
-                    fixed = h.fixed;
-                    opens = h.opens;
-                    limit = h.limit;
-                    begins = h.begins;
-                    holds = h.holds;
-                    quiet = quiet_fewer (λ n. (n < k.made) × (k.owner n ≡ i)) (λ n. (n < k.made) × (holder_of n ≡ i)) k.now x.seen h.quiet (λ n z. (z.0, elsewhere n i ne ne'' z.1));
-                    told = h.told;
-                    own = h.own;
-                    unnumbered = h.unnumbered;
-                    numbers = λ n z. let t = h.numbers n z in (t.0, stays n i ne'' t.1);
-                  })
-                  j u was ne');
+              (λ _ _. united_fits)
+              (λ i x ne was' ne'' alive. let h = k.each_seat i x was' alive in record {
+                fixed = h.fixed;
+                opens = h.opens;
+                limit = h.limit;
+                begins = h.begins;
+                holds = h.holds;
+                quiet = quiet_fewer (λ n. (n < k.made) × (k.owner n ≡ i)) (λ n. (n < k.made) × (holder_of n ≡ i)) k.now x.seen h.quiet (λ n z. (z.0, elsewhere n i ne ne'' z.1));
+                told = h.told;
+                own = h.own;
+                unnumbered = h.unnumbered;
+                numbers = λ n z. let t = h.numbers n z in (t.0, stays n i ne'' t.1);
+              })
+              j u was ne');
         }
 
   pub joins : (id : ℕ) (v : View G I) (other : ℕ) (w : View G I) (n : ℕ) → v.live ≡ true → v.hold ≡ Free → w.live ≡ true → w.hold ≡ Free → w.number ≡ Some n → Joins Rule id v other w (united v w) spent

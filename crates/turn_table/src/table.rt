@@ -1,5 +1,5 @@
 //! The table, and the calls by which lanes take turns.
-ghost use Rattle.std.specs.Prelude.{◌≡◌, ℕ, ◌+◌, ◌<◌, ◌≤◌, true, false, ◌++◌, length, drop, [], ◌∷◌, IsSome, IfSome, IfOk, IfErr};
+ghost use Rattle.std.specs.Prelude.{◌≡◌, ◌⊎◌, ℕ, ◌+◌, ◌<◌, ◌≤◌, true, false, ◌++◌, length, drop, [], ◌∷◌, IsSome, IfSome, IfOk, IfErr};
 ghost use Rattle.std.specs.List.{Contains};
 ghost use Rattle.turn_table.specs.Lists.{StartsWith, Quiet, OwnPast, GrowsByOne};
 ghost use Rattle.turn_table.specs.Lanes.{first_lane, next_lane, joined_lane};
@@ -14,6 +14,13 @@ use std::marker::Model;
 use std::snapshot::Snapshot;
 use std::sync::Wait;
 use std::thread;
+
+// What word 0 is: the lock is free, it is held, or it is held and the list that the turn gives back is noted.
+const FREE: u64 = 0;
+
+const HELD: u64 = 1;
+
+const NOTED: u64 = 2;
 
 /// A value at which lanes take turns. Contracts see which table it is.
 pub struct TurnTable<D: Tabled> {
@@ -34,6 +41,7 @@ impl<D: Tabled> Model for TurnTable<D> {
 }
 
 /// There was no memory for a table. The value comes back.
+#[derive(Drop)]
 pub struct Refused<D> {
     pub value: D,
 }
@@ -67,11 +75,7 @@ fn value_of<D>(mut slots: Vec<Option<D>>) -> D
 
 impl<D: Tabled> TurnTable<D> {
     /// A table for `lanes` lanes beside the first one, 1 to 8, and its first lane, which has no number and takes no turns.
-    pub fn new(
-        alloc: Global,
-        value: D,
-        lanes: u8,
-    ) -> Result<(TurnTable<D>, Lane<D>), Refused<D>>
+    pub fn new(alloc: Global, value: D, lanes: u8) -> Result<(TurnTable<D>, Lane<D>), Refused<D>>
         requires { (1 ≤ lanes) × (lanes ≤ 8) }
         ensures first { IfOk result (λ t. t.1 ≡ first_lane t.0 (D.fixed_part value) (D.list value) lanes) }
         ensures refused { IfErr result (λ r. r.value ≡ value) }
@@ -81,7 +85,7 @@ impl<D: Tabled> TurnTable<D> {
             lanes,
         };
         let slots = row_of(alloc, value)?;
-        match Table::new(alloc, &[0], slots, &told) {
+        match Table::new(alloc, &[FREE], slots, &told) {
             Ok((table, seat)) => Ok((TurnTable { table }, Lane { seat, out: false })),
             Err(atomic_table::Refused { slots }) => Err(Refused {
                 value: value_of(slots),
@@ -110,14 +114,12 @@ impl<D: Tabled> TurnTable<D> {
         ensures list { Quiet (λ n. lane.old.number ≡ Some n) (D.list result) lane.old.seen }
         ensures lane { lane.new ≡ record lane.old { out = true; seen = D.list result } }
     {
+        let shared = &self.table.shared;
         for _ in rt.forever() {
-            let found = self
-                .table
-                .shared
-                .compare_exchange::<Lock<D>>(&mut lane.seat, 0, 0, 1);
-            if found == 0 {
+            let found = shared.compare_exchange::<Lock<D>>(&mut lane.seat, 0, FREE, HELD);
+            if found == FREE {
                 lane.out = true;
-                return self.table.shared.exchange(&mut lane.seat, 0, None).unwrap();
+                return shared.exchange(&mut lane.seat, 0, None).unwrap();
             }
             thread::yield_now();
         }
@@ -135,10 +137,10 @@ impl<D: Tabled> TurnTable<D> {
     {
         let shared = &self.table.shared;
         let value = Some(value);
-        shared.compare_exchange_with::<Note<D>>(&mut lane.seat, 0, 1, 2, &value);
+        shared.compare_exchange_with::<Note<D>>(&mut lane.seat, 0, HELD, NOTED, &value);
         let emptied = shared.exchange(&mut lane.seat, 0, value);
         let None = emptied else { unreachable!() };
-        shared.swap::<Unlock>(&mut lane.seat, 0, 0);
+        shared.swap::<Unlock>(&mut lane.seat, 0, FREE);
         lane.out = false;
     }
 
@@ -149,6 +151,8 @@ impl<D: Tabled> TurnTable<D> {
         requires numbered { IsSome from.number }
         ensures into { into.new ≡ joined_lane into.old from }
         ensures begins { StartsWith into.new.seen into.old.seen × StartsWith into.new.seen from.seen }
+        ensures counted { (n : ℕ) → (from.number ≡ Some n) ⊎ Contains from.joined n → Contains into.new.joined n }
+        ensures kept { (n : ℕ) → Contains into.old.joined n → Contains into.new.joined n }
     {
         let shared = &self.table.shared;
         shared.join_seat::<Unite>(&mut into.seat, from.into_seat());

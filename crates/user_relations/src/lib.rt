@@ -1,13 +1,188 @@
-// A library with one function.
+//! The relations between users: those that are listed pair by pair, their complements, and the
+//! built-in `same` and `other`.
 #![tactic(auto)]
 
-ghost use Rattle.std.specs.Prelude.{◌≡◌};
-ghost use Rattle.user_relations.specs.Echo.{echo_of};
+ghost use Rattle.std.specs.Prelude.{◌≡◌, ◌≢◌, ◌<◌, ◌≤◌, ◌+◌, ◌↔◌, ℕ, List, [], ◌∷◌, ◌++◌, length, is_some, IfOk, IfSome, OnOk, OnErr, IsErrOf, true, false, slice_get, Some, Err};
+ghost use Rattle.std.specs.FinSet as set;
+ghost use Rattle.pair_set.specs.Pairs.{IsAscending};
+ghost use Rattle.wf_names.specs.Table.{place_of};
+ghost use Rattle.user_relations.specs.Relations.{RelationShape, listed, complement, kind_of, pairs_of, is_listed, complement_of, is_related, known_names, with_kind};
+ghost use Rattle.user_relations.specs.Soundness.{AreSound};
+ghost use Rattle.user_relations.specs.Faults.{relate_fault, unrelate_fault, AnswersFault};
 
-// The `ensures` clause is the contract: what `echo` returns is `echo_of` of its argument, a definition
-// in `specs/Echo.antt`, which a caller's clause can cite too.
-pub fn echo(x: usize) -> usize
-    ensures { result ≡ echo_of x }
-{
-    x
+mod kinds;
+#[cfg(test)]
+mod tests;
+
+use kinds::{Kind, Relation};
+use pair_set::PairSet;
+use std::alloc::{AllocError, Global};
+use std::marker::Model;
+use wf_names::{Name, NameFault, RELATION_LIMIT, RelId, USER_LIMIT, UserId};
+
+/// Why a pair was not put into a relation or not taken out of it.
+#[derive(Clone, Copy, Debug, PartialEq, Eq)]
+pub enum RelationFault {
+    /// The relation is not a listed one.
+    Fixed,
+    /// The pair is in the relation already.
+    Already,
+    /// The pair is not in the relation.
+    Absent,
+    /// The relation has as many pairs as the limit.
+    Full,
+    /// There was no memory for it.
+    NoMemory,
+}
+
+/// The declared relations. Contracts see them as a list; the first has the number 2.
+#[derive(Drop)]
+pub struct Relations {
+    declared: Vec<Relation>,
+}
+
+impl Model for Relations {
+    ghost use Rattle.std.specs.Prelude.{List};
+    ghost use Rattle.user_relations.specs.Relations.{RelationShape, relations_code};
+
+    ghost Value = { List RelationShape };
+
+    ghost coded = { relations_code };
+
+    ghost use Rattle.user_relations.specs.Soundness.{AreSound};
+    ghost use Rattle.user_relations.specs.View.{shapes};
+
+    ghost view = { λ r. shapes r.declared.items };
+
+    ghost invariant = { λ r. AreSound (shapes r.declared.items) };
+}
+
+impl Relations {
+    /// No declared relations.
+    pub fn new(alloc: Global) -> Result<Relations, AllocError>
+        ensures { IfOk result (λ relations. relations ≡ []) }
+    {
+        Ok(Relations {
+            declared: Vec::new(alloc),
+        })
+    }
+
+    /// Declares a listed relation without pairs, and answers its number.
+    pub fn add_listed(&mut self, name: Name) -> Result<RelId, NameFault>
+        ensures number { IfOk result (λ rho. rho ≡ length self.old + 2) }
+        ensures added { OnOk result (self.new ≡ self.old ++ (record { name = name; kind = listed set.empty }) ∷ []) }
+        ensures fresh { OnOk result (is_some (place_of (known_names self.old) name) ≡ false) }
+        ensures room { OnOk result (length self.old < RELATION_LIMIT) }
+
+        ensures twice { IsErrOf result NameFault.Twice ↔ (is_some (place_of (known_names self.old) name) ≡ true) }
+        ensures full { IsErrOf result NameFault.Full ↔ ((is_some (place_of (known_names self.old) name) ≡ false) × (length self.old ≡ RELATION_LIMIT)) }
+        ensures unchanged { OnErr result (self.new ≡ self.old) }
+    {
+        if self.find(&name).is_some() {
+            return Err(NameFault::Twice);
+        }
+        let count = self.count();
+        if count as u16 >= RELATION_LIMIT {
+            return Err(NameFault::Full);
+        }
+        let kind = Kind::Listed(PairSet::new(*self.declared.allocator()));
+        match self.declared.push(Relation { name, kind }) {
+            Ok(()) => Ok(RelId(count + 2)),
+            Err(_) => Err(NameFault::NoMemory),
+        }
+    }
+
+    /// Makes a declared relation the complement of a listed one. Takes no memory.
+    pub fn make_complement(&mut self, rho: RelId, of: RelId)
+        requires bare { kind_of self.old rho ≡ Some (listed set.empty) }
+        requires of_listed { is_listed self.old of ≡ true }
+        requires different { rho ≢ of }
+        requires free { (n : ℕ) → complement_of self.old n ≢ Some rho }
+        ensures { self.new ≡ with_kind self.old rho (complement of) }
+    {
+        kinds::set_kind(&mut self.declared, rho, Kind::Complement(of));
+    }
+
+    /// Whether a relation holds of two users, in this order. It holds of none where there is no
+    /// relation with that number.
+    pub fn holds(&self, rho: RelId, u: UserId, v: UserId) -> bool
+        ensures { result ≡ is_related self.now rho u v }
+    {
+        match rho.0 {
+            0 => u == v,
+            1 => u != v,
+            _ => kinds::holds(&self.declared, rho, u, v),
+        }
+    }
+
+    /// Puts a pair into a listed relation.
+    pub fn relate(&mut self, rho: RelId, u: UserId, v: UserId) -> Result<(), RelationFault>
+        requires first { u < USER_LIMIT }
+        requires second { v < USER_LIMIT }
+        ensures related { OnOk result (self.new ≡ with_kind self.old rho (listed (set.insert (pairs_of self.old rho) (u, v)))) }
+        ensures fault { AnswersFault (relate_fault self.old rho u v) result }
+        ensures unchanged { OnErr result (self.new ≡ self.old) }
+    {
+        kinds::relate(&mut self.declared, rho, u, v)
+    }
+
+    /// Takes a pair out of a listed relation. Takes no memory.
+    pub fn unrelate(&mut self, rho: RelId, u: UserId, v: UserId) -> Result<(), RelationFault>
+        ensures unrelated { OnOk result (self.new ≡ with_kind self.old rho (listed (set.remove (pairs_of self.old rho) (u, v)))) }
+        ensures fault { AnswersFault (unrelate_fault self.old rho u v) result }
+        ensures memory { result ≢ Err RelationFault.NoMemory }
+        ensures unchanged { OnErr result (self.new ≡ self.old) }
+    {
+        kinds::unrelate(&mut self.declared, rho, u, v)
+    }
+
+    /// The number of the relation with a name; that of `same` is 0, that of `other` is 1.
+    pub fn find(&self, name: &Name) -> Option<RelId>
+        ensures place { result ≡ place_of (known_names self.now) name.now }
+        ensures within { IfSome result (λ rho. rho < length self.now + 2) }
+    {
+        kinds::find(&self.declared, name)
+    }
+
+    /// The name of a relation.
+    pub fn name(&self, rho: RelId) -> Name
+        requires { rho < length self.now + 2 }
+        ensures name { slice_get (known_names self.now) rho ≡ Some result }
+        ensures alone { place_of (known_names self.now) result ≡ Some rho }
+    {
+        kinds::name(&self.declared, rho)
+    }
+
+    /// The number of declared relations.
+    pub fn count(&self) -> u8
+        ensures count { result ≡ length self.now }
+        ensures sound { AreSound self.now }
+    {
+        self.declared.len() as u8
+    }
+
+    /// The listed relation whose complement this is; None where it is no complement.
+    pub fn complement_of(&self, rho: RelId) -> Option<RelId>
+        ensures { result ≡ complement_of self.now rho }
+    {
+        kinds::complement_of(&self.declared, rho)
+    }
+
+    /// The pairs of a listed relation in ascending order; none where it is no listed relation.
+    pub fn pairs(&self, rho: RelId) -> Result<Vec<(u16, u16)>, AllocError>
+        ensures pairs { IfOk result (λ pairs. set.from_list pairs.items ≡ pairs_of self.now rho) }
+        ensures ascending { IfOk result (λ pairs. IsAscending pairs.items) }
+    {
+        let pairs = kinds::pairs(&self.declared, rho);
+        Vec::from_slice(*self.declared.allocator(), pairs)
+    }
+
+    /// The same relations.
+    pub fn copy(&self) -> Result<Relations, AllocError>
+        ensures { IfOk result (λ relations. relations ≡ self.now) }
+    {
+        Ok(Relations {
+            declared: kinds::copy(*self.declared.allocator(), &self.declared)?,
+        })
+    }
 }

@@ -1,9 +1,8 @@
 -- How what was taken and what was put composes over several calls.
-use Rattle.std.proofs.Common.{◌≡◌, ℕ, ◌+◌, ◌-◌, ◌<◌, ◌≤◌, List, [], ◌++◌, length, take, drop, Option, None, Some, IfSome, Result, Ok, Err, refl, sym, ◌∙◌, ap, subst, arith, append_assoc}
+use Rattle.std.proofs.Common.{◌≡◌, ℕ, ◌+◌, ◌-◌, ◌<◌, ◌≤◌, List, [], ◌++◌, length, take, drop, Option, None, Some, IfSome, Ok, Err, refl, sym, ◌∙◌, ap, subst, arith, append_assoc}
 use Rattle.std.proofs.lemmas.Grind.{common_steps}
 use Rattle.std.proofs.lemmas.List.{take-append-drop, append-nil, take-append-le, length-append, length-take, take_rest}
-use Rattle.std.proofs.Math.Seq.{take-append-add, take-length, take-add}
-use Rattle.wf_outside.specs.declared.loaded.LoadFault.{LoadFault}
+use Rattle.std.proofs.Math.Seq.{take-append-add, take-length, take-add, take-append_seam, drop-append_seam}
 use Rattle.wf_outside.specs.declared.loaded.LoadFault.TheVariants.{TooLong}
 use Rattle.wf_outside.specs.Outside.{with_bytes, bytes_before, HasTaken, IsAtEnd, HasTakenAtMost, HasPart, ReadsAll}
 
@@ -40,6 +39,15 @@ front_within (Some left) bytes = omega (arith, length-append bytes left)
 pub taken_to_end : (before after : Option (List ℕ)) (bytes : List ℕ)
     → HasTaken before after bytes → IsAtEnd after → IfSome before (λ all. bytes ≡ all)
 taken_to_end before after bytes taken ended = subst (λ (left : Option (List ℕ)). IfSome left (λ all. bytes ≡ all)) (sym taken) (all_at_end after bytes ended)
+
+-- what was taken is the front of all that was left
+pub taken_is_front : (content bytes : List ℕ) (after : Option (List ℕ))
+    → HasTaken (Some content) after bytes → (bytes ≡ take (length bytes) content) × (after ≡ Some (drop (length bytes) content))
+unfolding bytes_before
+taken_is_front content bytes None taken = cc
+taken_is_front content bytes (Some left) taken =
+    let whole : content ≡ bytes ++ left = cc in
+    rw whole (sym (take-append_seam bytes left), ap Some (sym (drop-append_seam bytes left)))
 
 -- no more than all that was left is taken
 pub taken_within : (before after : Option (List ℕ)) (bytes : List ℕ) → HasTaken before after bytes → IfSome before (λ all. length bytes ≤ length all)

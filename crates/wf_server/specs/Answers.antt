@@ -1,20 +1,25 @@
 -- What each command answers: how its run ends, faults of the outside and want of memory aside, and
 -- the text that it writes.
-use Rattle.std.specs.Prelude.{◌≡◌, ℕ, List, [], ◌∷◌, ◌++◌, length, Result, Ok, Err, MatchOption, MatchResult, MatchBool, nat_lt, codes, decimal, slice_index_or}
+use Rattle.std.specs.Prelude.{◌≡◌, ℕ, ◌+◌, List, [], ◌∷◌, ◌++◌, length, IsTrue, Result, Ok, Err, MatchOption, MatchResult, MatchBool, nat_lt, codes, decimal, slice_index_or}
 use Rattle.wf_names.specs.declared.limits.TheConstants.{POLICY_FILE_LIMIT, LINE_LIMIT}
-use Rattle.wf_names.specs.Table.{place_of}
 use Rattle.constraint_forms.specs.Assigned.{no_users, no_steps}
 use Rattle.policy_book.specs.Shapes.{PolicyShape}
 use Rattle.policy_book.specs.Policies.{flow_at, problem_of}
 use Rattle.policy_book.specs.Plans.{IsValidPlan}
-use Rattle.certificate_check.specs.declared.plans.PlanFault.{PlanFault}
-use Rattle.certificate_check.specs.declared.plans.PlanFault.TheVariants.{Moved, Role, Rule}
-use Rattle.certificate_check.specs.PlanFaults.{IsFirstFault}
+use Rattle.certificate_check.specs.declared.plan.PlanFault.{PlanFault}
+use Rattle.certificate_check.specs.declared.plan.PlanFault.TheVariants.{Moved, Role, Rule}
+use Rattle.certificate_check.specs.Faults.{plan_verdict}
 use Rattle.policy_reader.specs.Files.{policy_of_file}
 use Rattle.wf_server.specs.declared.fault.RunFault.{RunFault}
 use Rattle.wf_server.specs.declared.fault.RunFault.TheVariants.{Nothing, Found, Policy, FileTooLong, LineTooLong, BadInput}
 use Rattle.wf_server.specs.declared.fault.InputFault.TheVariants.{NoFlow}
-use Rattle.wf_server.specs.Inputs.{plan_of_input}
+use Rattle.wf_server.specs.Inputs.{plan_of_input, number_named}
+use Rattle.std.proofs.Common.{◌⊎◌}
+use Rattle.serde_json.specs.Data.{object, member, no_members}
+use Rattle.serde_json.specs.Written.{compact_text}
+use Rattle.refutation_tree.specs.Shapes.{Shape}
+use Rattle.policy_book.specs.Refuting.{refutes}
+use Rattle.wf_server.specs.TreeTexts.{named, plan_data, tree_data}
 use Rattle.wf_server.specs.Words.{Command, plan, showing, solve}
 
 -- the line that names the first fault of a plan; a plan from nothing moves no step
@@ -27,7 +32,7 @@ fault_line steps (Rule k) = codes "rule " ++ decimal k ++ codes "\n"
 abbrev pub Judges : PolicyShape → ℕ → List ℕ → RunFault → List ℕ → Type 0
 Judges p f users Nothing text = IsValidPlan (problem_of p f) no_users no_steps users × (text ≡ codes "valid\n")
 Judges p f users Found text =
-    (e : PlanFault) × IsFirstFault (problem_of p f) no_users no_steps users e × (text ≡ fault_line (flow_at p f).flow.steps e)
+    (e : PlanFault) × (plan_verdict (problem_of p f) no_users no_steps users ≡ Err e) × (text ≡ fault_line (flow_at p f).flow.steps e)
 Judges p f users fault text = ⊥
 
 -- a run that ends with a fault writes nothing
@@ -38,15 +43,44 @@ Refuses expected fault text = (fault ≡ expected) × (text ≡ [])
 abbrev pub OverPolicy : List ℕ → (PolicyShape → RunFault → List ℕ → Type 0) → RunFault → List ℕ → Type 0
 OverPolicy file Run fault text =
     MatchBool (nat_lt POLICY_FILE_LIMIT (length file)) (Refuses FileTooLong fault text)
-        (MatchResult (policy_of_file file) (λ p. Run p fault text) (λ e. Refuses (Policy e) fault text))
+    (MatchResult (policy_of_file file) (λ p. Run p fault text) (λ e. Refuses (Policy e) fault text))
 
 -- `plan` judges the plan in the input for the workflow that is named
 abbrev pub JudgesInput : PolicyShape → List ℕ → List ℕ → RunFault → List ℕ → Type 0
 JudgesInput p word input fault text =
-    MatchOption (place_of p.flow_names word) (Refuses (BadInput NoFlow) fault text) (λ f.
-        MatchBool (nat_lt LINE_LIMIT (length input)) (Refuses (LineTooLong 0) fault text)
-            (MatchResult (plan_of_input p (length (flow_at p f).flow.steps) input) (λ users. Judges p f users fault text) (λ e. Refuses (BadInput e) fault text)))
+    MatchOption (number_named p.flow_names word) (Refuses (BadInput NoFlow) fault text) (λ f.
+    MatchBool (nat_lt LINE_LIMIT (length input)) (Refuses (LineTooLong 0) fault text)
+    (MatchResult (plan_of_input p (length (flow_at p f).flow.steps) input) (λ users. Judges p f users fault text) (λ e. Refuses (BadInput e) fault text)))
 
 -- `show` writes a text that is a file of the same policy
 abbrev pub Shows : PolicyShape → RunFault → List ℕ → Type 0
 Shows p fault text = (fault ≡ Nothing) × (policy_of_file text ≡ Ok p)
+
+-- the line of a workflow: its name with a plan, or with a tree
+abbrev pub plan_line : PolicyShape → ℕ → List ℕ → List ℕ
+plan_line p f users =
+    compact_text (object (member (codes "flow") (named p.flow_names f) (member (codes "plan") (plan_data p.roster.users users) no_members))) ++ codes "\n"
+
+abbrev pub tree_line : PolicyShape → ℕ → Shape → List ℕ
+tree_line p f tree =
+    compact_text (object (member (codes "flow") (named p.flow_names f) (member (codes "tree") (tree_data (flow_at p f).flow.steps p.roster.users tree) no_members))) ++ codes "\n"
+
+-- `solve` writes for each workflow in turn its name with a valid plan, or with a tree that shows that there is none
+abbrev pub SolvesFlow : PolicyShape → ℕ → List ℕ → Type 0
+SolvesFlow p f line =
+    ((users : List ℕ) × IsValidPlan (problem_of p f) no_users no_steps users × (line ≡ plan_line p f users))
+    ⊎ ((tree : Shape) × IsTrue (refutes (problem_of p f) no_users no_steps tree) × (line ≡ tree_line p f tree))
+
+-- the lines of so many workflows, from number f on
+abbrev pub SolvesFlows : PolicyShape → ℕ → List (List ℕ) → Type 0
+SolvesFlows p f [] = f ≡ length p.flows
+SolvesFlows p f (line ∷ lines) = SolvesFlow p f line × SolvesFlows p (f + 1) lines
+
+abbrev pub Solves : PolicyShape → RunFault → List ℕ → Type 0
+Solves p fault text = (fault ≡ Nothing) × ((lines : List (List ℕ)) × SolvesFlows p 0 lines × (text ≡ concat lines))
+
+-- what the run of a command over its policy file and the input answers
+abbrev pub IsRun : Command → List ℕ → List ℕ → RunFault → List ℕ → Type 0
+IsRun (plan policy flow) file input fault text = OverPolicy file (λ p. JudgesInput p flow input) fault text
+IsRun (showing policy) file input fault text = OverPolicy file Shows fault text
+IsRun (solve policy) file input fault text = OverPolicy file Solves fault text

@@ -28,14 +28,14 @@ listed_items (item d ds) = d ∷ listed_items ds
 abbrev pub is_text : Data → Bool
 is_text d = is_some (as_str d)
 
--- the user of a name; a text that is no name names nobody
-abbrev pub user_named : PolicyShape → List ℕ → Option ℕ
-user_named p text = if is_name text then place_of p.roster.users text else None
+-- the number of a name among others; a text that is no name has none
+abbrev pub number_named : List (List ℕ) → List ℕ → Option ℕ
+number_named names text = if is_name text then place_of names text else None
 
 -- the next user of a plan; one who is not known is named by their place
 unfoldable pub next_user : PolicyShape → List ℕ → Data → Result (List ℕ) InputFault
 next_user p so_far d = do
-  u ← or_fault (option_and_then (user_named p) (as_str d)) (NoUser (length so_far))
+  u ← or_fault (option_and_then (number_named p.roster.users) (as_str d)) (NoUser (length so_far))
   Ok (so_far ++ u ∷ [])
 
 -- the plan that an input is for a workflow with so many steps, or the first fault: the input is no array of texts,

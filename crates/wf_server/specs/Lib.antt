@@ -2,3 +2,6 @@ pub mod Words
 pub mod Inputs
 pub mod Answers
 pub mod Endings
+pub mod Asked
+pub mod Statuses
+pub mod TreeTexts

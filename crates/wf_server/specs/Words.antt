@@ -1,5 +1,5 @@
 -- The words of the program's command line.
-use Rattle.std.specs.Prelude.{ℕ, List, [], ◌∷◌, Option, None, Some, codes, nat_eq, if◌then◌else◌}
+use Rattle.std.specs.Prelude.{ℕ, Bool, true, false, List, [], ◌∷◌, Option, None, Some, codes, nat_eq, if◌then◌else◌}
 use Rattle.std.specs.Cmp.Lexicographic.{pointwise}
 
 -- what the program is asked to do, with the names of the files and the workflow
@@ -16,3 +16,15 @@ command_of (word ∷ policy ∷ []) =
 command_of (word ∷ policy ∷ flow ∷ []) =
     if pointwise nat_eq word (codes "plan") then Some (plan policy flow) else None
 command_of _ = None
+
+-- the policy file that a command names
+abbrev pub policy_named : Command → List ℕ
+policy_named (plan policy flow) = policy
+policy_named (showing policy) = policy
+policy_named (solve policy) = policy
+
+-- a command that reads the input
+abbrev pub reads_input : Command → Bool
+reads_input (plan policy flow) = true
+reads_input (showing policy) = false
+reads_input (solve policy) = false

@@ -31,7 +31,7 @@ pub enum RunFault {
     #[error("wfserve: usage")]
     Usage,
     /// The policy file has this fault.
-    #[error("wfserve: policy {0}")]
+    #[error("wfserve: policy")]
     Policy(PolicyFault),
     /// The source failed.
     #[error("wfserve: read fault")]

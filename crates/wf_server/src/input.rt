@@ -7,15 +7,14 @@ ghost use Rattle.first_fault.specs.Reading.{Gives, or_fault, each};
 ghost use Rattle.wf_names.specs.declared.limits.TheConstants.{STEP_LIMIT};
 ghost use Rattle.policy_book.specs.Policies.{flow_at};
 ghost use Rattle.wf_server.specs.declared.fault.InputFault.TheVariants.{Syntax};
-ghost use Rattle.wf_server.specs.Inputs.{plan_of_input, user_named, next_user, value_of, is_text, listed_items, input_fault};
+ghost use Rattle.wf_server.specs.Inputs.{plan_of_input, number_named, next_user, value_of, is_text, listed_items, input_fault};
 
+use crate::InputFault;
 use policy_book::{Plan, Policy};
 use serde_json::Value;
 use std::alloc::{AllocError, Global};
 use std::str;
 use wf_names::{FlowId, Name, UserId};
-
-use crate::InputFault;
 
 /// Why an input was not read as a plan.
 #[derive(Clone, Copy, Debug)]
@@ -26,7 +25,12 @@ pub(crate) enum InputError {
 
 /// The plan that an input is for a workflow.
 #[tactic(auto, unfolding(crate::specs::Inputs::plan_of_input))]
-pub(crate) fn read_plan(alloc: Global, p: &Policy, steps: u8, input: &[u8]) -> Result<Plan, InputError>
+pub(crate) fn read_plan(
+    alloc: Global,
+    p: &Policy,
+    steps: u8,
+    input: &[u8],
+) -> Result<Plan, InputError>
     requires { steps ≤ STEP_LIMIT }
     ensures { Gives input_fault (λ plan. plan) result (plan_of_input p.now steps input.now) }
 {
@@ -100,7 +104,7 @@ fn read_user(p: &Policy, users: &mut Vec<UserId>, item: &Value) -> Result<(), In
 
 // The user that an item names, if it is a text and names one.
 fn user_of(p: &Policy, item: &Value) -> Option<UserId>
-    ensures { result ≡ option_and_then (user_named p.now) (as_str (view item.now)) }
+    ensures { result ≡ option_and_then (number_named p.now.roster.users) (as_str (view item.now)) }
 {
     match item.as_str() {
         Some(text) => find_user(p, text),
@@ -110,7 +114,7 @@ fn user_of(p: &Policy, item: &Value) -> Option<UserId>
 
 // The user of a name, if the text is one.
 fn find_user(p: &Policy, text: &str) -> Option<UserId>
-    ensures { result ≡ user_named p.now text.now }
+    ensures { result ≡ number_named p.now.roster.users text.now }
 {
     match Name::read(text) {
         Some(name) => match p.roster().users().find(&name) {

@@ -4,8 +4,8 @@
 mod answer;
 mod fault;
 mod input;
-mod run;
+mod judge;
+mod tree_text;
 mod words;
 
 pub use fault::{InputFault, RunFault};
-pub use run::{Report, run_alone};

@@ -1,4 +1,4 @@
-use Rattle.pair_set.proofs.Facts.{ascending_none}
+use Rattle.pair_set.specs.PairLaws.{ascending_none}
 use Rattle.pair_set.proofs.PairSet.new.Goals as goal
 
 pub invariant_of-result : goal.invariant_of-result

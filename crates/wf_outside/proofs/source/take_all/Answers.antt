@@ -1,4 +1,4 @@
-use Rattle.std.proofs.Common.{◌≤◌, ◌<◌, ◌+◌, ◌≡◌, length, length-take, rules, arith}
+use Rattle.std.proofs.Common.{rules, arith}
 use Rattle.std.proofs.lemmas.Grind.{common_steps}
 use Rattle.wf_outside.proofs.OutsideLaws.{nothing_taken, nothing_at_most, at_most_more, reads_whole, reads_more}
 use Rattle.wf_outside.proofs.source.take_all.Goals as goal

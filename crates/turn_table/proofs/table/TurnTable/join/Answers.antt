@@ -1,9 +1,13 @@
-use Rattle.std.proofs.Common.{◌≡◌, false, rules, ap, ◌∙◌, sym}
+use Rattle.std.proofs.Common.{◌≡◌, false, ◌++◌, rules, ap, ◌∙◌, sym, subst}
+use Rattle.std.specs.List.{Contains}
+use Rattle.std.proofs.lemmas.List.Elements.{Contains-append_left, Contains-append_right}
+use Rattle.turn_table.specs.Lists.{brought}
 use Rattle.turn_table.specs.Lanes.{hold_of, carried_by}
 use Rattle.turn_table.proofs.Seats.{joins}
 use Rattle.turn_table.proofs.Keeps.{compares}
-use Rattle.turn_table.proofs.Numbers.{some_of}
+use Rattle.turn_table.proofs.Numbers.{some_of, brought_has}
 use Rattle.turn_table.proofs.table.TurnTable.join.Goals as goal
+use Rattle.turn_table.proofs.table.TurnTable.join.Goals.{After-load}
 
 pub join_seat-requires : goal.join_seat-requires
 join_seat-requires g c =
@@ -24,3 +28,19 @@ load-requires g c = (
   search rules,
   compares g.D.Tabled.fixed_part g.D.Tabled.list _ _ _ _ _ c.join_seat.new.seat.me (ap (λ m. m.0.live) c.join_seat.ensures.2 ∙ c.into.invariant.live),
 )
+
+-- the numbers that were joined, once both steps are done
+numbers : (g : _) (c : After-load g) → c.load.new.seat.me.0.joined ≡ brought c.into_seat.result.me.0.number c.into_seat.result.me.0.joined ++ c.into.inside.seat.me.0.joined
+numbers g c = ap (λ m. m.0.joined) c.load.ensures.2.0 ∙ ap (λ m. m.0.joined) c.join_seat.ensures.2
+
+pub returns-clause-counted : goal.returns-clause-counted
+returns-clause-counted g c = λ n h.
+    let w = c.into_seat.result.me.0 in
+    let has = subst (λ xs. Contains xs n) (ap (λ l. brought l.number l.joined) c.into_seat.ensures.shape) (brought_has c.args.from.number c.args.from.joined n h) in
+    subst (λ xs. Contains xs n) (sym (numbers g (goal.at.returns-clause-counted g c).After-load)) (Contains-append_left (brought w.number w.joined) c.into.inside.seat.me.0.joined n has)
+
+pub returns-clause-kept : goal.returns-clause-kept
+returns-clause-kept g c = λ n h.
+    let w = c.into_seat.result.me.0 in
+    let has = subst (λ xs. Contains xs n) (sym (ap (λ l. l.joined) c.into.view_is)) h in
+    subst (λ xs. Contains xs n) (sym (numbers g (goal.at.returns-clause-kept g c).After-load)) (Contains-append_right (brought w.number w.joined) c.into.inside.seat.me.0.joined n has)

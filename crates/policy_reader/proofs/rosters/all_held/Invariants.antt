@@ -1,0 +1,9 @@
+use Rattle.std.proofs.Common.{◌≡◌, drop}
+use Rattle.toml.specs.View.{items_view}
+use Rattle.first_fault.specs.Reading.{each}
+use Rattle.policy_reader.specs.Parts.{items}
+use Rattle.policy_reader.specs.Rosters.{next_held}
+use Rattle.policy_reader.proofs.rosters.all_held.Given as goal
+
+abbrev pub invariant-items : goal.invariant-items
+invariant-items l = (each (next_held l.u) l.roster (items (items_view (drop l.value-index l.items))) ≡ each (next_held l.u) l.fn.roster (items (items_view l.items))) × (l.roster.users ≡ l.fn.roster.users)

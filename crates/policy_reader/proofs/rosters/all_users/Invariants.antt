@@ -1,0 +1,10 @@
+use Rattle.toml.specs.View.{table_view}
+use Rattle.wf_names.specs.declared.limits.TheConstants.{USER_LIMIT}
+use Rattle.first_fault.specs.Reading.{each}
+use Rattle.policy_reader.specs.Parts.{entries}
+use Rattle.policy_reader.specs.Rosters.{next_user}
+use Rattle.policy_reader.proofs.Fresh.{IsLeft}
+use Rattle.policy_reader.proofs.rosters.all_users.Given as goal
+
+abbrev pub invariant-entries : goal.invariant-entries
+invariant-entries l = IsLeft next_user (λ r. r.users) USER_LIMIT (each next_user l.fn.roster (entries (table_view l.fn.users))) l.roster l.key-iterator

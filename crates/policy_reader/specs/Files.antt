@@ -1,0 +1,59 @@
+-- The policy that a file is.
+use Rattle.std.specs.Prelude.{codes, ℕ, ℤ, pos, negsuc, Bool, true, false, ◌==◌, List, [], ◌∷◌, length, Option, None, Some, if◌then◌else◌, Result, Ok, Err}
+use Rattle.std.specs.Str.Lossy.{utf8_valid_len}
+use Rattle.toml.specs.Data.{Data, Members, as_integer}
+use Rattle.toml.specs.Parse.{parse_document}
+use Rattle.policy_book.specs.Shapes.{PolicyShape}
+use Rattle.first_fault.specs.Reading.{◌>>=◌, or_fault, check}
+use Rattle.policy_reader.specs.declared.fault.PolicyPart.TheVariants.{File, Users}
+use Rattle.policy_reader.specs.declared.fault.PolicyKind.TheVariants as kind
+use Rattle.policy_reader.specs.Faults.{Reading, fault}
+use Rattle.policy_reader.specs.Parts.{value_at, text_in, name_in, number_in, no_others}
+use Rattle.policy_reader.specs.Rosters.{roles_of, roster_of, is_held}
+use Rattle.policy_reader.specs.Relations.{relations_of}
+use Rattle.policy_reader.specs.Flows.{flows_of}
+
+-- the TOML document that bytes are, which have to be UTF-8
+unfoldable pub document_of : List ℕ → Option Members
+document_of bytes = if utf8_valid_len bytes == length bytes then parse_document bytes else None
+
+-- the only format
+abbrev pub is_known_format : ℤ → Bool
+is_known_format (pos n) = n == 1
+is_known_format (negsuc n) = false
+
+unfoldable pub format_of : Members → Reading (Unit {0})
+format_of file = do
+  d ← value_at File 0 (codes "format") file
+  version ← or_fault (as_integer d) (fault kind.Shape File 0)
+  check (is_known_format version) (fault kind.Version File 0)
+
+-- the name of the admin role
+unfoldable pub admin_of : Members → Reading (List ℕ)
+admin_of file = do
+  d ← value_at File 0 (codes "admin") file
+  text ← text_in File 0 d
+  _ ← name_in File 0 text
+  Ok text
+
+-- the keys of the file
+abbrev pub file_keys : List (List ℕ)
+file_keys = codes "admin" ∷ codes "flows" ∷ codes "format" ∷ codes "relations" ∷ codes "roles" ∷ codes "users" ∷ []
+
+-- the policy in a document
+unfoldable pub policy_in : Members → Reading PolicyShape
+policy_in file = do
+  _ ← format_of file
+  name ← admin_of file
+  roles ← roles_of file
+  admin ← number_in File 0 roles name
+  roster ← roster_of roles file
+  _ ← check (is_held roster admin) (fault kind.NoAdmin Users 0)
+  relations ← relations_of roster.users file
+  policy ← flows_of (record { roster = roster; relations = relations; flow_names = []; flows = []; admin = admin }) file
+  _ ← no_others File 0 file_keys file
+  Ok policy
+
+-- the policy that the bytes of a file are, or their first fault
+unfoldable pub policy_of_file : List ℕ → Reading PolicyShape
+policy_of_file bytes = or_fault (document_of bytes) (fault kind.Syntax File 0) >>= policy_in

@@ -1,0 +1,106 @@
+-- The workflows of a policy file. Their faults carry the workflow's number.
+use Rattle.std.specs.Prelude.{codes, ℕ, zero, suc, Bool, true, false, not, List, [], ◌∷◌, ◌++◌, length, Option, None, Some, Result, Ok, Err, slice_index_or}
+use Rattle.std.specs.FinSet as set
+use Rattle.toml.specs.Data.{Data, Members, get_member}
+use Rattle.wf_names.specs.declared.limits.TheConstants.{STEP_LIMIT, FLOW_LIMIT}
+use Rattle.pair_set.specs.Pairs.{Pairs}
+use Rattle.workflow_schema.specs.Flows.{FlowShape, is_before}
+use Rattle.policy_book.specs.Shapes.{PolicyShape, WorkflowShape}
+use Rattle.first_fault.specs.Reading.{◌>>=◌, or_fault, check, each}
+use Rattle.policy_reader.specs.declared.fault.PolicyPart.TheVariants.{Flows}
+use Rattle.policy_reader.specs.declared.fault.PolicyKind.TheVariants as kind
+use Rattle.policy_reader.specs.Faults.{Reading, fault, fault_about}
+use Rattle.policy_reader.specs.Parts.{items, entries, value_at, text_in, array_in, table_in, at_most, at_least_one, name_in, number_in, once, next_name, next_pair, no_others}
+use Rattle.policy_reader.specs.Rules.{rules_of}
+
+-- the steps of a workflow: an array of distinct names
+unfoldable pub steps_of : ℕ → Members → Reading (List (List ℕ))
+steps_of f ms = do
+  d ← value_at Flows f (codes "steps") ms
+  steps ← array_in Flows f d
+  _ ← at_least_one Flows f (length (items steps))
+  _ ← at_most Flows f STEP_LIMIT (length (items steps))
+  each (next_name Flows f) [] (items steps)
+
+-- the pairs of the order in an array of them
+unfoldable pub order_in : ℕ → List (List ℕ) → Data → Reading Pairs
+order_in f steps d = do
+  pairs ← array_in Flows f d
+  each (next_pair Flows f steps) set.empty (items pairs)
+
+-- the pairs of the order, where there are any
+unfoldable pub pairs_of : ℕ → List (List ℕ) → Members → Reading Pairs
+pairs_of f steps ms = elim (get_member (codes "order") ms) [
+    | None ↦ Ok set.empty
+    | Some d ↦ order_in f steps d
+  ]
+
+-- the number n where it passes and no lower one was found
+abbrev pub found_or : Option ℕ → ℕ → Bool → Option ℕ
+found_or (Some s) n passes = Some s
+found_or None n true = Some n
+found_or None n false = None
+
+-- the least number below n that passes
+abbrev pub least_below : ℕ → (ℕ → Bool) → Option ℕ
+least_below zero test = None
+least_below (suc n) test = found_or (least_below n test) n (test n)
+
+-- no step is before itself; the least such step is at fault
+unfoldable pub no_cycle : ℕ → List (List ℕ) → Pairs → Reading (Unit {0})
+no_cycle f steps order = elim (least_below (length steps) (λ s. is_before order s s)) [
+    | None ↦ Ok tt
+    | Some s ↦ Err (fault_about kind.Cycle Flows f (slice_index_or steps s []))
+  ]
+
+-- the next role that is permitted for the step s
+unfoldable pub next_permitted : ℕ → List (List ℕ) → ℕ → FlowShape → Data → Reading FlowShape
+next_permitted f roles s so_far d = do
+  text ← text_in Flows f d
+  r ← number_in Flows f roles text
+  _ ← once Flows f text (set.contains so_far.permits (r, s))
+  Ok (record so_far { permits = set.insert so_far.permits (r, s) })
+
+-- the next step that roles are permitted for: a step, and an array of distinct roles
+unfoldable pub next_permit : ℕ → List (List ℕ) → FlowShape → List ℕ × Data → Reading FlowShape
+next_permit f roles so_far entry = do
+  s ← number_in Flows f so_far.steps entry.0
+  permitted ← array_in Flows f entry.1
+  each (next_permitted f roles s) so_far (items permitted)
+
+-- the permissions of a workflow: a table of them by step
+unfoldable pub permits_of : ℕ → List (List ℕ) → FlowShape → Members → Reading FlowShape
+permits_of f roles flow ms = do
+  d ← value_at Flows f (codes "permit") ms
+  permits ← table_in Flows f d
+  each (next_permit f roles) flow (entries permits)
+
+-- the workflow in a table: its steps, order, permissions and rules
+unfoldable pub workflow_in : PolicyShape → Members → Reading WorkflowShape
+workflow_in p ms = do
+  let f = length p.flows
+  _ ← no_others Flows f (codes "order" ∷ codes "permit" ∷ codes "rules" ∷ codes "steps" ∷ []) ms
+  steps ← steps_of f ms
+  order ← pairs_of f steps ms
+  _ ← no_cycle f steps order
+  flow ← permits_of f p.roster.roles (record { steps = steps; order = order; permits = set.empty }) ms
+  rules ← rules_of f p.relations steps ms
+  Ok (record { flow = flow; rules = rules; retired = false })
+
+-- the next workflow: a name, and a table
+unfoldable pub next_flow : PolicyShape → List ℕ × Data → Reading PolicyShape
+next_flow p entry = do
+  let f = length p.flows
+  _ ← name_in Flows f entry.0
+  ms ← table_in Flows f entry.1
+  workflow ← workflow_in p ms
+  Ok (record p { flow_names = p.flow_names ++ entry.0 ∷ []; flows = p.flows ++ workflow ∷ [] })
+
+-- the workflows: a table of them by name
+unfoldable pub flows_of : PolicyShape → Members → Reading PolicyShape
+flows_of p file = do
+  d ← value_at Flows 0 (codes "flows") file
+  flows ← table_in Flows 0 d
+  _ ← at_least_one Flows 0 (length (entries flows))
+  _ ← at_most Flows 0 FLOW_LIMIT (length (entries flows))
+  each next_flow p (entries flows)

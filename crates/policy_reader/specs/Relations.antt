@@ -1,0 +1,80 @@
+-- The relations of a policy file.
+use Rattle.std.specs.Prelude.{codes, ℕ, ◌+◌, Bool, true, false, not, nat_eq, List, [], ◌∷◌, ◌++◌, length, Option, None, Some, is_some, if◌then◌else◌, Result, Ok, Err}
+use Rattle.std.specs.FinSet as set
+use Rattle.std.specs.Cmp.Lexicographic.{pointwise}
+use Rattle.toml.specs.Data.{Data, table, Members, no_members, member, get_member}
+use Rattle.wf_names.specs.declared.limits.TheConstants.{RELATION_LIMIT, PAIR_LIMIT}
+use Rattle.wf_names.specs.Names.{is_name}
+use Rattle.user_relations.specs.Relations.{RelationKind, listed, complement, RelationShape}
+use Rattle.first_fault.specs.Reading.{◌>>=◌, or_fault, check, each}
+use Rattle.policy_reader.specs.declared.fault.PolicyPart.TheVariants.{Relations}
+use Rattle.policy_reader.specs.declared.fault.PolicyKind.TheVariants as kind
+use Rattle.policy_reader.specs.Faults.{Reading, fault, fault_about}
+use Rattle.policy_reader.specs.Parts.{items, entries, text_in, array_in, table_in, at_most, name_in, next_pair, is_among}
+
+-- the number of the first declared relation, after `same` and `other`
+abbrev pub first_declared : ℕ
+first_declared = 2
+
+-- the name of a relation that every policy has
+abbrev pub is_built_in : List ℕ → Bool
+is_built_in text = is_among (codes "same" ∷ codes "other" ∷ []) text
+
+-- the value is a table whose one key is `complement`
+abbrev pub is_complement : Data → Bool
+is_complement (table (member key d no_members)) = pointwise nat_eq key (codes "complement")
+is_complement _ = false
+
+-- the number and the value of the entry with a key, where the entries are numbered from n
+abbrev pub entry_of : ℕ → List ℕ → List (List ℕ × Data) → Option (ℕ × Data)
+entry_of n key [] = None
+entry_of n key (entry ∷ more) = if pointwise nat_eq key entry.0 then Some (n, entry.1) else entry_of (n + 1) key more
+
+-- the pairs of the relation with number n: an array of distinct pairs of users
+unfoldable pub listed_in : List (List ℕ) → ℕ → Data → Reading RelationKind
+listed_in users n d = do
+  pairs ← array_in Relations n d
+  _ ← at_most Relations n PAIR_LIMIT (length (items pairs))
+  set ← each (next_pair Relations n users) set.empty (items pairs)
+  Ok (listed set)
+
+-- the relation whose complement the relation with number n is: one of the table's that is no complement itself
+unfoldable pub complement_in : Members → ℕ → Data → Reading RelationKind
+complement_in all n d = do
+  text ← text_in Relations n d
+  _ ← check (is_name text) (fault kind.Unknown Relations n)
+  other ← or_fault (entry_of first_declared text (entries all)) (fault_about kind.Unknown Relations n text)
+  _ ← check (not (is_complement other.1)) (fault_about kind.Chain Relations n text)
+  Ok (complement other.0)
+
+-- what the relation with number n is: a table with one key
+unfoldable pub kind_in : List (List ℕ) → Members → ℕ → Members → Reading RelationKind
+kind_in users all n (member key d no_members) =
+    if pointwise nat_eq key (codes "pairs") then listed_in users n d
+    else if pointwise nat_eq key (codes "complement") then complement_in all n d
+    else Err (fault kind.Shape Relations n)
+kind_in users all n _ = Err (fault kind.Shape Relations n)
+
+-- the next relation of the table
+unfoldable pub next_relation : List (List ℕ) → Members → List RelationShape → List ℕ × Data → Reading (List RelationShape)
+next_relation users all so_far entry = do
+  let n = first_declared + length so_far
+  _ ← name_in Relations n entry.0
+  _ ← check (not (is_built_in entry.0)) (fault_about kind.Reserved Relations n entry.0)
+  ms ← table_in Relations n entry.1
+  kind ← kind_in users all n ms
+  Ok (so_far ++ record { name = entry.0; kind = kind } ∷ [])
+
+-- the relations in a table of them by name
+unfoldable pub relations_in : List (List ℕ) → Data → Reading (List RelationShape)
+relations_in users d = do
+  all ← table_in Relations 0 d
+  _ ← at_most Relations 0 RELATION_LIMIT (length (entries all))
+  each (next_relation users all) [] (entries all)
+
+-- the relations, where there are any
+unfoldable pub relations_of : List (List ℕ) → Members → Reading (List RelationShape)
+relations_of users file = elim (get_member (codes "relations") file) [
+    | None ↦ Ok []
+    | Some d ↦ relations_in users d
+  ]

@@ -1,0 +1,10 @@
+//! The policy file: reads a policy from TOML, or tells the first fault of the text.
+#![tactic(auto)]
+
+mod fault;
+mod parts;
+mod rosters;
+mod rules;
+mod workflows;
+
+pub use fault::{PolicyFault, PolicyKind, PolicyPart, ReadFault};

@@ -1,0 +1,15 @@
+use Rattle.std.proofs.Common.{arith}
+use Rattle.user_relations.proofs.Named.{same_is_name, other_is_name, name_read}
+use Rattle.user_relations.proofs.Numbered.{length-shapes}
+use Rattle.user_relations.proofs.kinds.name.Goals as goal
+
+pub known_name-requires : goal.known_name-requires
+known_name-requires c = same_is_name
+
+pub known_name-requires-in-1 : goal.known_name-requires-in-1
+known_name-requires-in-1 c = other_is_name
+
+pub returns-in_default : goal.returns-in_default
+returns-in_default c =
+    name_read c.args.declared.now c.args.rho _ c.index-declared-rho.result
+    (omega (arith, c.rho.view_is)) (omega (arith, c.rho.view_is, length-shapes c.args.declared.now))

@@ -1,0 +1,31 @@
+-- Why a pair is not put into a relation or not taken out of it.
+use Rattle.std.specs.Prelude.{◌≡◌, ℕ, List, Option, Some, None, Result, Err, OnErr, nat_le, if◌then◌else◌}
+use Rattle.std.specs.FinSet as set
+use Rattle.wf_names.specs.declared.limits.TheConstants.{PAIR_LIMIT}
+use Rattle.user_relations.specs.declared.RelationFault.{RelationFault}
+use Rattle.user_relations.specs.declared.RelationFault.TheVariants.{Fixed, Already, Absent, Full, NoMemory}
+use Rattle.user_relations.specs.Relations.{RelationShape, RelationKind, listed, complement, kind_of}
+
+-- a pair is put into a listed relation that lacks it and has room
+abbrev pub put_fault : Option RelationKind → ℕ → ℕ → Option RelationFault
+put_fault None u v = Some Fixed
+put_fault (Some (complement n)) u v = Some Fixed
+put_fault (Some (listed pairs)) u v =
+    if set.contains pairs (u, v) then Some Already else (if nat_le PAIR_LIMIT (set.len pairs) then Some Full else None)
+
+abbrev pub relate_fault : List RelationShape → ℕ → ℕ → ℕ → Option RelationFault
+relate_fault relations rho u v = put_fault (kind_of relations rho) u v
+
+-- a pair is taken out of a listed relation that has it
+abbrev pub take_fault : Option RelationKind → ℕ → ℕ → Option RelationFault
+take_fault None u v = Some Fixed
+take_fault (Some (complement n)) u v = Some Fixed
+take_fault (Some (listed pairs)) u v = if set.contains pairs (u, v) then None else Some Absent
+
+abbrev pub unrelate_fault : List RelationShape → ℕ → ℕ → ℕ → Option RelationFault
+unrelate_fault relations rho u v = take_fault (kind_of relations rho) u v
+
+-- where there is a fault it is the answer, and else only want of memory is one
+abbrev pub AnswersFault : Option RelationFault → Result (Unit {0}) RelationFault → Type 0
+AnswersFault None result = OnErr result (result ≡ Err NoMemory)
+AnswersFault (Some fault) result = result ≡ Err fault

@@ -1,0 +1,243 @@
+//! The declared relations as they are kept, and what each call does to them.
+ghost use Rattle.std.specs.Prelude.{◌≡◌, ◌≢◌, ◌<◌, ◌≤◌, ◌+◌, ℕ, List, [], length, IfOk, IfSome, OnOk, OnErr, MatchOption, IsTrue, Err, slice_get, Some, None, position, nat_eq};
+ghost use Rattle.std.specs.Cmp.Lexicographic.{pointwise};
+ghost use Rattle.std.specs.FinSet as set;
+ghost use Rattle.pair_set.specs.Pairs.{IsAscending};
+ghost use Rattle.wf_names.specs.Names.{is_name};
+ghost use Rattle.wf_names.specs.Table.{place_of};
+ghost use Rattle.user_relations.specs.Relations.{listed, complement, kind_of, kind_holds, listed_pairs, pairs_of, complement_of, known_names, with_kind, has_list};
+ghost use Rattle.user_relations.specs.Faults.{relate_fault, unrelate_fault, put_fault, take_fault, AnswersFault};
+ghost use Rattle.user_relations.specs.Places.{IsPlace};
+ghost use Rattle.user_relations.specs.View.{kind_view, relation_view, shapes};
+
+use crate::RelationFault;
+use pair_set::PairSet;
+use std::alloc::{AllocError, Global};
+use wf_names::{Name, PAIR_LIMIT, RELATION_LIMIT, RelId, UserId};
+
+/// What a declared relation is.
+#[derive(Drop)]
+pub(crate) enum Kind {
+    Listed(PairSet),
+    /// The complement of a listed relation.
+    Complement(RelId),
+}
+
+/// A declared relation.
+#[derive(Drop)]
+pub(crate) struct Relation {
+    pub(crate) name: Name,
+    pub(crate) kind: Kind,
+}
+
+/// The place of a declared relation in the list.
+fn place(declared: &[Relation], rho: RelId) -> Option<usize>
+    ensures { MatchOption result (kind_of (shapes declared.now) rho ≡ None) (IsPlace (length declared.now) rho) }
+{
+    if rho.0 >= 2 && (rho.0 as usize - 2) < declared.len() {
+        Some(rho.0 as usize - 2)
+    } else {
+        None
+    }
+}
+
+fn kind_at(declared: &[Relation], rho: RelId) -> Option<&Kind>
+    ensures { MatchOption result (kind_of (shapes declared.now) rho ≡ None) (λ kind. kind_of (shapes declared.now) rho ≡ Some (kind_view kind.now)) }
+{
+    match place(declared, rho) {
+        Some(place) => Some(&declared[place].kind),
+        None => None,
+    }
+}
+
+pub(crate) fn holds(declared: &[Relation], rho: RelId, u: UserId, v: UserId) -> bool
+    ensures { result ≡ kind_holds (shapes declared.now) (kind_of (shapes declared.now) rho) u v }
+{
+    match kind_at(declared, rho) {
+        None => false,
+        Some(Kind::Listed(pairs)) => pairs.has(u.0, v.0),
+        Some(Kind::Complement(of)) => !is_in_list(declared, *of, u, v),
+    }
+}
+
+fn is_in_list(declared: &[Relation], rho: RelId, u: UserId, v: UserId) -> bool
+    ensures { result ≡ set.contains (pairs_of (shapes declared.now) rho) (u, v) }
+{
+    match kind_at(declared, rho) {
+        None => false,
+        Some(Kind::Listed(pairs)) => pairs.has(u.0, v.0),
+        Some(Kind::Complement(_)) => false,
+    }
+}
+
+pub(crate) fn pairs(declared: &[Relation], rho: RelId) -> &[(u16, u16)]
+    ensures pairs { set.from_list result.now ≡ pairs_of (shapes declared.now) rho }
+    ensures ascending { IsAscending result.now }
+{
+    match kind_at(declared, rho) {
+        None => &[],
+        Some(Kind::Listed(pairs)) => pairs.as_slice(),
+        Some(Kind::Complement(_)) => &[],
+    }
+}
+
+pub(crate) fn complement_of(declared: &[Relation], rho: RelId) -> Option<RelId>
+    ensures { result ≡ complement_of (shapes declared.now) rho }
+{
+    match kind_at(declared, rho) {
+        None => None,
+        Some(Kind::Listed(_)) => None,
+        Some(Kind::Complement(of)) => Some(*of),
+    }
+}
+
+/// Makes a declared relation one of this kind.
+pub(crate) fn set_kind(declared: &mut [Relation], rho: RelId, kind: Kind)
+    requires { kind_of (shapes declared.old) rho ≢ None }
+    ensures { shapes declared.new ≡ with_kind (shapes declared.old) rho (kind_view kind) }
+{
+    if let Some(place) = place(declared, rho) {
+        declared[place].kind = kind;
+    }
+}
+
+pub(crate) fn relate(
+    declared: &mut [Relation],
+    rho: RelId,
+    u: UserId,
+    v: UserId,
+) -> Result<(), RelationFault>
+    ensures related { OnOk result (shapes declared.new ≡ with_kind (shapes declared.old) rho (listed (set.insert (pairs_of (shapes declared.old) rho) (u, v)))) }
+    ensures fault { AnswersFault (relate_fault (shapes declared.old) rho u v) result }
+    ensures unchanged { OnErr result (shapes declared.new ≡ shapes declared.old) }
+{
+    let Some(place) = place(declared, rho) else {
+        return Err(RelationFault::Fixed);
+    };
+    let relation = &mut declared[place];
+    put_pair(&mut relation.kind, u, v)
+}
+
+fn put_pair(kind: &mut Kind, u: UserId, v: UserId) -> Result<(), RelationFault>
+    ensures related { OnOk result (kind_view kind.new ≡ listed (set.insert (listed_pairs (Some (kind_view kind.old))) (u, v))) }
+    ensures fault { AnswersFault (put_fault (Some (kind_view kind.old)) u v) result }
+    ensures unchanged { OnErr result (kind_view kind.new ≡ kind_view kind.old) }
+{
+    let Kind::Listed(pairs) = kind else {
+        return Err(RelationFault::Fixed);
+    };
+    if pairs.has(u.0, v.0) {
+        return Err(RelationFault::Already);
+    }
+    if pairs.len() >= PAIR_LIMIT {
+        return Err(RelationFault::Full);
+    }
+    match pairs.insert(u.0, v.0) {
+        Ok(_) => Ok(()),
+        Err(_) => Err(RelationFault::NoMemory),
+    }
+}
+
+pub(crate) fn unrelate(
+    declared: &mut [Relation],
+    rho: RelId,
+    u: UserId,
+    v: UserId,
+) -> Result<(), RelationFault>
+    ensures unrelated { OnOk result (shapes declared.new ≡ with_kind (shapes declared.old) rho (listed (set.remove (pairs_of (shapes declared.old) rho) (u, v)))) }
+    ensures fault { AnswersFault (unrelate_fault (shapes declared.old) rho u v) result }
+    ensures memory { result ≢ Err RelationFault.NoMemory }
+    ensures unchanged { OnErr result (shapes declared.new ≡ shapes declared.old) }
+{
+    let Some(place) = place(declared, rho) else {
+        return Err(RelationFault::Fixed);
+    };
+    let relation = &mut declared[place];
+    take_pair(&mut relation.kind, u, v)
+}
+
+fn take_pair(kind: &mut Kind, u: UserId, v: UserId) -> Result<(), RelationFault>
+    ensures unrelated { OnOk result (kind_view kind.new ≡ listed (set.remove (listed_pairs (Some (kind_view kind.old))) (u, v))) }
+    ensures fault { AnswersFault (take_fault (Some (kind_view kind.old)) u v) result }
+    ensures memory { result ≢ Err RelationFault.NoMemory }
+    ensures unchanged { OnErr result (kind_view kind.new ≡ kind_view kind.old) }
+{
+    let Kind::Listed(pairs) = kind else {
+        return Err(RelationFault::Fixed);
+    };
+    if pairs.remove(u.0, v.0) {
+        Ok(())
+    } else {
+        Err(RelationFault::Absent)
+    }
+}
+
+/// The number of the relation with a name.
+pub(crate) fn find(declared: &[Relation], name: &Name) -> Option<RelId>
+    requires { length declared.now ≤ RELATION_LIMIT }
+    ensures place { result ≡ place_of (known_names (shapes declared.now)) name.now }
+    ensures within { IfSome result (λ rho. rho < length (shapes declared.now) + 2) }
+{
+    if *name == known_name("same") {
+        return Some(RelId::SAME);
+    }
+    if *name == known_name("other") {
+        return Some(RelId::OTHER);
+    }
+    match find_declared(declared, name) {
+        Some(place) => Some(RelId(place as u8 + 2)),
+        None => None,
+    }
+}
+
+fn find_declared(declared: &[Relation], name: &Name) -> Option<usize>
+    ensures place { result ≡ position (λ relation. pointwise nat_eq name.now relation.name) declared.now }
+    ensures within { IfSome result (λ place. place < length declared.now) }
+{
+    declared.iter().position(|relation| *name == relation.name)
+}
+
+pub(crate) fn name(declared: &[Relation], rho: RelId) -> Name
+    requires { rho < length (shapes declared.now) + 2 }
+    ensures { slice_get (known_names (shapes declared.now)) rho ≡ Some result }
+{
+    match rho.0 {
+        0 => known_name("same"),
+        1 => known_name("other"),
+        _ => declared[rho.0 as usize - 2].name,
+    }
+}
+
+fn known_name(text: &str) -> Name
+    requires { IsTrue (is_name text.now) }
+    ensures { result ≡ text.now }
+{
+    match Name::read(text) {
+        Some(name) => name,
+        None => unreachable!(),
+    }
+}
+
+/// The same relations.
+pub(crate) fn copy(alloc: Global, declared: &[Relation]) -> Result<Vec<Relation>, AllocError>
+    ensures { IfOk result (λ copies. shapes copies.items ≡ shapes declared.now) }
+{
+    let mut copies = Vec::with_capacity(alloc, declared.len())?;
+    'copying: for relation in declared {
+        copies.push(copy_one(relation)?)?;
+    }
+    Ok(copies)
+}
+
+fn copy_one(relation: &Relation) -> Result<Relation, AllocError>
+    ensures { IfOk result (λ copy. relation_view copy ≡ relation_view relation.now) }
+{
+    let kind = match &relation.kind {
+        Kind::Listed(pairs) => Kind::Listed(pairs.copy()?),
+        Kind::Complement(of) => Kind::Complement(*of),
+    };
+    Ok(Relation {
+        name: relation.name,
+        kind,
+    })
+}
