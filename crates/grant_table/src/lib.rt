@@ -3,6 +3,7 @@
 
 mod cases;
 mod changes;
+mod planned;
 mod rows;
 
 pub use cases::Cases;
