@@ -106,25 +106,25 @@ pub kept_put :
     live' + cond ended 1 0 ≡ live → IsKept (change_row new.number (λ _. new) rows) ever live'
 kept_put ever live live' rows new ended kept there planned left = kept_at (row_at new.number rows) refl there
   where
-  kept_at : (o : Option Row) → row_at new.number rows ≡ o → IsSomeAnd o (λ r. ones r ≡ ones new + cond ended 1 0) → IsKept (change_row new.number (λ _. new) rows) ever live'
-  kept_at None h counts = absurd counts
-  kept_at (Some r) h counts = record {
+    kept_at : (o : Option Row) → row_at new.number rows ≡ o → IsSomeAnd o (λ r. ones r ≡ ones new + cond ended 1 0) → IsKept (change_row new.number (λ _. new) rows) ever live'
+    kept_at None h counts = absurd counts
+    kept_at (Some r) h counts = record {
       ascend = ascend_changed 0 new.number rows r new kept.ascend h refl;
       below = below_changed ever new.number rows r new kept.below h refl;
       planned = planned_changed new.number rows r new kept.planned h planned;
       counted = omega (arith, count_changed new.number rows r new h, kept.counted, counts, left);
       few = omega (arith, kept.few, left);
-      limit = kept.limit
-  }
+      limit = kept.limit;
+    }
 
 -- an open case ends only where there is one
 pub counts_one : (ever live : ℕ) (rows : List Row) (new : Row) (ended : Bool) → IsKept rows ever live →
     IsSomeAnd (row_at new.number rows) (λ r. ones r ≡ ones new + cond ended 1 0) → cond ended 1 0 ≤ live
 counts_one ever live rows new ended kept there = counts_at (row_at new.number rows) refl there
   where
-  counts_at : (o : Option Row) → row_at new.number rows ≡ o → IsSomeAnd o (λ r. ones r ≡ ones new + cond ended 1 0) → cond ended 1 0 ≤ live
-  counts_at None h counts = absurd counts
-  counts_at (Some r) h counts = omega (arith, count_changed new.number rows r new h, kept.counted, counts)
+    counts_at : (o : Option Row) → row_at new.number rows ≡ o → IsSomeAnd o (λ r. ones r ≡ ones new + cond ended 1 0) → cond ended 1 0 ≤ live
+    counts_at None h counts = absurd counts
+    counts_at (Some r) h counts = omega (arith, count_changed new.number rows r new h, kept.counted, counts)
 
 -- a row that a function gives, put in its place, is the change by that function
 pub put_rows : (n : ℕ) (rows : List Row) (r new : Row) (f : Row → Row) → row_at n rows ≡ Some r → new ≡ f r → (f r).number ≡ r.number → change_row new.number (λ _. new) rows ≡ change_row n f rows
@@ -166,12 +166,12 @@ kept_added ever live rows new kept same open_case plan few limit =
     let below : AreBelow new.number rows = subst (λ m. AreBelow m rows) (sym same) kept.below in
     let one : ◌≡◌ {A = ℕ} (ones new) 1 = ap (λ b. cond b 1 0) open_case in
     record {
-        ascend = ascend_added 0 rows new kept.ascend below (omega arith);
-        below = subst (λ m. AreBelow (m + 1) (rows ++ new ∷ [])) same (below_added rows new below);
-        planned = planned_added rows new kept.planned (plan ∙ sym open_case);
-        counted = omega (arith, count_added rows new, kept.counted, one);
-        few = omega (arith, few);
-        limit = omega (arith, limit)
+      ascend = ascend_added 0 rows new kept.ascend below (omega arith);
+      below = subst (λ m. AreBelow (m + 1) (rows ++ new ∷ [])) same (below_added rows new below);
+      planned = planned_added rows new kept.planned (plan ∙ sym open_case);
+      counted = omega (arith, count_added rows new, kept.counted, one);
+      few = omega (arith, few);
+      limit = omega (arith, limit);
     }
 
 -- what is said of a case says that there is one
@@ -212,6 +212,6 @@ case_changed P t n r new h same holds =
 pub planned_case : (n : ℕ) (rows : List Row) → ArePlanned rows → is_some (plan_of (row_at n rows)) ≡ is_open_case (case_in n rows)
 planned_case n rows planned = at_row (row_at n rows) refl
   where
-  at_row : (o : Option Row) → row_at n rows ≡ o → is_some (plan_of o) ≡ is_open_case (option_map (λ (r : Row). r.case) o)
-  at_row None h = refl
-  at_row (Some r) h = planned_at n rows r planned h
+    at_row : (o : Option Row) → row_at n rows ≡ o → is_some (plan_of o) ≡ is_open_case (option_map (λ (r : Row). r.case) o)
+    at_row None h = refl
+    at_row (Some r) h = planned_at n rows r planned h

@@ -1,3 +1,4 @@
 pub mod Keeping
+pub mod NextOpen
 pub mod Parts
 pub mod Places

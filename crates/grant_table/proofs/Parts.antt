@@ -42,12 +42,12 @@ count_filter p (r ∷ rs) = elim (bool_cases (p r)) [
 -- a table of some of the rows is kept
 pub kept_filter : (p : Row → Bool) (ever live : ℕ) (rows : List Row) → IsKept rows ever live → IsKept (filter p rows) ever (open_count (filter p rows))
 kept_filter p ever live rows kept = record {
-    ascend = ascend_filter p 0 rows kept.ascend;
-    below = below_filter p ever rows kept.below;
-    planned = planned_filter p rows kept.planned;
-    counted = refl;
-    few = omega (arith, count_filter p rows, kept.counted, kept.few);
-    limit = kept.limit
+  ascend = ascend_filter p 0 rows kept.ascend;
+  below = below_filter p ever rows kept.below;
+  planned = planned_filter p rows kept.planned;
+  counted = refl;
+  few = omega (arith, count_filter p rows, kept.counted, kept.few);
+  limit = kept.limit;
 }
 
 -- all open cases are among the open cases

@@ -65,7 +65,7 @@ place_found n (r ∷ rs) (suc i) d e h is =
     let next = next_prefix i _ _ e in
     (not_equal _ _ (below_is _ _ next.0), place_found n rs i d next.1 (omega arith) is)
 
-none_below : (low n : ℕ) (rows : List Row) → AscendFrom low rows → n < low → row_at n rows ≡ None
+pub none_below : (low n : ℕ) (rows : List Row) → AscendFrom low rows → n < low → row_at n rows ≡ None
 none_below low n [] order h = refl
 none_below low n (r ∷ rs) order h = rw (not_equal_above r.number n (omega (arith, order.0, h))) (none_below (r.number + 1) n rs order.1 (omega (arith, order.0, h)))
 

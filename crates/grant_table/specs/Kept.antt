@@ -20,6 +20,8 @@ abbrev pub ArePlanned : List Row → Type 0
 ArePlanned [] = Unit {0}
 ArePlanned (r ∷ rs) = (is_some r.plan ≡ is_open r.case) × ArePlanned rs
 
+-- what every table keeps: ascending numbers below the count of cases ever opened, a plan for each
+-- open case and no other, the number of open cases, and both limits
 pub record IsKept (rows : List Row) (ever live : ℕ) : Type 0 where
   pub ascend : AscendFrom 0 rows
   pub below : AreBelow ever rows

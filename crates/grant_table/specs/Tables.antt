@@ -66,9 +66,9 @@ with_row t n f = record t { rows = change_row n f t.rows }
 -- a table with a fresh case at its next number
 abbrev pub with_case : CasesShape → ℕ → ℕ → List ℕ → CasesShape
 with_case t flow steps plan = record {
-    rows = t.rows ++ record { number = t.ever; case = fresh_case flow steps; plan = Some plan } ∷ [];
-    ever = t.ever + 1;
-    spare = t.spare - 1
+  rows = t.rows ++ record { number = t.ever; case = fresh_case flow steps; plan = Some plan } ∷ [];
+  ever = t.ever + 1;
+  spare = t.spare - 1;
 }
 
 -- a row with a free step given to a user, and the plan for it
@@ -114,7 +114,13 @@ pub record HasHeldStep (c : CaseShape) (s : ℕ) : Type 0 where
   pub open_case : is_open c ≡ true
   pub held : is_held (state_at c s) ≡ true
 
--- the least open case not below a number, over ascending rows
+-- the least open case not below a number
+pub record IsNextOpen (t : CasesShape) (low n : ℕ) : Type 0 where
+  pub known : low ≤ n
+  pub open_case : is_open_case (case_at t n) ≡ true
+  pub least : (m : ℕ) → low ≤ m → m < n → is_open_case (case_at t m) ≡ false
+
+-- the same as a function, over ascending rows
 abbrev pub next_open : ℕ → List Row → Option ℕ
 next_open from_number [] = None
 next_open from_number (r ∷ rs) = if nat_le from_number r.number && is_open r.case then Some r.number else next_open from_number rs

@@ -1,18 +1,20 @@
 //! The table of cases.
-ghost use Rattle.std.specs.Prelude.{◌≡◌, ℕ, ◌+◌, ◌-◌, ◌<◌, ◌≤◌, Bool, true, cond, [], length, is_some, IfOk, IfSome, OnOk, OnErr, IsSomeAnd, MatchOption};
+ghost use Rattle.std.specs.Prelude.{◌≡◌, ℕ, ◌+◌, ◌-◌, ◌<◌, ◌≤◌, Bool, true, false, cond, [], length, is_some, IfOk, IfSome, OnOk, OnErr, IsSomeAnd, MatchOption};
 ghost use Rattle.wf_names.specs.declared.limits.TheConstants.{CASE_LIMIT, OPEN_CASE_LIMIT, STEP_LIMIT};
 ghost use Rattle.wf_names.specs.States.{is_done};
 ghost use Rattle.case_record.specs.Cases.{is_open};
-ghost use Rattle.grant_table.specs.Tables.{case_at, finished_row, freed_row, held_row, is_open_case, next_open, only, open_count, open_rows, ones, plan_at, row_at, replanned_row, with_case, with_row, withdrawn_row, HasFreeStep, HasHeldStep};
+ghost use Rattle.grant_table.specs.Kept.{IsKept};
+ghost use Rattle.grant_table.specs.Tables.{case_at, finished_row, freed_row, held_row, is_open_case, next_open, only, open_count, open_rows, ones, plan_at, row_at, replanned_row, with_case, with_row, withdrawn_row, IsNextOpen, HasFreeStep, HasHeldStep};
 
+use crate::changes::{finished, freed, held, replanned, withdrawn};
+use crate::rows::{
+    Row, case_of, next_open, one_live, only, open_rows, plan_in, put, row_of, still_open,
+};
 use case_record::Case;
 use constraint_forms::Plan;
 use std::alloc::{AllocError, Global};
 use std::marker::Model;
 use wf_names::{CaseId, FlowId, StepId, UserId};
-
-use crate::changes::{finished, freed, held, replanned, withdrawn};
-use crate::rows::{Row, case_of, next_open, one_live, only, open_rows, plan_in, put, row_of, still_open};
 
 /// Cases at their numbers and, for each open one, a plan by which it can be completed.
 ///
@@ -146,7 +148,7 @@ impl Cases {
     /// How many cases are open.
     pub fn live(&self) -> u16
         ensures count { result ≡ open_count self.now.rows }
-        ensures within { result ≤ OPEN_CASE_LIMIT }
+        ensures kept { IsKept self.now.rows self.now.ever result }
     {
         self.live
     }
@@ -161,7 +163,8 @@ impl Cases {
 
     /// The least open case not below a number.
     pub fn next_live(&self, from: u32) -> Option<CaseId>
-        ensures { result ≡ next_open from self.now.rows }
+        ensures answer { result ≡ next_open from self.now.rows }
+        ensures meaning { MatchOption result ((n : ℕ) → from ≤ n → is_open_case (case_at self.now n) ≡ false) (λ n. IsNextOpen self.now from n) }
     {
         match next_open(&self.rows, from) {
             Some(number) => Some(CaseId(number)),
@@ -200,6 +203,13 @@ impl Cases {
             ever: self.ever,
             live: self.live,
         })
+    }
+
+    /// How many more cases can be opened without memory being taken.
+    pub fn spare(&self) -> usize
+        ensures { result ≡ self.now.spare }
+    {
+        self.rows.capacity() - self.rows.len()
     }
 
     /// The row of a case.

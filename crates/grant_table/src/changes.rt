@@ -3,10 +3,9 @@ ghost use Rattle.std.specs.Prelude.{◌≡◌, true};
 ghost use Rattle.case_record.specs.Cases.{is_open};
 ghost use Rattle.grant_table.specs.Tables.{finished_row, freed_row, held_row, plan_while, replanned_row, withdrawn_row, HasFreeStep, HasHeldStep};
 
+use crate::rows::Row;
 use constraint_forms::Plan;
 use wf_names::{StepId, UserId};
-
-use crate::rows::Row;
 
 /// A row with a free step given to a user, and the plan for it.
 pub(crate) fn held(row: Row, s: StepId, u: UserId, plan: Plan) -> Row

@@ -5,5 +5,7 @@ mod cases;
 mod changes;
 mod planned;
 mod rows;
+#[cfg(test)]
+mod tests;
 
 pub use cases::Cases;

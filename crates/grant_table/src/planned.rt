@@ -7,11 +7,10 @@ ghost use Rattle.policy_book.specs.Plans.{IsValidPlan};
 ghost use Rattle.case_record.specs.Cases.{assigned_of, finished_of, is_open};
 ghost use Rattle.grant_table.specs.Tables.{case_at, held_row, open_count, replanned_row, with_case, with_row, HasFreeStep};
 
+use crate::Cases;
 use constraint_forms::Plan;
 use policy_book::Policy;
 use wf_names::{CaseId, FlowId, StepId, UserId};
-
-use crate::Cases;
 
 impl Cases {
     /// Opens a fresh case of a workflow at the next number, and answers that number. Takes no memory.

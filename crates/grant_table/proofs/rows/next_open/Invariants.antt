@@ -5,6 +5,6 @@ use Rattle.grant_table.proofs.rows.next_open.Given as goal
 
 abbrev pub invariant-rows : goal.invariant-rows
 invariant-rows l = record {
-    ascend : AscendFrom l.from (drop l.i l.rows);
-    left : next_open l.from (drop l.i l.rows) ≡ next_open l.from l.rows
+  ascend : AscendFrom l.from (drop l.i l.rows);
+  left : next_open l.from (drop l.i l.rows) ≡ next_open l.from l.rows;
 }

@@ -12,7 +12,7 @@ invariant_of-result c =
     let ever = c.self.inside.ever in
     let items = c.in_ok-only.ensures ∙ ap (only n) c.deref.ensures.value in
     let live =
-        c.one_live.ensures ∙ ap (λ o. open_count (rows_of o)) (c.row_of.ensures ∙ ap (row_at n) c.deref-2.ensures.value)
-        ∙ ap open_count (sym (only_is 0 n rows c.self.invariant.ascend)) in
+    c.one_live.ensures ∙ ap (λ o. open_count (rows_of o)) (c.row_of.ensures ∙ ap (row_at n) c.deref-2.ensures.value)
+    ∙ ap open_count (sym (only_is 0 n rows c.self.invariant.ascend)) in
     subst (IsKept c.in_ok-only.field-0.items ever) (sym live)
     (subst (λ xs. IsKept xs ever (open_count (only n rows))) (sym items) (kept_filter (λ (r : Row). nat_eq r.number n) ever c.self.inside.live rows c.self.invariant))
