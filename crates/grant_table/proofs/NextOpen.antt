@@ -1,5 +1,5 @@
 -- The next open case is the least.
-use Rattle.std.proofs.Common.{◌≡◌, ℕ, ◌+◌, ◌<◌, ◌≤◌, Bool, true, false, ◌&&◌, ◌⊎◌, inl, inr, nat_eq, nat_le, List, [], ◌∷◌, Option, None, Some, MatchOption, if◌then◌else◌, refl, sym, ap, subst, ◌∙◌, arith}
+use Rattle.std.proofs.Common.{◌≡◌, ℕ, ◌+◌, ◌<◌, ◌≤◌, Bool, true, false, ◌&&◌, inl, inr, nat_eq, nat_le, List, [], ◌∷◌, Option, None, Some, MatchOption, refl, sym, ap, subst, ◌∙◌, arith}
 use Rattle.std.specs.Option.{option_map}
 use Rattle.case_record.specs.Cases.{is_open}
 use Rattle.grant_table.specs.declared.rows.Row.{Row}

@@ -1,13 +1,11 @@
 -- Where the row with a number stands in ascending rows.
-use Rattle.std.proofs.Common.{◌≡◌, ℕ, zero, suc, ◌+◌, ◌<◌, ◌≤◌, Bool, true, false, cond, ◌⊎◌, inl, inr, ◌&&◌, nat_eq, nat_lt, nat_le, List, [], ◌∷◌, length, drop, get_or, slice_index_or, slice_get, slice_set, Option, None, Some, is_some, if◌then◌else◌, refl, sym, ap, subst, ◌∙◌, arith}
+use Rattle.std.proofs.Common.{◌≡◌, ℕ, zero, suc, ◌+◌, ◌<◌, ◌≤◌, Bool, true, false, cond, ◌⊎◌, inl, inr, nat_eq, nat_lt, nat_le, List, [], ◌∷◌, length, drop, get_or, slice_index_or, slice_get, slice_set, Option, None, Some, refl, sym, ap, subst, ◌∙◌, arith}
 use Rattle.std.specs.List.{prefix_len, AllWithin}
 use Rattle.std.specs.List.Sorted.{IsPartitionedBy}
 use Rattle.std.proofs.Math.Seq.{drop-cons}
 use Rattle.wf_names.specs.States.{is_live}
-use Rattle.case_record.specs.Cases.{is_open}
 use Rattle.grant_table.specs.declared.rows.Row.{Row}
-use Rattle.grant_table.specs.Lookup.{look_up, change_at}
-use Rattle.grant_table.specs.Tables.{number_of, row_at, change_row, next_open}
+use Rattle.grant_table.specs.Tables.{row_at, change_row, next_open}
 use Rattle.grant_table.specs.Kept.{AscendFrom, IsPlace}
 
 pub bool_cases : (b : Bool) → (b ≡ true) ⊎ (b ≡ false)

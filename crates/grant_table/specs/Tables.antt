@@ -2,7 +2,7 @@
 use Rattle.std.specs.Prelude.{◌≡◌, ℕ, ◌+◌, ◌-◌, ◌<◌, ◌≤◌, Bool, true, false, cond, ◌&&◌, nat_eq, nat_le, List, [], ◌∷◌, ◌++◌, length, Option, None, Some, if◌then◌else◌}
 use Rattle.std.specs.Option.{option_map}
 use Rattle.std.specs.List.{count_by, filter}
-use Rattle.wf_names.specs.States.{is_held, is_live}
+use Rattle.wf_names.specs.States.{is_held}
 use Rattle.wf_names.specs.declared.states.StepState.TheVariants.{Free, Held}
 use Rattle.wf_names.specs.declared.states.Phase.TheVariants.{Withdrawn}
 use Rattle.case_record.specs.Cases.{CaseShape, finished_case, fresh_case, is_open, state_at, with_phase, with_state}
@@ -16,6 +16,7 @@ pub record CasesShape : Type 0 where
   pub ever : ℕ
   pub spare : ℕ
 
+-- the number of a row's case
 abbrev pub number_of : Row → ℕ
 number_of r = r.number
 
@@ -27,18 +28,20 @@ row_at n rows = look_up number_of n rows
 abbrev pub change_row : ℕ → (Row → Row) → List Row → List Row
 change_row n f rows = change_at number_of n f rows
 
--- the case with a number
+-- the case with a number, among rows
 abbrev pub case_in : ℕ → List Row → Option CaseShape
 case_in n rows = option_map (λ r. r.case) (row_at n rows)
 
+-- the case with a number, in a table
 abbrev pub case_at : CasesShape → ℕ → Option CaseShape
 case_at t n = case_in n t.rows
 
--- the plan that is kept for the case with a number
+-- the plan that a row keeps, if there is a row
 abbrev pub plan_of : Option Row → Option (List ℕ)
 plan_of None = None
 plan_of (Some r) = r.plan
 
+-- the plan that is kept for the case with a number
 abbrev pub plan_at : CasesShape → ℕ → Option (List ℕ)
 plan_at t n = plan_of (row_at n t.rows)
 

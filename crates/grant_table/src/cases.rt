@@ -42,7 +42,7 @@ impl Model for Cases {
 impl Cases {
     /// A table with no case.
     pub fn new(alloc: Global) -> Result<Cases, AllocError>
-        ensures { IfOk result (λ t. (t.rows ≡ []) × (t.ever ≡ 0)) }
+        ensures { IfOk result (λ t. t ≡ record { rows = []; ever = 0; spare = t.spare }) }
     {
         Ok(Cases {
             rows: Vec::new(alloc),

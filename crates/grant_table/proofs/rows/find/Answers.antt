@@ -1,6 +1,6 @@
-use Rattle.std.proofs.Common.{◌≡◌, ap, sym, ◌∙◌, arith}
+use Rattle.std.proofs.Common.{ap, ◌∙◌, arith}
 use Rattle.std.proofs.lemmas.List.{get_or_default}
-use Rattle.grant_table.proofs.Places.{place_found, place_missing, found_get, place_within}
+use Rattle.grant_table.proofs.Places.{place_found, place_missing, found_get}
 use Rattle.grant_table.proofs.rows.find.Goals as goal
 use Rattle.grant_table.proofs.rows.find.Goals.{else-i-rows-via-then-i-rows+else-rows-i, else-i-rows-via-else-i-rows}
 

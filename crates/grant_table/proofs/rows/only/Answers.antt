@@ -1,4 +1,4 @@
-use Rattle.std.proofs.Common.{◌≡◌, ◌++◌, ◌∷◌, [], sym, ap, ◌∙◌}
+use Rattle.std.proofs.Common.{◌++◌, ◌∷◌, [], sym, ap, ◌∙◌}
 use Rattle.grant_table.specs.Kept.{rows_of}
 use Rattle.grant_table.proofs.Parts.{get_there, only_is}
 use Rattle.grant_table.proofs.rows.only.Goals as goal

@@ -1,4 +1,4 @@
-use Rattle.std.proofs.Common.{◌≡◌, ℕ, sym, ap, subst, ◌∙◌, nat_eq}
+use Rattle.std.proofs.Common.{sym, ap, subst, ◌∙◌, nat_eq}
 use Rattle.grant_table.specs.declared.rows.Row.{Row}
 use Rattle.grant_table.specs.Tables.{only, open_count, row_at}
 use Rattle.grant_table.specs.Kept.{IsKept, rows_of}

@@ -1,5 +1,3 @@
-use Rattle.std.proofs.Common.{◌≡◌, ap, ◌∙◌}
-use Rattle.grant_table.specs.Tables.{open_rows}
 use Rattle.grant_table.proofs.Parts.{kept_open}
 use Rattle.grant_table.proofs.cases.Cases.copy_open.Goals as goal
 

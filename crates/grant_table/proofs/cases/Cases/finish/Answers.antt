@@ -1,8 +1,8 @@
-use Rattle.std.proofs.Common.{◌≡◌, ◌+◌, cond, true, refl, sym, ap, subst, IsSomeAnd, ◌∙◌, arith}
+use Rattle.std.proofs.Common.{◌≡◌, ◌+◌, cond, refl, sym, ap, subst, IsSomeAnd, ◌∙◌}
 use Rattle.wf_names.specs.States.{is_done}
-use Rattle.case_record.specs.Cases.{CaseShape, is_open}
+use Rattle.case_record.specs.Cases.{CaseShape}
 use Rattle.grant_table.specs.Tables.{case_at, ones, finished_row, HasHeldStep}
-use Rattle.grant_table.proofs.Keeping.{known, some_there, there_again, table_put, finish_counts, plan_kept, case_changed}
+use Rattle.grant_table.proofs.Keeping.{known, there_again, table_put, finish_counts, case_changed}
 use Rattle.grant_table.proofs.cases.Cases.finish.Goals as goal
 
 pub put_row-requires-clause-there : goal.put_row-requires-clause-there

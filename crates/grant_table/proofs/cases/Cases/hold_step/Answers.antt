@@ -1,8 +1,6 @@
-use Rattle.std.proofs.Common.{◌≡◌, ◌+◌, cond, true, refl, sym, ap, ◌∙◌, arith}
-use Rattle.case_record.specs.Cases.{CaseShape, is_open}
-use Rattle.grant_table.specs.Tables.{HasFreeStep}
+use Rattle.std.proofs.Common.{◌≡◌, ◌+◌, refl, ap, ◌∙◌, arith}
 use Rattle.grant_table.specs.Tables.{ones, held_row}
-use Rattle.grant_table.proofs.Keeping.{known, some_there, there_again, table_put, finish_counts, plan_kept, case_changed}
+use Rattle.grant_table.proofs.Keeping.{there_again, table_put}
 use Rattle.grant_table.proofs.cases.Cases.hold_step.Goals as goal
 
 pub put_row-requires-clause-there : goal.put_row-requires-clause-there

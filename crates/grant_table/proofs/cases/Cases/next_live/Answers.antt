@@ -1,4 +1,3 @@
-use Rattle.std.proofs.Common.{◌≡◌}
 use Rattle.grant_table.proofs.NextOpen.{next_some, next_none}
 use Rattle.grant_table.proofs.cases.Cases.next_live.Goals as goal
 

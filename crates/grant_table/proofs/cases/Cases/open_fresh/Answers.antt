@@ -1,4 +1,4 @@
-use Rattle.std.proofs.Common.{◌≡◌, ◌<◌, refl, arith, ap, ◌∙◌}
+use Rattle.std.proofs.Common.{◌<◌, refl, arith, ap}
 use Rattle.case_record.specs.Cases.{is_open}
 use Rattle.wf_names.specs.declared.limits.TheConstants.{OPEN_CASE_LIMIT}
 use Rattle.grant_table.specs.Tables.{open_count}

@@ -1,4 +1,4 @@
-use Rattle.std.proofs.Common.{◌≡◌, ap, ◌∙◌, is_some}
+use Rattle.std.proofs.Common.{ap, ◌∙◌, is_some}
 use Rattle.grant_table.proofs.Keeping.{planned_case}
 use Rattle.grant_table.proofs.cases.Cases.plan.Goals as goal
 

@@ -1,4 +1,4 @@
-use Rattle.std.proofs.Common.{◌≡◌, ◌-◌}
+use Rattle.std.proofs.Common.{◌-◌}
 use Rattle.grant_table.proofs.Keeping.{kept_put, counts_one}
 use Rattle.grant_table.proofs.cases.Cases.put_row.Goals as goal
 

@@ -1,4 +1,4 @@
-use Rattle.std.proofs.Common.{◌≡◌, sym, ◌∙◌}
+use Rattle.std.proofs.Common.{sym, ◌∙◌}
 use Rattle.grant_table.proofs.Keeping.{planned_at}
 use Rattle.grant_table.proofs.cases.Cases.row.Goals as goal
 

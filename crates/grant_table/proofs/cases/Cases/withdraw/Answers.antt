@@ -1,7 +1,7 @@
-use Rattle.std.proofs.Common.{◌≡◌, ℕ, ◌+◌, cond, true, refl, sym, ap, ◌∙◌, arith}
-use Rattle.case_record.specs.Cases.{CaseShape, is_open}
+use Rattle.std.proofs.Common.{◌≡◌, ℕ, ◌+◌, cond, true, refl, ap, ◌∙◌, arith}
+use Rattle.case_record.specs.Cases.{is_open}
 use Rattle.grant_table.specs.Tables.{ones, withdrawn_row}
-use Rattle.grant_table.proofs.Keeping.{known, some_there, there_again, table_put, finish_counts, plan_kept, case_changed}
+use Rattle.grant_table.proofs.Keeping.{known, there_again, table_put}
 use Rattle.grant_table.proofs.cases.Cases.withdraw.Goals as goal
 
 pub put_row-requires-clause-there : goal.put_row-requires-clause-there
