@@ -1,39 +1,58 @@
 //! The closure beside a plain program over all graphs of four steps, and each call once.
-ghost use Rattle.std.specs.Prelude.{◌≡◌, ◌<◌, ◌≤◌, length, IfOk};
+ghost use Rattle.std.specs.Prelude.{◌≡◌, ◌<◌, length, IfOk};
 ghost use Rattle.std.specs.List.{All};
 
 use crate::{Flow, FlowFault};
 use std::alloc::{AllocError, Global};
 use std::test::Fail;
-use wf_names::{Name, NameTable, RoleId, StepId};
+use wf_names::{Name, NameTable, StepId};
 
 #[test]
 fn closures_are_those_of_a_plain_program(rt: HostRuntime) -> Result<(), Fail> {
-    let mut names = NameTable::new(rt.alloc(), 4)?;
-    for text in ["a", "b", "c", "d"] {
-        let name = Name::read(text).ok_or("not a name")?;
-        names.add(name).ok().ok_or("not added")?;
-    }
+    let names = four_names(rt.alloc())?;
     assert_eq!(rt; names.len(), 4);
     let (mut wrong, mut acyclic) = (0u32, 0u32);
     for graph in 0..=u16::MAX {
-        let order = pairs_of(rt.alloc(), graph)?;
+        let (walks, cycle) = told_of(rt.alloc(), &names, graph)?;
         let plain = closed(graph);
-        let told = match Flow::build(rt.alloc(), names.copy()?, &order, &[]) {
-            Ok(flow) => {
-                acyclic = acyclic.wrapping_add(1);
-                (told_before(&flow), None)
-            }
-            Err(FlowFault::Cycle(s)) => (plain, Some(s)),
-            Err(_) => (0, None),
-        };
-        if told != (plain, least_cycle(plain)) {
+        if cycle != least_cycle(plain) || cycle.is_none() && walks != plain {
             wrong = wrong.wrapping_add(1);
+        }
+        if cycle.is_none() {
+            acyclic = acyclic.wrapping_add(1);
         }
     }
     // There are 543 acyclic graphs of four numbered nodes.
     assert_eq!(rt; (wrong, acyclic), (0, 543));
     Ok(())
+}
+
+fn four_names(alloc: Global) -> Result<NameTable, Fail> {
+    let mut names = NameTable::new(alloc, 4)?;
+    for text in ["a", "b", "c", "d"] {
+        let name = Name::read(text).ok_or("not a name")?;
+        names.add(name).ok().ok_or("not added")?;
+    }
+    Ok(names)
+}
+
+// The walks that a graph's workflow tells, or its cycle.
+fn told_of(alloc: Global, names: &NameTable, graph: u16) -> Result<(u16, Option<u8>), AllocError>
+    requires { length names.now.names ≡ 4 }
+{
+    let order = pairs_of(alloc, graph)?;
+    match Flow::build(alloc, names.copy()?, &order, &[]) {
+        Ok(flow) => Ok((told_before(&flow), None)),
+        Err(fault) => Ok((0, Some(step_of(fault)))),
+    }
+}
+
+// The step of a cycle, and no step for another fault.
+fn step_of(fault: FlowFault) -> u8 {
+    match fault {
+        FlowFault::Cycle(s) => s.0,
+        _ => u8::MAX,
+    }
 }
 
 // Edge 4s + t of a graph of four steps leads from s to t.
@@ -56,11 +75,9 @@ fn pairs_of(alloc: Global, graph: u16) -> Result<Vec<(StepId, StepId)>, AllocErr
     ensures { IfOk result (λ order. All (λ p. (p.0 < 4) × (p.1 < 4)) order.items) }
 {
     let mut order = Vec::new(alloc);
-    'sources: for s in 0..4u8 {
-        'targets: for t in 0..4u8 {
-            if has_edge(graph, s, t) {
-                order.push((StepId(s), StepId(t)))?;
-            }
+    'edges: for edge in 0..16u8 {
+        if graph >> edge & 1 == 1 {
+            order.push((StepId(edge / 4), StepId(edge % 4)))?;
         }
     }
     Ok(order)
@@ -95,10 +112,10 @@ fn told_before(flow: &Flow) -> u16 {
     told
 }
 
-fn least_cycle(walks: u16) -> Option<StepId> {
+fn least_cycle(walks: u16) -> Option<u8> {
     for s in 0..4u8 {
         if has_edge(walks, s, s) {
-            return Some(StepId(s));
+            return Some(s);
         }
     }
     None

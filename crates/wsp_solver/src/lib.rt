@@ -4,3 +4,6 @@
 mod search;
 
 pub use search::{Outcome, solve};
+
+#[cfg(test)]
+mod tests;
