@@ -1,0 +1,10 @@
+//! The record of one case: its workflow, where each of its steps stands, and where it stands itself.
+#![tactic(auto)]
+
+mod case;
+mod order;
+mod steps;
+#[cfg(test)]
+mod tests;
+
+pub use case::Case;

@@ -1,0 +1,4 @@
+pub mod Keeping
+pub mod NextOpen
+pub mod Parts
+pub mod Places

@@ -1,0 +1,109 @@
+-- The next open case is the least.
+use Rattle.std.proofs.Common.{◌≡◌, ℕ, ◌+◌, ◌<◌, ◌≤◌, Bool, true, false, ◌&&◌, inl, inr, nat_eq, nat_le, List, [], ◌∷◌, Option, None, Some, MatchOption, refl, sym, ap, subst, ◌∙◌, arith}
+use Rattle.std.specs.Option.{option_map}
+use Rattle.case_record.specs.Cases.{is_open}
+use Rattle.grant_table.specs.declared.rows.Row.{Row}
+use Rattle.grant_table.specs.Tables.{CasesShape, IsNextOpen, case_in, is_open_case, next_open}
+use Rattle.grant_table.specs.Kept.{AscendFrom}
+use Rattle.grant_table.proofs.Places.{bool_cases, none_below}
+
+-- whether the case with a number is open
+abbrev open_in : ℕ → List Row → Bool
+open_in n rows = is_open_case (case_in n rows)
+
+record IsLeast (rows : List Row) (low n : ℕ) : Type 0 where
+  known : low ≤ n
+  open_case : open_in n rows ≡ true
+  least : (m : ℕ) → low ≤ m → m < n → open_in m rows ≡ false
+
+open_here : (n : ℕ) (r : Row) (rs : List Row) → nat_eq r.number n ≡ true → open_in n (r ∷ rs) ≡ is_open r.case
+open_here n r rs h = rw h refl
+
+open_there : (n : ℕ) (r : Row) (rs : List Row) → nat_eq r.number n ≡ false → open_in n (r ∷ rs) ≡ open_in n rs
+open_there n r rs h = rw h refl
+
+equal : (a n : ℕ) → a ≡ n → nat_eq a n ≡ true
+equal a n h = grind arith
+
+unequal : (a n : ℕ) → n < a → nat_eq a n ≡ false
+unequal a n h = grind arith
+
+same_number : (a n : ℕ) → nat_eq a n ≡ true → a ≡ n
+same_number a n h = grind arith
+
+is_from : (a n : ℕ) → nat_le n a ≡ true → n ≤ a
+is_from a n h = grind arith
+
+from_is : (a n : ℕ) → n ≤ a → nat_le n a ≡ true
+from_is a n h = grind arith
+
+both_true : (a b : Bool) → (a && b) ≡ true → (a ≡ true) × (b ≡ true)
+both_true true true h = (refl, refl)
+both_true true false h = cc
+both_true false b h = cc
+
+second_false : (a b : Bool) → (a && b) ≡ false → a ≡ true → b ≡ false
+second_false true b h e = h
+second_false false b h e = cc
+
+none_open : (low n : ℕ) (rows : List Row) → AscendFrom low rows → n < low → open_in n rows ≡ false
+none_open low n rows order h = ap (λ o. is_open_case (option_map (λ (r : Row). r.case) o)) (none_below low n rows order h)
+
+-- a row that the search passes over is not open, or below
+passed : (low m : ℕ) (r : Row) (rs : List Row) → (nat_le low r.number && is_open r.case) ≡ false → low ≤ m → open_in m rs ≡ false → open_in m (r ∷ rs) ≡ false
+passed low m r rs test h rest = elim (bool_cases (nat_eq r.number m)) [
+  | inl hit ↦ open_here m r rs hit ∙ second_false _ _ test (from_is r.number low (omega (arith, same_number r.number m hit, h)))
+  | inr miss ↦ open_there m r rs miss ∙ rest
+]
+
+differ : (b : Bool) → b ≡ true → b ≡ false → ⊥
+differ b h k = cc
+
+-- an open case of the rest is not the first
+beyond : (n : ℕ) (r : Row) (rs : List Row) → AscendFrom (r.number + 1) rs → open_in n rs ≡ true → open_in n (r ∷ rs) ≡ true
+beyond n r rs order h = elim (bool_cases (nat_eq r.number n)) [
+  | inl hit ↦ absurd (differ _ h (none_open (r.number + 1) n rs order (omega (arith, same_number r.number n hit))))
+  | inr miss ↦ open_there n r rs miss ∙ h
+]
+
+longer : (low : ℕ) (r : Row) (rs : List Row) (o : Option ℕ) → AscendFrom (r.number + 1) rs → (nat_le low r.number && is_open r.case) ≡ false →
+    MatchOption o ((m : ℕ) → low ≤ m → open_in m rs ≡ false) (λ n. IsLeast rs low n) →
+    MatchOption o ((m : ℕ) → low ≤ m → open_in m (r ∷ rs) ≡ false) (λ n. IsLeast (r ∷ rs) low n)
+longer low r rs None order test h = λ m above. passed low m r rs test above (h m above)
+longer low r rs (Some n) order test h = record {
+  known = h.known;
+  open_case = beyond n r rs order h.open_case;
+  least = λ m above below. passed low m r rs test above (h.least m above below);
+}
+
+means : (b low : ℕ) (rows : List Row) → AscendFrom b rows → MatchOption (next_open low rows) ((m : ℕ) → low ≤ m → open_in m rows ≡ false) (λ n. IsLeast rows low n)
+means b low [] order = λ m above. refl
+means b low (r ∷ rs) order = elim (bool_cases (nat_le low r.number && is_open r.case)) [
+  | inl hit ↦
+      let parts = both_true _ _ hit in
+      let least : IsLeast (r ∷ rs) low r.number = record {
+        known = is_from r.number low parts.0;
+        open_case = open_here r.number r rs (equal r.number r.number refl) ∙ parts.1;
+        least = λ m above below. open_there m r rs (unequal r.number m below) ∙ none_open (r.number + 1) m rs order.1 (omega (arith, below));
+      } in
+      rw hit least
+  | inr miss ↦ rw miss (longer low r rs (next_open low rs) order.1 miss (means (r.number + 1) low rs order.1))
+]
+
+by_table : (t : CasesShape) (low : ℕ) (o : Option ℕ) → MatchOption o ((m : ℕ) → low ≤ m → open_in m t.rows ≡ false) (λ n. IsLeast t.rows low n) →
+    MatchOption o ((m : ℕ) → low ≤ m → open_in m t.rows ≡ false) (λ n. IsNextOpen t low n)
+by_table t low None h = h
+by_table t low (Some n) h = record { known = h.known; open_case = h.open_case; least = h.least }
+
+pub next_open-means : (t : CasesShape) (low : ℕ) → AscendFrom 0 t.rows →
+    MatchOption (next_open low t.rows) ((m : ℕ) → low ≤ m → is_open_case (case_in m t.rows) ≡ false) (λ n. IsNextOpen t low n)
+next_open-means t low order = by_table t low (next_open low t.rows) (means 0 low t.rows order)
+
+pub next_some : (t : CasesShape) (low n : ℕ) → AscendFrom 0 t.rows → Some n ≡ next_open low t.rows → IsNextOpen t low n
+next_some t low n order e =
+    subst (λ o. MatchOption o ((m : ℕ) → low ≤ m → is_open_case (case_in m t.rows) ≡ false) (λ k. IsNextOpen t low k)) (sym e) (next_open-means t low order)
+
+pub next_none : (rows : List Row) (low : ℕ) → AscendFrom 0 rows → None ≡ next_open low rows → (m : ℕ) → low ≤ m → is_open_case (case_in m rows) ≡ false
+next_none rows low order e =
+    let t : CasesShape = record { rows = rows; ever = 0; spare = 0 } in
+    subst (λ o. MatchOption o ((m : ℕ) → low ≤ m → is_open_case (case_in m rows) ≡ false) (λ k. IsNextOpen t low k)) (sym e) (next_open-means t low order)

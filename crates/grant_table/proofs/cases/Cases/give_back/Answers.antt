@@ -1,0 +1,12 @@
+use Rattle.std.proofs.Common.{◌≡◌, ◌+◌, refl, ap, ◌∙◌, arith}
+use Rattle.grant_table.specs.Tables.{ones, freed_row}
+use Rattle.grant_table.proofs.Keeping.{there_again, table_put}
+use Rattle.grant_table.proofs.cases.Cases.give_back.Goals as goal
+
+pub put_row-requires-clause-there : goal.put_row-requires-clause-there
+put_row-requires-clause-there c =
+    there_again (λ r. ones r ≡ ones c.freed.result + 0) c.args.c c.args.self.now.rows c.row-row.result c.freed.result c.row-row.ensures.row
+    (ap (λ r. r.number) c.freed.ensures) (omega (arith, ap ones c.freed.ensures))
+
+pub returns : goal.returns
+returns c = c.put_row.ensures ∙ table_put c.args.self.now c.args.c c.row-row.result c.freed.result (freed_row c.args.s) c.row-row.ensures.row c.freed.ensures refl

@@ -1,0 +1,12 @@
+use Rattle.std.proofs.Common.{◌≡◌, ◌+◌, refl, ap, ◌∙◌, arith}
+use Rattle.grant_table.specs.Tables.{ones, replanned_row}
+use Rattle.grant_table.proofs.Keeping.{there_again, table_put}
+use Rattle.grant_table.proofs.cases.Cases.keep_plan.Goals as goal
+
+pub put_row-requires-clause-there : goal.put_row-requires-clause-there
+put_row-requires-clause-there c =
+    there_again (λ r. ones r ≡ ones c.replanned.result + 0) c.args.c c.args.self.now.rows c.row-row.result c.replanned.result c.row-row.ensures.row
+    (ap (λ r. r.number) c.replanned.ensures) (omega (arith, ap ones c.replanned.ensures))
+
+pub returns : goal.returns
+returns c = c.put_row.ensures ∙ table_put c.args.self.now c.args.c c.row-row.result c.replanned.result (replanned_row c.args.plan) c.row-row.ensures.row c.replanned.ensures refl

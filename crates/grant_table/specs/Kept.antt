@@ -1,0 +1,48 @@
+-- How a table of cases is kept.
+use Rattle.std.specs.Prelude.{◌≡◌, ℕ, zero, suc, ◌+◌, ◌<◌, ◌≤◌, true, false, nat_eq, List, [], ◌∷◌, length, slice_get, Option, None, Some, is_some}
+use Rattle.wf_names.specs.declared.limits.TheConstants.{OPEN_CASE_LIMIT, CASE_LIMIT}
+use Rattle.case_record.specs.Cases.{is_open}
+use Rattle.grant_table.specs.declared.rows.Row.{Row}
+use Rattle.grant_table.specs.Tables.{open_count, row_at}
+
+-- the numbers of the rows ascend, and none is below low
+abbrev pub AscendFrom : ℕ → List Row → Type 0
+AscendFrom low [] = Unit {0}
+AscendFrom low (r ∷ rs) = (low ≤ r.number) × AscendFrom (r.number + 1) rs
+
+-- the numbers of the rows are below high
+abbrev pub AreBelow : ℕ → List Row → Type 0
+AreBelow high [] = Unit {0}
+AreBelow high (r ∷ rs) = (r.number < high) × AreBelow high rs
+
+-- a plan is kept exactly for the open cases
+abbrev pub ArePlanned : List Row → Type 0
+ArePlanned [] = Unit {0}
+ArePlanned (r ∷ rs) = (is_some r.plan ≡ is_open r.case) × ArePlanned rs
+
+-- what every table keeps: ascending numbers below the count of cases ever opened, a plan for each
+-- open case and no other, the number of open cases, and both limits
+pub record IsKept (rows : List Row) (ever live : ℕ) : Type 0 where
+  pub ascend : AscendFrom 0 rows
+  pub below : AreBelow ever rows
+  pub planned : ArePlanned rows
+  pub counted : open_count rows ≡ live
+  pub few : live ≤ OPEN_CASE_LIMIT
+  pub limit : ever ≤ CASE_LIMIT
+
+-- the row with the number n stands at i, and no earlier row has it
+abbrev pub IsPlace : ℕ → List Row → ℕ → Type 0
+IsPlace n [] i = ⊥
+IsPlace n (r ∷ rs) zero = nat_eq r.number n ≡ true
+IsPlace n (r ∷ rs) (suc i) = (nat_eq r.number n ≡ false) × IsPlace n rs i
+
+-- the search for the number n has found its row at i
+pub record IsFound (n : ℕ) (rows : List Row) (i : ℕ) : Type 0 where
+  pub place : IsPlace n rows i
+  pub found : row_at n rows ≡ slice_get rows i
+  pub within : i < length rows
+
+-- the rows of a table with at most one case
+abbrev pub rows_of : Option Row → List Row
+rows_of None = []
+rows_of (Some r) = r ∷ []

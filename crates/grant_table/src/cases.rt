@@ -1,0 +1,236 @@
+//! The table of cases.
+ghost use Rattle.std.specs.Prelude.{◌≡◌, ℕ, ◌+◌, ◌-◌, ◌<◌, ◌≤◌, Bool, true, false, cond, [], length, is_some, IfOk, IfSome, OnOk, OnErr, IsSomeAnd, MatchOption};
+ghost use Rattle.wf_names.specs.declared.limits.TheConstants.{CASE_LIMIT, OPEN_CASE_LIMIT, STEP_LIMIT};
+ghost use Rattle.wf_names.specs.States.{is_done};
+ghost use Rattle.case_record.specs.Cases.{is_open};
+ghost use Rattle.grant_table.specs.Kept.{IsKept};
+ghost use Rattle.grant_table.specs.Tables.{case_at, finished_row, freed_row, held_row, is_open_case, next_open, only, open_count, open_rows, ones, plan_at, row_at, replanned_row, with_case, with_row, withdrawn_row, IsNextOpen, HasFreeStep, HasHeldStep};
+
+use crate::changes::{finished, freed, held, replanned, withdrawn};
+use crate::rows::{
+    Row, case_of, next_open, one_live, only, open_rows, plan_in, put, row_of, still_open,
+};
+use case_record::Case;
+use constraint_forms::Plan;
+use std::alloc::{AllocError, Global};
+use std::marker::Model;
+use wf_names::{CaseId, FlowId, StepId, UserId};
+
+/// Cases at their numbers and, for each open one, a plan by which it can be completed.
+///
+/// The table holds no policy. A look-up takes logarithmic time.
+#[derive(Drop)]
+pub struct Cases {
+    rows: Vec<Row>,
+    ever: u16,
+    live: u16,
+}
+
+impl Model for Cases {
+    ghost use Rattle.std.specs.Prelude.{◌-◌};
+    ghost use Rattle.std.specs.Vec.{vec_capacity, vec_len};
+    ghost use Rattle.grant_table.specs.Tables.{CasesShape};
+    ghost use Rattle.grant_table.specs.Kept.{IsKept};
+
+    ghost Value = { CasesShape };
+
+    ghost view = { λ t. record { rows = t.rows.items; ever = t.ever; spare = vec_capacity t.rows - vec_len t.rows } };
+
+    ghost invariant = { λ t. IsKept t.rows.items t.ever t.live };
+}
+
+impl Cases {
+    /// A table with no case.
+    pub fn new(alloc: Global) -> Result<Cases, AllocError>
+        ensures { IfOk result (λ t. t ≡ record { rows = []; ever = 0; spare = t.spare }) }
+    {
+        Ok(Cases {
+            rows: Vec::new(alloc),
+            ever: 0,
+            live: 0,
+        })
+    }
+
+    /// Makes room, so that the next `more` openings take no memory.
+    pub fn reserve(&mut self, more: u16) -> Result<(), AllocError>
+        ensures room { OnOk result (more ≤ self.new.spare) }
+        ensures kept { self.old.spare ≤ self.new.spare }
+        ensures same { self.new ≡ record self.old { spare = self.new.spare } }
+        ensures unchanged { OnErr result (self.new ≡ self.old) }
+    {
+        self.rows.reserve(more as usize)
+    }
+
+    /// Opens a fresh case with so many steps at the next number, and answers that number.
+    pub(crate) fn open_fresh(&mut self, f: FlowId, steps: u8, plan: Plan) -> CaseId
+        requires steps { steps ≤ STEP_LIMIT }
+        requires room { 0 < self.old.spare }
+        requires open { open_count self.old.rows < OPEN_CASE_LIMIT }
+        requires ever { self.old.ever < CASE_LIMIT }
+        ensures number { result ≡ self.old.ever }
+        ensures opened { self.new ≡ with_case self.old f steps plan }
+    {
+        let number = self.ever;
+        let row = Row {
+            number,
+            case: Case::fresh(f, steps),
+            plan: Some(plan),
+        };
+        self.rows.push_reserved(row);
+        self.ever += 1;
+        self.live += 1;
+        CaseId(number)
+    }
+
+    /// Gives a free step of an open case to a user, and keeps the plan for the case.
+    pub(crate) fn hold_step(&mut self, c: CaseId, s: StepId, u: UserId, plan: Plan)
+        requires { IsSomeAnd (case_at self.old c) (λ k. HasFreeStep k s) }
+        ensures { self.new ≡ with_row self.old c (held_row s u plan) }
+    {
+        let row = self.row(c);
+        self.put_row(held(row, s, u, plan), false);
+    }
+
+    /// Finishes a held step of an open case, and answers whether the case is then done.
+    pub fn finish(&mut self, c: CaseId, s: StepId) -> bool
+        requires { IsSomeAnd (case_at self.old c) (λ k. HasHeldStep k s) }
+        ensures finished { self.new ≡ with_row self.old c (finished_row s) }
+        ensures done { IsSomeAnd (case_at self.new c) (λ k. result ≡ is_done k.phase) }
+    {
+        let row = finished(self.row(c), s);
+        let done = row.case.phase().is_done();
+        self.put_row(row, done);
+        done
+    }
+
+    /// Takes a held step of an open case from its holder; the kept plan stays.
+    pub fn give_back(&mut self, c: CaseId, s: StepId)
+        requires { IsSomeAnd (case_at self.old c) (λ k. HasHeldStep k s) }
+        ensures { self.new ≡ with_row self.old c (freed_row s) }
+    {
+        let row = self.row(c);
+        self.put_row(freed(row, s), false);
+    }
+
+    /// Ends an open case before its steps are finished.
+    pub fn withdraw(&mut self, c: CaseId)
+        requires { IsSomeAnd (case_at self.old c) (λ k. is_open k ≡ true) }
+        ensures { self.new ≡ with_row self.old c withdrawn_row }
+    {
+        let row = self.row(c);
+        self.put_row(withdrawn(row), true);
+    }
+
+    /// Keeps another plan for an open case.
+    pub(crate) fn keep_plan(&mut self, c: CaseId, plan: Plan)
+        requires { IsSomeAnd (case_at self.old c) (λ k. is_open k ≡ true) }
+        ensures { self.new ≡ with_row self.old c (replanned_row plan) }
+    {
+        let row = self.row(c);
+        self.put_row(replanned(row, plan), false);
+    }
+
+    /// The case with a number.
+    pub fn case(&self, c: CaseId) -> Option<&Case>
+        ensures { MatchOption result (case_at self.now c ≡ None) (λ k. case_at self.now c ≡ Some k.now) }
+    {
+        case_of(&self.rows, c.0)
+    }
+
+    /// The plan that is kept for a case; none where the case is not open.
+    pub fn plan(&self, c: CaseId) -> Option<Plan>
+        ensures plan { result ≡ plan_at self.now c }
+        ensures open { is_some result ≡ is_open_case (case_at self.now c) }
+    {
+        plan_in(&self.rows, c.0)
+    }
+
+    /// How many cases are open.
+    pub fn live(&self) -> u16
+        ensures count { result ≡ open_count self.now.rows }
+        ensures kept { IsKept self.now.rows self.now.ever result }
+    {
+        self.live
+    }
+
+    /// How many cases were ever opened.
+    pub fn ever(&self) -> u16
+        ensures count { result ≡ self.now.ever }
+        ensures within { result ≤ CASE_LIMIT }
+    {
+        self.ever
+    }
+
+    /// The least open case not below a number.
+    pub fn next_live(&self, from: u32) -> Option<CaseId>
+        ensures answer { result ≡ next_open from self.now.rows }
+        ensures meaning { MatchOption result ((n : ℕ) → from ≤ n → is_open_case (case_at self.now n) ≡ false) (λ n. IsNextOpen self.now from n) }
+    {
+        match next_open(&self.rows, from) {
+            Some(number) => Some(CaseId(number)),
+            None => None,
+        }
+    }
+
+    /// A table with the same cases and plans at the same numbers.
+    pub fn copy(&self) -> Result<Cases, AllocError>
+        ensures { IfOk result (λ t. t ≡ record self.now { spare = t.spare }) }
+    {
+        Ok(Cases {
+            rows: self.rows.clone()?,
+            ever: self.ever,
+            live: self.live,
+        })
+    }
+
+    /// A table with one case alone, at its number, and with none where there is no such case.
+    pub fn copy_one(&self, alloc: Global, c: CaseId) -> Result<Cases, AllocError>
+        ensures { IfOk result (λ t. t ≡ record self.now { rows = only c self.now.rows; spare = t.spare }) }
+    {
+        Ok(Cases {
+            rows: only(alloc, &self.rows, c.0)?,
+            ever: self.ever,
+            live: one_live(row_of(&self.rows, c.0)),
+        })
+    }
+
+    /// A table with the open cases alone, each at its number.
+    pub fn copy_open(&self, alloc: Global) -> Result<Cases, AllocError>
+        ensures { IfOk result (λ t. t ≡ record self.now { rows = open_rows self.now.rows; spare = t.spare }) }
+    {
+        Ok(Cases {
+            rows: open_rows(alloc, &self.rows)?,
+            ever: self.ever,
+            live: self.live,
+        })
+    }
+
+    /// How many more cases can be opened without memory being taken.
+    pub fn spare(&self) -> usize
+        ensures { result ≡ self.now.spare }
+    {
+        self.rows.capacity() - self.rows.len()
+    }
+
+    /// The row of a case.
+    fn row(&self, c: CaseId) -> Row
+        requires { is_some (case_at self.now c) ≡ true }
+        ensures row { row_at c self.now.rows ≡ Some result }
+        ensures planned { is_some result.plan ≡ is_open result.case }
+    {
+        let Some(row) = row_of(&self.rows, c.0) else {
+            unreachable!()
+        };
+        row
+    }
+
+    /// Puts a row in the place of the one with its number.
+    fn put_row(&mut self, row: Row, has_ended: bool)
+        requires there { IsSomeAnd (row_at row.number self.old.rows) (λ r. ones r ≡ ones row + cond has_ended 1 0) }
+        requires planned { is_some row.plan ≡ is_open row.case }
+        ensures { self.new ≡ with_row self.old row.number (λ _. row) }
+    {
+        self.live = still_open(self.live, has_ended);
+        put(&mut self.rows, row);
+    }
+}

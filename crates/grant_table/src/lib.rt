@@ -1,0 +1,11 @@
+//! The table of cases: each case at its number, and a kept plan for each open one.
+#![tactic(auto)]
+
+mod cases;
+mod changes;
+mod planned;
+mod rows;
+#[cfg(test)]
+mod tests;
+
+pub use cases::Cases;

@@ -1,0 +1,146 @@
+//! The rows of a table of cases, ascending by number.
+ghost use Rattle.std.specs.Prelude.{◌≡◌, ℕ, ◌+◌, ◌<◌, ◌≤◌, Bool, true, cond, nat_lt, length, is_some, None, Some, slice_get, slice_set, IfOk, MatchOption};
+ghost use Rattle.std.specs.List.{prefix_len};
+ghost use Rattle.std.specs.Vec.{vec_capacity, vec_len};
+ghost use Rattle.grant_table.specs.Tables.{case_in, change_row, next_open, only, open_count, open_rows, plan_of, row_at};
+ghost use Rattle.grant_table.specs.Kept.{AscendFrom, IsFound, rows_of};
+
+use case_record::Case;
+use constraint_forms::Plan;
+use std::alloc::{AllocError, Global};
+
+/// A case at its number with the plan that is kept for it.
+#[derive(Clone, Copy)]
+pub struct Row {
+    pub(crate) number: u16,
+    pub(crate) case: Case,
+    pub(crate) plan: Option<Plan>,
+}
+
+/// Where the first row not below a number stands.
+fn place_from(rows: &[Row], n: u32) -> usize
+    requires { AscendFrom 0 rows.now }
+    ensures place { result ≡ prefix_len (λ r. nat_lt r.number n) rows.now }
+    ensures within { result ≤ length rows.now }
+{
+    rows.partition_point(|row| (row.number as u32) < n)
+}
+
+/// Where the row with a number stands.
+fn find(rows: &[Row], n: u16) -> Option<usize>
+    requires { AscendFrom 0 rows.now }
+    ensures { MatchOption result (row_at n rows.now ≡ None) (λ i. IsFound n rows.now i) }
+{
+    let i = place_from(rows, n as u32);
+    if i < rows.len() && rows[i].number == n {
+        Some(i)
+    } else {
+        None
+    }
+}
+
+/// The row with a number.
+pub(crate) fn row_of(rows: &[Row], n: u16) -> Option<Row>
+    requires { AscendFrom 0 rows.now }
+    ensures { result ≡ row_at n rows.now }
+{
+    match find(rows, n) {
+        Some(i) => Some(rows[i]),
+        None => None,
+    }
+}
+
+/// The case with a number.
+pub(crate) fn case_of(rows: &[Row], n: u16) -> Option<&Case>
+    requires { AscendFrom 0 rows.now }
+    ensures { MatchOption result (case_in n rows.now ≡ None) (λ c. case_in n rows.now ≡ Some c.now) }
+{
+    match find(rows, n) {
+        Some(i) => Some(&rows[i].case),
+        None => None,
+    }
+}
+
+/// The plan that is kept for the case with a number.
+pub(crate) fn plan_in(rows: &[Row], n: u16) -> Option<Plan>
+    requires { AscendFrom 0 rows.now }
+    ensures { result ≡ plan_of (row_at n rows.now) }
+{
+    match row_of(rows, n) {
+        Some(row) => row.plan,
+        None => None,
+    }
+}
+
+/// Puts a row in the place of the one with its number.
+pub(crate) fn put(rows: &mut Vec<Row>, row: Row)
+    requires order { AscendFrom 0 rows.old.items }
+    requires there { is_some (row_at row.number rows.old.items) ≡ true }
+    ensures rows { rows.new.items ≡ change_row row.number (λ _. row) rows.old.items }
+    ensures len { vec_len rows.new ≡ vec_len rows.old }
+    ensures capacity { vec_capacity rows.new ≡ vec_capacity rows.old }
+{
+    let Some(i) = find(rows, row.number) else {
+        unreachable!()
+    };
+    rows[i] = row;
+}
+
+/// The least open case not below a number.
+pub(crate) fn next_open(rows: &[Row], from: u32) -> Option<u16>
+    requires { AscendFrom 0 rows.now }
+    ensures { result ≡ next_open from rows.now }
+{
+    let start = place_from(rows, from);
+    'rows: for i in start..rows.len() {
+        let row = rows[i];
+        if row.case.phase().is_live() {
+            return Some(row.number);
+        }
+    }
+    None
+}
+
+/// How many cases are open once one of them has ended or not.
+pub(crate) fn still_open(live: u16, has_ended: bool) -> u16
+    requires { cond has_ended 1 0 ≤ live }
+    ensures { result + cond has_ended 1 0 ≡ live }
+{
+    if has_ended { live - 1 } else { live }
+}
+
+/// The row with a number alone.
+pub(crate) fn only(alloc: Global, rows: &[Row], n: u16) -> Result<Vec<Row>, AllocError>
+    requires { AscendFrom 0 rows.now }
+    ensures { IfOk result (λ some. some.items ≡ only n rows.now) }
+{
+    let mut some = Vec::new(alloc);
+    let Some(i) = find(rows, n) else {
+        return Ok(some);
+    };
+    some.push(rows[i])?;
+    Ok(some)
+}
+
+/// How many cases are open in a table with this row alone.
+pub(crate) fn one_live(row: Option<Row>) -> u16
+    ensures { result ≡ open_count (rows_of row) }
+{
+    match row {
+        Some(row) if row.case.phase().is_live() => 1,
+        _ => 0,
+    }
+}
+
+/// The rows of the open cases.
+pub(crate) fn open_rows(alloc: Global, rows: &[Row]) -> Result<Vec<Row>, AllocError>
+    ensures { IfOk result (λ some. some.items ≡ open_rows rows.now) }
+{
+    let mut some = Vec::new(alloc);
+    'rows: for row in rows {
+        if row.case.phase().is_live() {
+            some.push(*row)?;
+        }
+    }
+    Ok(some)
+}
