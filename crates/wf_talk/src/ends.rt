@@ -1,5 +1,5 @@
 //! Lists of the ends of batches.
-ghost use Rattle.std.specs.Prelude.{◌≡◌, ◌<◌, List, [], ◌∷◌, ◌++◌, length, take, slice_index, IfOk, OnOk, OnErr};
+ghost use Rattle.std.specs.Prelude.{◌≡◌, ◌<◌, List, [], ◌∷◌, ◌++◌, length, take, slice_get, Some, IfOk, OnOk, OnErr};
 
 use std::alloc::{AllocError, Global};
 use std::marker::Model;
@@ -38,7 +38,7 @@ impl Ends {
     /// The one at a place.
     pub fn get(&self, i: usize) -> &u32
         requires { i < length self.now }
-        ensures { result.now ≡ slice_index self.now i }
+        ensures { slice_get self.now i ≡ Some result.now }
     {
         &self.items[i]
     }

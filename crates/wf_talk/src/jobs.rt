@@ -1,5 +1,5 @@
 //! Lists of jobs.
-ghost use Rattle.std.specs.Prelude.{◌≡◌, ◌<◌, List, [], ◌∷◌, ◌++◌, length, take, slice_index, IfOk, OnOk, OnErr};
+ghost use Rattle.std.specs.Prelude.{◌≡◌, ◌<◌, List, [], ◌∷◌, ◌++◌, length, take, slice_get, Some, IfOk, OnOk, OnErr};
 
 use crate::Job;
 use std::alloc::{AllocError, Global};
@@ -40,7 +40,7 @@ impl Jobs {
     /// The one at a place.
     pub fn get(&self, i: usize) -> &Job
         requires { i < length self.now }
-        ensures { result.now ≡ slice_index self.now i }
+        ensures { slice_get self.now i ≡ Some result.now }
     {
         &self.items[i]
     }
@@ -50,8 +50,7 @@ impl Jobs {
         ensures pushed { OnOk result (self.new ≡ self.old ++ item ∷ []) }
         ensures unchanged { OnErr result (self.new ≡ self.old) }
     {
-        self.items.push(item)?;
-        Ok(())
+        self.items.extend_from_slice(&[item])
     }
 
     /// Keeps the first so many alone. Takes no memory.

@@ -1,5 +1,5 @@
 //! The journal: what was asked and answered, in order.
-ghost use Rattle.std.specs.Prelude.{◌≡◌, ◌<◌, ◌≤◌, ◌+◌, List, [], ◌∷◌, ◌++◌, length, slice_index, IfOk, IsOk, OnOk, OnErr};
+ghost use Rattle.std.specs.Prelude.{◌≡◌, ◌<◌, ◌≤◌, ◌+◌, List, [], ◌∷◌, ◌++◌, length, slice_get, Some, IfOk, IsOk, OnOk, OnErr};
 
 use crate::Entry;
 use std::alloc::{AllocError, Global};
@@ -41,7 +41,7 @@ impl Journal {
     /// The entry at a place.
     pub fn get(&self, i: usize) -> &Entry
         requires { i < length self.now.entries }
-        ensures { result.now ≡ slice_index self.now.entries i }
+        ensures { slice_get self.now.entries i ≡ Some result.now }
     {
         &self.items[i]
     }
@@ -62,10 +62,7 @@ impl Journal {
         ensures succeeds { 0 < self.old.spare → IsOk result }
         ensures room { self.old.spare ≤ self.new.spare + 1 }
     {
-        match self.items.push(entry) {
-            Ok(()) => Ok(()),
-            Err(_) => Err(AllocError),
-        }
+        self.items.extend_from_slice(&[entry])
     }
 
     /// The entries, in order.

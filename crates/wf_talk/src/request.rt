@@ -3,14 +3,22 @@
 use crate::UserNames;
 use wf_names::{CaseId, Name};
 
+/// The plan that a caller proposes.
+#[derive(Clone, Copy, PartialEq, Eq)]
+pub enum Proposal {
+    /// The users in the order of the steps.
+    Users(UserNames),
+    /// More users than any workflow has steps.
+    TooLong,
+}
+
 /// A request. The names in it may be unknown to the policy.
 #[derive(Clone, Copy, PartialEq, Eq)]
 pub enum Request {
     /// To open a case of a workflow with a plan of the caller's own.
     OpenWith {
         flow: Name,
-        /// The users in the order of the steps; None where there are more than any workflow has steps.
-        plan: Option<UserNames>,
+        plan: Proposal,
     },
     /// To perform a step of a case.
     Claim {
