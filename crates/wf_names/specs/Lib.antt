@@ -1,3 +1,4 @@
 pub mod Names
 pub mod NameLaws
 pub mod Table
+pub mod States

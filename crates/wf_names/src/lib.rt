@@ -5,6 +5,7 @@
 mod ids;
 mod limits;
 mod name;
+mod states;
 mod table;
 #[cfg(test)]
 mod tests;
@@ -17,4 +18,5 @@ pub use limits::{
     TRANSCRIPT_LINE_LIMIT, USER_LIMIT,
 };
 pub use name::Name;
+pub use states::{Phase, StepState};
 pub use table::{NameFault, NameTable};

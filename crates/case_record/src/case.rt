@@ -1,0 +1,162 @@
+//! A case of a workflow.
+ghost use Rattle.std.specs.Prelude.{◌≡◌, ℕ, ◌<◌, ◌≤◌, ◌↔◌, true, false, length, IsTrue, MatchOption};
+ghost use Rattle.wf_names.specs.declared.limits.TheConstants.{STEP_LIMIT};
+ghost use Rattle.wf_names.specs.declared.states.StepState.TheVariants.{Free, Held, Finished};
+ghost use Rattle.wf_names.specs.declared.states.Phase.TheVariants.{Live, Done, Withdrawn};
+ghost use Rattle.wf_names.specs.States.{is_held, is_finished, is_done};
+ghost use Rattle.workflow_schema.specs.Flows.{Precedes};
+ghost use Rattle.case_record.specs.Cases.{assigned_of, finished_of, fresh_case, finished_case, state_at, with_phase, with_state};
+ghost use Rattle.case_record.specs.Ready.{first_missing, is_ready, IsFirstMissing, IsReady};
+
+use constraint_forms::{Assign, StepSet};
+use std::marker::Model;
+use wf_names::{FlowId, Phase, STEP_LIMIT, StepId, StepState, UserId};
+use workflow_schema::Flow;
+
+use crate::order::{first_unfinished, is_free};
+use crate::steps::{as_finished, assigned, finished, phase_after};
+
+/// A case: an instance of a workflow with where each of its steps stands.
+///
+/// No call takes memory. A call that takes a workflow is about the case's own: one with as many
+/// steps as the case has.
+#[derive(Clone, Copy, Debug)]
+pub struct Case {
+    flow: FlowId,
+    // The cells from `steps` on are free.
+    cells: [StepState; STEP_LIMIT],
+    steps: u8,
+    phase: Phase,
+}
+
+impl Model for Case {
+    ghost use Rattle.std.specs.Prelude.{take, length};
+    ghost use Rattle.case_record.specs.Cases.{CaseShape};
+    ghost use Rattle.case_record.specs.Cells.{AreKept, all_steps, all_steps-take, length-kept};
+
+    ghost Value = { CaseShape };
+
+    ghost view = { λ c. record { flow = c.flow; states = take c.steps c.cells; phase = c.phase } };
+
+    ghost invariant = { λ c. AreKept c.cells c.steps };
+
+    ghost inverse = { λ v. record { flow = v.flow; cells = all_steps v.states; steps = length v.states; phase = v.phase } };
+
+    ghost inverse_ok = { λ c h i. record { flow = c.flow; cells = all_steps-take c.cells c.steps h i; steps = length-kept c.cells c.steps h i; phase = c.phase } };
+}
+
+impl Case {
+    /// An open case of a workflow with so many steps, each of them free.
+    pub fn fresh(flow: FlowId, steps: u8) -> Case
+        requires { steps ≤ STEP_LIMIT }
+        ensures { result ≡ fresh_case flow steps }
+    {
+        Case {
+            flow,
+            cells: [StepState::Free; STEP_LIMIT],
+            steps,
+            phase: Phase::Live,
+        }
+    }
+
+    /// The workflow of which this is a case.
+    pub fn flow(&self) -> FlowId
+        ensures { result ≡ self.now.flow }
+    {
+        self.flow
+    }
+
+    /// How many steps the workflow has.
+    pub fn steps(&self) -> u8
+        ensures count { result ≡ length self.now.states }
+        ensures within { length self.now.states ≤ STEP_LIMIT }
+    {
+        self.steps
+    }
+
+    /// Where the case stands.
+    pub fn phase(&self) -> Phase
+        ensures { result ≡ self.now.phase }
+    {
+        self.phase
+    }
+
+    /// Where a step stands; a step that the workflow lacks is free.
+    pub fn state(&self, s: StepId) -> StepState
+        ensures { result ≡ state_at self.now s }
+    {
+        if s.0 < self.steps {
+            self.cells[s.0 as usize]
+        } else {
+            StepState::Free
+        }
+    }
+
+    /// Whether a step is free, and every step that comes before it finished.
+    pub fn ready(&self, f: &Flow, s: StepId) -> bool
+        requires steps { length self.now.states ≡ length f.now.steps }
+        ensures answer { result ≡ is_ready self.now f.now.order s }
+        ensures meaning { IsTrue result ↔ IsReady self.now f.now.order s }
+    {
+        s.0 < self.steps && is_free(self.state(s)) && self.first_missing(f, s).is_none()
+    }
+
+    /// The least step that comes before a step and is not finished.
+    pub fn first_missing(&self, f: &Flow, s: StepId) -> Option<StepId>
+        requires steps { length self.now.states ≡ length f.now.steps }
+        ensures answer { result ≡ first_missing self.now f.now.order s }
+        ensures meaning { MatchOption result ((t : ℕ) → Precedes f.now.order t s → IsTrue (is_finished (state_at self.now t))) (λ t. IsFirstMissing self.now f.now.order s t) }
+    {
+        first_unfinished(&self.cells[..self.steps as usize], f, s)
+    }
+
+    /// Gives a free step to a user.
+    pub fn hold(&mut self, s: StepId, u: UserId)
+        requires step { s < length self.old.states }
+        requires free { state_at self.old s ≡ Free }
+        ensures { self.new ≡ with_state self.old s (Held u) }
+    {
+        self.cells[s.0 as usize] = StepState::Held(u);
+    }
+
+    /// Takes a held step from its holder.
+    pub fn release(&mut self, s: StepId)
+        requires { is_held (state_at self.old s) ≡ true }
+        ensures { self.new ≡ with_state self.old s Free }
+    {
+        self.cells[s.0 as usize] = StepState::Free;
+    }
+
+    /// Finishes a held step for its holder, and answers whether the case is now done.
+    pub fn finish(&mut self, s: StepId) -> bool
+        requires { is_held (state_at self.old s) ≡ true }
+        ensures finished { self.new ≡ finished_case self.old s }
+        ensures done { result ≡ is_done self.new.phase }
+    {
+        let at = s.0 as usize;
+        self.cells[at] = as_finished(self.cells[at]);
+        self.phase = phase_after(&self.cells[..self.steps as usize], self.phase);
+        self.phase.is_done()
+    }
+
+    /// Ends the case before its steps are finished.
+    pub fn withdraw(&mut self)
+        ensures { self.new ≡ with_phase self.old Withdrawn }
+    {
+        self.phase = Phase::Withdrawn;
+    }
+
+    /// The users of the steps that are held or finished.
+    pub fn assigned(&self) -> Assign
+        ensures { result ≡ assigned_of self.now }
+    {
+        assigned(&self.cells)
+    }
+
+    /// The steps that are finished.
+    pub fn finished(&self) -> StepSet
+        ensures { result ≡ finished_of self.now }
+    {
+        finished(&self.cells)
+    }
+}
