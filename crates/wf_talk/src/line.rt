@@ -28,6 +28,13 @@ impl Line {
         }
     }
 
+    /// The line of these bytes.
+    pub fn from_bytes(bytes: Vec<u8>) -> Line
+        ensures { result ≡ bytes.items }
+    {
+        Line { items: bytes }
+    }
+
     /// How many there are.
     pub fn len(&self) -> usize
         ensures { result ≡ length self.now }

@@ -2,7 +2,7 @@
 
 use crate::Bad;
 use constraint_forms::Plan;
-use wf_names::{CaseId, FlowId, StepId, UserId};
+use wf_names::{CaseId, FlowId, StepId, StepState, UserId};
 
 /// The answer to what a line asks.
 #[derive(Clone, Copy, Debug, PartialEq, Eq)]
@@ -44,4 +44,6 @@ pub enum Denial {
     Order { flow: FlowId, step: StepId },
     /// The kept plan gives the step to this other user.
     OffPlan(UserId),
+    /// The caller does not hold the step, which stands so.
+    NotHeld(StepState),
 }

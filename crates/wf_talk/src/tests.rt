@@ -18,11 +18,11 @@ fn a_journal_with_room_takes_its_entries(rt: HostRuntime) -> Result<(), Fail> {
         })?;
     }
     let copy = journal.copy()?;
-    let last = copy.get(1);
-    assert_eq!(rt;
-        (copy.len(), last.at, last.line, last.reply),
-        (2, 1, 8, Reply::Finished { done: true })
-    );
+    let last = match copy.as_slice() {
+        [_, last] => Some((last.at, last.line, last.reply)),
+        _ => None,
+    };
+    assert_eq!(rt; last, Some((1, 8, Reply::Finished { done: true })));
     Ok(())
 }
 
@@ -43,10 +43,14 @@ fn lists_keep_what_they_take(rt: HostRuntime) -> Result<(), Fail> {
     ends.push(1)?;
     let mut line = Line::new(rt.alloc());
     line.push(b'a')?;
-    let same = jobs.copy()?.get(0).ask == Ask::Request(claim);
+    let same = matches!(jobs.copy()?.as_slice(), [job] if job.ask == Ask::Request(claim));
     assert_eq!(rt;
-        (same, *ends.copy()?.get(0), line.copy()?.len()),
-        (true, 1, 1)
+        (
+            same,
+            ends.copy()?.as_slice() == [1].as_slice(),
+            line.copy()?.len()
+        ),
+        (true, true, 1)
     );
     Ok(())
 }
