@@ -20,5 +20,5 @@ pub use jobs::Jobs;
 pub use journal::Journal;
 pub use line::Line;
 pub use reply::{Denial, Reply};
-pub use request::{Ask, Bad, Proposal, Request};
+pub use request::{Ask, Bad, Request};
 pub use user_names::UserNames;

@@ -3,23 +3,14 @@
 use crate::UserNames;
 use wf_names::{CaseId, Name};
 
-/// The plan that a caller proposes.
-#[derive(Clone, Copy, PartialEq, Eq)]
-pub enum Proposal {
-    /// The users in the order of the steps.
-    Users(UserNames),
-    /// More users than any workflow has steps.
-    TooLong,
-}
-
 /// A request. The names in it may be unknown to the policy.
 #[derive(Clone, Copy, PartialEq, Eq)]
 pub enum Request {
-    /// To open a case of a workflow with a plan of the caller's own.
-    OpenWith {
-        flow: Name,
-        plan: Proposal,
-    },
+    /// To open a case of a workflow with a plan of the caller's own: the users in the order of
+    /// the steps.
+    OpenWith { flow: Name, plan: UserNames },
+    /// To open a case with a plan of more users than any workflow has steps.
+    OpenWithTooMany { flow: Name },
     /// To perform a step of a case.
     Claim {
         case: CaseId,
