@@ -1,0 +1,5 @@
+pub mod Values
+pub mod Faults
+pub mod Requests
+pub mod Jobs
+pub mod JobLaws
