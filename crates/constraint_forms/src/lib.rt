@@ -9,6 +9,8 @@ mod plan;
 mod rule;
 mod rules;
 mod step_set;
+#[cfg(test)]
+mod tests;
 
 pub use assign::Assign;
 pub use evaluate::{falsified, satisfied};

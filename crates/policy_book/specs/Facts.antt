@@ -1,7 +1,7 @@
 -- What every policy keeps.
-use Rattle.std.specs.Prelude.{◌≡◌, ℕ, ◌+◌, ◌<◌, ◌≤◌, Bool, true, List, length, Some, slice_get, IsTrue}
+use Rattle.std.specs.Prelude.{◌≡◌, ℕ, ◌+◌, ◌<◌, ◌≤◌, true, List, length, Some, slice_get, IsTrue}
 use Rattle.std.specs.FinSet as set
-use Rattle.wf_names.specs.declared.limits.TheConstants.{FLOW_LIMIT, RULE_LIMIT}
+use Rattle.wf_names.specs.declared.limits.TheConstants.{FLOW_LIMIT, ROLE_LIMIT, RULE_LIMIT, USER_LIMIT}
 use Rattle.workflow_schema.specs.Flows.{FlowShape}
 use Rattle.pair_set.specs.Pairs.{Pairs, AllPairs}
 use Rattle.user_relations.specs.Relations.{RelationShape, listed, kind_of}
@@ -43,6 +43,8 @@ pub record IsSoundWorkflow (roles relations : ℕ) (w : WorkflowShape) : Type 0 
 
 -- numbers are in range and limits are met
 pub record IsSoundPolicy (p : PolicyShape) : Type 0 where
+  pub users : length p.roster.users ≤ USER_LIMIT
+  pub roles : length p.roster.roles ≤ ROLE_LIMIT
   pub admin : p.admin < length p.roster.roles
   pub named : length p.flow_names ≡ length p.flows
   pub few : length p.flows ≤ FLOW_LIMIT

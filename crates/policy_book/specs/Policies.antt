@@ -1,5 +1,5 @@
 -- What a policy says.
-use Rattle.std.specs.Prelude.{ℕ, ◌+◌, Bool, true, false, ◌&&◌, ◌||◌, List, [], length, slice_index_or, slice_set}
+use Rattle.std.specs.Prelude.{ℕ, zero, suc, Bool, false, ◌&&◌, ◌||◌, [], length, slice_index_or, slice_set}
 use Rattle.std.specs.FinSet as set
 use Rattle.rbac_state.specs.Rosters.{RosterShape, has_role}
 use Rattle.user_relations.specs.Relations.{is_related, with_kind, listed}
@@ -28,11 +28,11 @@ is_authorised p f s u =
 -- all that a policy says of one of its workflows
 abbrev pub problem_of : PolicyShape → ℕ → Problem
 problem_of p f = record {
-    steps = length (flow_at p f).flow.steps;
-    users = length p.roster.users;
-    authorised = is_authorised p f;
-    related = is_related p.relations;
-    rules = (flow_at p f).rules
+  steps = length (flow_at p f).flow.steps;
+  users = length p.roster.users;
+  authorised = is_authorised p f;
+  related = is_related p.relations;
+  rules = (flow_at p f).rules;
 }
 
 -- a policy with another roster

@@ -1,5 +1,5 @@
 -- A policy, as contracts see it.
-use Rattle.std.specs.Prelude.{ℕ, Bool, List, refl}
+use Rattle.std.specs.Prelude.{◌≡◌, ℕ, Bool, List, refl}
 use Rattle.std.specs.Coded.{Coded, code_by, coded×, coded⊎, coded_list, coded_bool, coded_ℕ}
 use Rattle.rbac_state.specs.Rosters.{RosterShape, roster_code}
 use Rattle.user_relations.specs.Relations.{RelationShape, relations_code}

@@ -10,15 +10,17 @@ ghost use Rattle.policy_book.specs.Policies.{any_below, flow_at, is_authorised, 
 ghost use Rattle.policy_book.specs.Plans.{IsWellFormed};
 ghost use Rattle.policy_book.specs.Facts.{AreOfUsers, AreSoundRules, PermitsRolesBelow};
 
+use crate::workflow::Workflow;
 use constraint_forms::{Holds, Rules};
 use rbac_state::{Roster, RosterFault};
 use std::alloc::{AllocError, Global};
 use std::marker::Model;
 use user_relations::{RelationFault, Relations};
-use wf_names::{FLOW_LIMIT, FlowId, Name, NameFault, NameTable, RelId, RoleId, StepId, UserId};
+use wf_names::{
+    FLOW_LIMIT, FlowId, Name, NameFault, NameTable, ROLE_LIMIT, RelId, RoleId, StepId, USER_LIMIT,
+    UserId,
+};
 use workflow_schema::Flow;
-
-use crate::workflow::Workflow;
 
 /// A policy: a roster, relations, workflows with their rules, and the role of its administrators.
 #[derive(Drop)]
@@ -57,6 +59,8 @@ impl Policy {
         requires admin { admin < length roster.roles }
         ensures { IfOk result (λ p. p ≡ record { roster = roster; relations = relations; flow_names = []; flows = []; admin = admin }) }
     {
+        let (users, roles) = (roster.users().len(), roster.roles().len());
+        prove!(users <= USER_LIMIT && roles <= ROLE_LIMIT);
         Ok(Policy {
             roster,
             relations,
@@ -75,8 +79,9 @@ impl Policy {
 
         ensures place { IfOk result (λ f. f ≡ length self.old.flows) }
         ensures added { OnOk result (self.new ≡ record self.old {
-            flow_names = self.old.flow_names ++ name ∷ [];
-            flows = self.old.flows ++ record { flow = flow; rules = rules; retired = false } ∷ [] }) }
+          flow_names = self.old.flow_names ++ name ∷ [];
+          flows = self.old.flows ++ record { flow = flow; rules = rules; retired = false } ∷ [];
+        }) }
         ensures fresh { OnOk result (is_some (place_of self.old.flow_names name) ≡ false) }
 
         ensures twice { IsErrOf result NameFault.Twice ↔ (is_some (place_of self.old.flow_names name) ≡ true) }
@@ -208,7 +213,10 @@ impl Policy {
         ensures full { IsErrOf result NameFault.Full ↔ ((is_some (place_of self.old.roster.users name) ≡ false) × (length self.old.roster.users ≡ USER_LIMIT)) }
         ensures unchanged { OnErr result (self.new ≡ self.old) }
     {
-        self.roster.add_user(name)
+        match self.roster.add_user(name) {
+            Ok(u) => Ok(u),
+            Err(fault) => Err(fault),
+        }
     }
 
     /// Gives a user a role.
@@ -246,7 +254,10 @@ impl Policy {
         ensures fault { AnswersFault (relate_fault self.old.relations rho u v) result }
         ensures unchanged { OnErr result (self.new ≡ self.old) }
     {
-        self.relations.relate(rho, u, v)
+        match self.relations.relate(rho, u, v) {
+            Ok(()) => Ok(()),
+            Err(fault) => Err(fault),
+        }
     }
 
     /// Takes a pair of users out of a listed relation.
@@ -257,7 +268,10 @@ impl Policy {
         ensures fault { AnswersFault (unrelate_fault self.old.relations rho u v) result }
         ensures unchanged { OnErr result (self.new ≡ self.old) }
     {
-        self.relations.unrelate(rho, u, v)
+        match self.relations.unrelate(rho, u, v) {
+            Ok(()) => Ok(()),
+            Err(fault) => Err(fault),
+        }
     }
 
     /// Permits a step of a workflow to a role, and answers whether that changes anything.

@@ -1,9 +1,12 @@
 -- How many items an array and how many entries a table has.
-use Rattle.std.proofs.Common.{◌≡◌, List, [], ◌∷◌, length, String, Global, refl, ap}
+use Rattle.std.proofs.Common.{◌≡◌, List, [], ◌∷◌, length, String, Global, refl, ap, get_or, ◌≢◌, None, arith, ◌<◌, ◌≤◌, ℕ, true, Bool, nat_lt, nat_le}
+use Rattle.std.proofs.lemmas.Bool.Decides.{nat_tests}
+use Rattle.wf_names.specs.declared.limits.TheConstants.{STEP_LIMIT}
+use Rattle.workflow_schema.specs.Flows.{is_count}
 use Rattle.std.specs.Prelude.{suc}
 use Rattle.toml.specs.declared.value.Value.{Value}
-use Rattle.toml.specs.View.{items_view, members_view}
-use Rattle.policy_reader.specs.Parts.{items, entries}
+use Rattle.toml.specs.View.{view, items_view, members_view}
+use Rattle.policy_reader.specs.Parts.{items, entries, both_texts, texts_of}
 
 pub count_items : (vs : List Value) → length (items (items_view vs)) ≡ length vs
 count_items [] = refl
@@ -12,3 +15,21 @@ count_items (v ∷ vs) = ap suc (count_items vs)
 pub count_entries : (es : List (String Global × Value)) → length (entries (members_view es)) ≡ length es
 count_entries [] = refl
 count_entries (e ∷ es) = ap suc (count_entries es)
+
+pub texts_of_two : (vs : List Value) (d e : Value) → length vs ≡ 2 → texts_of (items_view vs) ≡ both_texts (view (get_or vs 0 d)) (view (get_or vs 1 e))
+texts_of_two [] d e h = absurd (omega (arith, h))
+texts_of_two (v ∷ []) d e h = absurd (omega (arith, h))
+texts_of_two (v ∷ w ∷ []) d e h = refl
+texts_of_two (v ∷ w ∷ x ∷ vs) d e h = absurd (omega (arith, h))
+
+pub texts_of_others : (vs : List Value) → length vs ≢ 2 → texts_of (items_view vs) ≡ None
+texts_of_others [] h = refl
+texts_of_others (v ∷ []) h = refl
+texts_of_others (v ∷ w ∷ []) h = absurd (h refl)
+texts_of_others (v ∷ w ∷ x ∷ vs) h = refl
+
+pub counted : (n : ℕ) → 0 < n → n ≤ STEP_LIMIT → is_count n ≡ true
+counted n some few = grind (arith, nat_tests, some, few)
+
+pub few_steps : (n : ℕ) → is_count n ≡ true → n ≤ STEP_LIMIT
+few_steps n h = grind (arith, nat_tests, h)

@@ -1,10 +1,10 @@
 -- The workflows of a policy file. Their faults carry the workflow's number.
-use Rattle.std.specs.Prelude.{codes, ℕ, Bool, true, false, not, List, [], ◌∷◌, ◌++◌, length, Option, None, Some, Result, Ok, Err, slice_index_or}
+use Rattle.std.specs.Prelude.{codes, ℕ, zero, suc, Bool, true, false, not, List, [], ◌∷◌, ◌++◌, length, Option, None, Some, Result, Ok, Err, slice_index_or}
 use Rattle.std.specs.FinSet as set
 use Rattle.toml.specs.Data.{Data, Members, get_member}
 use Rattle.wf_names.specs.declared.limits.TheConstants.{STEP_LIMIT, FLOW_LIMIT}
 use Rattle.pair_set.specs.Pairs.{Pairs}
-use Rattle.workflow_schema.specs.Flows.{FlowShape, first_cycle}
+use Rattle.workflow_schema.specs.Flows.{FlowShape, is_before}
 use Rattle.policy_book.specs.Shapes.{PolicyShape, WorkflowShape}
 use Rattle.first_fault.specs.Reading.{◌>>=◌, or_fault, check, each}
 use Rattle.policy_reader.specs.declared.fault.PolicyPart.TheVariants.{Flows}
@@ -35,9 +35,20 @@ pairs_of f steps ms = elim (get_member (codes "order") ms) [
     | Some d ↦ order_in f steps d
   ]
 
+-- the number n where it passes and no lower one was found
+abbrev pub found_or : Option ℕ → ℕ → Bool → Option ℕ
+found_or (Some s) n passes = Some s
+found_or None n true = Some n
+found_or None n false = None
+
+-- the least number below n that passes
+abbrev pub least_below : ℕ → (ℕ → Bool) → Option ℕ
+least_below zero test = None
+least_below (suc n) test = found_or (least_below n test) n (test n)
+
 -- no step is before itself; the least such step is at fault
 unfoldable pub no_cycle : ℕ → List (List ℕ) → Pairs → Reading (Unit {0})
-no_cycle f steps order = elim (first_cycle (length steps) order) [
+no_cycle f steps order = elim (least_below (length steps) (λ s. is_before order s s)) [
     | None ↦ Ok tt
     | Some s ↦ Err (fault_about kind.Cycle Flows f (slice_index_or steps s []))
   ]

@@ -1,5 +1,7 @@
 pub mod Faults
 pub mod Parts
+pub mod Bounds
+pub mod Kept
 pub mod Rosters
 pub mod Relations
 pub mod Rules

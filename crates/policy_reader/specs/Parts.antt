@@ -1,5 +1,7 @@
 -- What the readings of all tables have in common. Each takes the table and the number that its faults carry.
-use Rattle.std.specs.Prelude.{ℕ, ◌&&◌, ◌==◌, Bool, true, false, not, nat_le, List, [], ◌∷◌, ◌++◌, length, Option, None, Some, is_some, option_map, Result, Ok, Err}
+use Rattle.std.specs.Prelude.{ℕ, ◌&&◌, ◌==◌, Bool, true, false, not, nat_le, nat_eq, List, [], ◌∷◌, ◌++◌, length, Option, None, Some, is_some, option_map, option_and_then, Result, Ok, Err}
+use Rattle.std.specs.List.{list_any}
+use Rattle.std.specs.Cmp.Lexicographic.{pointwise}
 use Rattle.std.specs.FinSet as set
 use Rattle.toml.specs.Data.{Data, string, array, Items, no_items, item, Members, no_members, member, get_member, as_str, as_array, as_table}
 use Rattle.wf_names.specs.Names.{is_name}
@@ -20,10 +22,23 @@ abbrev pub entries : Members → List (List ℕ × Data)
 entries no_members = []
 entries (member key d ms) = (key, d) ∷ entries ms
 
+-- two values that are texts
+abbrev pub both_texts : Data → Data → Option (List ℕ × List ℕ)
+both_texts (string a) (string b) = Some (a, b)
+both_texts _ _ = None
+
+-- the two texts of two items
+abbrev pub texts_of : Items → Option (List ℕ × List ℕ)
+texts_of (item a (item b no_items)) = both_texts a b
+texts_of _ = None
+
 -- the two texts of an array of two texts
 abbrev pub two_texts : Data → Option (List ℕ × List ℕ)
-two_texts (array (item (string a) (item (string b) no_items))) = Some (a, b)
-two_texts _ = None
+two_texts d = option_and_then texts_of (as_array d)
+
+-- a text is one of some texts
+abbrev pub is_among : List (List ℕ) → List ℕ → Bool
+is_among texts text = list_any (pointwise nat_eq text) texts
 
 module _ (table : PolicyPart) (index : ℕ) where
   -- the value at a key that has to be there
@@ -78,6 +93,10 @@ module _ (table : PolicyPart) (index : ℕ) where
     _ ← once texts.0 (set.contains so_far (a, b))
     Ok (set.insert so_far (a, b))
 
+  -- a key that is one of these
+  unfoldable pub known_key : List (List ℕ) → Unit {0} → List ℕ × Data → Reading (Unit {0})
+  known_key keys _ entry = check (is_among keys entry.0) (fault_about kind.Extra table index entry.0)
+
   -- no other keys than these; the least one is at fault
   unfoldable pub no_others : List (List ℕ) → Members → Reading (Unit {0})
-  no_others keys ms = each (λ _ entry. check (is_some (place_of keys entry.0)) (fault_about kind.Extra table index entry.0)) tt (entries ms)
+  no_others keys ms = each (known_key keys) tt (entries ms)

@@ -1,16 +1,16 @@
 -- The relations of a policy file.
-use Rattle.std.specs.Prelude.{codes, ℕ, ◌+◌, Bool, true, false, not, ◌||◌, List, [], ◌∷◌, ◌++◌, length, map, Option, None, Some, is_some, if◌then◌else◌, Result, Ok, Err}
+use Rattle.std.specs.Prelude.{codes, ℕ, ◌+◌, Bool, true, false, not, nat_eq, List, [], ◌∷◌, ◌++◌, length, Option, None, Some, is_some, if◌then◌else◌, Result, Ok, Err}
 use Rattle.std.specs.FinSet as set
-use Rattle.toml.specs.Data.{Data, table, Members, no_members, member, get_member, same_key}
+use Rattle.std.specs.Cmp.Lexicographic.{pointwise}
+use Rattle.toml.specs.Data.{Data, table, Members, no_members, member, get_member}
 use Rattle.wf_names.specs.declared.limits.TheConstants.{RELATION_LIMIT, PAIR_LIMIT}
 use Rattle.wf_names.specs.Names.{is_name}
-use Rattle.wf_names.specs.Table.{place_of}
 use Rattle.user_relations.specs.Relations.{RelationKind, listed, complement, RelationShape}
 use Rattle.first_fault.specs.Reading.{◌>>=◌, or_fault, check, each}
 use Rattle.policy_reader.specs.declared.fault.PolicyPart.TheVariants.{Relations}
 use Rattle.policy_reader.specs.declared.fault.PolicyKind.TheVariants as kind
 use Rattle.policy_reader.specs.Faults.{Reading, fault, fault_about}
-use Rattle.policy_reader.specs.Parts.{items, entries, text_in, array_in, table_in, at_most, name_in, next_pair}
+use Rattle.policy_reader.specs.Parts.{items, entries, text_in, array_in, table_in, at_most, name_in, next_pair, is_among}
 
 -- the number of the first declared relation, after `same` and `other`
 abbrev pub first_declared : ℕ
@@ -18,12 +18,17 @@ first_declared = 2
 
 -- the name of a relation that every policy has
 abbrev pub is_built_in : List ℕ → Bool
-is_built_in text = same_key text (codes "same") || same_key text (codes "other")
+is_built_in text = is_among (codes "same" ∷ codes "other" ∷ []) text
 
 -- the value is a table whose one key is `complement`
-abbrev pub is_complement : Option Data → Bool
-is_complement (Some (table (member key d no_members))) = same_key key (codes "complement")
+abbrev pub is_complement : Data → Bool
+is_complement (table (member key d no_members)) = pointwise nat_eq key (codes "complement")
 is_complement _ = false
+
+-- the number and the value of the entry with a key, where the entries are numbered from n
+abbrev pub entry_of : ℕ → List ℕ → List (List ℕ × Data) → Option (ℕ × Data)
+entry_of n key [] = None
+entry_of n key (entry ∷ more) = if pointwise nat_eq key entry.0 then Some (n, entry.1) else entry_of (n + 1) key more
 
 -- the pairs of the relation with number n: an array of distinct pairs of users
 unfoldable pub listed_in : List (List ℕ) → ℕ → Data → Reading RelationKind
@@ -38,15 +43,15 @@ unfoldable pub complement_in : Members → ℕ → Data → Reading RelationKind
 complement_in all n d = do
   text ← text_in Relations n d
   _ ← check (is_name text) (fault kind.Unknown Relations n)
-  place ← or_fault (place_of (map (λ entry. entry.0) (entries all)) text) (fault_about kind.Unknown Relations n text)
-  _ ← check (not (is_complement (get_member text all))) (fault_about kind.Chain Relations n text)
-  Ok (complement (first_declared + place))
+  other ← or_fault (entry_of first_declared text (entries all)) (fault_about kind.Unknown Relations n text)
+  _ ← check (not (is_complement other.1)) (fault_about kind.Chain Relations n text)
+  Ok (complement other.0)
 
 -- what the relation with number n is: a table with one key
 unfoldable pub kind_in : List (List ℕ) → Members → ℕ → Members → Reading RelationKind
 kind_in users all n (member key d no_members) =
-    if same_key key (codes "pairs") then listed_in users n d
-    else if same_key key (codes "complement") then complement_in all n d
+    if pointwise nat_eq key (codes "pairs") then listed_in users n d
+    else if pointwise nat_eq key (codes "complement") then complement_in all n d
     else Err (fault kind.Shape Relations n)
 kind_in users all n _ = Err (fault kind.Shape Relations n)
 

@@ -1,10 +1,11 @@
 -- The rules of a workflow in a policy file. Their faults carry the workflow's number.
-use Rattle.std.specs.Prelude.{codes, ℕ, ◌+◌, Bool, true, false, not, List, [], ◌∷◌, ◌++◌, length, map, replicate, slice_set, Option, None, Some, option_map, if◌then◌else◌, Result, Ok, Err}
-use Rattle.toml.specs.Data.{Data, string, Members, get_member, same_key}
-use Rattle.wf_names.specs.declared.limits.TheConstants.{STEP_LIMIT, RULE_LIMIT}
+use Rattle.std.specs.Prelude.{codes, ℕ, ◌+◌, Bool, true, false, not, nat_eq, List, [], ◌∷◌, ◌++◌, length, slice_set, Option, None, Some, option_map, if◌then◌else◌, Result, Ok, Err}
+use Rattle.std.specs.Cmp.Lexicographic.{pointwise}
+use Rattle.toml.specs.Data.{Data, string, Members, get_member}
+use Rattle.wf_names.specs.declared.limits.TheConstants.{RULE_LIMIT}
 use Rattle.wf_names.specs.Table.{place_of}
 use Rattle.user_relations.specs.Relations.{RelationShape, known_names}
-use Rattle.constraint_forms.specs.Assigned.{is_member}
+use Rattle.constraint_forms.specs.Assigned.{is_member, no_steps}
 use Rattle.constraint_forms.specs.declared.rule.Rule.{Rule}
 use Rattle.constraint_forms.specs.declared.rule.Rule.TheVariants as rule
 use Rattle.first_fault.specs.Reading.{◌>>=◌, or_fault, check, each}
@@ -38,7 +39,7 @@ unfoldable pub group_in : ℕ → List (List ℕ) → Data → Reading (List Boo
 group_in f steps d = do
   members ← array_in Flows f d
   _ ← at_least_one Flows f (length (items members))
-  each (next_member f steps) (replicate STEP_LIMIT false) (items members)
+  each (next_member f steps) no_steps (items members)
 
 -- a rule over two steps
 unfoldable pub pair_in : ℕ → List RelationShape → List (List ℕ) → Members → Reading Rule
@@ -52,9 +53,14 @@ pair_in f relations steps ms = do
   t ← step_in f steps second
   Ok (rule.Pair rho s t)
 
+-- a rule over every step of a group, or over some step of it
+abbrev pub group_rule : Bool → ℕ → List Bool → ℕ → Rule
+group_rule true rho group step = rule.AllOf rho group step
+group_rule false rho group step = rule.SomeOf rho group step
+
 -- a rule over a group of steps and a step
-unfoldable pub grouped_in : (ℕ → List Bool → ℕ → Rule) → ℕ → List RelationShape → List (List ℕ) → Members → Reading Rule
-grouped_in form f relations steps ms = do
+unfoldable pub grouped_in : Bool → ℕ → List RelationShape → List (List ℕ) → Members → Reading Rule
+grouped_in every f relations steps ms = do
   relation ← value_at Flows f (codes "relation") ms
   group ← value_at Flows f (codes "group") ms
   step ← value_at Flows f (codes "step") ms
@@ -62,22 +68,27 @@ grouped_in form f relations steps ms = do
   rho ← relation_in f relations relation
   s ← step_in f steps step
   members ← group_in f steps group
-  Ok (form rho members s)
+  Ok (group_rule every rho members s)
 
 -- the value is this text
 abbrev pub is_text : List ℕ → Data → Bool
-is_text text (string s) = same_key s text
+is_text text (string s) = pointwise nat_eq s text
 is_text text _ = false
 
--- the next rule: a table, by its form
-unfoldable pub next_rule : ℕ → List RelationShape → List (List ℕ) → List Rule → Data → Reading (List Rule)
-next_rule f relations steps so_far d = do
+-- the rule in a table, by its form
+unfoldable pub rule_in : ℕ → List RelationShape → List (List ℕ) → Data → Reading Rule
+rule_in f relations steps d = do
   ms ← table_in Flows f d
   form ← value_at Flows f (codes "form") ms
-  rule ← if is_text (codes "pair") form then pair_in f relations steps ms
-         else if is_text (codes "some") form then grouped_in rule.SomeOf f relations steps ms
-         else if is_text (codes "all") form then grouped_in rule.AllOf f relations steps ms
-         else Err (fault kind.Form Flows f)
+  if is_text (codes "pair") form then pair_in f relations steps ms
+    else if is_text (codes "some") form then grouped_in false f relations steps ms
+    else if is_text (codes "all") form then grouped_in true f relations steps ms
+    else Err (fault kind.Form Flows f)
+
+-- the next rule
+unfoldable pub next_rule : ℕ → List RelationShape → List (List ℕ) → List Rule → Data → Reading (List Rule)
+next_rule f relations steps so_far d = do
+  rule ← rule_in f relations steps d
   Ok (so_far ++ rule ∷ [])
 
 -- the rules in an array of them

@@ -4,5 +4,7 @@
 mod fault;
 mod parts;
 mod rosters;
+mod rules;
+mod workflows;
 
 pub use fault::{PolicyFault, PolicyKind, PolicyPart, ReadFault};

@@ -1,12 +1,16 @@
 //! What the readers of all tables have in common. Each takes the table and the number that its
 //! faults carry.
-ghost use Rattle.std.specs.Prelude.{◌≡◌, ◌<◌, ◌≤◌, ◌+◌, length, IfOk, OnOk, option_map};
-ghost use Rattle.toml.specs.View.{view, table_view, array_view};
-ghost use Rattle.toml.specs.Data.{get_member};
+ghost use Rattle.std.specs.Prelude.{◌≡◌, ◌<◌, ◌≤◌, ◌+◌, length, map, IfOk, OnOk, option_map};
+ghost use Rattle.toml.specs.View.{view, items_view, table_view, array_view};
+ghost use Rattle.toml.specs.Data.{Data, get_member};
+ghost use Rattle.std.specs.FinSet as set;
+ghost use Rattle.policy_reader.specs.Bounds.{AreBelow};
 ghost use Rattle.policy_reader.specs.Faults.{fault_of};
 ghost use Rattle.policy_reader.specs.Parts as parts;
-ghost use Rattle.first_fault.specs.Reading.{Gives};
+ghost use Rattle.first_fault.specs.Reading.{Gives, each};
 
+use pair_set::PairSet;
+use std::alloc::Global;
 use toml::Value;
 use toml::value::{Array, Table};
 use wf_names::{Name, NameFault, NameTable};
@@ -84,7 +88,8 @@ pub(crate) fn at_most(limit: usize, count: usize, part: PolicyPart, index: u32) 
 /// A count that may not be 0.
 #[tactic(auto, unfolding(crate::specs::Parts::at_least_one))]
 pub(crate) fn at_least_one(count: usize, part: PolicyPart, index: u32) -> Result<(), ReadFault>
-    ensures { Gives fault_of (λ u. u) result (parts.at_least_one part index count) }
+    ensures read { Gives fault_of (λ u. u) result (parts.at_least_one part index count) }
+    ensures some { OnOk result (0 < count) }
 {
     if count == 0 {
         return Err(refuse(PolicyKind::Empty, part, index));
@@ -145,4 +150,120 @@ pub(crate) fn next_name(
         Err(NameFault::Full) => unreachable!(),
         Err(NameFault::NoMemory) => Err(ReadFault::NoMemory),
     }
+}
+
+/// The two texts of an array of two texts.
+fn two_texts(value: &Value) -> Option<(&str, &str)>
+    ensures { option_map (λ p. (p.0.now, p.1.now)) result ≡ parts.two_texts (view value.now) }
+{
+    match value.as_array() {
+        Some(items) => texts_of(items),
+        None => None,
+    }
+}
+
+#[tactic(auto, using(crate::proofs::Counts::texts_of_two, crate::proofs::Counts::texts_of_others))]
+fn texts_of(items: &[Value]) -> Option<(&str, &str)>
+    ensures { option_map (λ p. (p.0.now, p.1.now)) result ≡ parts.texts_of (items_view items.now) }
+{
+    if items.len() != 2 {
+        return None;
+    }
+    both_texts(&items[0], &items[1])
+}
+
+fn both_texts<'t>(first: &'t Value, second: &'t Value) -> Option<(&'t str, &'t str)>
+    ensures { option_map (λ p. (p.0.now, p.1.now)) result ≡ parts.both_texts (view first.now) (view second.now) }
+{
+    match (first.as_str(), second.as_str()) {
+        (Some(first), Some(second)) => Some((first, second)),
+        _ => None,
+    }
+}
+
+/// Puts the next pair of declared names into a set of pairs.
+#[tactic(auto, unfolding(crate::specs::Parts::next_pair, crate::specs::Parts::once), using(pair_set::specs::PairLaws::all_insert))]
+fn next_pair(
+    names: &NameTable,
+    pairs: &mut PairSet,
+    value: &Value,
+    part: PolicyPart,
+    index: u32,
+) -> Result<(), ReadFault>
+    requires within { AreBelow (length names.now.names) pairs.old }
+    ensures read { Gives fault_of (λ _. pairs.new) result (parts.next_pair part index names.now.names pairs.old (view value.now)) }
+    ensures within { OnOk result (AreBelow (length names.now.names) pairs.new) }
+    ensures len { OnOk result (set.len pairs.new ≤ set.len pairs.old + 1) }
+{
+    let Some((first, second)) = two_texts(value) else {
+        return Err(refuse(PolicyKind::Shape, part, index));
+    };
+    let a = number_of(names, first, part, index)?;
+    let b = number_of(names, second, part, index)?;
+    match pairs.insert(a, b) {
+        Ok(true) => Ok(()),
+        Ok(false) => Err(refuse_text(PolicyKind::Twice, part, index, first)),
+        Err(_) => Err(ReadFault::NoMemory),
+    }
+}
+
+/// Reads a set of pairs of declared names.
+pub(crate) fn read_pairs(
+    alloc: Global,
+    names: &NameTable,
+    items: &[Value],
+    part: PolicyPart,
+    index: u32,
+) -> Result<PairSet, ReadFault>
+    ensures read { Gives fault_of (λ pairs. pairs) result (each (parts.next_pair part index names.now.names) set.empty (parts.items (items_view items.now))) }
+    ensures within { IfOk result (λ pairs. AreBelow (length names.now.names) pairs) }
+    ensures len { IfOk result (λ pairs. set.len pairs ≤ length items.now) }
+{
+    let mut pairs = PairSet::new(alloc);
+    'items: for value in items {
+        if let Err(fault) = next_pair(names, &mut pairs, value, part, index) {
+            return Err(fault);
+        }
+    }
+    Ok(pairs)
+}
+
+/// Refuses the least key that is not one of the known ones.
+#[tactic(auto, unfolding(crate::specs::Parts::no_others))]
+pub(crate) fn no_others(
+    table: &Table,
+    known: &[&str],
+    part: PolicyPart,
+    index: u32,
+) -> Result<(), ReadFault>
+    ensures { Gives fault_of (λ u. u) result (parts.no_others part index (map (λ k. k.now) known.now) (table_view table.now)) }
+{
+    'entries: for (key, _value) in table {
+        if let Err(fault) = known_key(key.as_str(), known, part, index) {
+            return Err(fault);
+        }
+    }
+    Ok(())
+}
+
+#[tactic(auto, unfolding(crate::specs::Parts::known_key))]
+fn known_key(key: &str, known: &[&str], part: PolicyPart, index: u32) -> Result<(), ReadFault>
+    ensures { (d : Data) → Gives fault_of (λ u. u) result (parts.known_key part index (map (λ k. k.now) known.now) tt (key.now, d)) }
+{
+    if is_among(known, key) {
+        Ok(())
+    } else {
+        Err(refuse_text(PolicyKind::Extra, part, index, key))
+    }
+}
+
+fn is_among(texts: &[&str], text: &str) -> bool
+    ensures { result ≡ parts.is_among (map (λ k. k.now) texts.now) text.now }
+{
+    'texts: for word in texts {
+        if text == *word {
+            return true;
+        }
+    }
+    false
 }

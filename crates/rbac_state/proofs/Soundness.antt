@@ -5,7 +5,7 @@ use Rattle.std.specs.declared.alloc.AllocError.{AllocError}
 use Rattle.std.specs.FinSet as set
 use Rattle.pair_set.specs.Pairs.{Pairs, AllPairs}
 use Rattle.pair_set.specs.PairLaws.{all_empty, all_insert, all_remove}
-use Rattle.wf_names.specs.declared.limits.TheConstants.{USER_LIMIT, ROLE_LIMIT}
+use Rattle.wf_names.specs.declared.limits.TheConstants.{ROLE_LIMIT}
 use Rattle.rbac_state.specs.Rosters.{RosterShape, IsSoundRoster}
 
 pub sound_new : (roles : List (List ℕ)) → length roles ≤ ROLE_LIMIT → IsSoundRoster (record { users = []; roles = roles; members = set.empty })

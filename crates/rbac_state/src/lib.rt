@@ -6,10 +6,13 @@ ghost use Rattle.std.specs.FinSet as set;
 ghost use Rattle.wf_names.specs.Table.{place_of};
 ghost use Rattle.rbac_state.specs.Rosters.{RosterShape, has_role, IsSoundRoster};
 
+#[cfg(test)]
+mod tests;
+
 use pair_set::PairSet;
 use std::alloc::{AllocError, Global};
 use std::marker::Model;
-use wf_names::{Name, NameFault, NameTable, RoleId, UserId, ROLE_LIMIT, USER_LIMIT};
+use wf_names::{Name, NameFault, NameTable, ROLE_LIMIT, RoleId, USER_LIMIT, UserId};
 
 /// Why a role was not given or not taken away.
 #[derive(Clone, Copy, Debug, PartialEq, Eq)]

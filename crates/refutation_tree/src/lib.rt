@@ -4,3 +4,6 @@
 mod tree;
 
 pub use tree::{Branch, Branches, Kid, Tree};
+
+#[cfg(test)]
+mod tests;

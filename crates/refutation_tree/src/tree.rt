@@ -37,7 +37,7 @@ pub enum Kid {
 #[cycle(tree)]
 #[derive(Drop)]
 pub struct Branches {
-    items: Vec<Branch>,
+    pub items: Vec<Branch>,
 }
 
 impl Tree {
@@ -112,13 +112,6 @@ impl Branches {
         ensures { MatchOption result (kid_count (kids_of self.now) ≤ i) (λ b. kids_from i (kids_of self.now) ≡ branch_onto b.now (kids_from (i + 1) (kids_of self.now))) }
     {
         self.items.get(i)
-    }
-
-    /// All branches.
-    pub fn as_slice(&self) -> &[Branch]
-        ensures { kids_of_items result.now ≡ kids_of self.now }
-    {
-        &self.items
     }
 
     /// Adds a branch after the others.

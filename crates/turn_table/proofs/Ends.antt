@@ -1,5 +1,5 @@
 -- The rule of a turn table holds at the start, and what it says at the end.
-use Rattle.std.proofs.Common.{◌≡◌, ◌≢◌, ◌⊎◌, ℕ, zero, suc, ◌+◌, ◌<◌, ◌≤◌, Bool, true, false, List, [], ◌∷◌, ◌++◌, length, slice_index, sym, refl, ap, ◌∙◌, subst, inl, inr, ⊎_elim, arith, Option, Some, None}
+use Rattle.std.proofs.Common.{◌≡◌, ◌≢◌, ℕ, zero, suc, ◌<◌, true, List, [], ◌∷◌, ◌++◌, slice_index, sym, refl, ap, ◌∙◌, subst, inl, inr, ⊎_elim, arith, Option, Some, None}
 use Rattle.std.specs.List.{Contains}
 use Rattle.std.proofs.lemmas.List.{append-nil}
 use mathlib.Core.Option as maybe
@@ -7,12 +7,10 @@ use mathlib.Core.Option.{some, some-injective, some-ne-none}
 use mathlib.Core.Logic.{dite}
 use native.Mathlib.Decide.{ℕ_discrete, dec_le}
 use lib.ListN.{get_elem?}
-use Rattle.atomic_table.specs.Table.{State, opening, Final, Seen}
+use Rattle.atomic_table.specs.Table.{opening, Final, Seen}
 use Rattle.turn_table.specs.declared.view.View.{View}
-use Rattle.turn_table.specs.declared.view.Hold.{Hold}
-use Rattle.turn_table.specs.declared.view.Hold.TheVariants.{Free, Held, Noted}
-use Rattle.turn_table.specs.Lists.{StartsWith, pairs_of, Quiet, OwnPast}
-use Rattle.turn_table.specs.Turns.{word_of, StandsIn, starting, Fits, Kept, TurnRule}
+use Rattle.turn_table.specs.declared.view.Hold.TheVariants.{Free}
+use Rattle.turn_table.specs.Turns.{word_of, starting, Fits, Kept, TurnRule}
 use Rattle.turn_table.proofs.Lists.{quiet_self, quiet_parts, no_pairs}
 use Rattle.turn_table.proofs.Numbers.{contains_none}
 

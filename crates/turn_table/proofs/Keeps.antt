@@ -1,7 +1,5 @@
 -- Each step on the word keeps the rule of a turn table.
-use Rattle.std.proofs.Common.{◌≡◌, ◌≢◌, ◌⊎◌, ℕ, zero, suc, ◌+◌, ◌<◌, ◌≤◌, eqb, Bool, true, false, List, [], ◌∷◌, ◌++◌, length, drop, slice_index, set, sym, refl, ap, ◌∙◌, subst, inl, inr, ⊎_elim, append_assoc, arith, length-set, get_or-set_same, eq-eqb, ne_eqb, Option, Some, None}
-use Rattle.std.specs.List.{Contains}
-use Rattle.std.proofs.lemmas.List.{append-nil}
+use Rattle.std.proofs.Common.{◌≡◌, ◌≢◌, ℕ, ◌<◌, ◌≤◌, eqb, true, List, [], ◌∷◌, ◌++◌, length, drop, slice_index, set, sym, refl, ap, ◌∙◌, subst, inl, arith, length-set, get_or-set_same, eq-eqb, ne_eqb, Option, Some, None}
 use mathlib.Core.Option as maybe
 use mathlib.Core.Option.{none, some, some-injective}
 use mathlib.Core.Logic.{dite}
@@ -9,15 +7,14 @@ use native.Mathlib.Decide.{ℕ_discrete}
 use lib.ListN.{get_elem?}
 use lib.Seq.{set-get_or}
 use prog.Atomic.{either}
-use Rattle.atomic_table.specs.Table.{State, Me, step, keeps, takes, gives, stepped, Allows, Splits, Joins}
-use Rattle.atomic_table.proofs.Lists.{set_here, set_else, set_again, at_longer, at_last}
+use Rattle.atomic_table.specs.Table.{State, Me, step, keeps, takes, gives, stepped, Allows}
+use Rattle.atomic_table.proofs.Lists.{set_here, set_again}
 use Rattle.turn_table.specs.declared.view.View.{View}
-use Rattle.turn_table.specs.declared.view.Hold.{Hold}
-use Rattle.turn_table.specs.declared.view.Hold.TheVariants.{Free, Held, Noted}
-use Rattle.turn_table.specs.Lists.{StartsWith, pairs_of, Quiet, OwnPast, GrowsByOne, longer, shorter, brought}
-use Rattle.turn_table.specs.Turns.{word_of, StandsIn, starting, entering, noting, leaving, parent, newcomer, united, spent, Fits, Kept, TurnRule, locked, noted, unlocked, compared}
-use Rattle.turn_table.proofs.Lists.{begins_self, begins_trans, two_fronts, longest, pairs-append, quiet_self, quiet_more, quiet_fewer, quiet_parts, own_more, own_quiet, grown}
-use Rattle.turn_table.proofs.Views.{there_below, at_one_more, seats, still}
+use Rattle.turn_table.specs.declared.view.Hold.TheVariants.{Held, Noted}
+use Rattle.turn_table.specs.Lists.{pairs_of, Quiet, OwnPast, GrowsByOne}
+use Rattle.turn_table.specs.Turns.{word_of, StandsIn, entering, noting, leaving, Fits, Kept, TurnRule, locked, noted, unlocked, compared}
+use Rattle.turn_table.proofs.Lists.{begins_trans, two_fronts, quiet_self, quiet_more, own_more, own_quiet, grown}
+use Rattle.turn_table.proofs.Views.{there_below, seats, still}
 
 module _ {D G I : Type 0} (fixed_part : D → G) (list : D → List (ℕ × I)) (g : G) (opening : List (ℕ × I)) (lanes : ℕ) where
   abbrev St : Type 0

@@ -1,5 +1,5 @@
 -- The numbers that stand in a view, the seat at which each stands, and what a call reads of a lane.
-use Rattle.std.proofs.Common.{◌≡◌, ◌≢◌, ◌⊎◌, ℕ, zero, suc, ◌<◌, eqb, cond, List, [], ◌∷◌, ◌++◌, length, sym, refl, ap, ◌∙◌, inl, inr, ⊎_elim, arith, eq-eqb, ne_eqb, Option, Some, None, IsSome, IfSome, Bool, true, false, subst}
+use Rattle.std.proofs.Common.{◌≡◌, ◌≢◌, ◌⊎◌, ℕ, zero, suc, eqb, cond, List, [], ◌∷◌, sym, refl, ap, ◌∙◌, inl, inr, ⊎_elim, arith, eq-eqb, ne_eqb, Option, Some, None, IsSome, IfSome, Bool, true, false, subst}
 use Rattle.std.specs.List.{Contains}
 use Rattle.std.proofs.lemmas.List.Elements.{Contains-append_left, Contains-append_right, Contains-append_cases}
 use Rattle.turn_table.specs.Lists.{brought}
@@ -57,11 +57,3 @@ if_some P (Some n) h = h n refl
 pub inside : (out : Bool) (o : Option ℕ) → (out ≡ true → IsSome o) → o ≡ None → out ≡ false
 inside false o h e = refl
 inside true o h e = let s = some_of o (h refl) in let bad : None ≡ Some s.0 = sym e ∙ s.1 in cc
-
-abbrev first_item : {A : Type 0} → A → List (ℕ × A) → A
-first_item a [] = a
-first_item a (x ∷ xs) = x.1
-
--- one slot that is out has one value
-pub same_item : {A : Type 0} (a b : A) (xs ys : List (ℕ × A)) → (0, a) ∷ xs ≡ (0, b) ∷ ys → a ≡ b
-same_item a b xs ys e = ap (first_item a) e

@@ -1,6 +1,5 @@
 -- Making a lane and joining two keep the rule of a turn table.
-use Rattle.std.proofs.Common.{◌≡◌, ◌≢◌, ◌⊎◌, ℕ, zero, suc, ◌+◌, ◌<◌, ◌≤◌, Bool, true, false, List, [], ◌∷◌, ◌++◌, length, slice_index, set, sym, refl, ap, ◌∙◌, subst, inl, inr, ⊎_elim, arith, length-set, Option, Some, None}
-use Rattle.std.specs.List.{Contains}
+use Rattle.std.proofs.Common.{◌≡◌, ◌≢◌, ◌⊎◌, ℕ, ◌+◌, ◌<◌, ◌≤◌, true, List, [], ◌∷◌, ◌++◌, length, slice_index, set, sym, refl, ap, ◌∙◌, subst, inl, inr, ⊎_elim, arith, length-set, Option, Some, None}
 use Rattle.std.proofs.lemmas.List.{append-nil}
 use Rattle.std.proofs.lemmas.List.Elements.{Contains-append_left, Contains-append_right, Contains-append_cases}
 use mathlib.Core.Option as maybe
@@ -11,11 +10,10 @@ use lib.ListN.{get_elem?}
 use Rattle.atomic_table.specs.Table.{State, Splits, Joins}
 use Rattle.atomic_table.proofs.Lists.{set_here, set_else, at_longer, at_last}
 use Rattle.turn_table.specs.declared.view.View.{View}
-use Rattle.turn_table.specs.declared.view.Hold.{Hold}
-use Rattle.turn_table.specs.declared.view.Hold.TheVariants.{Free, Held, Noted}
-use Rattle.turn_table.specs.Lists.{StartsWith, pairs_of, Quiet, OwnPast, longer, shorter, brought}
+use Rattle.turn_table.specs.declared.view.Hold.TheVariants.{Free}
+use Rattle.turn_table.specs.Lists.{pairs_of, longer, brought}
 use Rattle.turn_table.specs.Turns.{word_of, StandsIn, parent, newcomer, united, spent, Fits, Kept, TurnRule}
-use Rattle.turn_table.proofs.Lists.{begins_self, begins_trans, longest, quiet_self, quiet_fewer, quiet_parts, own_quiet}
+use Rattle.turn_table.proofs.Lists.{begins_trans, longest, quiet_fewer, quiet_parts, own_quiet}
 use Rattle.turn_table.proofs.Views.{there_below, at_one_more, seats, still}
 use Rattle.turn_table.proofs.Numbers.{moved, moved_hit, moved_miss, placed, placed_hit, placed_miss, brought_has, brought_from, contains_none}
 

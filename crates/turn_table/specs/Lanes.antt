@@ -1,10 +1,10 @@
 -- What contracts see of a lane.
-use Rattle.std.specs.Prelude.{◌≡◌, ℕ, ◌+◌, Bool, true, false, List, [], ◌∷◌, ◌++◌, Option, Some, None, IsSome}
+use Rattle.std.specs.Prelude.{◌≡◌, ℕ, Bool, true, false, List, [], ◌∷◌, ◌++◌, Option, Some, None, IsSome}
 use Rattle.atomic_table.specs.Seated.{TableId}
 use Rattle.turn_table.specs.Lists.{longer, brought}
 use Rattle.turn_table.specs.declared.view.View.{View}
 use Rattle.turn_table.specs.declared.view.Hold.{Hold}
-use Rattle.turn_table.specs.declared.view.Hold.TheVariants.{Free, Held, Noted}
+use Rattle.turn_table.specs.declared.view.Hold.TheVariants.{Free, Held}
 
 pub record LaneShape (G I : Type 0) : Type 0 where
   -- the table that it is a lane of

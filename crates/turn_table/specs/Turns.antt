@@ -1,6 +1,13 @@
 -- The rule of a turn table, and what each kind of step tells its caller.
 -- Word 0 is 0 where the lock is free, 1 where it is held, and 2 where it is held and what the turn appends is noted. Slot 0 has the value.
-use Rattle.std.specs.Prelude.{◌≡◌, ◌≢◌, ◌⊎◌, ℕ, ◌+◌, ◌<◌, ◌≤◌, Bool, true, false, List, [], ◌∷◌, ◌++◌, length, drop, slice_index, Option, Some, None}
+--
+-- The rule has five parts, over the views of all seats that are not spent:
+-- 1. All know one fixed part and one opening list, and what each has seen begins with the opening list.
+-- 2. Where the word is 0, no seat holds the lock, and the slot has the value, with that fixed part. The value's list is the present list, and it begins with what each has seen.
+-- 3. Else the word is 1 or 2, and just one seat holds the lock. What it has seen is the present list, which begins with what each has seen. The slot is out with it, so the rule says nothing of the slot.
+-- 4. Past the opening list, the present list has no pair of a number that is not yet made. Its pairs of a number that stands in a view are within what that view has seen, and those of a lane's own number are the lane's own pairs, in order.
+-- 5. Just one seat has no number, the first lane's. The numbers made are those below its count; each stands in just one view, as its lane's number or among the joined ones, and no other number stands in a view.
+use Rattle.std.specs.Prelude.{◌≡◌, ◌≢◌, ◌⊎◌, ℕ, ◌+◌, ◌<◌, ◌≤◌, true, false, List, [], ◌∷◌, ◌++◌, length, drop, slice_index, Option, Some, None}
 use Rattle.std.specs.List.{Contains}
 use mathlib.Core.Option.{some}
 use mathlib.Core.Option as maybe
@@ -61,8 +68,9 @@ pub record Fits {G I : Type 0} (g : G) (opening now : List (ℕ × I)) (lanes ma
   pub begins : StartsWith v.seen opening
   -- parts 2 and 3: one that holds the lock is the holder, and has seen the present list
   pub holds : word_of v.hold ≢ 0 → (word_of v.hold ≡ word) × (seat ≡ holder) × (v.seen ≡ now)
-  -- parts 2, 3 and 4: the present list begins with what it has seen, and all pairs of the numbers that stand in it are within that
+  -- parts 2, 3 and 4: the present list begins with what it has seen, and past that has no pair of a number that stands in it
   pub quiet : Quiet (λ n. (n < made) × (owner n ≡ seat)) now v.seen
+  -- the present list begins with the list of which its last join tells
   pub told : StartsWith now v.told
   -- part 4: the pairs of its lane's number are its own pairs, in order: past the opening list, and past what it had seen when it was made
   pub own : (n : ℕ) → v.number ≡ Some n → OwnPast n v.seen opening v.own × OwnPast n v.seen v.born v.own

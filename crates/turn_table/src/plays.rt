@@ -1,4 +1,15 @@
-//! The rule of the table, and what each kind of step does to the views.
+//! The rule of the table, and what each kind of step does to the views. The kinds, and no others:
+//!
+//! | Kind | On | The view that changes |
+//! |---|---|---|
+//! | lock | a compare-exchange of word 0 from free to held | that of the seat, where the word was free: it holds the lock, and has seen the value's list |
+//! | take | an exchange of slot 0 for nothing | none |
+//! | note | a compare-exchange of word 0 from held to noted, while the value is out | that of the seat: what it has seen and its own pairs grow by what the turn appends |
+//! | give | an exchange of slot 0 for the value | none |
+//! | unlock | a swap of word 0 to free | that of the seat: it no longer holds the lock |
+//! | split | a load of word 0 | that of the first lane, which has made one lane more, and that of the new lane |
+//! | join | a load of word 0 | both: one has the longer list and the other's numbers, the other is spent |
+//! | compare | a load of word 0, after a join | none: it tells that the longer list begins with the shorter |
 use crate::tabled::Tabled;
 use crate::view::View;
 use atomic_table::{Join, Play, Split, TableRule};
@@ -71,7 +82,7 @@ impl<D, G, I> Play<Option<D>, View<G, I>> for Compare {
     ghost then = { compared };
 }
 
-/// Makes a lane.
+/// The first lane makes a lane.
 pub struct Part;
 
 impl<G, I> Split<View<G, I>> for Part {

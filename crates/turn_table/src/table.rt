@@ -15,6 +15,13 @@ use std::snapshot::Snapshot;
 use std::sync::Wait;
 use std::thread;
 
+// What word 0 is: the lock is free, it is held, or it is held and the list that the turn gives back is noted.
+const FREE: u64 = 0;
+
+const HELD: u64 = 1;
+
+const NOTED: u64 = 2;
+
 /// A value at which lanes take turns. Contracts see which table it is.
 pub struct TurnTable<D: Tabled> {
     table: Table<Option<D>, View<D::Ground, D::Item>, Told<D>, Turns<D>, Global>,
@@ -34,6 +41,7 @@ impl<D: Tabled> Model for TurnTable<D> {
 }
 
 /// There was no memory for a table. The value comes back.
+#[derive(Drop)]
 pub struct Refused<D> {
     pub value: D,
 }
@@ -77,7 +85,7 @@ impl<D: Tabled> TurnTable<D> {
             lanes,
         };
         let slots = row_of(alloc, value)?;
-        match Table::new(alloc, &[0], slots, &told) {
+        match Table::new(alloc, &[FREE], slots, &told) {
             Ok((table, seat)) => Ok((TurnTable { table }, Lane { seat, out: false })),
             Err(atomic_table::Refused { slots }) => Err(Refused {
                 value: value_of(slots),
@@ -106,14 +114,12 @@ impl<D: Tabled> TurnTable<D> {
         ensures list { Quiet (λ n. lane.old.number ≡ Some n) (D.list result) lane.old.seen }
         ensures lane { lane.new ≡ record lane.old { out = true; seen = D.list result } }
     {
+        let shared = &self.table.shared;
         for _ in rt.forever() {
-            let found = self
-                .table
-                .shared
-                .compare_exchange::<Lock<D>>(&mut lane.seat, 0, 0, 1);
-            if found == 0 {
+            let found = shared.compare_exchange::<Lock<D>>(&mut lane.seat, 0, FREE, HELD);
+            if found == FREE {
                 lane.out = true;
-                return self.table.shared.exchange(&mut lane.seat, 0, None).unwrap();
+                return shared.exchange(&mut lane.seat, 0, None).unwrap();
             }
             thread::yield_now();
         }
@@ -131,10 +137,10 @@ impl<D: Tabled> TurnTable<D> {
     {
         let shared = &self.table.shared;
         let value = Some(value);
-        shared.compare_exchange_with::<Note<D>>(&mut lane.seat, 0, 1, 2, &value);
+        shared.compare_exchange_with::<Note<D>>(&mut lane.seat, 0, HELD, NOTED, &value);
         let emptied = shared.exchange(&mut lane.seat, 0, value);
         let None = emptied else { unreachable!() };
-        shared.swap::<Unlock>(&mut lane.seat, 0, 0);
+        shared.swap::<Unlock>(&mut lane.seat, 0, FREE);
         lane.out = false;
     }
 

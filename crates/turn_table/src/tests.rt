@@ -26,6 +26,7 @@ struct Journal {
 
 impl Tabled for Journal {
     type Ground = u8;
+
     type Item = u8;
 
     ghost fixed_part = { λ j. j.title };
@@ -71,7 +72,8 @@ fn work<R: Wait>(
     lane
 }
 
-// Joins the lanes from `next` on, `count` of them, each in a thread of its own, into the first lane.
+// Makes `count` lanes, from the number `next` on, runs each in a thread of its own, and joins them into the first lane.
+// The lane `idle` takes no turn.
 fn run_lanes<R: Threads + Wait + Sync>(
     rt: &R,
     table: &TurnTable<Journal>,
@@ -152,13 +154,27 @@ fn written(journal: &Journal) -> Option<[u8; 8]> {
     Some(counts)
 }
 
+fn counts<R: Threads + Wait + Sync>(
+    rt: &R,
+    alloc: Global,
+    lanes: u8,
+    idle: u8,
+) -> Result<Option<[u8; 8]>, AllocError>
+    requires { (1 ≤ lanes) × (lanes ≤ 8) }
+{
+    match run(rt, alloc, journal_of(alloc)?, lanes, idle) {
+        Ok(journal) => Ok(written(&journal)),
+        Err(_) => Ok(None),
+    }
+}
+
 #[test]
-fn eight_lanes_write_each_in_its_order(rt: HostRuntime) -> Result<(), Fail> {
-    let ran = run(&rt, rt.alloc(), journal_of(rt.alloc())?, 8, 5);
-    let counts = match &ran {
-        Ok(journal) => written(journal),
-        Err(_) => None,
-    };
-    assert_eq!(rt; counts, Some([3, 3, 3, 3, 3, 0, 3, 3]));
+fn each_lane_writes_in_its_order(rt: HostRuntime) -> Result<(), Fail> {
+    let one = counts(&rt, rt.alloc(), 1, 8)?;
+    let all = counts(&rt, rt.alloc(), 8, 8)?;
+    let all_but_one = counts(&rt, rt.alloc(), 8, 5)?;
+    assert_eq!(rt; one, Some([3, 0, 0, 0, 0, 0, 0, 0]));
+    assert_eq!(rt; all, Some([3, 3, 3, 3, 3, 3, 3, 3]));
+    assert_eq!(rt; all_but_one, Some([3, 3, 3, 3, 3, 0, 3, 3]));
     Ok(())
 }

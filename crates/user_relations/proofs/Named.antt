@@ -1,6 +1,6 @@
 -- Relations by their names.
-use Rattle.std.proofs.Common.{◌≡◌, ℕ, zero, suc, ◌+◌, ◌<◌, ◌≤◌, Bool, true, false, cond, ◌||◌, List, [], ◌∷◌, ◌++◌, length, map, get_or, refl, sym, ap, ◌∙◌, subst, arith}
-use Rattle.std.specs.Prelude.{Option, Some, None, option_map, slice_get, is_some, position, nat_eq, codes, IsTrue}
+use Rattle.std.proofs.Common.{◌≡◌, ℕ, suc, ◌+◌, ◌<◌, Bool, true, false, cond, ◌||◌, List, [], ◌∷◌, length, map, get_or, refl, sym, ap, ◌∙◌, arith}
+use Rattle.std.specs.Prelude.{Option, Some, option_map, slice_get, is_some, position, nat_eq, codes, IsTrue}
 use Rattle.std.specs.List.{position_from, list_any}
 use Rattle.std.specs.Cmp.Lexicographic.{pointwise}
 use Rattle.std.proofs.lemmas.Iterator.Adapters.{position_from-zero}

@@ -1,15 +1,14 @@
 -- Kinds of relations by their numbers, in the list and in the view of what is kept.
-use Rattle.std.proofs.Common.{◌≡◌, ℕ, zero, suc, ◌+◌, ◌<◌, ◌≤◌, Bool, true, false, List, [], ◌∷◌, ◌++◌, length, map, get_or, refl, sym, ap, ◌∙◌, subst, arith}
-use Rattle.std.specs.Prelude.{Option, Some, None, option_map, slice_get, Result, Ok, Err, OnOk, MatchOption, slice_set}
-use Rattle.std.specs.FinSet as set
+use Rattle.std.proofs.Common.{◌≡◌, ℕ, zero, suc, ◌+◌, ◌<◌, ◌≤◌, List, [], ◌∷◌, length, get_or, refl, sym, ap, ◌∙◌, subst, arith}
+use Rattle.std.specs.Prelude.{Option, Some, None, option_map, slice_get, Result, OnOk, slice_set}
 use Rattle.std.proofs.lemmas.Option.{slice_get-map, slice_get-get_or, slice_get_past}
 use Rattle.std.proofs.lemmas.Result.{on_ok_weaker}
 use Rattle.pair_set.specs.Pairs.{Pairs}
 use Rattle.user_relations.specs.declared.kinds.Kind.{Kind}
 use Rattle.user_relations.specs.declared.kinds.Relation.{Relation}
 use Rattle.user_relations.specs.declared.RelationFault.{RelationFault}
-use Rattle.user_relations.specs.Relations.{RelationShape, RelationKind, listed, complement, kind_of, listed_pairs, pairs_of, with_kind, change_kind}
-use Rattle.user_relations.specs.Faults.{AnswersFault, put_fault, take_fault, relate_fault, unrelate_fault}
+use Rattle.user_relations.specs.Relations.{RelationShape, RelationKind, listed, kind_of, listed_pairs, pairs_of, with_kind, change_kind}
+use Rattle.user_relations.specs.Faults.{AnswersFault}
 use Rattle.user_relations.specs.Places.{IsPlace}
 use Rattle.user_relations.specs.View.{kind_view, relation_view, shapes}
 

@@ -1,7 +1,7 @@
 -- Every change leaves the relations sound.
 use Rattle.std.proofs.Common.{◌≡◌, ℕ, zero, suc, ◌+◌, ◌-◌, ◌<◌, ◌≤◌, Bool, true, false, cond, List, [], ◌∷◌, ◌++◌, length, map, take, drop, refl, sym, ap, ◌∙◌, subst, ◌⊎◌, inl, inr, arith, length-append}
-use Rattle.std.specs.Prelude.{Option, Some, None, option_map, slice_get, is_some, nat_eq, nat_le, codes, Result, Ok, Err, OnOk, OnErr}
-use Rattle.std.specs.List.{IsDistinct, list_any}
+use Rattle.std.specs.Prelude.{Some, None, option_map, slice_get, is_some, nat_eq, nat_le, codes, Result, Ok, Err, OnOk, OnErr}
+use Rattle.std.specs.List.{IsDistinct}
 use Rattle.std.specs.FinSet as set
 use Rattle.std.specs.Cmp.Lexicographic.{pointwise, nat_list_eq_equiv}
 use Rattle.std.proofs.lemmas.Bool.{cases_eq, leb-false}
@@ -13,7 +13,7 @@ use Rattle.pair_set.specs.PairLaws.{pair_cmp_total, all_empty, all_insert, all_r
 use Rattle.wf_names.specs.Table.{place_of}
 use Rattle.wf_names.specs.declared.limits.TheConstants.{USER_LIMIT, RELATION_LIMIT, PAIR_LIMIT}
 use Rattle.user_relations.specs.declared.RelationFault.{RelationFault}
-use Rattle.user_relations.specs.declared.RelationFault.TheVariants.{Fixed, Already, Absent, Full, NoMemory}
+use Rattle.user_relations.specs.declared.RelationFault.TheVariants.{Already, Full}
 use Rattle.user_relations.specs.Relations.{RelationShape, RelationKind, listed, complement, kind_of, has_list, is_listed, complemented, complement_of, listed_pairs, pairs_of, known_names, change_kind, with_kind}
 use Rattle.user_relations.specs.Faults.{AnswersFault, put_fault, take_fault, relate_fault, unrelate_fault}
 use Rattle.user_relations.specs.Soundness.{AreSound}
@@ -100,12 +100,12 @@ sound_change rs rho k0 k s was lists points kept = record {
   complements = λ m n e. elim (cases_eq m rho) [
     | inl same ↦ points n (kind_is rs rho m k0 k (complement n) was same e)
     | inr differ ↦
-      let there : kind_of rs m ≡ Some (complement n) = sym (kind_there rs rho m k differ) ∙ e in
-      elim (cases_eq n rho) [
-        | inl target ↦ ap has_list (ap (kind_of (with_kind rs rho k)) target ∙ kind_here rs rho k0 k was) ∙ kept m (there ∙ ap (λ i. Some (complement i)) target)
-        | inr other ↦ ap has_list (kind_there rs rho n k other) ∙ s.complements m n there
-      ]
-  ]
+        let there : kind_of rs m ≡ Some (complement n) = sym (kind_there rs rho m k differ) ∙ e in
+        elim (cases_eq n rho) [
+          | inl target ↦ ap has_list (ap (kind_of (with_kind rs rho k)) target ∙ kind_here rs rho k0 k was) ∙ kept m (there ∙ ap (λ i. Some (complement i)) target)
+          | inr other ↦ ap has_list (kind_there rs rho n k other) ∙ s.complements m n there
+        ]
+  ];
 }
 
 sound_list : (rs : List RelationShape) (rho : ℕ) (old new : Pairs) → AreSound rs → kind_of rs rho ≡ Some (listed old) → set.len new ≤ PAIR_LIMIT → AllPairs AreUsers new → AreSound (with_kind rs rho (listed new))
@@ -123,10 +123,13 @@ room : (pairs : Pairs) (u v : ℕ) (x : Unit {0}) → AnswersFault (put_fault (S
 room pairs u v x f =
     elim (set.contains pairs (u, v)) as (λ b. AnswersFault (cond b (Some Already) (cond (nat_le PAIR_LIMIT (set.len pairs)) (Some Full) None)) (Ok x) → (b ≡ false) × (set.len pairs < PAIR_LIMIT)) [
       | true ↦ λ g. absurd (no_answer g)
-      | false ↦ λ g. (refl, elim (nat_le PAIR_LIMIT (set.len pairs)) as (λ b. nat_le PAIR_LIMIT (set.len pairs) ≡ b → AnswersFault (cond b (Some Full) None) (Ok x) → set.len pairs < PAIR_LIMIT) [
-        | true ↦ λ _ h. absurd (no_answer h)
-        | false ↦ λ e _. leb-false PAIR_LIMIT (set.len pairs) e
-      ] refl g)
+      | false ↦ λ g. (
+        refl,
+        elim (nat_le PAIR_LIMIT (set.len pairs)) as (λ b. nat_le PAIR_LIMIT (set.len pairs) ≡ b → AnswersFault (cond b (Some Full) None) (Ok x) → set.len pairs < PAIR_LIMIT) [
+          | true ↦ λ _ h. absurd (no_answer h)
+          | false ↦ λ e _. leb-false PAIR_LIMIT (set.len pairs) e
+        ] refl g,
+      )
     ] f
 
 pub sound_relate : (rs new : List RelationShape) (rho u v : ℕ) (r : Result (Unit {0}) RelationFault) → AreSound rs → u < USER_LIMIT → v < USER_LIMIT
@@ -137,10 +140,10 @@ sound_relate rs new rho u v (Ok x) s first second related fault same =
       | None ↦ λ e f is. absurd (no_answer f)
       | Some (complement n) ↦ λ e f is. absurd (no_answer f)
       | Some (listed pairs) ↦ λ e f is.
-        let parts = room pairs u v x f in
-        let grown : set.len (set.insert pairs (u, v)) ≡ set.len pairs + 1 = set.len-insert pair_cmp_total pairs (u, v) ∙ ap (λ b. cond b (set.len pairs) (set.len pairs + 1)) parts.0 in
-        let below : set.len pairs < PAIR_LIMIT = parts.1 in
-        subst AreSound (sym is) (sound_list rs rho pairs (set.insert pairs (u, v)) s e (omega arith) (all_insert AreUsers pairs u v (first, second) (s.users rho pairs e)))
+          let parts = room pairs u v x f in
+          let grown : set.len (set.insert pairs (u, v)) ≡ set.len pairs + 1 = set.len-insert pair_cmp_total pairs (u, v) ∙ ap (λ b. cond b (set.len pairs) (set.len pairs + 1)) parts.0 in
+          let below : set.len pairs < PAIR_LIMIT = parts.1 in
+          subst AreSound (sym is) (sound_list rs rho pairs (set.insert pairs (u, v)) s e (omega arith) (all_insert AreUsers pairs u v (first, second) (s.users rho pairs e)))
     ] refl fault related
 
 less_by_one : (pairs : Pairs) (u v : ℕ) → set.len pairs ≤ PAIR_LIMIT → set.len (set.remove pairs (u, v)) ≤ PAIR_LIMIT
@@ -156,7 +159,7 @@ sound_unrelate rs new rho u v (Ok x) s unrelated fault same =
       | None ↦ λ e f is. absurd (no_answer f)
       | Some (complement n) ↦ λ e f is. absurd (no_answer f)
       | Some (listed pairs) ↦ λ e f is.
-        subst AreSound (sym is) (sound_list rs rho pairs (set.remove pairs (u, v)) s e (less_by_one pairs u v (s.few rho pairs e)) (all_remove AreUsers pairs u v (s.users rho pairs e)))
+          subst AreSound (sym is) (sound_list rs rho pairs (set.remove pairs (u, v)) s e (less_by_one pairs u v (s.few rho pairs e)) (all_remove AreUsers pairs u v (s.users rho pairs e)))
     ] refl fault unrelated
 
 pub sound_complement : (rs new : List RelationShape) (rho of_number : ℕ) → AreSound rs → kind_of rs rho ≡ Some (listed set.empty) → is_listed rs of_number ≡ true → (rho ≡ of_number → ⊥)
@@ -165,8 +168,8 @@ sound_complement rs new rho of_number s bare is_list differ free is =
     subst AreSound (sym is) (sound_change rs rho (listed set.empty) (complement of_number) s bare
     (λ pairs e. cc)
     (λ n e.
-      let same : of_number ≡ n = cc in
-      ap (is_listed (with_kind rs rho (complement of_number))) (sym same) ∙ ap has_list (kind_there rs rho of_number (complement of_number) (λ q. differ (sym q))) ∙ is_list)
+    let same : of_number ≡ n = cc in
+    ap (is_listed (with_kind rs rho (complement of_number))) (sym same) ∙ ap has_list (kind_there rs rho of_number (complement of_number) (λ q. differ (sym q))) ∙ is_list)
     (λ m e. absurd (free m (ap complemented e))))
 
 -- a relation at the end
@@ -198,7 +201,7 @@ sound_add rs name s below fresh =
     record {
       count = omega arith;
       names = subst (λ ns. IsDistinct (pointwise nat_eq) (codes "same" ∷ codes "other" ∷ ns)) (sym (map-append (λ (x : RelationShape). x.name) rs (r ∷ [])))
-        (IsDistinct-push nat_list_eq_equiv (known_names rs) name s.names (unknown (known_names rs) name fresh));
+          (IsDistinct-push nat_list_eq_equiv (known_names rs) name s.names (unknown (known_names rs) name fresh));
       few = λ m pairs e. elim (kind_pushed rs r m) [
         | inl same ↦ s.few m pairs (sym same ∙ e)
         | inr new ↦ let is : Some (listed set.empty) ≡ Some (listed pairs) = sym new.1 ∙ e in let empty : set.empty ≡ pairs = cc in
@@ -211,7 +214,7 @@ sound_add rs name s below fresh =
       complements = λ m n e. elim (kind_pushed rs r m) [
         | inl same ↦ listed_still rs r n (s.complements m n (sym same ∙ e))
         | inr new ↦ let is : Some (listed set.empty) ≡ Some (complement n) = sym new.1 ∙ e in cc
-      ]
+      ];
     }
 
 none_declared : (m : ℕ) → kind_of [] m ≡ None
@@ -226,7 +229,7 @@ sound_none = record {
   names = ((refl, tt), (tt, tt));
   few = λ m pairs e. cc (none_declared m);
   users = λ m pairs e. cc (none_declared m);
-  complements = λ m n e. cc (none_declared m)
+  complements = λ m n e. cc (none_declared m);
 }
 
 -- the view of what a push leaves

@@ -1,10 +1,9 @@
 -- The relations between users, as contracts see them.
-use Rattle.std.specs.Prelude.{◌≡◌, ℕ, ◌+◌, ◌<◌, ◌≤◌, Bool, true, false, not, ◌==◌, List, [], ◌∷◌, map, length, codes, refl, nat_eq, Option, Some, None, option_map, slice_get, nat_le, if◌then◌else◌}
+use Rattle.std.specs.Prelude.{◌≡◌, ℕ, Bool, true, false, not, ◌==◌, List, [], ◌∷◌, map, codes, refl, Option, Some, None, option_map, slice_get}
 use Rattle.std.proofs.Common.{zero, suc, ◌⊎◌, inl, inr}
 use Rattle.std.specs.Coded.{Coded, code_by, coded×, coded⊎, coded_list, coded_ℕ}
 use Rattle.std.specs.FinSet as set
 use Rattle.pair_set.specs.Pairs.{Pairs, pairs_code}
-use Rattle.wf_names.specs.declared.limits.TheConstants.{PAIR_LIMIT}
 
 -- a relation that is declared: its pairs are listed, or it holds where the listed relation with this number does not
 pub data RelationKind : Type 0 where

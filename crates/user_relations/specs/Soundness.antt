@@ -5,7 +5,7 @@ use Rattle.std.specs.Cmp.Lexicographic.{pointwise}
 use Rattle.std.specs.FinSet as set
 use Rattle.pair_set.specs.Pairs.{Pairs, AllPairs}
 use Rattle.wf_names.specs.declared.limits.TheConstants.{USER_LIMIT, RELATION_LIMIT, PAIR_LIMIT}
-use Rattle.user_relations.specs.Relations.{RelationShape, RelationKind, listed, complement, kind_of, is_listed, known_names}
+use Rattle.user_relations.specs.Relations.{RelationShape, listed, complement, kind_of, is_listed, known_names}
 
 -- not too many relations, whose names are distinct and none of them `same` or `other`; not too many pairs in each,
 -- all of them of user numbers; and each complement is that of a listed relation

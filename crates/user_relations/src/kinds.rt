@@ -13,7 +13,7 @@ ghost use Rattle.user_relations.specs.View.{kind_view, relation_view, shapes};
 use crate::RelationFault;
 use pair_set::PairSet;
 use std::alloc::{AllocError, Global};
-use wf_names::{Name, RelId, UserId, PAIR_LIMIT, RELATION_LIMIT};
+use wf_names::{Name, PAIR_LIMIT, RELATION_LIMIT, RelId, UserId};
 
 /// What a declared relation is.
 #[derive(Drop)]
@@ -101,7 +101,12 @@ pub(crate) fn set_kind(declared: &mut [Relation], rho: RelId, kind: Kind)
     }
 }
 
-pub(crate) fn relate(declared: &mut [Relation], rho: RelId, u: UserId, v: UserId) -> Result<(), RelationFault>
+pub(crate) fn relate(
+    declared: &mut [Relation],
+    rho: RelId,
+    u: UserId,
+    v: UserId,
+) -> Result<(), RelationFault>
     ensures related { OnOk result (shapes declared.new ≡ with_kind (shapes declared.old) rho (listed (set.insert (pairs_of (shapes declared.old) rho) (u, v)))) }
     ensures fault { AnswersFault (relate_fault (shapes declared.old) rho u v) result }
     ensures unchanged { OnErr result (shapes declared.new ≡ shapes declared.old) }
@@ -133,7 +138,12 @@ fn put_pair(kind: &mut Kind, u: UserId, v: UserId) -> Result<(), RelationFault>
     }
 }
 
-pub(crate) fn unrelate(declared: &mut [Relation], rho: RelId, u: UserId, v: UserId) -> Result<(), RelationFault>
+pub(crate) fn unrelate(
+    declared: &mut [Relation],
+    rho: RelId,
+    u: UserId,
+    v: UserId,
+) -> Result<(), RelationFault>
     ensures unrelated { OnOk result (shapes declared.new ≡ with_kind (shapes declared.old) rho (listed (set.remove (pairs_of (shapes declared.old) rho) (u, v)))) }
     ensures fault { AnswersFault (unrelate_fault (shapes declared.old) rho u v) result }
     ensures memory { result ≢ Err RelationFault.NoMemory }
@@ -184,9 +194,7 @@ fn find_declared(declared: &[Relation], name: &Name) -> Option<usize>
     ensures place { result ≡ position (λ relation. pointwise nat_eq name.now relation.name) declared.now }
     ensures within { IfSome result (λ place. place < length declared.now) }
 {
-    declared
-        .iter()
-        .position(|relation| *name == relation.name)
+    declared.iter().position(|relation| *name == relation.name)
 }
 
 pub(crate) fn name(declared: &[Relation], rho: RelId) -> Name

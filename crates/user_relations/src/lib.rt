@@ -11,12 +11,14 @@ ghost use Rattle.user_relations.specs.Soundness.{AreSound};
 ghost use Rattle.user_relations.specs.Faults.{relate_fault, unrelate_fault, AnswersFault};
 
 mod kinds;
+#[cfg(test)]
+mod tests;
 
 use kinds::{Kind, Relation};
 use pair_set::PairSet;
 use std::alloc::{AllocError, Global};
 use std::marker::Model;
-use wf_names::{Name, NameFault, RelId, UserId, RELATION_LIMIT, USER_LIMIT};
+use wf_names::{Name, NameFault, RELATION_LIMIT, RelId, USER_LIMIT, UserId};
 
 /// Why a pair was not put into a relation or not taken out of it.
 #[derive(Clone, Copy, Debug, PartialEq, Eq)]
@@ -145,7 +147,8 @@ impl Relations {
     /// The name of a relation.
     pub fn name(&self, rho: RelId) -> Name
         requires { rho < length self.now + 2 }
-        ensures { slice_get (known_names self.now) rho ≡ Some result }
+        ensures name { slice_get (known_names self.now) rho ≡ Some result }
+        ensures alone { place_of (known_names self.now) result ≡ Some rho }
     {
         kinds::name(&self.declared, rho)
     }
@@ -166,11 +169,12 @@ impl Relations {
     }
 
     /// The pairs of a listed relation in ascending order; none where it is no listed relation.
-    pub fn pairs(&self, rho: RelId) -> &[(u16, u16)]
-        ensures pairs { set.from_list result.now ≡ pairs_of self.now rho }
-        ensures ascending { IsAscending result.now }
+    pub fn pairs(&self, rho: RelId) -> Result<Vec<(u16, u16)>, AllocError>
+        ensures pairs { IfOk result (λ pairs. set.from_list pairs.items ≡ pairs_of self.now rho) }
+        ensures ascending { IfOk result (λ pairs. IsAscending pairs.items) }
     {
-        kinds::pairs(&self.declared, rho)
+        let pairs = kinds::pairs(&self.declared, rho);
+        Vec::from_slice(*self.declared.allocator(), pairs)
     }
 
     /// The same relations.

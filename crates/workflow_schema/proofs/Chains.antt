@@ -6,7 +6,7 @@ use Rattle.pair_set.specs.Pairs.{Pairs, pair_cmp, AllPairs}
 use Rattle.wf_names.specs.declared.limits.TheConstants.{STEP_LIMIT}
 use Rattle.workflow_schema.specs.Tables.{leads}
 use Rattle.workflow_schema.specs.Flows.{Precedes, next, through, is_before}
-use Rattle.workflow_schema.proofs.Tests.{or_cases, or_left, or_right, and_both, and_from}
+use Rattle.workflow_schema.proofs.Booleans.{or_cases, or_left, or_right, and_both, and_from}
 
 pub leads_pair : (near : ℕ → ℕ → Bool) (n a b : ℕ) → near a b ≡ true → leads n near a b ≡ true
 unfolding leads
@@ -59,7 +59,7 @@ leads_chain near (suc n) a m b h i j =
           ]
     ]
 
-append : {order : Pairs} {s t u : ℕ} → Precedes order s t → Precedes order t u → Precedes order s u
+pub append : {order : Pairs} {s t u : ℕ} → Precedes order s t → Precedes order t u → Precedes order s u
 append (next h) r = through h r
 append (through h q) r = through h (append q r)
 

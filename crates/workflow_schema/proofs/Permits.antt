@@ -9,7 +9,7 @@ use Rattle.pair_set.specs.PairLaws.{pair_cmp_total, pair_cmp-IsAntisymmetric}
 use Rattle.wf_names.specs.declared.limits.TheConstants.{ROLE_LIMIT}
 use Rattle.workflow_schema.specs.declared.table.TheConstants.{WORD_BITS}
 use Rattle.workflow_schema.specs.Tables.{is_set, table_has, row_pairs, table_pairs, pairs_of}
-use Rattle.workflow_schema.proofs.Tests.{or-false, and-false, or_cases, and_both, and_swap, eq_same, eq_other, lt_yes, lt_no}
+use Rattle.workflow_schema.proofs.Booleans.{or-false, and-false, or_cases, and_both, and_swap, eq_same, eq_other, lt_yes, lt_no}
 use Rattle.workflow_schema.proofs.Words.{is_set-zero, is_set-cut}
 use Rattle.workflow_schema.proofs.PairLists.{eq_pair, contains-one_more}
 

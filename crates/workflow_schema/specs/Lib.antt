@@ -1,3 +1,4 @@
 pub mod Flows
 pub mod Tables
 pub mod Stored
+pub mod Laws

@@ -116,9 +116,9 @@ impl Flow {
         ensures changed { result ≡ not (set.contains self.old.permits (r, s)) }
         ensures unchanged { result ≡ false → self.new ≡ self.old }
     {
-        let fresh = !has_flag(&self.roles, s.0 as usize, r.0);
+        let held = has_flag(&self.roles, s.0 as usize, r.0);
         set_flag(&mut self.roles, s.0 as usize, r.0);
-        fresh
+        !held
     }
 
     /// Forbids a role for a step; false where it was not permitted. Takes no memory.

@@ -3,8 +3,11 @@
 
 mod fault;
 mod flow;
+pub mod laws;
 mod lists;
 mod table;
+#[cfg(test)]
+mod tests;
 
 pub use fault::FlowFault;
 pub use flow::Flow;

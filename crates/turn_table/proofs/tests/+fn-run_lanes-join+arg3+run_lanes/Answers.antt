@@ -1,4 +1,4 @@
-use Rattle.std.proofs.Common.{◌≡◌, Some, inl, ap, ◌∙◌, sym, subst, arith}
+use Rattle.std.proofs.Common.{Some, inl, ap, ◌∙◌, sym, subst, arith}
 use Rattle.std.specs.List.{Contains}
 use mathlib.Core.Logic.{dite}
 use native.Mathlib.Decide.{ℕ_discrete}

@@ -4,9 +4,7 @@ use Rattle.wf_names.specs.Table.{place_of}
 use Rattle.wf_names.specs.declared.limits.TheConstants.{RELATION_LIMIT}
 use Rattle.user_relations.specs.declared.kinds.Kind.TheVariants.{Listed}
 use Rattle.user_relations.specs.Relations.{RelationShape, known_names}
-use Rattle.user_relations.specs.declared.kinds.Relation.{Relation}
 use Rattle.user_relations.specs.View.{shapes}
-use Rattle.user_relations.specs.Soundness.{AreSound}
 use Rattle.user_relations.proofs.Sound.{sound_push}
 use Rattle.user_relations.proofs.Relations.add_listed.Goals as goal
 

@@ -14,8 +14,8 @@ invariant_of-self c =
     let same = ap shapes c.deref_mut.ensures.value ∙ c.self.view_is in
     subst (λ (ds : List Relation). AreSound (shapes ds)) (sym back)
     (sound_complement (shapes c.deref_mut.result.now) _ c.args.rho c.args.of before
-      (ap (λ (rs : List RelationShape). kind_of rs c.args.rho) same ∙ c.requires.bare)
-      (ap (λ (rs : List RelationShape). is_listed rs c.args.of) same ∙ c.requires.of_listed)
-      c.requires.different
-      (λ n e. c.requires.free n (sym (ap (λ (rs : List RelationShape). complement_of rs n) same) ∙ e))
-      c.set_kind.ensures)
+    (ap (λ (rs : List RelationShape). kind_of rs c.args.rho) same ∙ c.requires.bare)
+    (ap (λ (rs : List RelationShape). is_listed rs c.args.of) same ∙ c.requires.of_listed)
+    c.requires.different
+    (λ n e. c.requires.free n (sym (ap (λ (rs : List RelationShape). complement_of rs n) same) ∙ e))
+    c.set_kind.ensures)

@@ -1,5 +1,3 @@
-use Rattle.user_relations.specs.View.{shapes}
-use Rattle.user_relations.specs.Soundness.{AreSound}
 use Rattle.user_relations.proofs.Sound.{sound_none}
 use Rattle.user_relations.proofs.Relations.new.Goals as goal
 

@@ -1,4 +1,4 @@
-use Rattle.std.proofs.Common.{◌≡◌, ℕ, ◌<◌, false, Some, IsSome, rules, refl, ap, ◌∙◌, sym, subst}
+use Rattle.std.proofs.Common.{◌≡◌, ℕ, ◌<◌, Some, IsSome, refl, ap, ◌∙◌, sym, subst}
 use Rattle.std.specs.List.{Contains}
 use mathlib.Core.Option.{some-injective}
 use Rattle.turn_table.specs.Lanes.{LaneShape, hold_of}

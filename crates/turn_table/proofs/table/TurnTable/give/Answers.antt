@@ -1,9 +1,10 @@
-use Rattle.std.proofs.Common.{◌≡◌, true, Some, None, [], ◌∷◌, IfSome, rules, refl, ap, ◌∙◌, sym, subst}
-use Rattle.atomic_table.specs.Table.{rest}
+use Rattle.std.proofs.Common.{◌≡◌, true, Some, None, IfSome, rules, refl, ap, ◌∙◌, sym, subst}
+use mathlib.Core.Option.{some}
 use Rattle.turn_table.specs.Lists.{GrowsByOne}
 use Rattle.turn_table.specs.Lanes.{LaneShape, hold_of, carried_by}
 use Rattle.turn_table.specs.Turns.{noting}
 use Rattle.turn_table.proofs.Keeps.{notes, unlocks}
+use Rattle.turn_table.proofs.Views.{slot_filled}
 use Rattle.turn_table.proofs.Numbers.{some_of, at_some}
 use Rattle.turn_table.proofs.table.TurnTable.give.Goals as goal
 
@@ -21,14 +22,14 @@ compare_exchange_with-requires g c =
 
 pub swap-requires : goal.swap-requires
 swap-requires g c =
-    let v = c.lane.inside.seat.me.0 in
+    let value = c.args.value in
+    let fixed_part = g.D.Tabled.fixed_part in
+    let list = g.D.Tabled.list in
+    let w = noting c.lane.inside.seat.me.0 (list value) in
     let out : c.lane.inside.out ≡ true = ap (λ l. l.out) c.lane.view_is ∙ c.requires.out in
-    let w = noting v (g.D.Tabled.list c.args.value) in
-    let note = c.compare_exchange_with.ensures.2 c.args.value refl in
     let slots = c.lane.invariant.slots ∙ ap carried_by out in
-    let is : c.exchange-emptied.new.seat.me ≡ (w, (0, Some c.args.value) ∷ []) = c.exchange-emptied.ensures.3 ∙ (ap (λ m. (m.0, (0, Some c.args.value) ∷ rest m.1)) note ∙ ap (λ l. (w, (0, Some c.args.value) ∷ rest l)) slots) in (
+    let is = slot_filled c.lane.inside.seat.me c.compare_exchange_with.new.seat.me c.exchange-emptied.new.seat.me w None (Some value) slots (c.compare_exchange_with.ensures.2 value (refl {a = some (Some value)})) c.exchange-emptied.ensures.3 in (
       search rules,
       search rules,
-      unlocks g.D.Tabled.fixed_part g.D.Tabled.list _ _ _ _ _ c.exchange-emptied.new.seat.me w c.args.value is c.self.invariant.1 c.lane.invariant.live refl
-          (c.requires.fixed ∙ sym (ap (λ l. l.fixed) c.lane.view_is)) refl,
+      unlocks fixed_part list _ _ _ _ _ c.exchange-emptied.new.seat.me w value is c.self.invariant.1 c.lane.invariant.live refl (c.requires.fixed ∙ sym (ap (λ l. l.fixed) c.lane.view_is)) refl,
     )

@@ -1,4 +1,4 @@
-use Rattle.std.proofs.Common.{rules, arith}
+use Rattle.std.proofs.Common.{rules}
 use Rattle.turn_table.proofs.Seats.{splits}
 use Rattle.turn_table.proofs.table.TurnTable.lane.Goals as goal
 

@@ -5,7 +5,7 @@ use Rattle.pair_set.specs.PairLaws.{pair_cmp_total, pair_cmp-IsAntisymmetric, in
 use Rattle.wf_names.specs.declared.limits.TheConstants.{ROLE_LIMIT}
 use Rattle.workflow_schema.specs.Tables.{pairs_of}
 use Rattle.workflow_schema.specs.Flows.{FlowShape}
-use Rattle.workflow_schema.proofs.Tests.{not_false}
+use Rattle.workflow_schema.proofs.Booleans.{not_false}
 use Rattle.workflow_schema.proofs.Permits.{pairs_of-has, pairs_of-with, pairs_of-without}
 use Rattle.workflow_schema.proofs.Kept.{keeps_permitted, keeps_forbidden}
 use Rattle.workflow_schema.proofs.flow.Flow.permit.Goals as goal
@@ -27,7 +27,7 @@ returns-clause-permitted c =
 pub returns-clause-changed : goal.returns-clause-changed
 returns-clause-changed c =
     rw (← c.self.view_is, ← c.s.view_is, ← c.r.view_is)
-    (ap not (c.has_flag-fresh.ensures ∙ sym (pairs_of-has c.self.inside.roles c.r.inside.0 c.s.inside.0)))
+    (ap not (c.has_flag-held.ensures ∙ sym (pairs_of-has c.self.inside.roles c.r.inside.0 c.s.inside.0)))
 
 pub returns-clause-unchanged : goal.returns-clause-unchanged
 returns-clause-unchanged c h =
@@ -35,4 +35,4 @@ returns-clause-unchanged c h =
     (ap (λ (p : Pairs). record { steps = c.self.inside.steps.names; order = c.self.inside.order; permits = p })
     (pairs_of-with c.self.inside.roles c.set_flag.new.rows c.r.inside.0 c.s.inside.0 c.set_flag.ensures
     ∙ insert_held pair_cmp_total pair_cmp-IsAntisymmetric (pairs_of c.self.inside.roles) (c.r.inside.0, c.s.inside.0)
-    (pairs_of-has c.self.inside.roles c.r.inside.0 c.s.inside.0 ∙ sym c.has_flag-fresh.ensures ∙ not_false c.has_flag-fresh.result h)))
+    (pairs_of-has c.self.inside.roles c.r.inside.0 c.s.inside.0 ∙ sym c.has_flag-held.ensures ∙ not_false c.has_flag-held.result h)))

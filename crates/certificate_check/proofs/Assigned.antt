@@ -1,0 +1,56 @@
+-- Assignments with one more step given, and what tests say.
+use Rattle.std.proofs.Common.{◌≡◌, refl, sym, ap, subst, ◌∙◌, ℕ, zero, suc, ◌+◌, ◌<◌, ◌≤◌, Bool, true, false, not, ◌&&◌, ◌||◌, ◌==◌, ltb, List, [], ◌∷◌, length, get_or, set, Option, None, Some, is_some, slice_get, slice_set, arith, eq-eqb, eqb, leb, ◌⊎◌, ◌≢◌, inl, inr}
+use Rattle.std.specs.Bool.{IsTrue}
+use Rattle.std.proofs.lemmas.Bool.{false≢true}
+use Rattle.std.proofs.lemmas.Bool.Decides.{eqb_tells, leb_tells}
+use Rattle.std.proofs.lemmas.List.{get_or-set_same, get_or-set_other, set_past}
+use Rattle.constraint_forms.specs.Assigned.{user_at}
+
+pub and_parts : (a b : Bool) → (a && b) ≡ true → (a ≡ true) × (b ≡ true)
+and_parts true true h = (refl, refl)
+and_parts true false h = absurd (false≢true h)
+and_parts false b h = absurd (false≢true h)
+
+pub not_true : (b : Bool) → not b ≡ true → b ≡ false
+not_true true h = absurd (false≢true h)
+not_true false h = refl
+
+pub not_some : (o : Option ℕ) → not (is_some o) ≡ true → o ≡ None
+not_some None h = refl
+not_some (Some u) h = absurd (false≢true h)
+
+abbrev value_or_zero : Option ℕ → ℕ
+value_or_zero None = 0
+value_or_zero (Some u) = u
+
+pub same_some : (x y : ℕ) → Some x ≡ Some y → x ≡ y
+same_some x y e = ap value_or_zero e
+
+pub either : {A B X : Type 0} → A ⊎ B → (A → X) → (B → X) → X
+either (inl a) f g = f a
+either (inr b) f g = g b
+
+pub none_not_some : {X : Type 0} (u : ℕ) → None ≡ Some u → X
+none_not_some u e = absurd (false≢true (ap is_some e))
+
+-- what a step has after another one was given, or the same one
+pub given_other : (a : List (Option ℕ)) (s u t : ℕ) → (t ≡ s → ⊥) → user_at (slice_set a s (Some u)) t ≡ user_at a t
+given_other a s u t apart = get_or-set_other a s t (Some u) None apart
+
+pub given_same : (a : List (Option ℕ)) (s u : ℕ) → s < length a → user_at (slice_set a s (Some u)) s ≡ Some u
+given_same a s u below = get_or-set_same a s (Some u) None below
+
+pub given_past : (a : List (Option ℕ)) (s u t : ℕ) → length a ≤ s → user_at (slice_set a s (Some u)) t ≡ user_at a t
+given_past a s u t past = ap (λ (b : List (Option ℕ)). get_or b t None) (set_past a s (Some u) past)
+
+-- whoever has a step after another was given: the one given, or the one from before
+pub given : (a : List (Option ℕ)) (s u t w : ℕ) → user_at (slice_set a s (Some u)) t ≡ Some w → ((t ≡ s) × (w ≡ u)) ⊎ (user_at a t ≡ Some w)
+given a s u t w h = at_step (eqb_tells t s)
+  where
+    within : t ≡ s → ((leb (length a) s ≡ true) × (length a ≤ s)) ⊎ ((leb (length a) s ≡ false) × (s < length a)) → ((t ≡ s) × (w ≡ u)) ⊎ (user_at a t ≡ Some w)
+    within same (inl past) = inr (sym (given_past a s u t past.1) ∙ h)
+    within same (inr below) = inl (same, sym (same_some u w (sym (subst (λ k. user_at (slice_set a s (Some u)) k ≡ Some u) (sym same) (given_same a s u below.1)) ∙ h)))
+
+    at_step : ((eqb t s ≡ true) × (t ≡ s)) ⊎ ((eqb t s ≡ false) × (t ≢ s)) → ((t ≡ s) × (w ≡ u)) ⊎ (user_at a t ≡ Some w)
+    at_step (inl same) = within same.1 (leb_tells (length a) s)
+    at_step (inr apart) = inr (sym (given_other a s u t apart.1) ∙ h)

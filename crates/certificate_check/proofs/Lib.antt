@@ -1,0 +1,5 @@
+pub mod Assigned
+pub mod Failing
+pub mod Refuted
+pub mod Trees
+pub mod Verdicts

@@ -1,0 +1,119 @@
+-- A refuting tree excludes every valid plan.
+use Rattle.std.proofs.Common.{◌≡◌, ◌≢◌, refl, sym, ap, subst, ◌∙◌, ℕ, zero, suc, ◌+◌, ◌<◌, ◌≤◌, Bool, true, false, not, ◌&&◌, ◌||◌, ◌==◌, ltb, List, [], ◌∷◌, length, get_or, set, Option, None, Some, is_some, slice_get, slice_set, arith, cond, eqb, nat_lt, eq-eqb, ◌⊎◌, inl, inr, if◌then◌else◌}
+use Rattle.std.specs.Bool.{IsTrue}
+use Rattle.std.proofs.lemmas.Bool.{false≢true, ltb-true, eqb-true}
+use Rattle.std.proofs.lemmas.Bool.Decides.{nat_tests, eqb_tells}
+use Rattle.constraint_forms.specs.declared.rule.Rule.{Rule}
+use Rattle.constraint_forms.specs.Assigned.{user_at, planned, is_member}
+use Rattle.constraint_forms.specs.Rules.{is_falsified, is_satisfied}
+use Rattle.constraint_forms.specs.Laws.{IsExtension}
+use Rattle.constraint_forms.proofs.RuleLaws.{totals_decide, stays_falsified}
+use Rattle.refutation_tree.specs.Shapes.{Shape, Kids, holder, rule, node, no_kids, tree_kid}
+use Rattle.policy_book.specs.Plans.{Problem, IsValidPlan, IsCompletable, AreAssigned}
+use Rattle.policy_book.specs.Refuting.{refutes, all_refute, have_users, candidates, passing, is_misheld, is_broken, is_free}
+use Rattle.certificate_check.specs.Laws.{RefutesSoundly}
+use Rattle.certificate_check.proofs.Assigned.{and_parts, not_true, not_some, none_not_some, same_some, given, given_other, either}
+
+-- a user is in a list
+abbrev pub has : List ℕ → ℕ → Bool
+has [] x = false
+has (u ∷ us) x = (u == x) || has us x
+
+has_first : (u x : ℕ) (us : List ℕ) → u ≡ x → has (u ∷ us) x ≡ true
+has_first u x us same = grind (arith, nat_tests)
+
+has_later : (u x : ℕ) (us : List ℕ) → has us x ≡ true → has (u ∷ us) x ≡ true
+has_later u x us later = grind (arith, nat_tests)
+
+has_parts : (u x : ℕ) (us : List ℕ) → has (u ∷ us) x ≡ true → (u ≡ x) ⊎ (has us x ≡ true)
+has_parts u x us h = grind (arith, nat_tests)
+
+-- each number that passes is in the list of those
+pub passing-has : (test : ℕ → Bool) (x : ℕ) → test x ≡ true → (k n : ℕ) → k ≤ x → x < k + n → has (passing test k n) x ≡ true
+passing-has test x passes k zero low high = absurd (omega (arith, low, high))
+passing-has test x passes k (suc n) low high = at (eqb_tells k x) (test k) refl (λ apart. passing-has test x passes (k + 1) n (omega (arith, apart)) (omega arith))
+  where
+    at : ((eqb k x ≡ true) × (k ≡ x)) ⊎ ((eqb k x ≡ false) × (k ≢ x)) → (b : Bool) → test k ≡ b → (k ≢ x → has (passing test (k + 1) n) x ≡ true) → has (if b then k ∷ passing test (k + 1) n else passing test (k + 1) n) x ≡ true
+    at (inl same) true is later = has_first k x _ same.1
+    at (inl same) false is later = absurd (false≢true (sym is ∙ ap test same.1 ∙ passes))
+    at (inr apart) true is later = has_later k x _ (later apart.1)
+    at (inr apart) false is later = later apart.1
+
+-- the user who holds a step wrongly
+misheld_found : (p : Problem) (finished : List Bool) (s : ℕ) (o : Option ℕ) → is_misheld p finished s o ≡ true → (u : ℕ) × (o ≡ Some u) × (is_member finished s ≡ false) × (p.authorised s u ≡ false)
+misheld_found p finished s None h = absurd (false≢true h)
+misheld_found p finished s (Some u) h =
+    let both = and_parts _ _ h in
+    (u, refl, not_true _ both.0, not_true _ both.1)
+
+-- no valid plan keeps a step with a user who is not authorised for it
+misheld_excludes : (p : Problem) (assigned : List (Option ℕ)) (finished : List Bool) (s : ℕ) → s < p.steps → is_misheld p finished s (user_at assigned s) ≡ true → (plan : List ℕ) → IsValidPlan p assigned finished plan → ⊥
+misheld_excludes p assigned finished s below h plan valid =
+    let held = misheld_found p finished s (user_at assigned s) h in
+    let kept : planned plan s ≡ held.0 = same_some _ _ (valid.keeps s held.0 held.1) in
+    let may : p.authorised s held.0 ≡ true = subst (λ u. p.authorised s u ≡ true) kept (valid.allowed s below held.2) in
+    false≢true (sym held.3 ∙ may)
+
+-- no valid plan obeys a rule that is falsified
+broken_excludes : (p : Problem) (assigned : List (Option ℕ)) (finished : List Bool) (k : ℕ) (o : Option Rule) → slice_get p.rules k ≡ o → is_broken p assigned o ≡ true → (plan : List ℕ) → IsValidPlan p assigned finished plan → ⊥
+broken_excludes p assigned finished k None is h plan valid = false≢true h
+broken_excludes p assigned finished k (Some r) is h plan valid =
+    let final = stays_falsified p.related r (user_at assigned) (λ s. Some (planned plan s)) valid.keeps h in
+    false≢true (sym (totals_decide p.related r (planned plan) ∙ ap not final) ∙ valid.obeyed k r is)
+
+-- a step that is free is given its user in a valid plan, which stays valid
+valid_given : (p : Problem) (assigned : List (Option ℕ)) (finished : List Bool) (plan : List ℕ) (s : ℕ) → IsValidPlan p assigned finished plan → IsValidPlan p (slice_set assigned s (Some (planned plan s))) finished plan
+valid_given p assigned finished plan s valid = record {
+  whole = valid.whole;
+  known = valid.known;
+  keeps = λ t w h. kept t w (given assigned s (planned plan s) t w h);
+  allowed = valid.allowed;
+  obeyed = valid.obeyed;
+}
+  where
+    kept : (t w : ℕ) → ((t ≡ s) × (w ≡ planned plan s)) ⊎ (user_at assigned t ≡ Some w) → Some (planned plan t) ≡ Some w
+    kept t w (inl here) = ap Some (ap (planned plan) here.0 ∙ sym here.1)
+    kept t w (inr before) = valid.keeps t w before
+
+-- a free step is not finished
+free_open : (assigned : List (Option ℕ)) (finished : List Bool) (s : ℕ) → AreAssigned finished assigned → user_at assigned s ≡ None → (b : Bool) → is_member finished s ≡ b → b ≡ false
+free_open assigned finished s all free true is = let u = all s is in none_not_some u.0 (sym free ∙ u.1)
+free_open assigned finished s all free false is = refl
+
+-- what is finished stays assigned where a free step is given
+pub assigned_given : (assigned : List (Option ℕ)) (finished : List Bool) (s u : ℕ) → AreAssigned finished assigned → user_at assigned s ≡ None → AreAssigned finished (slice_set assigned s (Some u))
+assigned_given assigned finished s u all free t is =
+    let w = all t is in
+    let apart : t ≢ s = λ same. none_not_some w.0 (sym free ∙ sym (ap (user_at assigned) same) ∙ w.1) in
+    (w.0, given_other assigned s u t apart ∙ w.1)
+
+mutual
+  refuted : (p : Problem) (assigned : List (Option ℕ)) (finished : List Bool) (tree : Shape) → AreAssigned finished assigned → refutes p assigned finished tree ≡ true → (plan : List ℕ) → IsValidPlan p assigned finished plan → ⊥
+  refuted p assigned finished (holder s) all h plan valid =
+      let both = and_parts _ _ h in
+      misheld_excludes p assigned finished s (ltb-true _ _ both.0) both.1 plan valid
+  refuted p assigned finished (rule k) all h plan valid = broken_excludes p assigned finished k (slice_get p.rules k) refl h plan valid
+  refuted p assigned finished (node s kids) all h plan valid =
+      let both = and_parts (is_free p assigned s) (have_users (candidates p s) kids && all_refute p assigned finished s [] kids) h in
+      let rest = and_parts (have_users (candidates p s) kids) (all_refute p assigned finished s [] kids) both.1 in
+      let step = and_parts (nat_lt s p.steps) (not (is_some (user_at assigned s))) both.0 in
+      let below : s < p.steps = ltb-true s p.steps step.0 in
+      let free : user_at assigned s ≡ None = not_some (user_at assigned s) step.1 in
+      let unfinished = free_open assigned finished s all free (is_member finished s) refl in
+      let may = valid.allowed s below unfinished in
+      let there = passing-has (p.authorised s) (planned plan s) may 0 p.users (omega arith) (omega (arith, valid.known s below)) in
+      kids_refuted p assigned finished s [] (candidates p s) kids all free rest.0 rest.1 plan valid there
+
+  kids_refuted : (p : Problem) (assigned : List (Option ℕ)) (finished : List Bool) (s : ℕ) (earlier us : List ℕ) (kids : Kids) → AreAssigned finished assigned → user_at assigned s ≡ None → have_users us kids ≡ true → all_refute p assigned finished s earlier kids ≡ true → (plan : List ℕ) → IsValidPlan p assigned finished plan → has us (planned plan s) ≡ true → ⊥
+  kids_refuted p assigned finished s earlier [] kids all free users each plan valid there = false≢true there
+  kids_refuted p assigned finished s earlier (u ∷ us) no_kids all free users each plan valid there = false≢true users
+  kids_refuted p assigned finished s earlier (u ∷ us) (tree_kid v t kids) all free users each plan valid there =
+      let same = and_parts (u == v) (have_users us kids) users in
+      let both = and_parts (refutes p (slice_set assigned s (Some v)) finished t) (all_refute p assigned finished s (v ∷ earlier) kids) each in
+      either (has_parts u (planned plan s) us there)
+      (λ here. refuted p (slice_set assigned s (Some v)) finished t (assigned_given assigned finished s v all free) both.0 plan
+      (subst (λ w. IsValidPlan p (slice_set assigned s (Some w)) finished plan) (sym here ∙ eqb-true u v same.0) (valid_given p assigned finished plan s valid)))
+      (λ later. kids_refuted p assigned finished s (v ∷ earlier) us kids all free same.1 both.1 plan valid later)
+
+pub refutes_soundly : RefutesSoundly
+refutes_soundly p assigned finished tree all h some = refuted p assigned finished tree all h some.0 some.1

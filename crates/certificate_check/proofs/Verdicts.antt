@@ -1,0 +1,83 @@
+-- A plan has no first fault exactly where it is valid.
+use Rattle.std.proofs.Common.{◌≡◌, ◌≢◌, ◌⊎◌, inl, inr, eqb, refl, sym, ap, subst, ◌∙◌, ℕ, zero, suc, ◌+◌, ◌-◌, ◌<◌, ◌≤◌, ◌↔◌, Bool, true, false, not, ◌&&◌, ◌||◌, ◌==◌, List, length, Option, None, Some, Result, Ok, Err, IsOk, slice_get, if◌then◌else◌, arith}
+use Rattle.std.specs.Bool.{IsTrue}
+use Rattle.std.proofs.lemmas.Bool.{false≢true, eqb-true, eq-eqb}
+use Rattle.std.proofs.lemmas.Bool.Decides.{eqb_tells}
+use Rattle.std.proofs.lemmas.Option.{slice_get_within}
+use Rattle.constraint_forms.specs.declared.rule.Rule.{Rule}
+use Rattle.constraint_forms.specs.Assigned.{user_at, planned, is_member}
+use Rattle.constraint_forms.specs.Rules.{is_satisfied}
+use Rattle.policy_book.specs.Plans.{Problem, IsValidPlan, IsWithin}
+use Rattle.certificate_check.specs.Faults.{first_failing, is_kept, may_perform, is_obeyed, or_else, plan_verdict}
+use Rattle.certificate_check.specs.declared.plan.PlanFault.TheVariants.{Moved, Role, Rule as Rule_fault}
+use Rattle.certificate_check.specs.declared.plan.PlanFault.{PlanFault}
+use Rattle.certificate_check.proofs.Assigned.{same_some, none_not_some}
+
+-- where nothing fails, all pass
+all_pass : (test : ℕ → Bool) (x k n : ℕ) → first_failing test k n ≡ None → k ≤ x → x < k + n → test x ≡ true
+all_pass test x k zero none low high = absurd (omega (arith, low, high))
+all_pass test x k (suc n) none low high = at (test k) refl none (eqb_tells k x) (λ e apart. all_pass test x (k + 1) n e (omega (arith, low, apart)) (omega (arith, high)))
+  where
+    at : (b : Bool) → test k ≡ b → (if b then first_failing test (k + 1) n else Some k) ≡ None → ((eqb k x ≡ true) × (k ≡ x)) ⊎ ((eqb k x ≡ false) × (k ≢ x)) → (first_failing test (k + 1) n ≡ None → k ≢ x → test x ≡ true) → test x ≡ true
+    at true is e (inl same) later = sym (ap test same.1) ∙ is
+    at true is e (inr apart) later = later e apart.1
+    at false is e place later = none_not_some k (sym e)
+
+-- where all pass, nothing fails
+none_fails : (test : ℕ → Bool) (k n : ℕ) → ((x : ℕ) → k ≤ x → x < k + n → test x ≡ true) → first_failing test k n ≡ None
+none_fails test k zero pass = refl
+none_fails test k (suc n) pass =
+    ap (λ b. if b then first_failing test (k + 1) n else Some k) (pass k (omega arith) (omega arith))
+    ∙ none_fails test (k + 1) n (λ x low high. pass x (omega (arith, low)) (omega (arith, high)))
+
+ok_parts : (x y z : Option ℕ) → IsOk (or_else x Moved (or_else y Role (or_else z Rule_fault (Ok tt)))) → (x ≡ None) × (y ≡ None) × (z ≡ None)
+ok_parts None None None ok = (refl, refl, refl)
+ok_parts None None (Some k) ok = absurd (false≢true ok)
+ok_parts None (Some s) z ok = absurd (false≢true ok)
+ok_parts (Some s) y z ok = absurd (false≢true ok)
+
+ok_whole : (x y z : Option ℕ) → x ≡ None → y ≡ None → z ≡ None → IsOk (or_else x Moved (or_else y Role (or_else z Rule_fault (Ok tt))))
+ok_whole None None None e f g = refl
+ok_whole None None (Some k) e f g = none_not_some k (sym g)
+ok_whole None (Some s) z e f g = none_not_some s (sym f)
+ok_whole (Some s) y z e f g = none_not_some s (sym e)
+
+kept_keeps : (o : Option ℕ) (w u : ℕ) → is_kept o w ≡ true → o ≡ Some u → w ≡ u
+kept_keeps None w u kept is = none_not_some u is
+kept_keeps (Some v) w u kept is = sym (eqb-true v w kept) ∙ same_some v u is
+
+keeps_kept : (o : Option ℕ) (w : ℕ) → ((u : ℕ) → o ≡ Some u → Some w ≡ Some u) → is_kept o w ≡ true
+keeps_kept None w keeps = refl
+keeps_kept (Some v) w keeps = eq-eqb v w (sym (same_some w v (keeps v refl)))
+
+may_authorised : (b c : Bool) → (b || c) ≡ true → b ≡ false → c ≡ true
+may_authorised true c may unfinished = absurd (false≢true (sym unfinished))
+may_authorised false c may unfinished = may
+
+authorised_may : (b c : Bool) → (b ≡ false → c ≡ true) → (b || c) ≡ true
+authorised_may true c allowed = refl
+authorised_may false c allowed = allowed refl
+
+satisfied_obeyed : (p : Problem) (plan : List ℕ) (o : Option Rule) → ((r : Rule) → o ≡ Some r → IsTrue (is_satisfied p.related r (planned plan))) → is_obeyed p plan o ≡ true
+satisfied_obeyed p plan None obeys = refl
+satisfied_obeyed p plan (Some r) obeys = obeys r refl
+
+pub verdict_tells : (p : Problem) (a : List (Option ℕ)) (done : List Bool) (plan : List ℕ) → length plan ≡ p.steps → ((s : ℕ) → s < length plan → planned plan s < p.users) → IsWithin p a → IsOk (plan_verdict p a done plan) ↔ IsValidPlan p a done plan
+verdict_tells p a done plan whole users within = (forth, back)
+  where
+    forth : IsOk (plan_verdict p a done plan) → IsValidPlan p a done plan
+    forth ok =
+        let none = ok_parts (first_failing (λ s. is_kept (user_at a s) (planned plan s)) 0 p.steps) (first_failing (may_perform p done plan) 0 p.steps) (first_failing (λ k. is_obeyed p plan (slice_get p.rules k)) 0 (length p.rules)) ok in
+        record {
+          whole = whole;
+          known = λ s below. users s (subst (λ n. s < n) (sym whole) below);
+          keeps = λ s u is. ap Some (kept_keeps (user_at a s) (planned plan s) u (all_pass (λ t. is_kept (user_at a t) (planned plan t)) s 0 p.steps none.0 (omega arith) (omega (arith, within.steps s u is))) is);
+          allowed = λ s below unfinished. may_authorised (is_member done s) (p.authorised s (planned plan s)) (all_pass (may_perform p done plan) s 0 p.steps none.1 (omega arith) (omega (arith, below))) unfinished;
+          obeyed = λ k r is. subst (λ o. is_obeyed p plan o ≡ true) is (all_pass (λ j. is_obeyed p plan (slice_get p.rules j)) k 0 (length p.rules) none.2 (omega arith) (omega (arith, slice_get_within p.rules k r is)));
+        }
+
+    back : IsValidPlan p a done plan → IsOk (plan_verdict p a done plan)
+    back valid = ok_whole _ _ _
+        (none_fails (λ s. is_kept (user_at a s) (planned plan s)) 0 p.steps (λ s low high. keeps_kept (user_at a s) (planned plan s) (λ u is. valid.keeps s u is)))
+        (none_fails (may_perform p done plan) 0 p.steps (λ s low high. authorised_may (is_member done s) (p.authorised s (planned plan s)) (valid.allowed s (omega (arith, high)))))
+        (none_fails (λ k. is_obeyed p plan (slice_get p.rules k)) 0 (length p.rules) (λ k low high. satisfied_obeyed p plan (slice_get p.rules k) (valid.obeyed k)))

@@ -1,0 +1,14 @@
+use Rattle.std.proofs.Common.{rules, ◌≡◌, ◌<◌, ◌-◌, ◌+◌, ◌||◌, ℕ, length, slice_get, Bool, true, false, not, Some, None, sym, ap, ◌∙◌, arith, if◌then◌else◌}
+use Rattle.constraint_forms.specs.Assigned.{planned, user_at}
+use Rattle.policy_book.specs.Policies.{problem_of}
+use Rattle.certificate_check.specs.Faults.{first_failing, is_kept, is_obeyed, may_perform, plan_verdict}
+use Rattle.certificate_check.proofs.Failing.{first_failing_at}
+use Rattle.certificate_check.proofs.plan.first_disobeyed.Goals as goal
+
+pub rules-preserved : goal.rules-preserved
+rules-preserved c =
+    let p = problem_of c.args.p.now c.args.f in
+    let n = length p.rules in
+    let rest = first_failing (λ k. is_obeyed p c.args.plan.now (slice_get p.rules k)) (c.rules.k + 1) (n - (c.rules.k + 1)) in
+    let known : c.rules.k < n = omega (arith, c.rules-test.true, c.len-k-end.ensures, ap length c.rules-2.ensures.rules) in
+    sym (first_failing_at (λ k. is_obeyed p c.args.plan.now (slice_get p.rules k)) c.rules.k n known ∙ ap (λ b. if b then rest else Some c.rules.k) (sym c.if-not-is_obeyed.ensures)) ∙ c.rules.invariant

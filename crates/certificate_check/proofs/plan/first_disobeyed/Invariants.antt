@@ -1,0 +1,10 @@
+use Rattle.std.proofs.Common.{◌≡◌, ◌-◌, length, slice_get}
+use Rattle.constraint_forms.specs.Assigned.{planned, user_at}
+use Rattle.policy_book.specs.Policies.{problem_of}
+use Rattle.certificate_check.specs.Faults.{first_failing, is_kept, is_obeyed, may_perform}
+use Rattle.certificate_check.proofs.plan.first_disobeyed.Given as goal
+
+abbrev pub invariant-rules : goal.invariant-rules
+invariant-rules l =
+    first_failing (λ k. is_obeyed (problem_of l.p l.f) l.plan (slice_get (problem_of l.p l.f).rules k)) l.k (length (problem_of l.p l.f).rules - l.k)
+    ≡ first_failing (λ k. is_obeyed (problem_of l.p l.f) l.plan (slice_get (problem_of l.p l.f).rules k)) 0 (length (problem_of l.p l.f).rules)

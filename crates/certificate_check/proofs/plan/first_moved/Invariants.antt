@@ -1,0 +1,8 @@
+use Rattle.std.proofs.Common.{◌≡◌, ◌-◌, length, slice_get}
+use Rattle.constraint_forms.specs.Assigned.{planned, user_at}
+use Rattle.policy_book.specs.Policies.{problem_of}
+use Rattle.certificate_check.specs.Faults.{first_failing, is_kept, is_obeyed, may_perform}
+use Rattle.certificate_check.proofs.plan.first_moved.Given as goal
+
+abbrev pub invariant-steps : goal.invariant-steps
+invariant-steps l = first_failing (λ s. is_kept (user_at l.a s) (planned l.plan s)) l.s (length l.plan - l.s) ≡ first_failing (λ s. is_kept (user_at l.a s) (planned l.plan s)) 0 (length l.plan)

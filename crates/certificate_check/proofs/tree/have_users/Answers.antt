@@ -1,0 +1,37 @@
+use Rattle.std.proofs.Common.{rules, zero, if◌then◌else◌, ◌≡◌, ◌<◌, ◌≤◌, ◌+◌, ◌-◌, ◌*◌, ◌&&◌, ◌||◌, nat_lt, nat_eq, ℕ, length, slice_get, [], ◌∷◌, drop, Bool, true, false, List, refl, sym, ap, subst, ◌∙◌, arith}
+use Rattle.wf_names.specs.declared.limits.TheConstants.{STEP_LIMIT}
+use Rattle.refutation_tree.specs.Shapes.{branch_onto, kids_of_items, kids_from, shape_of, no_kids, Kids}
+use Rattle.refutation_tree.proofs.ShapeLaws.{kids_of_items-drop, kids_of-out}
+use Rattle.policy_book.specs.Plans.{IsWithin}
+use Rattle.policy_book.specs.Policies.{problem_of}
+use Rattle.policy_book.specs.Refuting.{all_refute, any_mentions, candidates, have_users, passing, is_free, mentions, refutes}
+use Rattle.certificate_check.specs.Walks.{begins_with}
+use Rattle.certificate_check.proofs.Trees.{mentions_at, refutes_at, have_users-begin, passing_at, passing_below, user_below, nodes_within, within_given, users_next, none_next, branch_user}
+use Rattle.certificate_check.proofs.tree.have_users.Goals as goal
+
+users_known : (n : ℕ) (names users : List (List ℕ)) → n ≡ length names → names ≡ users → n ≡ length users
+users_known n names users count same = count ∙ ap length same
+
+pub users-preserved-then-not-authorised : goal.users-preserved-then-not-authorised
+users-preserved-then-not-authorised c =
+    let p = problem_of c.args.p.now c.args.f in
+    let known = users_known _ _ _ c.len-u-end.ensures.count (c.users-2.ensures.names ∙ ap (λ r. r.users) c.roster.ensures.roster) in
+    let left = passing (p.authorised c.args.s) (c.users.u + 1) (p.users - (c.users.u + 1)) in
+    let skip = passing_at (p.authorised c.args.s) c.users.u p.users (omega (arith, known, c.users-test.true)) ∙ ap (λ b. if b then c.users.u ∷ left else left) (sym c.if-not-authorised.ensures) in
+    (c.users.invariant.0, ap (λ us. have_users us (kids_of_items (drop c.users.next c.args.branches.now))) (sym skip) ∙ c.users.invariant.1)
+
+pub users-preserved : goal.users-preserved
+users-preserved c =
+    let p = problem_of c.args.p.now c.args.f in
+    let known = users_known _ _ _ c.len-u-end.ensures.count (c.users-2.ensures.names ∙ ap (λ r. r.users) c.roster.ensures.roster) in
+    let left = passing (p.authorised c.args.s) (c.users.u + 1) (p.users - (c.users.u + 1)) in
+    let take = passing_at (p.authorised c.args.s) c.users.u p.users (omega (arith, known, c.users-test.true)) ∙ ap (λ b. if b then c.users.u ∷ left else left) (sym c.if-not-authorised.ensures) in
+    let within = c.if-not-is_of.ensures.within refl in
+    (omega (arith, within), sym (users_next c.users.u left c.args.branches.now c.users.next true c.if-not-is_of.ensures.user) ∙ ap (λ us. have_users us (kids_of_items (drop c.users.next c.args.branches.now))) (sym take) ∙ c.users.invariant.1)
+
+pub returns : goal.returns
+returns c =
+    let p = problem_of c.args.p.now c.args.f in
+    let known = users_known _ _ _ c.len-u-end.ensures.count (c.users-2.ensures.names ∙ ap (λ r. r.users) c.roster.ensures.roster) in
+    let over : p.users - c.users.u ≡ zero = omega (arith, known, c.users-test.false) in
+    sym (none_next c.args.branches.now c.users.next c.users.invariant.0) ∙ ap (λ n. have_users (passing (p.authorised c.args.s) c.users.u n) (kids_of_items (drop c.users.next c.args.branches.now))) (sym over) ∙ c.users.invariant.1

@@ -1,0 +1,9 @@
+//! Checks of plans and of the trees that refute, simple enough to be trusted by reading.
+#![tactic(auto)]
+
+pub mod laws;
+mod plan;
+mod tree;
+
+pub use plan::{PlanFault, check_plan};
+pub use tree::{check_tree, mentions};

@@ -1,0 +1,129 @@
+//! Whether a plan is valid, and what is the first thing wrong with it.
+ghost use Rattle.std.specs.Prelude.{◌≡◌, ◌<◌, ◌↔◌, ℕ, length, slice_get, IsOk};
+ghost use Rattle.constraint_forms.specs.Assigned.{planned, user_at};
+ghost use Rattle.policy_book.specs.Plans.{IsValidPlan, IsWithin};
+ghost use Rattle.policy_book.specs.Policies.{problem_of};
+ghost use Rattle.certificate_check.specs.Faults.{first_failing, is_kept, is_obeyed, may_perform, plan_verdict};
+
+use constraint_forms::satisfied;
+use policy_book::{Assign, Plan, Policy, StepSet};
+use wf_names::{FlowId, StepId};
+
+/// What is wrong with a plan.
+#[derive(Clone, Copy, Debug, PartialEq, Eq)]
+pub enum PlanFault {
+    /// It gives an assigned step to another user.
+    Moved(StepId),
+    /// It gives a step that is not finished to a user who is not authorised for it.
+    Role(StepId),
+    /// It does not satisfy the rule with this number.
+    Rule(u8),
+}
+
+/// Checks that a plan is valid for what is assigned and finished, and else tells its first fault.
+pub fn check_plan(
+    p: &Policy,
+    f: FlowId,
+    a: &Assign,
+    done: &StepSet,
+    plan: &Plan,
+) -> Result<(), PlanFault>
+    requires flow { f < length p.now.flows }
+    requires whole { length plan.now ≡ (problem_of p.now f).steps }
+    requires users { (s : ℕ) → s < length plan.now → planned plan.now s < (problem_of p.now f).users }
+    requires within { IsWithin (problem_of p.now f) a.now }
+    ensures valid { IsOk result ↔ IsValidPlan (problem_of p.now f) a.now done.now plan.now }
+    ensures fault { result ≡ plan_verdict (problem_of p.now f) a.now done.now plan.now }
+{
+    verdict(p, f, a, done, plan)
+}
+
+fn verdict(p: &Policy, f: FlowId, a: &Assign, done: &StepSet, plan: &Plan) -> Result<(), PlanFault>
+    requires flow { f < length p.now.flows }
+    requires whole { length plan.now ≡ (problem_of p.now f).steps }
+    requires users { (s : ℕ) → s < length plan.now → planned plan.now s < (problem_of p.now f).users }
+    ensures { result ≡ plan_verdict (problem_of p.now f) a.now done.now plan.now }
+{
+    if let Some(s) = first_moved(a, plan) {
+        return Err(PlanFault::Moved(s));
+    }
+    if let Some(s) = first_unauthorised(p, f, done, plan) {
+        return Err(PlanFault::Role(s));
+    }
+    if let Some(k) = first_disobeyed(p, f, plan) {
+        return Err(PlanFault::Rule(k));
+    }
+    Ok(())
+}
+
+/// The least step that is assigned and that the plan gives to another user.
+fn first_moved(a: &Assign, plan: &Plan) -> Option<StepId>
+    ensures { result ≡ first_failing (λ s. is_kept (user_at a.now s) (planned plan.now s)) 0 (length plan.now) }
+{
+    'steps: for s in 0..plan.len() {
+        if !is_kept(a, plan, StepId(s)) {
+            return Some(StepId(s));
+        }
+    }
+    None
+}
+
+fn is_kept(a: &Assign, plan: &Plan, s: StepId) -> bool
+    requires { s < length plan.now }
+    ensures { result ≡ is_kept (user_at a.now s) (planned plan.now s) }
+{
+    match a.at(s) {
+        Some(u) => u == plan.at(s),
+        None => true,
+    }
+}
+
+/// The least step that is not finished and whose user is not authorised for it.
+fn first_unauthorised(p: &Policy, f: FlowId, done: &StepSet, plan: &Plan) -> Option<StepId>
+    requires flow { f < length p.now.flows }
+    requires whole { length plan.now ≡ (problem_of p.now f).steps }
+    requires users { (s : ℕ) → s < length plan.now → planned plan.now s < (problem_of p.now f).users }
+    ensures { result ≡ first_failing (may_perform (problem_of p.now f) done.now plan.now) 0 (length plan.now) }
+{
+    'steps: for s in 0..plan.len() {
+        if !may_perform(p, f, done, plan, StepId(s)) {
+            return Some(StepId(s));
+        }
+    }
+    None
+}
+
+fn may_perform(p: &Policy, f: FlowId, done: &StepSet, plan: &Plan, s: StepId) -> bool
+    requires flow { f < length p.now.flows }
+    requires whole { length plan.now ≡ (problem_of p.now f).steps }
+    requires users { (t : ℕ) → t < length plan.now → planned plan.now t < (problem_of p.now f).users }
+    requires step { s < length plan.now }
+    ensures { result ≡ may_perform (problem_of p.now f) done.now plan.now s }
+{
+    done.has(s) || p.authorised(f, s, plan.at(s))
+}
+
+/// The least rule that the plan does not satisfy.
+fn first_disobeyed(p: &Policy, f: FlowId, plan: &Plan) -> Option<u8>
+    requires flow { f < length p.now.flows }
+    requires whole { length plan.now ≡ (problem_of p.now f).steps }
+    ensures { result ≡ first_failing (λ k. is_obeyed (problem_of p.now f) plan.now (slice_get (problem_of p.now f).rules k)) 0 (length (problem_of p.now f).rules) }
+{
+    'rules: for k in 0..p.rules(f).len() {
+        if !is_obeyed(p, f, plan, k) {
+            return Some(k as u8);
+        }
+    }
+    None
+}
+
+fn is_obeyed(p: &Policy, f: FlowId, plan: &Plan, k: usize) -> bool
+    requires flow { f < length p.now.flows }
+    requires whole { length plan.now ≡ (problem_of p.now f).steps }
+    ensures { result ≡ is_obeyed (problem_of p.now f) plan.now (slice_get (problem_of p.now f).rules k) }
+{
+    match p.rules(f).get(k) {
+        Some(rule) => satisfied(&rule, p, plan),
+        None => true,
+    }
+}

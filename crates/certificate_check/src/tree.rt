@@ -1,0 +1,185 @@
+//! Whether a tree refutes an assignment, and which steps a tree speaks of.
+ghost use Rattle.std.specs.Prelude.{◌≡◌, ◌<◌, ◌&&◌, nat_lt, ℕ, length, slice_get, IsTrue, [], drop};
+ghost use Rattle.wf_names.specs.declared.limits.TheConstants.{STEP_LIMIT};
+ghost use Rattle.constraint_forms.specs.Assigned.{user_at};
+ghost use Rattle.refutation_tree.specs.Shapes.{branch_onto, kids_of_items, shape_of, no_kids, Kids};
+ghost use Rattle.policy_book.specs.Plans.{IsWithin};
+ghost use Rattle.policy_book.specs.Policies.{problem_of};
+ghost use Rattle.certificate_check.specs.Walks.{begins_with};
+ghost use Rattle.policy_book.specs.Refuting.{all_refute, any_mentions, candidates, have_users, is_broken, is_free, is_misheld, is_rule_naming, mentions, refutes};
+
+use constraint_forms::falsified;
+use policy_book::{Assign, Policy, Rules, StepSet};
+use refutation_tree::{Branch, Kid, Tree};
+use wf_names::{FlowId, StepId, UserId};
+
+/// Whether a tree refutes an assignment with these finished steps, which then no valid plan keeps.
+/// The tree may hold any numbers. Takes no memory.
+#[cycle(check)]
+pub fn check_tree(p: &Policy, f: FlowId, a: &Assign, done: &StepSet, tree: &Tree) -> bool
+    requires flow { f < length p.now.flows }
+    requires within { IsWithin (problem_of p.now f) a.now }
+    ensures { result ≡ refutes (problem_of p.now f) a.now done.now (shape_of tree.now) }
+{
+    match tree {
+        Tree::Holder(s) => is_misheld(p, f, a, done, *s),
+        Tree::Rule(k) => is_broken(p, f, a, *k),
+        Tree::Step(s, branches) => {
+            if !is_free(p, f, a, *s) {
+                return false;
+            }
+            if !have_users(p, f, *s, &branches.items) {
+                return false;
+            }
+            all_refute(p, f, a, done, *s, &branches.items)
+        }
+    }
+}
+
+/// Whether each of a step's branches refutes.
+#[cycle(check)]
+fn all_refute(
+    p: &Policy,
+    f: FlowId,
+    a: &Assign,
+    done: &StepSet,
+    s: StepId,
+    branches: &[Branch],
+) -> bool
+    requires flow { f < length p.now.flows }
+    requires within { IsWithin (problem_of p.now f) a.now }
+    requires room { s < STEP_LIMIT }
+    requires free { IsTrue (is_free (problem_of p.now f) a.now s) }
+    requires users { IsTrue (have_users (candidates (problem_of p.now f) s) (kids_of_items branches.now)) }
+    ensures { result ≡ all_refute (problem_of p.now f) a.now done.now s [] (kids_of_items branches.now) }
+{
+    'branches: for branch in branches {
+        if !branch_refutes(p, f, a, done, s, branch) {
+            return false;
+        }
+    }
+    true
+}
+
+/// Whether a branch refutes, once its step is given to its user.
+#[cycle(check)]
+fn branch_refutes(
+    p: &Policy,
+    f: FlowId,
+    a: &Assign,
+    done: &StepSet,
+    s: StepId,
+    branch: &Branch,
+) -> bool
+    requires flow { f < length p.now.flows }
+    requires within { IsWithin (problem_of p.now f) a.now }
+    requires room { s < STEP_LIMIT }
+    requires free { IsTrue (is_free (problem_of p.now f) a.now s) }
+    requires user { branch.now.user < (problem_of p.now f).users }
+    ensures { result ≡ all_refute (problem_of p.now f) a.now done.now s [] (branch_onto branch.now no_kids) }
+{
+    match &branch.kid {
+        Kid::Tree(tree) => check_tree(p, f, &a.with(s, branch.user), done, tree),
+    }
+}
+
+fn is_misheld(p: &Policy, f: FlowId, a: &Assign, done: &StepSet, s: StepId) -> bool
+    requires flow { f < length p.now.flows }
+    requires within { IsWithin (problem_of p.now f) a.now }
+    ensures { result ≡ (nat_lt s (problem_of p.now f).steps && is_misheld (problem_of p.now f) done.now s (user_at a.now s)) }
+{
+    match a.at(s) {
+        Some(u) => !done.has(s) && !p.authorised(f, s, u),
+        None => false,
+    }
+}
+
+fn is_broken(p: &Policy, f: FlowId, a: &Assign, k: u8) -> bool
+    requires flow { f < length p.now.flows }
+    ensures { result ≡ is_broken (problem_of p.now f) a.now (slice_get (problem_of p.now f).rules k) }
+{
+    match p.rules(f).get(k as usize) {
+        Some(rule) => falsified(&rule, p, a),
+        None => false,
+    }
+}
+
+fn is_free(p: &Policy, f: FlowId, a: &Assign, s: StepId) -> bool
+    requires flow { f < length p.now.flows }
+    ensures within { IsTrue result → s < STEP_LIMIT }
+    ensures free { result ≡ is_free (problem_of p.now f) a.now s }
+{
+    (s.0 as u16) < p.flow(f).steps().len() && a.at(s).is_none()
+}
+
+/// Whether branches are of exactly the users who are authorised for a step, ascending.
+fn have_users(p: &Policy, f: FlowId, s: StepId, branches: &[Branch]) -> bool
+    requires flow { f < length p.now.flows }
+    requires step { s < (problem_of p.now f).steps }
+    ensures { result ≡ have_users (candidates (problem_of p.now f) s) (kids_of_items branches.now) }
+{
+    let mut next = 0;
+    'users: for u in 0..p.roster().users().len() {
+        if !p.authorised(f, s, UserId(u)) {
+            continue;
+        }
+        if !is_of(branches, next, UserId(u)) {
+            return false;
+        }
+        next += 1;
+    }
+    next == branches.len()
+}
+
+/// Whether there is a branch at a place, and it is of a user.
+fn is_of(branches: &[Branch], place: usize, u: UserId) -> bool
+    ensures user { result ≡ begins_with u (kids_of_items (drop place branches.now)) }
+    ensures within { IsTrue result → place < length branches.now }
+{
+    match branches.get(place) {
+        Some(branch) => u == branch.user,
+        None => false,
+    }
+}
+
+/// Whether some leaf of a tree is the holder of a step or a rule that names the step.
+#[cycle(mentions)]
+pub fn mentions(tree: &Tree, rules: &Rules, s: StepId) -> bool
+    ensures { result ≡ mentions rules.now s (shape_of tree.now) }
+{
+    match tree {
+        Tree::Holder(t) => s == *t,
+        Tree::Rule(k) => names_step(rules, *k, s),
+        Tree::Step(_, branches) => any_mentions(&branches.items, rules, s),
+    }
+}
+
+#[cycle(mentions)]
+fn any_mentions(branches: &[Branch], rules: &Rules, s: StepId) -> bool
+    ensures { result ≡ any_mentions rules.now s (kids_of_items branches.now) }
+{
+    'branches: for branch in branches {
+        if branch_mentions(branch, rules, s) {
+            return true;
+        }
+    }
+    false
+}
+
+#[cycle(mentions)]
+fn branch_mentions(branch: &Branch, rules: &Rules, s: StepId) -> bool
+    ensures { result ≡ any_mentions rules.now s (branch_onto branch.now no_kids) }
+{
+    match &branch.kid {
+        Kid::Tree(tree) => mentions(tree, rules, s),
+    }
+}
+
+fn names_step(rules: &Rules, k: u8, s: StepId) -> bool
+    ensures { result ≡ is_rule_naming s (slice_get rules.now k) }
+{
+    match rules.get(k as usize) {
+        Some(rule) => rule.names(s),
+        None => false,
+    }
+}

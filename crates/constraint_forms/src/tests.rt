@@ -1,0 +1,182 @@
+//! Rules of example policies, whose verdicts were worked out by hand, and each call once.
+ghost use Rattle.std.specs.Prelude.{◌==◌, ◌&&◌, true, not, if◌then◌else◌};
+
+use crate::{Assign, Holds, Plan, Rule, Rules, StepSet, falsified, satisfied};
+use std::test::Fail;
+use wf_names::{RelId, StepId, UserId};
+
+const KIM: UserId = UserId(0);
+const LEE: UserId = UserId(1);
+const MAX: UserId = UserId(2);
+
+const A: StepId = StepId(0);
+const B: StepId = StepId(1);
+const C: StepId = StepId(2);
+
+const LISTED: RelId = RelId(2);
+const CLEAR: RelId = RelId(3);
+
+// `same`, `other`, and a relation with the one pair kim, lee.
+struct Mentors;
+
+impl Holds for Mentors {
+    ghost related = { λ _ rho u v. if rho == 0 then u == v else (if rho == 1 then not (u == v) else ((u == 0) && (v == 1))) };
+
+    fn holds(&self, rho: RelId, u: UserId, v: UserId) -> bool {
+        match rho.0 {
+            0 => u == v,
+            1 => u != v,
+            _ => u == UserId(0) && v == UserId(1),
+        }
+    }
+}
+
+// The complement of a relation without pairs.
+struct NoConflict;
+
+impl Holds for NoConflict {
+    ghost related = { λ _ rho u v. rho == 3 };
+
+    fn holds(&self, rho: RelId, _u: UserId, _v: UserId) -> bool {
+        rho == RelId(3)
+    }
+}
+
+// The assignment that a row says: one letter a step, `-` for a free one.
+fn assigned(row: &str) -> Assign {
+    let mut given = Assign::empty();
+    for step in 0..3u8 {
+        given = match row.as_bytes().get(step as usize) {
+            Some(b'k') => given.with(StepId(step), KIM),
+            Some(b'l') => given.with(StepId(step), LEE),
+            Some(b'm') => given.with(StepId(step), MAX),
+            _ => given,
+        };
+    }
+    given
+}
+
+#[test]
+fn duo_falsifies_a_pair_once_both_steps_are_assigned(rt: HostRuntime) {
+    let (rho, first, second) = (RelId::OTHER, A, B);
+    let other = Rule::Pair { rho, first, second };
+    let rho = RelId::SAME;
+    let same = Rule::Pair { rho, first, second };
+    let rows = [
+        ("--", false, false),
+        ("k-", false, false),
+        ("-k", false, false),
+        ("kk", true, false),
+        ("kl", false, true),
+    ];
+    for (row, breaks_other, breaks_same) in rows {
+        let a = assigned(row);
+        let got = (falsified(&other, &Mentors, &a), falsified(&same, &Mentors, &a));
+        assert_eq!(rt; got, (breaks_other, breaks_same), "{row}");
+    }
+}
+
+#[test]
+fn trio_mentor_falsifies_some_once_all_are_assigned(rt: HostRuntime) {
+    let (rho, group, step) = (LISTED, StepSet::empty().with(A).with(B), C);
+    let some = Rule::SomeOf { rho, group, step };
+    let all = Rule::AllOf { rho, group, step };
+    let rows = [
+        ("---", false, false),
+        ("--l", false, false),
+        ("k-l", false, false),
+        ("m-l", false, true),
+        ("mml", true, true),
+        ("kml", false, true),
+        ("kkl", false, false),
+        ("--k", false, false),
+        ("-lk", false, true),
+        ("klk", true, true),
+        ("kl-", false, false),
+    ];
+    for (row, breaks_some, breaks_all) in rows {
+        let a = assigned(row);
+        let got = (falsified(&some, &Mentors, &a), falsified(&all, &Mentors, &a));
+        assert_eq!(rt; got, (breaks_some, breaks_all), "{row}");
+    }
+}
+
+#[test]
+fn trio_plans_satisfy_or_not(rt: HostRuntime) {
+    let group = StepSet::empty().with(A).with(B);
+    let some = Rule::SomeOf {
+        rho: LISTED,
+        group,
+        step: C,
+    };
+    let all = Rule::AllOf {
+        rho: LISTED,
+        group,
+        step: C,
+    };
+    let clear = Rule::Pair {
+        rho: CLEAR,
+        first: A,
+        second: B,
+    };
+    let (kim_max_lee, max_max_lee, kim_kim_lee, kim_kim_kim) = (
+        Plan::of(&[KIM, MAX, LEE]),
+        Plan::of(&[MAX, MAX, LEE]),
+        Plan::of(&[KIM, KIM, LEE]),
+        Plan::of(&[KIM, KIM, KIM]),
+    );
+    assert_eq!(rt;
+        (
+            satisfied(&some, &Mentors, &kim_max_lee),
+            satisfied(&some, &Mentors, &max_max_lee),
+            satisfied(&all, &Mentors, &kim_max_lee),
+            satisfied(&all, &Mentors, &kim_kim_lee),
+            satisfied(&clear, &NoConflict, &kim_kim_kim),
+            falsified(&clear, &NoConflict, &Assign::empty().with(A, KIM).with(B, KIM)),
+        ),
+        (true, false, false, true, true, false)
+    );
+}
+
+#[test]
+fn rules_are_listed_with_their_steps(rt: HostRuntime) -> Result<(), Fail> {
+    let pair = Rule::Pair {
+        rho: RelId::OTHER,
+        first: A,
+        second: C,
+    };
+    let some = Rule::SomeOf {
+        rho: LISTED,
+        group: StepSet::empty().with(B),
+        step: C,
+    };
+    let mut rules = Rules::new(rt.alloc());
+    rules.push(pair)?;
+    rules.push(some)?;
+    let copy = rules.copy(rt.alloc())?;
+    assert_eq!(rt;
+        (copy.len(), copy.get(0), copy.get(1), copy.get(2)),
+        (2, Some(pair), Some(some), None)
+    );
+    assert_eq!(rt;
+        [
+            (pair.names(A), pair.names(B), pair.names(C)),
+            (some.names(A), some.names(B), some.names(C)),
+            (pair.reads(RelId::OTHER), pair.reads(LISTED), some.reads(LISTED)),
+        ],
+        [(true, false, true), (false, true, true), (true, false, true)]
+    );
+    Ok(())
+}
+
+#[test]
+fn cells_hold_what_is_put_in(rt: HostRuntime) {
+    let group = StepSet::empty().with(B);
+    let assign = Assign::empty().with(A, KIM).with(C, MAX).without(A);
+    let plan = Plan::of(&[MAX, LEE]);
+    assert_eq!(rt;
+        (group.has(A), group.has(B), group.limit(), assign.at(A), assign.at(C)),
+        (false, true, 16, None, Some(MAX))
+    );
+    assert_eq!(rt; (plan.len(), plan.at(A), plan.at(B), plan == Plan::of(&[MAX])), (2, MAX, LEE, false));
+}

@@ -1,0 +1,30 @@
+use Rattle.std.proofs.Common.{◌<◌, ap, length, arith}
+use Rattle.std.specs.FinSet as set
+use Rattle.policy_book.specs.Shapes.{PolicyShape}
+use Rattle.user_relations.specs.Relations.{pairs_of}
+use Rattle.policy_book.proofs.Keeping.{stored_with_pairs, pairs_of_users, all_inserted}
+use Rattle.policy_book.proofs.policy.Policy.relate.Goals as goal
+use Rattle.policy_book.proofs.policy.Policy.relate.Goals.{in-Ok, in-Err}
+
+pub relate-requires-clause-first : goal.relate-requires-clause-first
+relate-requires-clause-first c =
+    let same = ap (λ (p : PolicyShape). length p.roster.users) c.self.view_is in
+    omega (arith, same, c.requires.first, c.self.invariant.sound.users)
+
+pub relate-requires-clause-second : goal.relate-requires-clause-second
+relate-requires-clause-second c =
+    let same = ap (λ (p : PolicyShape). length p.roster.users) c.self.view_is in
+    omega (arith, same, c.requires.second, c.self.invariant.sound.users)
+
+pub invariant_of-self : goal.invariant_of-self
+invariant_of-self c =
+    let same = ap (λ (p : PolicyShape). length p.roster.users) c.self.view_is in
+    let first : c.args.u < length c.self.inside.roster.users = omega (arith, same, c.requires.first) in
+    let second : c.args.v < length c.self.inside.roster.users = omega (arith, same, c.requires.second) in
+    let rs = c.self.inside.relations in
+    let before = pairs_of_users (length c.self.inside.roster.users) rs c.args.rho c.self.invariant.sound.related in
+    let after = all_inserted (length c.self.inside.roster.users) (pairs_of rs c.args.rho) c.args.u c.args.v before first second in
+    elim c.match-relate.branch [
+      | in-Ok w ↦ rw w.in-Ok.ensures.related (stored_with_pairs c.self.inside.roster rs c.self.inside.names c.self.inside.flows.items c.self.inside.admin c.self.invariant c.args.rho (set.insert (pairs_of rs c.args.rho) (c.args.u, c.args.v)) after)
+      | in-Err w ↦ rw w.in-Err.ensures.unchanged c.self.invariant
+    ]

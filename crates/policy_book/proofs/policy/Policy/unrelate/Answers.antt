@@ -1,0 +1,18 @@
+use Rattle.std.proofs.Common.{ap, length}
+use Rattle.std.specs.FinSet as set
+use Rattle.policy_book.specs.Shapes.{PolicyShape}
+use Rattle.user_relations.specs.Relations.{pairs_of}
+use Rattle.policy_book.proofs.Keeping.{stored_with_pairs, pairs_of_users, all_removed}
+use Rattle.policy_book.proofs.policy.Policy.unrelate.Goals as goal
+use Rattle.policy_book.proofs.policy.Policy.unrelate.Goals.{in-Ok, in-Err}
+
+pub invariant_of-self : goal.invariant_of-self
+invariant_of-self c =
+    let same = ap (λ (p : PolicyShape). length p.roster.users) c.self.view_is in
+    let rs = c.self.inside.relations in
+    let before = pairs_of_users (length c.self.inside.roster.users) rs c.args.rho c.self.invariant.sound.related in
+    let after = all_removed (length c.self.inside.roster.users) (pairs_of rs c.args.rho) c.args.u c.args.v before in
+    elim c.match-unrelate.branch [
+      | in-Ok w ↦ rw w.in-Ok.ensures.unrelated (stored_with_pairs c.self.inside.roster rs c.self.inside.names c.self.inside.flows.items c.self.inside.admin c.self.invariant c.args.rho (set.remove (pairs_of rs c.args.rho) (c.args.u, c.args.v)) after)
+      | in-Err w ↦ rw w.in-Err.ensures.unchanged c.self.invariant
+    ]

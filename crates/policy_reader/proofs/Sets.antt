@@ -1,0 +1,8 @@
+-- How many pairs a set has.
+use Rattle.std.proofs.Common.{◌≡◌, ◌≤◌, ◌+◌, ℕ, Bool, true, false, cond, arith, subst, sym}
+use Rattle.std.specs.FinSet as set
+use Rattle.pair_set.specs.Pairs.{Pairs, pair_cmp}
+use Rattle.pair_set.specs.PairLaws.{pair_cmp_total}
+
+pub len_insert : (s : Pairs) (p : ℕ × ℕ) → set.len (set.insert s p) ≤ set.len s + 1
+len_insert s p = grind (arith, set.len-insert pair_cmp_total s p)

@@ -1,0 +1,13 @@
+use Rattle.std.proofs.Common.{◌≡◌, drop, length, []}
+use Rattle.toml.specs.View.{items_view}
+use Rattle.first_fault.specs.Reading.{each}
+use Rattle.policy_book.specs.Facts.{AreSoundRules}
+use Rattle.policy_reader.specs.Parts.{items}
+use Rattle.policy_reader.specs.Rules.{next_rule}
+use Rattle.policy_reader.proofs.rules.all_rules.Given as goal
+
+abbrev pub invariant-items : goal.invariant-items
+invariant-items l =
+    (each (next_rule l.flow l.relations l.steps.names) l.rules (items (items_view (drop l.value-index l.items))) ≡ each (next_rule l.flow l.relations l.steps.names) [] (items (items_view l.items)))
+    × AreSoundRules (length l.steps.names) (length l.relations) l.rules
+    × (length l.rules ≡ l.value-index)

@@ -1,0 +1,13 @@
+use Rattle.std.proofs.Common.{◌≡◌, length}
+use Rattle.toml.specs.View.{members_view, table_view}
+use Rattle.first_fault.specs.Reading.{each}
+use Rattle.policy_book.specs.Facts.{PermitsRolesBelow}
+use Rattle.policy_reader.specs.Parts.{entries}
+use Rattle.policy_reader.specs.Flows.{next_permit}
+use Rattle.policy_reader.proofs.workflows.all_permits.Given as goal
+
+abbrev pub invariant-entries : goal.invariant-entries
+invariant-entries l =
+    (each (next_permit l.flow l.roles.names) l.made (entries (members_view l.key-iterator)) ≡ each (next_permit l.flow l.roles.names) l.fn.made (entries (table_view l.fn.permits)))
+    × (l.made.steps ≡ l.fn.made.steps)
+    × PermitsRolesBelow (length l.roles.names) l.made

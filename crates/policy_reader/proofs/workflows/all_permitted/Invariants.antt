@@ -1,0 +1,13 @@
+use Rattle.std.proofs.Common.{◌≡◌, drop, length}
+use Rattle.toml.specs.View.{items_view}
+use Rattle.first_fault.specs.Reading.{each}
+use Rattle.policy_book.specs.Facts.{PermitsRolesBelow}
+use Rattle.policy_reader.specs.Parts.{items}
+use Rattle.policy_reader.specs.Flows.{next_permitted}
+use Rattle.policy_reader.proofs.workflows.all_permitted.Given as goal
+
+abbrev pub invariant-items : goal.invariant-items
+invariant-items l =
+    (each (next_permitted l.flow l.roles.names l.s) l.made (items (items_view (drop l.value-index l.items))) ≡ each (next_permitted l.flow l.roles.names l.s) l.fn.made (items (items_view l.items)))
+    × (l.made.steps ≡ l.fn.made.steps)
+    × PermitsRolesBelow (length l.roles.names) l.made

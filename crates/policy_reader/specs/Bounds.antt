@@ -1,0 +1,7 @@
+-- How large the numbers of pairs are.
+use Rattle.std.specs.Prelude.{ℕ, ◌<◌}
+use Rattle.pair_set.specs.Pairs.{Pairs, AllPairs}
+
+-- the numbers of all pairs are below n
+abbrev pub AreBelow : ℕ → Pairs → Type 0
+AreBelow n pairs = AllPairs (λ a b. (a < n) × (b < n)) pairs

@@ -1,0 +1,286 @@
+//! Reads the rules of a workflow. Their faults carry the workflow's number.
+ghost use Rattle.std.specs.Prelude.{◌≡◌, ◌<◌, ◌≤◌, ◌+◌, ◌++◌, ◌∷◌, length, IfErr, map, IfOk, OnOk, IsTrue, true, []};
+ghost use Rattle.toml.specs.View.{view, items_view, table_view};
+ghost use Rattle.wf_names.specs.declared.limits.TheConstants.{STEP_LIMIT, RULE_LIMIT};
+ghost use Rattle.constraint_forms.specs.Rules.{any_from};
+ghost use Rattle.constraint_forms.specs.Assigned.{no_steps};
+ghost use Rattle.policy_book.specs.Facts.{IsSoundRule, AreSoundRules};
+ghost use Rattle.policy_reader.specs.Faults.{fault_of};
+ghost use Rattle.policy_reader.specs.declared.fault.ReadFault.TheVariants.{NoMemory};
+ghost use Rattle.policy_reader.specs.Kept.{HasStepsBelow};
+ghost use Rattle.policy_reader.specs.Parts.{items as part_items};
+ghost use Rattle.policy_reader.specs.Rules as spec;
+ghost use Rattle.first_fault.specs.Reading.{Gives, each};
+
+use constraint_forms::{Rule, Rules, StepSet};
+use std::alloc::Global;
+use toml::Value;
+use toml::value::Table;
+use user_relations::Relations;
+use wf_names::{Name, NameTable, RULE_LIMIT, RelId, StepId};
+
+use crate::fault::{PolicyKind, PolicyPart, ReadFault, refuse, refuse_text};
+use crate::parts::{
+    array_of, at_least_one, at_most, find, no_others, number_of, table_of, text_of, value_at,
+};
+
+/// The relation that a value names.
+#[tactic(auto, unfolding(crate::specs::Rules::relation_in, crate::specs::Parts::number_in))]
+fn relation_of(relations: &Relations, value: &Value, flow: u32) -> Result<RelId, ReadFault>
+    ensures read { Gives fault_of (λ rho. rho) result (spec.relation_in flow relations.now (view value.now)) }
+    ensures within { IfOk result (λ rho. rho < length relations.now + 2) }
+{
+    let text = text_of(value, PolicyPart::Flows, flow)?;
+    let Some(name) = Name::read(text) else {
+        return Err(refuse(PolicyKind::Unknown, PolicyPart::Flows, flow));
+    };
+    match relations.find(&name) {
+        Some(rho) => Ok(rho),
+        None => Err(refuse_text(PolicyKind::Unknown, PolicyPart::Flows, flow, text)),
+    }
+}
+
+/// The step that a value names.
+#[tactic(auto, unfolding(crate::specs::Rules::step_in))]
+fn step_of(steps: &NameTable, value: &Value, flow: u32) -> Result<StepId, ReadFault>
+    requires few { length steps.now.names ≤ STEP_LIMIT }
+    ensures read { Gives fault_of (λ s. s) result (spec.step_in flow steps.now.names (view value.now)) }
+    ensures within { IfOk result (λ s. s < length steps.now.names) }
+{
+    let text = text_of(value, PolicyPart::Flows, flow)?;
+    let number = number_of(steps, text, PolicyPart::Flows, flow)?;
+    Ok(StepId(number as u8))
+}
+
+/// Puts the next step into a group.
+#[tactic(auto, unfolding(crate::specs::Rules::next_member, crate::specs::Parts::once))]
+fn next_member(
+    group: &mut StepSet,
+    steps: &NameTable,
+    value: &Value,
+    flow: u32,
+) -> Result<(), ReadFault>
+    requires few { length steps.now.names ≤ STEP_LIMIT }
+    requires within { HasStepsBelow (length steps.now.names) group.old }
+    ensures read { Gives fault_of (λ _. group.new) result (spec.next_member flow steps.now.names group.old (view value.now)) }
+    ensures within { OnOk result (HasStepsBelow (length steps.now.names) group.new) }
+    ensures some { OnOk result (IsTrue (any_from 0 group.new (λ _. true))) }
+{
+    let text = text_of(value, PolicyPart::Flows, flow)?;
+    let number = number_of(steps, text, PolicyPart::Flows, flow)?;
+    let step = StepId(number as u8);
+    if group.has(step) {
+        return Err(refuse_text(PolicyKind::Twice, PolicyPart::Flows, flow, text));
+    }
+    *group = group.with(step);
+    Ok(())
+}
+
+/// The group of steps that a value gives.
+#[tactic(auto, unfolding(crate::specs::Rules::group_in), using(crate::proofs::Counts::count_items))]
+fn group_of(steps: &NameTable, value: &Value, flow: u32) -> Result<StepSet, ReadFault>
+    requires few { length steps.now.names ≤ STEP_LIMIT }
+    ensures read { Gives fault_of (λ g. g) result (spec.group_in flow steps.now.names (view value.now)) }
+    ensures within { IfOk result (HasStepsBelow (length steps.now.names)) }
+    ensures some { IfOk result (λ g. IsTrue (any_from 0 g (λ _. true))) }
+{
+    let items = array_of(value, PolicyPart::Flows, flow)?;
+    at_least_one(items.len(), PolicyPart::Flows, flow)?;
+    all_members(steps, items, flow)
+}
+
+fn all_members(steps: &NameTable, items: &[Value], flow: u32) -> Result<StepSet, ReadFault>
+    requires few { length steps.now.names ≤ STEP_LIMIT }
+    requires some { 0 < length items.now }
+    ensures read { Gives fault_of (λ g. g) result (each (spec.next_member flow steps.now.names) no_steps (part_items (items_view items.now))) }
+    ensures within { IfOk result (HasStepsBelow (length steps.now.names)) }
+    ensures some { IfOk result (λ g. IsTrue (any_from 0 g (λ _. true))) }
+{
+    let mut group = StepSet::empty();
+    'items: for value in items {
+        if let Err(fault) = next_member(&mut group, steps, value, flow) {
+            return Err(fault);
+        }
+    }
+    Ok(group)
+}
+
+/// The rule over two steps in a table.
+#[tactic(auto, unfolding(crate::specs::Rules::pair_in))]
+fn pair_of(
+    table: &Table,
+    relations: &Relations,
+    steps: &NameTable,
+    flow: u32,
+) -> Result<Rule, ReadFault>
+    requires few { length steps.now.names ≤ STEP_LIMIT }
+    ensures read { Gives fault_of (λ r. r) result (spec.pair_in flow relations.now steps.now.names (table_view table.now)) }
+    ensures sound { IfOk result (IsSoundRule (length steps.now.names) (length relations.now)) }
+{
+    let relation = value_at(table, "relation", PolicyPart::Flows, flow)?;
+    let first = value_at(table, "first", PolicyPart::Flows, flow)?;
+    let second = value_at(table, "second", PolicyPart::Flows, flow)?;
+    no_others(table, &["first", "form", "relation", "second"], PolicyPart::Flows, flow)?;
+    let rho = relation_of(relations, relation, flow)?;
+    let first = step_of(steps, first, flow)?;
+    let second = step_of(steps, second, flow)?;
+    Ok(Rule::Pair { rho, first, second })
+}
+
+/// The rule over a group of steps and a step in a table.
+#[tactic(auto, unfolding(crate::specs::Rules::grouped_in))]
+fn grouped_of(
+    every: bool,
+    table: &Table,
+    relations: &Relations,
+    steps: &NameTable,
+    flow: u32,
+) -> Result<Rule, ReadFault>
+    requires few { length steps.now.names ≤ STEP_LIMIT }
+    ensures read { Gives fault_of (λ r. r) result (spec.grouped_in every flow relations.now steps.now.names (table_view table.now)) }
+    ensures sound { IfOk result (IsSoundRule (length steps.now.names) (length relations.now)) }
+{
+    let relation = value_at(table, "relation", PolicyPart::Flows, flow)?;
+    let group = value_at(table, "group", PolicyPart::Flows, flow)?;
+    let step = value_at(table, "step", PolicyPart::Flows, flow)?;
+    no_others(table, &["form", "group", "relation", "step"], PolicyPart::Flows, flow)?;
+    let rho = relation_of(relations, relation, flow)?;
+    let step = step_of(steps, step, flow)?;
+    let group = group_of(steps, group, flow)?;
+    Ok(group_rule(every, rho, group, step))
+}
+
+fn group_rule(every: bool, rho: RelId, group: StepSet, step: StepId) -> Rule
+    ensures { result ≡ spec.group_rule every rho group step }
+{
+    if every {
+        Rule::AllOf { rho, group, step }
+    } else {
+        Rule::SomeOf { rho, group, step }
+    }
+}
+
+fn is_text(value: &Value, text: &str) -> bool
+    ensures { result ≡ spec.is_text text.now (view value.now) }
+{
+    match value.as_str() {
+        Some(own) => own == text,
+        None => false,
+    }
+}
+
+/// The rule that a value gives.
+#[tactic(auto, unfolding(crate::specs::Rules::rule_in))]
+fn rule_of(
+    value: &Value,
+    relations: &Relations,
+    steps: &NameTable,
+    flow: u32,
+) -> Result<Rule, ReadFault>
+    requires few { length steps.now.names ≤ STEP_LIMIT }
+    ensures read { Gives fault_of (λ r. r) result (spec.rule_in flow relations.now steps.now.names (view value.now)) }
+    ensures sound { IfOk result (IsSoundRule (length steps.now.names) (length relations.now)) }
+{
+    let table = table_of(value, PolicyPart::Flows, flow)?;
+    let form = value_at(table, "form", PolicyPart::Flows, flow)?;
+    if is_text(form, "pair") {
+        return pair_of(table, relations, steps, flow);
+    }
+    if is_text(form, "some") {
+        return grouped_of(false, table, relations, steps, flow);
+    }
+    if is_text(form, "all") {
+        return grouped_of(true, table, relations, steps, flow);
+    }
+    Err(refuse(PolicyKind::Form, PolicyPart::Flows, flow))
+}
+
+/// Adds the next rule.
+#[tactic(auto, unfolding(crate::specs::Rules::next_rule))]
+fn next_rule(
+    rules: &mut Rules,
+    value: &Value,
+    relations: &Relations,
+    steps: &NameTable,
+    flow: u32,
+) -> Result<(), ReadFault>
+    requires few { length steps.now.names ≤ STEP_LIMIT }
+    requires sound { AreSoundRules (length steps.now.names) (length relations.now) rules.old }
+    ensures read { Gives fault_of (λ _. rules.new) result (spec.next_rule flow relations.now steps.now.names rules.old (view value.now)) }
+    ensures sound { OnOk result (AreSoundRules (length steps.now.names) (length relations.now) rules.new) }
+    ensures count { OnOk result (length rules.new ≡ length rules.old + 1) }
+{
+    match rule_of(value, relations, steps, flow) {
+        Ok(rule) => push_rule(rules, rule),
+        Err(fault) => Err(fault),
+    }
+}
+
+fn push_rule(rules: &mut Rules, rule: Rule) -> Result<(), ReadFault>
+    ensures ok { OnOk result (rules.new ≡ rules.old ++ rule ∷ []) }
+    ensures memory { IfErr result (λ e. e ≡ NoMemory) }
+{
+    match rules.push(rule) {
+        Ok(()) => Ok(()),
+        Err(_) => Err(ReadFault::NoMemory),
+    }
+}
+
+fn all_rules(
+    alloc: Global,
+    items: &[Value],
+    relations: &Relations,
+    steps: &NameTable,
+    flow: u32,
+) -> Result<Rules, ReadFault>
+    requires few { length steps.now.names ≤ STEP_LIMIT }
+    ensures read { Gives fault_of (λ r. r) result (each (spec.next_rule flow relations.now steps.now.names) [] (part_items (items_view items.now))) }
+    ensures sound { IfOk result (AreSoundRules (length steps.now.names) (length relations.now)) }
+    ensures count { IfOk result (λ r. length r ≤ length items.now) }
+{
+    let mut rules = Rules::new(alloc);
+    'items: for value in items {
+        if let Err(fault) = next_rule(&mut rules, value, relations, steps, flow) {
+            return Err(fault);
+        }
+    }
+    Ok(rules)
+}
+
+#[tactic(auto, unfolding(crate::specs::Rules::rules_in), using(crate::proofs::Counts::count_items))]
+fn rules_in(
+    alloc: Global,
+    value: &Value,
+    relations: &Relations,
+    steps: &NameTable,
+    flow: u32,
+) -> Result<Rules, ReadFault>
+    requires few { length steps.now.names ≤ STEP_LIMIT }
+    ensures read { Gives fault_of (λ r. r) result (spec.rules_in flow relations.now steps.now.names (view value.now)) }
+    ensures sound { IfOk result (AreSoundRules (length steps.now.names) (length relations.now)) }
+    ensures few { IfOk result (λ r. length r ≤ RULE_LIMIT) }
+{
+    let items = array_of(value, PolicyPart::Flows, flow)?;
+    at_most(RULE_LIMIT, items.len(), PolicyPart::Flows, flow)?;
+    all_rules(alloc, items, relations, steps, flow)
+}
+
+/// Reads the rules of a workflow's table.
+#[tactic(auto, unfolding(crate::specs::Rules::rules_of))]
+pub(crate) fn read_rules(
+    alloc: Global,
+    table: &Table,
+    relations: &Relations,
+    steps: &NameTable,
+    flow: u32,
+) -> Result<Rules, ReadFault>
+    requires few { length steps.now.names ≤ STEP_LIMIT }
+    ensures read { Gives fault_of (λ r. r) result (spec.rules_of flow relations.now steps.now.names (table_view table.now)) }
+    ensures sound { IfOk result (AreSoundRules (length steps.now.names) (length relations.now)) }
+    ensures few { IfOk result (λ r. length r ≤ RULE_LIMIT) }
+{
+    match find(table, "rules") {
+        Some(value) => rules_in(alloc, value, relations, steps, flow),
+        None => Ok(Rules::new(alloc)),
+    }
+}

@@ -1,0 +1,240 @@
+//! Reads the steps, the order and the permissions of a workflow. Their faults carry the
+//! workflow's number.
+ghost use Rattle.std.specs.Prelude.{◌≡◌, ◌<◌, ◌≤◌, length, slice_index_or, IfOk, OnOk, true, []};
+ghost use Rattle.std.specs.List.{All};
+ghost use Rattle.std.specs.FinSet as set;
+ghost use Rattle.toml.specs.View.{view, items_view, table_view};
+ghost use Rattle.wf_names.specs.declared.limits.TheConstants.{ROLE_LIMIT, STEP_LIMIT};
+ghost use Rattle.workflow_schema.specs.Flows.{is_count};
+ghost use Rattle.policy_book.specs.Facts.{PermitsRolesBelow};
+ghost use Rattle.policy_reader.specs.Bounds.{AreBelow};
+ghost use Rattle.policy_reader.specs.Faults.{fault_of, fault_about};
+ghost use Rattle.policy_reader.specs.declared.fault.ReadFault.TheVariants.{Policy};
+ghost use Rattle.policy_reader.specs.declared.fault.PolicyKind.TheVariants as kind;
+ghost use Rattle.policy_reader.specs.Parts as parts;
+ghost use Rattle.policy_reader.specs.Parts.{items as part_items, entries};
+ghost use Rattle.policy_reader.specs.declared.fault.PolicyPart.TheVariants.{Flows};
+ghost use Rattle.policy_reader.specs.Flows as spec;
+ghost use Rattle.first_fault.specs.Reading.{Gives, each};
+
+use pair_set::PairSet;
+use std::alloc::{AllocError, Global};
+use toml::Value;
+use toml::value::Table;
+use wf_names::{NameTable, RoleId, STEP_LIMIT, StepId};
+use workflow_schema::{Flow, FlowFault};
+
+use crate::fault::{PolicyKind, PolicyPart, ReadFault, refuse_text};
+use crate::parts::{
+    array_of, at_least_one, at_most, find, next_name, number_of, read_pairs, table_of, text_of,
+    value_at,
+};
+
+/// Reads the steps of a workflow.
+#[tactic(auto, unfolding(crate::specs::Flows::steps_of), using(crate::proofs::Counts::count_items, crate::proofs::Counts::counted))]
+pub(crate) fn read_steps(alloc: Global, table: &Table, flow: u32) -> Result<NameTable, ReadFault>
+    ensures read { Gives fault_of (λ t. t.names) result (spec.steps_of flow (table_view table.now)) }
+    ensures counted { IfOk result (λ t. is_count (length t.names) ≡ true) }
+{
+    let value = value_at(table, "steps", PolicyPart::Flows, flow)?;
+    let items = array_of(value, PolicyPart::Flows, flow)?;
+    at_least_one(items.len(), PolicyPart::Flows, flow)?;
+    at_most(STEP_LIMIT, items.len(), PolicyPart::Flows, flow)?;
+    all_steps(alloc, items, flow)
+}
+
+fn all_steps(alloc: Global, items: &[Value], flow: u32) -> Result<NameTable, ReadFault>
+    requires few { length items.now ≤ STEP_LIMIT }
+    ensures read { Gives fault_of (λ t. t.names) result (each (parts.next_name Flows flow) [] (part_items (items_view items.now))) }
+    ensures count { IfOk result (λ t. length t.names ≡ length items.now) }
+{
+    let mut steps = NameTable::new(alloc, STEP_LIMIT as u16)?;
+    'items: for value in items {
+        if let Err(fault) = next_name(&mut steps, value, PolicyPart::Flows, flow) {
+            return Err(fault);
+        }
+    }
+    Ok(steps)
+}
+
+/// Reads the pairs of a workflow's order.
+#[tactic(auto, unfolding(crate::specs::Flows::pairs_of))]
+pub(crate) fn read_order(
+    alloc: Global,
+    steps: &NameTable,
+    table: &Table,
+    flow: u32,
+) -> Result<PairSet, ReadFault>
+    ensures read { Gives fault_of (λ pairs. pairs) result (spec.pairs_of flow steps.now.names (table_view table.now)) }
+    ensures within { IfOk result (AreBelow (length steps.now.names)) }
+{
+    match find(table, "order") {
+        Some(value) => order_of(alloc, steps, value, flow),
+        None => Ok(PairSet::new(alloc)),
+    }
+}
+
+#[tactic(auto, unfolding(crate::specs::Flows::order_in))]
+fn order_of(
+    alloc: Global,
+    steps: &NameTable,
+    value: &Value,
+    flow: u32,
+) -> Result<PairSet, ReadFault>
+    ensures read { Gives fault_of (λ pairs. pairs) result (spec.order_in flow steps.now.names (view value.now)) }
+    ensures within { IfOk result (AreBelow (length steps.now.names)) }
+{
+    let items = array_of(value, PolicyPart::Flows, flow)?;
+    read_pairs(alloc, steps, items, PolicyPart::Flows, flow)
+}
+
+/// Makes the workflow of these steps and this order, which permits nothing yet, where no step is
+/// before itself.
+#[tactic(auto, unfolding(crate::specs::Flows::no_cycle))]
+pub(crate) fn make_flow(
+    alloc: Global,
+    steps: &NameTable,
+    order: &PairSet,
+    flow: u32,
+) -> Result<Flow, ReadFault>
+    requires counted { is_count (length steps.now.names) ≡ true }
+    requires within { AreBelow (length steps.now.names) order.now }
+    ensures cycle { Gives fault_of (λ _. tt) result (spec.no_cycle flow steps.now.names order.now) }
+    ensures made { IfOk result (λ f. f ≡ record { steps = steps.now.names; order = order.now; permits = set.empty }) }
+{
+    let pairs = step_pairs(alloc, order.as_slice())?;
+    let names = steps.copy()?;
+    match Flow::build(alloc, names, &pairs, &[]) {
+        Ok(made) => Ok(made),
+        Err(FlowFault::Cycle(s)) => Err(cycle_fault(steps, s, flow)),
+        Err(FlowFault::NoMemory) => Err(ReadFault::NoMemory),
+        Err(_) => unreachable!(),
+    }
+}
+
+fn cycle_fault(steps: &NameTable, s: StepId, flow: u32) -> ReadFault
+    requires { s < length steps.now.names }
+    ensures { result ≡ Policy (fault_about kind.Cycle Flows flow (slice_index_or steps.now.names s [])) }
+{
+    let name = steps.name(s.0 as u16);
+    refuse_text(PolicyKind::Cycle, PolicyPart::Flows, flow, name.as_str())
+}
+
+fn step_pairs(alloc: Global, pairs: &[(u16, u16)]) -> Result<Vec<(StepId, StepId)>, AllocError>
+    requires { All (λ p. (p.0 < STEP_LIMIT) × (p.1 < STEP_LIMIT)) pairs.now }
+    ensures { IfOk result (λ steps. steps.items ≡ pairs.now) }
+{
+    let mut steps = Vec::new(alloc);
+    'pairs: for pair in pairs {
+        if steps.push((StepId(pair.0 as u8), StepId(pair.1 as u8))).is_err() {
+            return Err(AllocError);
+        }
+    }
+    Ok(steps)
+}
+
+/// Permits a step to the next role.
+#[tactic(auto, unfolding(crate::specs::Flows::next_permitted, crate::specs::Parts::once), using(crate::proofs::Orders::permits_insert))]
+fn next_permitted(
+    made: &mut Flow,
+    roles: &NameTable,
+    s: StepId,
+    value: &Value,
+    flow: u32,
+) -> Result<(), ReadFault>
+    requires step { s < length made.old.steps }
+    requires few { length roles.now.names ≤ ROLE_LIMIT }
+    requires roles { PermitsRolesBelow (length roles.now.names) made.old }
+    ensures read { Gives fault_of (λ _. made.new) result (spec.next_permitted flow roles.now.names s made.old (view value.now)) }
+    ensures steps { OnOk result (made.new.steps ≡ made.old.steps) }
+    ensures roles { OnOk result (PermitsRolesBelow (length roles.now.names) made.new) }
+{
+    let text = text_of(value, PolicyPart::Flows, flow)?;
+    let role = number_of(roles, text, PolicyPart::Flows, flow)?;
+    if made.permit(RoleId(role as u8), s) {
+        Ok(())
+    } else {
+        Err(refuse_text(PolicyKind::Twice, PolicyPart::Flows, flow, text))
+    }
+}
+
+fn all_permitted(
+    made: &mut Flow,
+    roles: &NameTable,
+    s: StepId,
+    items: &[Value],
+    flow: u32,
+) -> Result<(), ReadFault>
+    requires step { s < length made.old.steps }
+    requires few { length roles.now.names ≤ ROLE_LIMIT }
+    requires roles { PermitsRolesBelow (length roles.now.names) made.old }
+    ensures read { Gives fault_of (λ _. made.new) result (each (spec.next_permitted flow roles.now.names s) made.old (part_items (items_view items.now))) }
+    ensures steps { OnOk result (made.new.steps ≡ made.old.steps) }
+    ensures roles { OnOk result (PermitsRolesBelow (length roles.now.names) made.new) }
+{
+    'items: for value in items {
+        if let Err(fault) = next_permitted(made, roles, s, value, flow) {
+            return Err(fault);
+        }
+    }
+    Ok(())
+}
+
+/// Permits the next step to its roles.
+#[tactic(auto, unfolding(crate::specs::Flows::next_permit), using(crate::proofs::Counts::few_steps))]
+fn next_permit(
+    made: &mut Flow,
+    roles: &NameTable,
+    key: &str,
+    value: &Value,
+    flow: u32,
+) -> Result<(), ReadFault>
+    requires few { length roles.now.names ≤ ROLE_LIMIT }
+    requires roles { PermitsRolesBelow (length roles.now.names) made.old }
+    ensures read { Gives fault_of (λ _. made.new) result (spec.next_permit flow roles.now.names made.old (key.now, view value.now)) }
+    ensures steps { OnOk result (made.new.steps ≡ made.old.steps) }
+    ensures roles { OnOk result (PermitsRolesBelow (length roles.now.names) made.new) }
+{
+    let number = number_of(made.steps(), key, PolicyPart::Flows, flow)?;
+    let items = array_of(value, PolicyPart::Flows, flow)?;
+    all_permitted(made, roles, StepId(number as u8), items, flow)
+}
+
+fn all_permits(
+    made: &mut Flow,
+    roles: &NameTable,
+    permits: &Table,
+    flow: u32,
+) -> Result<(), ReadFault>
+    requires few { length roles.now.names ≤ ROLE_LIMIT }
+    requires roles { PermitsRolesBelow (length roles.now.names) made.old }
+    ensures read { Gives fault_of (λ _. made.new) result (each (spec.next_permit flow roles.now.names) made.old (entries (table_view permits.now))) }
+    ensures steps { OnOk result (made.new.steps ≡ made.old.steps) }
+    ensures roles { OnOk result (PermitsRolesBelow (length roles.now.names) made.new) }
+{
+    'entries: for (key, value) in permits {
+        if let Err(fault) = next_permit(made, roles, key.as_str(), value, flow) {
+            return Err(fault);
+        }
+    }
+    Ok(())
+}
+
+/// Reads the permissions of a workflow.
+#[tactic(auto, unfolding(crate::specs::Flows::permits_of))]
+pub(crate) fn read_permits(
+    made: &mut Flow,
+    roles: &NameTable,
+    table: &Table,
+    flow: u32,
+) -> Result<(), ReadFault>
+    requires few { length roles.now.names ≤ ROLE_LIMIT }
+    requires roles { PermitsRolesBelow (length roles.now.names) made.old }
+    ensures read { Gives fault_of (λ _. made.new) result (spec.permits_of flow roles.now.names made.old (table_view table.now)) }
+    ensures steps { OnOk result (made.new.steps ≡ made.old.steps) }
+    ensures roles { OnOk result (PermitsRolesBelow (length roles.now.names) made.new) }
+{
+    let value = value_at(table, "permit", PolicyPart::Flows, flow)?;
+    let permits = table_of(value, PolicyPart::Flows, flow)?;
+    all_permits(made, roles, permits, flow)
+}

@@ -1,0 +1,40 @@
+//! What no clause shows: that trees are built, copied and counted while there is memory.
+
+use crate::{Branch, Branches, Kid, Tree};
+use std::test::Fail;
+use wf_names::{StepId, UserId};
+
+#[test]
+fn a_copy_has_the_same_branches(rt: HostRuntime) -> Result<(), Fail> {
+    let mut branches = Branches::new(rt.alloc());
+    branches.push(Branch {
+        user: UserId(4),
+        kid: Kid::Tree(Tree::Rule(2)),
+    })?;
+    branches.push(Branch {
+        user: UserId(7),
+        kid: Kid::Tree(Tree::Holder(StepId(1))),
+    })?;
+    let copy = Tree::Step(StepId(3), branches).copy(rt.alloc())?;
+    let seen = match &copy {
+        Tree::Step(step, branches) => Some((
+            *step,
+            branches.len(),
+            user_at(branches, 1),
+            user_at(branches, 2),
+        )),
+        _ => None,
+    };
+    assert_eq!(rt;
+        (copy.nodes(), seen),
+        (3, Some((StepId(3), 2, Some(UserId(7)), None)))
+    );
+    Ok(())
+}
+
+fn user_at(branches: &Branches, place: usize) -> Option<UserId> {
+    match branches.get(place) {
+        Some(branch) => Some(branch.user),
+        None => None,
+    }
+}

@@ -1,0 +1,11 @@
+use Rattle.std.proofs.Common.{refl}
+use Rattle.workflow_schema.specs.Flows.{is_before}
+use Rattle.workflow_schema.proofs.Chains.{append}
+use Rattle.workflow_schema.proofs.Kept.{tells_chains}
+use Rattle.workflow_schema.proofs.laws.order_is_chained.Goals as goal
+
+pub returns-clause-test : goal.returns-clause-test
+returns-clause-test c f s t kept = tells_chains f s t (is_before f.order s t) kept refl
+
+pub returns-clause-chained : goal.returns-clause-chained
+returns-clause-chained c f s t u h r = append h r

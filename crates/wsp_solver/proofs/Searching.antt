@@ -1,0 +1,104 @@
+-- What a search may conclude from what it has tried.
+use Rattle.std.proofs.Common.{◌≡◌, ◌≢◌, refl, sym, ap, subst, ◌∙◌, ℕ, zero, suc, ◌+◌, ◌-◌, ◌*◌, ◌<◌, ◌≤◌, Bool, true, false, not, ◌&&◌, ◌||◌, ◌==◌, nat_lt, List, [], ◌∷◌, length, Option, None, Some, is_some, slice_get, slice_set, if◌then◌else◌, cond, arith, ◌⊎◌, inl, inr, eqb, eq-eqb}
+use Rattle.std.specs.Bool.{IsTrue}
+use Rattle.std.proofs.lemmas.Bool.{false≢true, ltb-true, lt-ltb, and_from}
+use Rattle.std.proofs.lemmas.Bool.Decides.{eqb_tells, nat_tests}
+use Rattle.constraint_forms.specs.declared.rule.Rule.{Rule}
+use Rattle.constraint_forms.specs.Assigned.{user_at, planned, is_member}
+use Rattle.constraint_forms.specs.Rules.{is_falsified, is_satisfied, names}
+use Rattle.constraint_forms.proofs.RuleLaws.{totals_decide, falsified_by_named}
+use Rattle.refutation_tree.specs.Shapes.{Shape, Kids, holder, rule, node, no_kids, tree_kid, joined, shape_of}
+use Rattle.refutation_tree.proofs.ShapeLaws.{joined-assoc, joined-none}
+use Rattle.policy_book.specs.Plans.{Problem, IsValidPlan, IsWellFormed, IsWithin, AreAssigned}
+use Rattle.policy_book.specs.Refuting.{refutes, all_refute, have_users, candidates, passing, is_misheld, is_broken, is_free}
+use Rattle.certificate_check.proofs.Assigned.{and_parts, not_some, none_not_some, same_some, given_other, given_same}
+use Rattle.certificate_check.proofs.Trees.{passing_at}
+use Rattle.wsp_solver.specs.Searches.{AreOfUsersBelow, IsPlanOf, NoLeafRefutes, free_count}
+
+-- ---- plans
+
+-- a plan stays valid for less that is assigned
+pub valid_without : (p : Problem) (a : List (Option ℕ)) (done : List Bool) (plan : List ℕ) (s u : ℕ) → user_at a s ≡ None → IsValidPlan p (slice_set a s (Some u)) done plan → IsValidPlan p a done plan
+valid_without p a done plan s u free valid = record {
+  whole = valid.whole;
+  known = valid.known;
+  keeps = λ t w is. valid.keeps t w (given_other a s u t (λ same. none_not_some w (sym free ∙ sym (ap (user_at a) same) ∙ is)) ∙ is);
+  allowed = valid.allowed;
+  obeyed = valid.obeyed;
+}
+
+-- a holder whom no leaf refutes is authorised
+held_rightly : (b c d : Bool) → (b && (not c && not d)) ≡ false → b ≡ true → c ≡ false → d ≡ true
+held_rightly true false true h e f = refl
+held_rightly true false false h e f = absurd (false≢true (sym h))
+held_rightly true true d h e f = absurd (false≢true (sym f))
+held_rightly false c d h e f = absurd (false≢true e)
+
+-- an assignment of every step that no leaf refutes is a valid plan
+pub valid_full : (p : Problem) (a : List (Option ℕ)) (done : List Bool) (plan : List ℕ) → IsWellFormed p → IsWithin p a → NoLeafRefutes p a done → IsPlanOf p.steps a plan → IsValidPlan p a done plan
+valid_full p a done plan formed within none full = record {
+  whole = full.whole;
+  known = λ s below. within.users s (planned plan s) (full.given s below);
+  keeps = λ s u is. sym (full.given s (within.steps s u is)) ∙ is;
+  allowed = λ s below unfinished.
+      held_rightly (nat_lt s p.steps) (is_member done s) (p.authorised s (planned plan s))
+      (ap (λ o. nat_lt s p.steps && is_misheld p done s o) (sym (full.given s below)) ∙ none.holders s) (lt-ltb s p.steps below) unfinished;
+  obeyed = λ k r is.
+      totals_decide p.related r (planned plan)
+      ∙ ap not (sym (falsified_by_named p.related r (user_at a) (λ s. Some (planned plan s)) (λ s named. full.given s (formed k r is s named)))
+      ∙ ap (is_broken p a) (sym is) ∙ none.rules k);
+}
+
+-- ---- branches
+
+pub users_start : (test : ℕ → Bool) (n : ℕ) → AreOfUsersBelow test 0 n no_kids
+users_start test n rest have =
+    let all : n - 0 ≡ n = omega arith in
+    ap (λ k. have_users (passing test 0 k) rest) (sym all) ∙ have
+
+pub users_skip : (test : ℕ → Bool) (u n : ℕ) (front : Kids) → u < n → test u ≡ false → AreOfUsersBelow test u n front → AreOfUsersBelow test (u + 1) n front
+users_skip test u n front below fails so_far rest have =
+    let skip = passing_at test u n below ∙ ap (λ b. if b then u ∷ passing test (u + 1) (n - (u + 1)) else passing test (u + 1) (n - (u + 1))) fails in
+    so_far rest (ap (λ us. have_users us rest) skip ∙ have)
+
+pub users_push : (test : ℕ → Bool) (u n : ℕ) (front : Kids) (t : Shape) → u < n → test u ≡ true → AreOfUsersBelow test u n front → AreOfUsersBelow test (u + 1) n (joined front (tree_kid u t no_kids))
+users_push test u n front t below passes so_far rest have =
+    let take = passing_at test u n below ∙ ap (λ b. if b then u ∷ passing test (u + 1) (n - (u + 1)) else passing test (u + 1) (n - (u + 1))) passes in
+    ap (have_users (passing test 0 n)) (joined-assoc front (tree_kid u t no_kids) rest)
+    ∙ so_far (tree_kid u t rest) (ap (λ us. have_users us (tree_kid u t rest)) take ∙ and_from (u == u) (have_users (passing test (u + 1) (n - (u + 1))) rest) (eq-eqb u u refl) have)
+
+pub users_end : (test : ℕ → Bool) (u n : ℕ) (front : Kids) → n ≤ u → AreOfUsersBelow test u n front → have_users (passing test 0 n) front ≡ true
+users_end test u n front past so_far =
+    let none : n - u ≡ zero = omega arith in
+    ap (have_users (passing test 0 n)) (sym (joined-none front)) ∙ so_far no_kids (ap (λ k. have_users (passing test u k) no_kids) none)
+
+pub refute_push : (p : Problem) (a : List (Option ℕ)) (done : List Bool) (s u : ℕ) (t : Shape) (front : Kids) (earlier : List ℕ) → all_refute p a done s earlier front ≡ true → refutes p (slice_set a s (Some u)) done t ≡ true → all_refute p a done s earlier (joined front (tree_kid u t no_kids)) ≡ true
+refute_push p a done s u t no_kids earlier so_far here = and_from (refutes p (slice_set a s (Some u)) done t) true here refl
+refute_push p a done s u t (tree_kid v w front) earlier so_far here =
+    let both = and_parts (refutes p (slice_set a s (Some v)) done w) (all_refute p a done s (v ∷ earlier) front) so_far in
+    and_from (refutes p (slice_set a s (Some v)) done w) (all_refute p a done s (v ∷ earlier) (joined front (tree_kid u t no_kids))) both.0 (refute_push p a done s u t front (v ∷ earlier) both.1 here)
+
+-- ---- how much is left
+
+abbrev zero_if : Bool → ℕ
+zero_if b = if b then 0 else 1
+
+count_other : (a : List (Option ℕ)) (s u n : ℕ) → n ≤ s → free_count (slice_set a s (Some u)) n ≡ free_count a n
+count_other a s u zero below = refl
+count_other a s u (suc n) below =
+    let here : zero_if (is_some (user_at (slice_set a s (Some u)) n)) ≡ zero_if (is_some (user_at a n)) = ap (λ o. zero_if (is_some o)) (given_other a s u n (λ same. omega (arith, below, same))) in
+    omega (arith, here, count_other a s u n (omega (arith, below)))
+
+-- fewer steps are free once a free one is given
+pub count_less : (a : List (Option ℕ)) (s u n : ℕ) → s < length a → user_at a s ≡ None → s < n → free_count (slice_set a s (Some u)) n < free_count a n
+count_less a s u zero room free below = absurd (omega (arith, below))
+count_less a s u (suc n) room free below = at (eqb_tells s n) (λ e. count_less a s u n room free e)
+  where
+    at : ((eqb s n ≡ true) × (s ≡ n)) ⊎ ((eqb s n ≡ false) × (s ≢ n)) → (s < n → free_count (slice_set a s (Some u)) n < free_count a n) → free_count (slice_set a s (Some u)) (suc n) < free_count a (suc n)
+    at (inl same) later =
+        let now : zero_if (is_some (user_at (slice_set a s (Some u)) n)) ≡ 0 = ap (λ k. zero_if (is_some (user_at (slice_set a s (Some u)) k))) (sym same.1) ∙ ap (λ o. zero_if (is_some o)) (given_same a s u room) in
+        let before : zero_if (is_some (user_at a n)) ≡ 1 = ap (λ k. zero_if (is_some (user_at a k))) (sym same.1) ∙ ap (λ o. zero_if (is_some o)) free in
+        omega (arith, now, before, count_other a s u n (omega (arith, same.1)))
+    at (inr apart) later =
+        let here : zero_if (is_some (user_at (slice_set a s (Some u)) n)) ≡ zero_if (is_some (user_at a n)) = ap (λ o. zero_if (is_some o)) (given_other a s u n (λ same. apart.1 (sym same))) in
+        omega (arith, here, later (omega (arith, apart.1, below)))

@@ -1,0 +1,89 @@
+use Rattle.std.proofs.Common.{rules, ◌≡◌, ◌<◌, ◌≤◌, ℕ, length, is_some, Some, None, true, false, not, IsTrue, ◌+◌, ◌-◌, ◌*◌, ◌&&◌, Bool, nat_lt, List, [], ◌∷◌, Option, sym, ap, subst, ◌∙◌, refl, arith, slice_set}
+use Rattle.std.proofs.lemmas.Bool.{and_from, ltb-true}
+use Rattle.wf_names.specs.declared.limits.TheConstants.{STEP_LIMIT}
+use Rattle.constraint_forms.specs.Assigned.{user_at}
+use Rattle.refutation_tree.specs.Shapes.{Kids, kids_of, shape_of, no_kids, tree_kid, joined}
+use Rattle.policy_book.specs.Plans.{Problem, AreAssigned, IsWithin, IsValidPlan}
+use Rattle.policy_book.specs.Policies.{problem_of}
+use Rattle.policy_book.specs.Refuting.{all_refute, candidates, have_users, is_free, refutes}
+use Rattle.certificate_check.proofs.Assigned.{and_parts, not_some}
+use Rattle.certificate_check.proofs.Refuted.{assigned_given}
+use Rattle.certificate_check.proofs.Trees.{within_given}
+use Rattle.wsp_solver.specs.Searches.{AreOfUsersBelow, Decides, IsPlanOf, NoLeafRefutes, free_count}
+use Rattle.wsp_solver.specs.declared.search.Outcome.TheVariants.{Plan, Refuted}
+use Rattle.wsp_solver.proofs.Searching.{valid_full, valid_without, users_skip, users_push, users_end, refute_push, count_less}
+use Rattle.wsp_solver.proofs.search.+search.Goals as goal
+
+pub solve-returns-in-None : goal.solve-returns-in-None
+solve-returns-in-None t c =
+    valid_full (problem_of c.args.p.now c.args.f) c.args.a.now c.args.done.now c.plan_of.result c.in_default.ensures.0 c.requires.within c.in_default.ensures.1 c.plan_of.ensures
+
+-- the number of users, as the loop has it
+users_known : (n : ℕ) (names users : List (List ℕ)) → n ≡ length names → names ≡ users → n ≡ length users
+users_known n names users count same = count ∙ ap length same
+
+-- a free step is a step, and has no user
+step_known : (p : Problem) (a : List (Option ℕ)) (s : ℕ) → is_free p a s ≡ true → s < p.steps
+step_known p a s free = ltb-true s p.steps (and_parts (nat_lt s p.steps) (not (is_some (user_at a s))) free).0
+
+step_open : (p : Problem) (a : List (Option ℕ)) (s : ℕ) → is_free p a s ≡ true → user_at a s ≡ None
+step_open p a s free = not_some (user_at a s) (and_parts (nat_lt s p.steps) (not (is_some (user_at a s))) free).1
+
+pub try_users-users-preserved-then-not-is_candidate :
+    goal.try_users-users-preserved-then-not-is_candidate
+try_users-users-preserved-then-not-is_candidate t c =
+    let p = problem_of c.args.p.now c.args.f in
+    let known = users_known _ _ _ c.len-u-end.ensures.count (c.users-2.ensures.names ∙ ap (λ r. r.users) c.roster.ensures.roster) in
+    (users_skip (p.authorised c.args.s) c.users.u p.users (kids_of c.users.branches) (omega (arith, known, c.users-test.true)) (sym c.if-not-is_candidate.ensures) c.users.invariant.0, c.users.invariant.1)
+
+pub try_users-solve-requires : goal.try_users-solve-requires
+try_users-solve-requires t c =
+    let p = problem_of c.args.p.now c.args.f in
+    let a = c.args.a.now in
+    let s = c.args.s in
+    let known = users_known _ _ _ c.len-u-end.ensures.count (c.users-2.ensures.names ∙ ap (λ r. r.users) c.roster.ensures.roster) in
+    let less = count_less a s c.users.u p.steps (omega (arith, c.requires.room, c.with.ensures.len)) (step_open p a s c.requires.free) (step_known p a s c.requires.free) in
+    let same = ap (λ x. free_count x p.steps) c.with.ensures.given in (
+      omega (arith, c.decreases, less, same),
+      (
+        c.requires.flow,
+        (
+          subst (IsWithin p) (sym c.with.ensures.given) (within_given p a s c.users.u c.requires.within c.requires.free (omega (arith, known, c.users-test.true))),
+          subst (AreAssigned c.args.done.now) (sym c.with.ensures.given) (assigned_given a c.args.done.now s c.users.u c.requires.assigned (step_open p a s c.requires.free)),
+        ),
+      ),
+    )
+
+pub try_users-returns-in-Plan : goal.try_users-returns-in-Plan
+try_users-returns-in-Plan t c =
+    let p = problem_of c.args.p.now c.args.f in
+    let done = c.args.done.now in
+    let found = subst (Decides p c.with.result done) c.in-Plan.is c.in_ok-plan.ensures in
+    valid_without p c.args.a.now done c.in-Plan.plan c.args.s c.users.u (step_open p c.args.a.now c.args.s c.requires.free)
+    (subst (λ x. IsValidPlan p x done c.in-Plan.plan) c.with.ensures.given found)
+
+pub try_users-users-preserved : goal.try_users-users-preserved
+try_users-users-preserved t c =
+    let p = problem_of c.args.p.now c.args.f in
+    let done = c.args.done.now in
+    let a = c.args.a.now in
+    let s = c.args.s in
+    let u = c.users.u in
+    let front = kids_of c.users.branches in
+    let tree = shape_of c.in-Refuted.tree in
+    let known = users_known _ _ _ c.len-u-end.ensures.count (c.users-2.ensures.names ∙ ap (λ r. r.users) c.roster.ensures.roster) in
+    let found = subst (Decides p c.with.result done) c.in-Refuted.is c.in_ok-plan.ensures in
+    let here = subst (λ x. refutes p x done tree ≡ true) c.with.ensures.given found in
+    let pushed = c.in_ok-push-in-Refuted.ensures.ok in (
+      subst (AreOfUsersBelow (p.authorised s) (u + 1) p.users) (sym pushed) (users_push (p.authorised s) u p.users front tree (omega (arith, known, c.users-test.true)) (sym c.if-not-is_candidate.ensures) c.users.invariant.0),
+      subst (λ k. all_refute p a done s [] k ≡ true) (sym pushed) (refute_push p a done s u tree front [] c.users.invariant.1 here),
+    )
+
+pub try_users-returns : goal.try_users-returns
+try_users-returns t c =
+    let p = problem_of c.args.p.now c.args.f in
+    let front = kids_of c.users.branches in
+    let known = users_known _ _ _ c.len-u-end.ensures.count (c.users-2.ensures.names ∙ ap (λ r. r.users) c.roster.ensures.roster) in
+    let users = users_end (p.authorised c.args.s) c.users.u p.users front (omega (arith, known, c.users-test.false)) c.users.invariant.0 in
+    and_from (is_free p c.args.a.now c.args.s) (have_users (candidates p c.args.s) front && all_refute p c.args.a.now c.args.done.now c.args.s [] front) c.requires.free
+    (and_from (have_users (candidates p c.args.s) front) (all_refute p c.args.a.now c.args.done.now c.args.s [] front) users c.users.invariant.1)

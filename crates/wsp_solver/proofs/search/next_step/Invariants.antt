@@ -1,0 +1,10 @@
+use Rattle.std.proofs.Common.{◌≡◌, ◌<◌, ℕ, length, is_some, Some, true, false, slice_index}
+use Rattle.wf_names.specs.declared.limits.TheConstants.{STEP_LIMIT}
+use Rattle.constraint_forms.specs.Assigned.{user_at}
+use Rattle.refutation_tree.specs.Shapes.{holder, rule}
+use Rattle.policy_book.specs.Policies.{problem_of}
+use Rattle.policy_book.specs.Refuting.{refutes}
+use Rattle.wsp_solver.proofs.search.next_step.Given as goal
+
+abbrev pub invariant-steps : goal.invariant-steps
+invariant-steps l = (t : ℕ) → t < l.s → is_some (user_at l.a t) ≡ true

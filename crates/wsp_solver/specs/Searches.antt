@@ -1,0 +1,33 @@
+-- What a search answers, and how far it has come.
+use Rattle.std.specs.Prelude.{◌≡◌, ℕ, zero, suc, ◌+◌, ◌-◌, ◌<◌, Bool, true, false, List, Option, Some, is_some, if◌then◌else◌, IsTrue, length}
+use Rattle.constraint_forms.specs.Assigned.{user_at, planned}
+use Rattle.refutation_tree.specs.Shapes.{Kids, holder, rule, joined, shape_of}
+use Rattle.policy_book.specs.Plans.{Problem, IsValidPlan}
+use Rattle.policy_book.specs.Refuting.{refutes, have_users, passing}
+use Rattle.wsp_solver.specs.declared.search.Outcome.{Outcome}
+use Rattle.wsp_solver.specs.declared.search.Outcome.TheVariants.{Plan, Refuted}
+
+-- a plan that is valid, or a tree that refutes
+abbrev pub Decides : Problem → List (Option ℕ) → List Bool → Outcome → Type 0
+Decides p assigned finished (Plan plan) = IsValidPlan p assigned finished plan
+Decides p assigned finished (Refuted tree) = IsTrue (refutes p assigned finished (shape_of tree))
+
+-- no step is held by a user who is not authorised for it, and no rule is falsified
+pub record NoLeafRefutes (p : Problem) (assigned : List (Option ℕ)) (finished : List Bool) : Type 0 where
+  pub holders : (s : ℕ) → refutes p assigned finished (holder s) ≡ false
+  pub rules : (k : ℕ) → refutes p assigned finished (rule k) ≡ false
+
+-- a plan gives each of the first n steps to the user whom the assignment gives it to
+pub record IsPlanOf (n : ℕ) (assigned : List (Option ℕ)) (plan : List ℕ) : Type 0 where
+  pub whole : length plan ≡ n
+  pub given : (s : ℕ) → s < n → user_at assigned s ≡ Some (planned plan s)
+
+-- how many of the first n steps are not assigned
+abbrev pub free_count : List (Option ℕ) → ℕ → ℕ
+free_count assigned zero = 0
+free_count assigned (suc n) = (if is_some (user_at assigned n) then 0 else 1) + free_count assigned n
+
+-- branches of those below u who pass: with branches of the others below n, they are of all below n who pass
+abbrev pub AreOfUsersBelow : (ℕ → Bool) → ℕ → ℕ → Kids → Type 0
+AreOfUsersBelow test u n front =
+    (rest : Kids) → IsTrue (have_users (passing test u (n - u)) rest) → IsTrue (have_users (passing test 0 n) (joined front rest))
