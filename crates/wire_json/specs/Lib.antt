@@ -3,3 +3,4 @@ pub mod Faults
 pub mod Requests
 pub mod Jobs
 pub mod JobLaws
+pub mod Entries

@@ -2,8 +2,10 @@
 #![tactic(auto)]
 
 mod cutter;
+mod entry;
 mod fault;
 mod request;
 
 pub use cutter::{Cutter, Stop, Why, feed_piece, finish};
+pub use entry::write_entry;
 pub use request::read_request;
