@@ -1,0 +1,48 @@
+-- An entry has no float.
+use Rattle.std.proofs.Common.{◌≡◌, ℕ, List, [], ◌∷◌, refl, false}
+use Rattle.std.specs.Prelude.{map}
+use Rattle.serde_json.specs.View.{items_of}
+use Rattle.serde_json.specs.Written.{has_float, items_have_float}
+use Rattle.wf_names.specs.declared.states.StepState.{StepState}
+use Rattle.wf_names.specs.declared.states.StepState.TheVariants.{Free, Held, Finished}
+use Rattle.wf_talk.specs.declared.entry.Entry.{Entry}
+use Rattle.wf_talk.specs.declared.reply.Reply.{Reply}
+use Rattle.wf_talk.specs.declared.reply.Reply.TheVariants as reply
+use Rattle.wf_talk.specs.declared.reply.Denial.{Denial}
+use Rattle.wf_talk.specs.declared.reply.Denial.TheVariants as denial
+use Rattle.wf_talk.specs.declared.request.Bad.TheVariants as bad
+use Rattle.policy_book.specs.Shapes.{PolicyShape}
+use Rattle.wire_json.specs.Entries.{named, state_data, denial_data, reply_data, entry_data}
+
+names_without_float : (users : List (List ℕ)) (plan : List ℕ) → items_have_float (items_of (map (named users) plan)) ≡ false
+names_without_float users [] = refl
+names_without_float users (u ∷ us) = names_without_float users us
+
+state_without_float : (p : PolicyShape) (s : StepState) → has_float (state_data p s) ≡ false
+state_without_float p Free = refl
+state_without_float p (Held u) = refl
+state_without_float p (Finished u) = refl
+
+denial_without_float : (p : PolicyShape) (d : Denial) → has_float (denial_data p d) ≡ false
+denial_without_float p denial.NoFlow = refl
+denial_without_float p denial.Full = refl
+denial_without_float p denial.Invalid = refl
+denial_without_float p denial.NoCase = refl
+denial_without_float p denial.Closed = refl
+denial_without_float p denial.NoStep = refl
+denial_without_float p denial.NoUser = refl
+denial_without_float p (denial.Taken u) = refl
+denial_without_float p (denial.Order f s) = refl
+denial_without_float p (denial.OffPlan u) = refl
+denial_without_float p (denial.NotHeld state) = rw (state_without_float p state) refl
+
+reply_without_float : (p : PolicyShape) (r : Reply) → has_float (reply_data p r) ≡ false
+reply_without_float p (reply.Granted plan) = rw (names_without_float p.roster.users plan) refl
+reply_without_float p (reply.Finished done) = refl
+reply_without_float p (reply.Opened c plan) = rw (names_without_float p.roster.users plan) refl
+reply_without_float p (reply.Denied d) = rw (denial_without_float p d) refl
+reply_without_float p reply.NoMemory = refl
+reply_without_float p (reply.Bad bad.Syntax) = refl
+
+pub entry_without_float : (p : PolicyShape) (e : Entry) → has_float (entry_data p e) ≡ false
+entry_without_float p e = rw (reply_without_float p e.reply) refl
