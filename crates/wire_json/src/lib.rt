@@ -5,6 +5,8 @@ mod cutter;
 mod entry;
 mod fault;
 mod request;
+#[cfg(test)]
+mod tests;
 
 pub use cutter::{Cutter, Stop, Why, feed_piece, finish};
 pub use entry::write_entry;
