@@ -5,6 +5,7 @@ pub mod Groups
 pub mod RuleLists
 pub mod Orders
 pub mod Cycles
+pub mod KindLaws
 pub mod Drafts
 pub mod Held
 pub mod Permitted
