@@ -1,6 +1,7 @@
 pub mod Counts
 pub mod Fresh
 pub mod Sets
+pub mod PairLists
 pub mod Groups
 pub mod RuleLists
 pub mod Orders
