@@ -6,14 +6,19 @@ use std::test::Fail;
 use wf_names::{RelId, StepId, UserId};
 
 const KIM: UserId = UserId(0);
+
 const LEE: UserId = UserId(1);
+
 const MAX: UserId = UserId(2);
 
 const A: StepId = StepId(0);
+
 const B: StepId = StepId(1);
+
 const C: StepId = StepId(2);
 
 const LISTED: RelId = RelId(2);
+
 const CLEAR: RelId = RelId(3);
 
 // `same`, `other`, and a relation with the one pair kim, lee.
@@ -71,7 +76,10 @@ fn duo_falsifies_a_pair_once_both_steps_are_assigned(rt: HostRuntime) {
     ];
     for (row, breaks_other, breaks_same) in rows {
         let a = assigned(row);
-        let got = (falsified(&other, &Mentors, &a), falsified(&same, &Mentors, &a));
+        let got = (
+            falsified(&other, &Mentors, &a),
+            falsified(&same, &Mentors, &a),
+        );
         assert_eq!(rt; got, (breaks_other, breaks_same), "{row}");
     }
 }
@@ -96,7 +104,10 @@ fn trio_mentor_falsifies_some_once_all_are_assigned(rt: HostRuntime) {
     ];
     for (row, breaks_some, breaks_all) in rows {
         let a = assigned(row);
-        let got = (falsified(&some, &Mentors, &a), falsified(&all, &Mentors, &a));
+        let got = (
+            falsified(&some, &Mentors, &a),
+            falsified(&all, &Mentors, &a),
+        );
         assert_eq!(rt; got, (breaks_some, breaks_all), "{row}");
     }
 }
@@ -132,7 +143,11 @@ fn trio_plans_satisfy_or_not(rt: HostRuntime) {
             satisfied(&all, &Mentors, &kim_max_lee),
             satisfied(&all, &Mentors, &kim_kim_lee),
             satisfied(&clear, &NoConflict, &kim_kim_kim),
-            falsified(&clear, &NoConflict, &Assign::empty().with(A, KIM).with(B, KIM)),
+            falsified(
+                &clear,
+                &NoConflict,
+                &Assign::empty().with(A, KIM).with(B, KIM)
+            ),
         ),
         (true, false, false, true, true, false)
     );
@@ -162,9 +177,17 @@ fn rules_are_listed_with_their_steps(rt: HostRuntime) -> Result<(), Fail> {
         [
             (pair.names(A), pair.names(B), pair.names(C)),
             (some.names(A), some.names(B), some.names(C)),
-            (pair.reads(RelId::OTHER), pair.reads(LISTED), some.reads(LISTED)),
+            (
+                pair.reads(RelId::OTHER),
+                pair.reads(LISTED),
+                some.reads(LISTED)
+            ),
         ],
-        [(true, false, true), (false, true, true), (true, false, true)]
+        [
+            (true, false, true),
+            (false, true, true),
+            (true, false, true)
+        ]
     );
     Ok(())
 }
@@ -175,8 +198,17 @@ fn cells_hold_what_is_put_in(rt: HostRuntime) {
     let assign = Assign::empty().with(A, KIM).with(C, MAX).without(A);
     let plan = Plan::of(&[MAX, LEE]);
     assert_eq!(rt;
-        (group.has(A), group.has(B), group.limit(), assign.at(A), assign.at(C)),
+        (
+            group.has(A),
+            group.has(B),
+            group.limit(),
+            assign.at(A),
+            assign.at(C)
+        ),
         (false, true, 16, None, Some(MAX))
     );
-    assert_eq!(rt; (plan.len(), plan.at(A), plan.at(B), plan == Plan::of(&[MAX])), (2, MAX, LEE, false));
+    assert_eq!(rt;
+        (plan.len(), plan.at(A), plan.at(B), plan == Plan::of(&[MAX])),
+        (2, MAX, LEE, false)
+    );
 }

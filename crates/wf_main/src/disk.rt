@@ -1,12 +1,11 @@
 //! The disk as a shelf that does not tell what it holds.
 ghost use Rattle.std.specs.Prelude.{None};
 
+use crate::streams::ReaderSource;
 use std::alloc::Global;
 use std::fs;
 use std::rt::Files;
 use wf_outside::{LoadFault, Loaded, Shelf, take_all};
-
-use crate::streams::ReaderSource;
 
 /// How many bytes of a file are read at once.
 const CHUNK: usize = 65_536;

@@ -8,9 +8,14 @@ use wf_names::{CaseId, Name};
 pub enum Request {
     /// To open a case of a workflow with a plan of the caller's own: the users in the order of
     /// the steps.
-    OpenWith { flow: Name, plan: UserNames },
+    OpenWith {
+        flow: Name,
+        plan: UserNames,
+    },
     /// To open a case with a plan of more users than any workflow has steps.
-    OpenWithTooMany { flow: Name },
+    OpenWithTooMany {
+        flow: Name,
+    },
     /// To perform a step of a case.
     Claim {
         case: CaseId,

@@ -23,6 +23,10 @@ pub record IsSound (c : Cut) : Type 0 where
 abbrev pub place : Cut → ℕ
 place c = c.number * (LINE_LIMIT + 1) + length c.line
 
+-- the furthest place of all
+abbrev pub last_place : ℕ
+last_place = SESSION_LINE_LIMIT * (LINE_LIMIT + 1) + LINE_LIMIT
+
 -- a step of the cutting ends no batch, or one that has a job
 pub record IsCut (c d : Cut) : Type 0 where
   pub same : length d.ends ≡ length c.ends → (d.from ≡ c.from) × (d.ends ≡ c.ends)
@@ -38,7 +42,7 @@ pub record Grows (c d : Cut) : Type 0 where
 -- how far a piece of so many bytes was cut, from one state to another
 abbrev pub FedAs : Cut → Cut → ℕ → ℕ → Why → Type 0
 FedAs c d size n why.All = (n ≡ size) × (is_some d.stop ≡ false) × (d.from ≡ c.from) × (d.ends ≡ c.ends)
-FedAs c d size n why.Batch = (is_some d.stop ≡ false) × (d.from ≡ length d.jobs) × (d.ends ≡ c.ends ++ length d.jobs ∷ [])
+FedAs c d size n why.Batch = (0 < n) × (is_some d.stop ≡ false) × (d.from ≡ length d.jobs) × (d.ends ≡ c.ends ++ length d.jobs ∷ [])
 FedAs c d size n (why.Stop stop) = d.stop ≡ Some stop
 FedAs c d size n why.NoMemory = (is_some d.stop ≡ false) × (d.from ≡ c.from) × (d.ends ≡ c.ends)
 
@@ -74,6 +78,9 @@ pub further : (c : Cut) (b : ℕ) → IsSound c → is_some (step c b).stop ≡ 
 unfolding step
 further c b h going = grind (arith, common_steps, h.short, ends_of_line, length-append)
 
+pub place_within : (c : Cut) → IsSound c → place c ≤ last_place
+place_within c h = omega (arith, h.lines, h.short)
+
 cut_end : (c : Cut) → IsCut c (end_batch c)
 unfolding end_batch
 cut_end c = record { same = λ e. grind (arith, common_steps, length-append); next = λ e. grind (arith, common_steps, length-append) }
@@ -85,8 +92,9 @@ cut_step_line c = record { same = λ e. grind (arith, common_steps, length-appen
 pub cut_step : (c : Cut) (b : ℕ) → IsCut c (step c b)
 unfolding step
 cut_step c b = record {
-    same = λ e. grind (arith, common_steps, (cut_step_line c).same);
-    next = λ e. grind (arith, common_steps, (cut_step_line c).next) }
+  same = λ e. grind (arith, common_steps, (cut_step_line c).same);
+  next = λ e. grind (arith, common_steps, (cut_step_line c).next);
+}
 
 -- ---- pieces
 
@@ -122,17 +130,19 @@ grows_still a c d g e f = record { more_jobs = g.more_jobs; jobs = e ∙ g.jobs;
 
 grows_job : (a c d : Cut) (job : Job) → Grows a c → d.jobs ≡ c.jobs ++ job ∷ [] → d.ends ≡ c.ends → Grows a d
 grows_job a c d job g e f = record {
-    more_jobs = g.more_jobs ++ job ∷ [];
-    jobs = e ∙ ap (λ js. js ++ job ∷ []) g.jobs ∙ append_assoc a.jobs g.more_jobs (job ∷ []);
-    more_ends = g.more_ends;
-    ends = f ∙ g.ends }
+  more_jobs = g.more_jobs ++ job ∷ [];
+  jobs = e ∙ ap (λ js. js ++ job ∷ []) g.jobs ∙ append_assoc a.jobs g.more_jobs (job ∷ []);
+  more_ends = g.more_ends;
+  ends = f ∙ g.ends;
+}
 
 grows_ends : (a c d : Cut) (n : ℕ) → Grows a c → d.jobs ≡ c.jobs → d.ends ≡ c.ends ++ n ∷ [] → Grows a d
 grows_ends a c d n g e f = record {
-    more_jobs = g.more_jobs;
-    jobs = e ∙ g.jobs;
-    more_ends = g.more_ends ++ n ∷ [];
-    ends = f ∙ ap (λ ns. ns ++ n ∷ []) g.ends ∙ append_assoc a.ends g.more_ends (n ∷ []) }
+  more_jobs = g.more_jobs;
+  jobs = e ∙ g.jobs;
+  more_ends = g.more_ends ++ n ∷ [];
+  ends = f ∙ ap (λ ns. ns ++ n ∷ []) g.ends ∙ append_assoc a.ends g.more_ends (n ∷ []);
+}
 
 grows_end : (a c : Cut) → Grows a c → Grows a (end_batch c)
 unfolding end_batch
@@ -146,17 +156,17 @@ grows_line : (a c : Cut) → Grows a c → Grows a (end_line c)
 unfolding end_line
 grows_line a c g =
     grows_if (length (without_cr c.line) == 0) a _ _
-      (grows_end a (next_line c) (grows_still a c (next_line c) g refl refl))
-      (grows_full a _ (grows_job a c _ (job_of c.lanes c.number (without_cr c.line)) g refl refl))
+    (grows_end a (next_line c) (grows_still a c (next_line c) g refl refl))
+    (grows_full a _ (grows_job a c _ (job_of c.lanes c.number (without_cr c.line)) g refl refl))
 
 pub grows_step : (a c : Cut) (b : ℕ) → Grows a c → Grows a (step c b)
 unfolding step
 grows_step a c b g =
     grows_if (is_some c.stop) a c _ g
-      (grows_if (nat_lt c.number SESSION_LINE_LIMIT) a _ _
-        (grows_if (b == 10) a (end_line c) _ (grows_line a c g)
-          (grows_if (nat_lt (length c.line) LINE_LIMIT) a _ _ (grows_still a c _ g refl refl) (grows_still a c _ g refl refl)))
-        (grows_still a c _ g refl refl))
+    (grows_if (nat_lt c.number SESSION_LINE_LIMIT) a _ _
+    (grows_if (b == 10) a (end_line c) _ (grows_line a c g)
+    (grows_if (nat_lt (length c.line) LINE_LIMIT) a _ _ (grows_still a c _ g refl refl) (grows_still a c _ g refl refl)))
+    (grows_still a c _ g refl refl))
 
 grows_all : (a c : Cut) (bytes : List ℕ) → Grows a c → Grows a (cut_all c bytes)
 grows_all a c [] g = g
@@ -166,9 +176,9 @@ grows_flush : (a c : Cut) (ended : Bool) → Grows a c → Grows a (flush ended 
 unfolding flush
 grows_flush a c ended g =
     grows_if ended a _ c
-      (grows_if (is_some c.stop) a c _ g
-        (grows_if (length c.line == 0) a c _ g (grows_job a c _ (job_of c.lanes c.number c.line) g refl refl)))
-      g
+    (grows_if (is_some c.stop) a c _ g
+    (grows_if (length c.line == 0) a c _ g (grows_job a c _ (job_of c.lanes c.number c.line) g refl refl)))
+    g
 
 -- what has been cut stays first in all that will be
 pub grows_to_all : (ended : Bool) (lanes : ℕ) (bytes rest : List ℕ) (c : Cut) → cut_all c rest ≡ cut_all (start lanes) bytes → Grows c (jobs_of_input bytes ended lanes)
@@ -179,5 +189,11 @@ grows_to_all ended lanes bytes rest c e =
 -- what has been cut, up to its last end of a batch
 pub up_to_end : (c d : Cut) → IsSound c → Grows c d → UpToAnEnd (take c.from c.jobs) c.ends d
 up_to_end c d h g = record {
-    ends = (length c.ends, sym (rw g.ends (take-append_seam c.ends g.more_ends)));
-    within = sym (rw (← h.last, g.jobs) (take-append-le c.from c.jobs g.more_jobs h.begins)) }
+  ends = (length c.ends, sym (rw g.ends (take-append_seam c.ends g.more_ends)));
+  within = sym (rw (← h.last, g.jobs) (take-append-le c.from c.jobs g.more_jobs h.begins));
+}
+
+-- what is cut of all bytes that were read, and then ended, is what their jobs are
+pub all_cut : (ended : Bool) (lanes : ℕ) (bytes : List ℕ) (c : Cut) → c ≡ cut_all (start lanes) bytes → end_batch (flush ended c) ≡ jobs_of_input bytes ended lanes
+unfolding jobs_of_input
+all_cut ended lanes bytes c e = ap (λ d. end_batch (flush ended d)) e

@@ -48,9 +48,9 @@ unfoldable pub step : Cutter → ℕ → Cutter
 step c b =
     if is_some c.stop then c else
     if nat_lt c.number SESSION_LINE_LIMIT then
-        (if b == 10 then end_line c else
-         if nat_lt (length c.line) LINE_LIMIT then record c { line = c.line ++ b ∷ [] } else
-         record c { stop = Some (LineTooLong c.number) })
+    (if b == 10 then end_line c else
+    if nat_lt (length c.line) LINE_LIMIT then record c { line = c.line ++ b ∷ [] } else
+    record c { stop = Some (LineTooLong c.number) })
     else record c { stop = Some TooManyLines }
 
 -- one byte after the other
@@ -62,9 +62,9 @@ cut_all c (b ∷ bs) = cut_all (step c b) bs
 unfoldable pub flush : Bool → Cutter → Cutter
 flush ended c =
     if ended then
-        (if is_some c.stop then c else
-         if length c.line == 0 then c else
-         record c { jobs = c.jobs ++ job_of c.lanes c.number c.line ∷ [] })
+    (if is_some c.stop then c else
+    if length c.line == 0 then c else
+    record c { jobs = c.jobs ++ job_of c.lanes c.number c.line ∷ [] })
     else c
 
 -- the jobs of bytes that were read, with the ends of their batches and where the cutting stopped

@@ -5,11 +5,10 @@ ghost use Rattle.wire_json.specs.Requests.{ask_of};
 ghost use Rattle.wire_json.specs.Jobs as jobs;
 ghost use Rattle.wire_json.specs.JobLaws.{IsSound, IsCut, Grows, FedAs, place};
 
+use crate::request::read_request;
 use std::alloc::{AllocError, Global};
 use wf_names::{BATCH_LINE_LIMIT, LINE_LIMIT, SESSION_LINE_LIMIT};
 use wf_talk::{Ask, Ends, Job, Jobs, Line};
-
-use crate::request::read_request;
 
 /// Why the cutting stopped: what follows is not read.
 #[derive(Clone, Copy, Debug, PartialEq, Eq)]

@@ -8,13 +8,12 @@ ghost use Rattle.wire_json.specs.Values.{value_of, listed_items, has_keys};
 ghost use Rattle.wire_json.specs.Requests as read;
 ghost use Rattle.wire_json.specs.Faults.{bad_of};
 
+use crate::fault::{ReadFault, SYNTAX};
 use serde_json::Value;
 use std::alloc::{AllocError, Global};
 use std::str;
 use wf_names::{CASE_LIMIT, CaseId, Name, STEP_LIMIT};
 use wf_talk::{Ask, Request, UserNames};
-
-use crate::fault::{ReadFault, SYNTAX};
 
 /// What a line asks. A line that is not exactly of the form of a request is bad.
 #[tactic(auto, unfolding(crate::specs::Requests::ask_of))]

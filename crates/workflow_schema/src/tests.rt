@@ -176,7 +176,13 @@ fn faulty_lists_are_refused(rt: HostRuntime) -> Result<(), Fail> {
     let faults = (
         Flow::build(rt.alloc(), none, &[], &[]).err(),
         Flow::build(rt.alloc(), names.copy()?, &[(a, b), (b, a), (a, b)], &[]).err(),
-        Flow::build(rt.alloc(), names.copy()?, &[(a, a)], &[(role, b), (role, b)]).err(),
+        Flow::build(
+            rt.alloc(),
+            names.copy()?,
+            &[(a, a)],
+            &[(role, b), (role, b)],
+        )
+        .err(),
     );
     assert_eq!(rt;
         faults,
