@@ -12,7 +12,7 @@ use Rattle.toml.specs.Data.{Data, Members, as_table}
 use Rattle.wf_names.specs.Table.{place_of}
 use Rattle.pair_set.specs.Pairs.{Pairs, AllPairs}
 use Rattle.user_relations.specs.Relations.{RelationShape, RelationKind, listed, complement, kind_of, has_list, is_listed, complemented, complement_of, known_names, change_kind, with_kind}
-use Rattle.user_relations.proofs.Sound.{names_kept, length_kept, count_kept, kind_here, kind_there, kind_pushed}
+use Rattle.policy_reader.proofs.KindLaws.{names_kept, count_kept, kind_here, kind_there, kind_pushed}
 use Rattle.policy_book.specs.Facts.{AreOfUsers}
 use Rattle.first_fault.specs.Reading.{or_fault}
 use Rattle.policy_reader.specs.declared.fault.PolicyPart.{PolicyPart}

@@ -1,10 +1,12 @@
 pub mod Counts
 pub mod Fresh
 pub mod Sets
+pub mod PairLists
 pub mod Groups
 pub mod RuleLists
 pub mod Orders
 pub mod Cycles
+pub mod KindLaws
 pub mod Drafts
 pub mod Held
 pub mod Permitted

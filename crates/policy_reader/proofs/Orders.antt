@@ -11,7 +11,7 @@ use Rattle.wf_names.specs.declared.limits.TheConstants.{STEP_LIMIT}
 use Rattle.pair_set.specs.Pairs.{Pairs, pair_cmp, IsAscending}
 use Rattle.pair_set.specs.PairLaws.{pair_cmp_total, pair_cmp-IsAntisymmetric, all_insert, contains_inserted}
 use Rattle.workflow_schema.specs.Flows.{Precedes, next, through, is_before, IsLeastCycle, has_twice, is_count}
-use Rattle.workflow_schema.proofs.Chains.{before_is_chain, chain_is_before}
+use Rattle.workflow_schema.specs.Laws.{IsDecided}
 use Rattle.policy_reader.specs.Bounds.{AreBelow}
 use Rattle.policy_reader.specs.Flows.{least_below, found_or}
 
@@ -74,25 +74,25 @@ first_below n order s t within (next pair) = (within.each s _ pair).0
 first_below n order s t within (through pair more) = (within.each s _ pair).0
 
 -- the least step before itself is the one that the search finds
-pub cycle_found : (n : ℕ) (order : Pairs) (s : ℕ) → n ≤ STEP_LIMIT → AreBelow n order → IsLeastCycle order s → least_below n (λ t. is_before order t t) ≡ Some s
-cycle_found n order s few within h =
+pub cycle_found : IsDecided → (n : ℕ) (order : Pairs) (s : ℕ) → n ≤ STEP_LIMIT → AreBelow n order → IsLeastCycle order s → least_below n (λ t. is_before order t t) ≡ Some s
+cycle_found decided n order s few within h =
     least_is n (λ t. is_before order t t) s (first_below n order s s within h.cycle)
-    (chain_is_before order s s (λ a b pair. omega (arith, few, (within.each a b pair).1)) h.cycle)
-    (λ t lt. not_true (is_before order t t) (λ e. h.least t lt (before_is_chain order t t e)))
+    ((decided order s s (λ a b pair. omega (arith, few, (within.each a b pair).1))).1 h.cycle)
+    (λ t lt. not_true (is_before order t t) (λ e. h.least t lt ((decided order t t (λ a b pair. omega (arith, few, (within.each a b pair).1))).0 e)))
 
-least_cycle : (n : ℕ) (order : Pairs) (s : ℕ) → n ≤ STEP_LIMIT → AreBelow n order → IsLeast n (λ t. is_before order t t) s → IsLeastCycle order s
-least_cycle n order s few within h = record {
-  cycle = before_is_chain order s s h.here;
-  least = λ t lt chain. let yes : is_before order t t ≡ true = chain_is_before order t t (λ a b pair. omega (arith, few, (within.each a b pair).1)) chain in let no = h.before t lt in cc;
+least_cycle : IsDecided → (n : ℕ) (order : Pairs) (s : ℕ) → n ≤ STEP_LIMIT → AreBelow n order → IsLeast n (λ t. is_before order t t) s → IsLeastCycle order s
+least_cycle decided n order s few within h = record {
+  cycle = (decided order s s (λ a b pair. omega (arith, few, (within.each a b pair).1))).0 h.here;
+  least = λ t lt chain. let yes : is_before order t t ≡ true = (decided order t t (λ a b pair. omega (arith, few, (within.each a b pair).1))).1 chain in let no = h.before t lt in cc;
 }
 
-none_found : (n : ℕ) (order : Pairs) (o : Option ℕ) → n ≤ STEP_LIMIT → AreBelow n order → ((s : ℕ) → IsLeastCycle order s → ⊥) → Tells n (λ t. is_before order t t) o → o ≡ None
-none_found n order None few within free h = refl
-none_found n order (Some s) few within free h = absurd (free s (least_cycle n order s few within h))
+none_found : IsDecided → (n : ℕ) (order : Pairs) (o : Option ℕ) → n ≤ STEP_LIMIT → AreBelow n order → ((s : ℕ) → IsLeastCycle order s → ⊥) → Tells n (λ t. is_before order t t) o → o ≡ None
+none_found decided n order None few within free h = refl
+none_found decided n order (Some s) few within free h = absurd (free s (least_cycle decided n order s few within h))
 
 -- where no step is the least before itself, the search finds none
-pub no_cycle_found : (n : ℕ) (order : Pairs) → n ≤ STEP_LIMIT → AreBelow n order → ((s : ℕ) → IsLeastCycle order s → ⊥) → least_below n (λ t. is_before order t t) ≡ None
-no_cycle_found n order few within free = none_found n order _ few within free (least_tells n (λ t. is_before order t t))
+pub no_cycle_found : IsDecided → (n : ℕ) (order : Pairs) → n ≤ STEP_LIMIT → AreBelow n order → ((s : ℕ) → IsLeastCycle order s → ⊥) → least_below n (λ t. is_before order t t) ≡ None
+no_cycle_found decided n order few within free = none_found decided n order _ few within free (least_tells n (λ t. is_before order t t))
 
 pub cycle_within : (n : ℕ) (order : Pairs) (s : ℕ) → AreBelow n order → IsLeastCycle order s → s < n
 cycle_within n order s within h = first_below n order s s within h.cycle

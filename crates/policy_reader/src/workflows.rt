@@ -28,6 +28,7 @@ use std::alloc::{AllocError, Global};
 use toml::Value;
 use toml::value::Table;
 use wf_names::{NameTable, RoleId, STEP_LIMIT, StepId};
+use workflow_schema::laws::order_is_chained;
 use workflow_schema::{Flow, FlowFault};
 
 /// Reads the steps of a workflow.
@@ -102,6 +103,7 @@ pub(crate) fn make_flow(
     ensures cycle { Gives fault_of (λ _. tt) result (spec.no_cycle flow steps.now.names order.now) }
     ensures made { IfOk result (λ f. f ≡ record { steps = steps.now.names; order = order.now; permits = set.empty }) }
 {
+    order_is_chained();
     let pairs = step_pairs(alloc, order.as_slice())?;
     let names = steps.copy()?;
     match order_flow(alloc, names, &pairs) {

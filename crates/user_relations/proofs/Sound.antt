@@ -30,12 +30,12 @@ AreUsers u v = (u < USER_LIMIT) × (v < USER_LIMIT)
 pub written_back : {X : Type 0} (new old : List X) (n : ℕ) → n ≡ length old → length new ≡ length old → take n (new ++ drop (length new) old) ≡ new
 written_back new old n e same = ap (λ k. take k (new ++ drop (length new) old)) (e ∙ sym same) ∙ take-append_seam new (drop (length new) old)
 
-pub names_kept : (rs : List RelationShape) (n : ℕ) (k : RelationKind) → map (λ r. r.name) (change_kind rs n k) ≡ map (λ r. r.name) rs
+names_kept : (rs : List RelationShape) (n : ℕ) (k : RelationKind) → map (λ r. r.name) (change_kind rs n k) ≡ map (λ r. r.name) rs
 names_kept [] n k = refl
 names_kept (r ∷ rs) zero k = refl
 names_kept (r ∷ rs) (suc n) k = ap (λ ns. r.name ∷ ns) (names_kept rs n k)
 
-pub length_kept : (rs : List RelationShape) (n : ℕ) (k : RelationKind) → length (change_kind rs n k) ≡ length rs
+length_kept : (rs : List RelationShape) (n : ℕ) (k : RelationKind) → length (change_kind rs n k) ≡ length rs
 length_kept [] n k = refl
 length_kept (r ∷ rs) zero k = refl
 length_kept (r ∷ rs) (suc n) k = ap suc (length_kept rs n k)
@@ -45,7 +45,7 @@ known_names_kept rs zero k = refl
 known_names_kept rs (suc zero) k = refl
 known_names_kept rs (suc (suc n)) k = ap (λ ns. codes "same" ∷ codes "other" ∷ ns) (names_kept rs n k)
 
-pub count_kept : (rs : List RelationShape) (rho : ℕ) (k : RelationKind) → length (with_kind rs rho k) ≡ length rs
+count_kept : (rs : List RelationShape) (rho : ℕ) (k : RelationKind) → length (with_kind rs rho k) ≡ length rs
 count_kept rs zero k = refl
 count_kept rs (suc zero) k = refl
 count_kept rs (suc (suc n)) k = length_kept rs n k
@@ -56,7 +56,7 @@ got_here (r ∷ rs) zero k0 k e = refl
 got_here (r ∷ rs) (suc n) k0 k e = got_here rs n k0 k e
 
 -- a declared relation has its new kind
-pub kind_here : (rs : List RelationShape) (rho : ℕ) (k0 k : RelationKind) → kind_of rs rho ≡ Some k0 → kind_of (with_kind rs rho k) rho ≡ Some k
+kind_here : (rs : List RelationShape) (rho : ℕ) (k0 k : RelationKind) → kind_of rs rho ≡ Some k0 → kind_of (with_kind rs rho k) rho ≡ Some k
 kind_here rs zero k0 k e = cc
 kind_here rs (suc zero) k0 k e = cc
 kind_here rs (suc (suc n)) k0 k e = got_here rs n k0 k e
@@ -69,14 +69,14 @@ got_there (r ∷ rs) (suc n) zero k differ = refl
 got_there (r ∷ rs) (suc n) (suc m) k differ = got_there rs n m k (λ e. differ (ap suc e))
 
 -- and the others have theirs
-pub kind_there : (rs : List RelationShape) (rho m : ℕ) (k : RelationKind) → (m ≡ rho → ⊥) → kind_of (with_kind rs rho k) m ≡ kind_of rs m
+kind_there : (rs : List RelationShape) (rho m : ℕ) (k : RelationKind) → (m ≡ rho → ⊥) → kind_of (with_kind rs rho k) m ≡ kind_of rs m
 kind_there rs zero m k differ = refl
 kind_there rs (suc zero) m k differ = refl
 kind_there rs (suc (suc n)) zero k differ = refl
 kind_there rs (suc (suc n)) (suc zero) k differ = refl
 kind_there rs (suc (suc n)) (suc (suc m)) k differ = got_there rs n m k (λ e. differ (ap (λ i. suc (suc i)) e))
 
-pub kind_is : (rs : List RelationShape) (rho m : ℕ) (k0 k k1 : RelationKind) → kind_of rs rho ≡ Some k0 → m ≡ rho → kind_of (with_kind rs rho k) m ≡ Some k1 → k ≡ k1
+kind_is : (rs : List RelationShape) (rho m : ℕ) (k0 k k1 : RelationKind) → kind_of rs rho ≡ Some k0 → m ≡ rho → kind_of (with_kind rs rho k) m ≡ Some k1 → k ≡ k1
 kind_is rs rho m k0 k k1 was same e =
     let here : Some k ≡ Some k1 = sym (kind_here rs rho k0 k was) ∙ sym (ap (kind_of (with_kind rs rho k)) same) ∙ e in
     cc
@@ -179,7 +179,7 @@ pushed [] r (suc n) = inl refl
 pushed (x ∷ rs) r zero = inl refl
 pushed (x ∷ rs) r (suc n) = pushed rs r n
 
-pub kind_pushed : (rs : List RelationShape) (r : RelationShape) (m : ℕ) → (kind_of (rs ++ r ∷ []) m ≡ kind_of rs m) ⊎ ((kind_of rs m ≡ None) × (kind_of (rs ++ r ∷ []) m ≡ Some r.kind))
+kind_pushed : (rs : List RelationShape) (r : RelationShape) (m : ℕ) → (kind_of (rs ++ r ∷ []) m ≡ kind_of rs m) ⊎ ((kind_of rs m ≡ None) × (kind_of (rs ++ r ∷ []) m ≡ Some r.kind))
 kind_pushed rs r zero = inl refl
 kind_pushed rs r (suc zero) = inl refl
 kind_pushed rs r (suc (suc n)) = elim (pushed rs r n) [

@@ -29,7 +29,7 @@ returns-in-Ok-clause-cycle c =
     let n = length c.args.steps.now.names in
     let same = ap (λ ps. set.from_list {R = pair_cmp} ps) (c.deref.ensures.value ∙ c.in_ok-pairs.ensures) ∙ c.as_slice.ensures.pairs in
     no_cycle-ok c.args.flow c.args.steps.now.names c.args.order.now
-    (no_cycle_found n c.args.order.now (few_steps n c.requires.counted) c.requires.within
+    (no_cycle_found c.order_is_chained.ensures.decided n c.args.order.now (few_steps n c.requires.counted) c.requires.within
     (λ s least. let e = (c.in-Ok.ensures.cycle s).1 (subst (λ o. IsLeastCycle o s) (sym same) least) in cc))
 
 pub flow_fault-requires-clause-within : goal.flow_fault-requires-clause-within
@@ -42,4 +42,4 @@ returns-clause-cycle c =
     let n = length c.args.steps.now.names in
     let same = ap (λ ps. set.from_list {R = pair_cmp} ps) (c.deref.ensures.value ∙ c.in_ok-pairs.ensures) ∙ c.as_slice.ensures.pairs in
     refused c.in-Err.fault c.flow_fault.result c.args.flow c.args.steps.now.names c.args.order.now c.in-Err.ensures.known c.flow_fault.ensures.cycle c.flow_fault.ensures.memory
-    (λ s e. cycle_found n c.args.order.now s (few_steps n c.requires.counted) c.requires.within (subst (λ o. IsLeastCycle o s) same ((c.in-Err.ensures.cycle s).0 (ap Err e))))
+    (λ s e. cycle_found c.order_is_chained.ensures.decided n c.args.order.now s (few_steps n c.requires.counted) c.requires.within (subst (λ o. IsLeastCycle o s) same ((c.in-Err.ensures.cycle s).0 (ap Err e))))
