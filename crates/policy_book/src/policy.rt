@@ -158,8 +158,8 @@ impl Policy {
         requires { f < length self.now.flows }
         ensures { result ≡ (flow_at self.now f).retired }
     {
-        let workflow = &self.flows[f.0 as usize];
-        workflow.retired
+        let retiring = &self.flows[f.0 as usize];
+        retiring.retired
     }
 
     /// The role of the administrators.
@@ -303,8 +303,8 @@ impl Policy {
         requires { f < length self.old.flows }
         ensures { self.new ≡ with_flow self.old f (record (flow_at self.old f) { retired = true }) }
     {
-        let workflow = &mut self.flows[f.0 as usize];
-        workflow.retired = true;
+        let retiring = &mut self.flows[f.0 as usize];
+        retiring.retired = true;
     }
 }
 

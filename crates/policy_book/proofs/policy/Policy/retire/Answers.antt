@@ -11,6 +11,6 @@ invariant_of-self c =
     let relations = length c.self.inside.relations in
     let as_many = ap (λ (p : PolicyShape). length p.flows) c.self.view_is in
     let place : c.f.inside.0 < length flows = omega (arith, c.f.view_is, as_many, c.requires) in
-    let before = sound_at c.self.inside.roster c.self.inside.relations c.self.inside.names flows c.self.inside.admin c.self.invariant c.f.inside.0 c.index_mut-workflow.result.now place c.index_mut-workflow.ensures.value in
-    let opened = subst (λ (w : WorkflowShape). IsSoundWorkflow roles relations w) (sym c.workflow.view_is) before in
+    let before = sound_at c.self.inside.roster c.self.inside.relations c.self.inside.names flows c.self.inside.admin c.self.invariant c.f.inside.0 c.index_mut-retiring.result.now place c.index_mut-retiring.ensures.value in
+    let opened = subst (λ (w : WorkflowShape). IsSoundWorkflow roles relations w) (sym c.retiring.view_is) before in
     stored_with_flow c.self.inside.roster c.self.inside.relations c.self.inside.names flows c.self.inside.admin c.self.invariant c.f.inside.0 _ place (record { permitted = opened.permitted; few = opened.few; ruled = opened.ruled })
