@@ -8,7 +8,7 @@ use std::test::Fail;
 use wf_names::{Name, NameFault, NameTable, RoleId, UserId};
 
 #[test]
-fn roles_are_given_and_taken_away(rt: HostRuntime) -> Result<(), Fail> {
+fn users_are_added(rt: HostRuntime) -> Result<(), Fail> {
     let mut roster = Roster::new(rt.alloc(), two_roles(rt.alloc())?)?;
     let users = [
         roster.add_user(read("ann")?),
@@ -19,41 +19,52 @@ fn roles_are_given_and_taken_away(rt: HostRuntime) -> Result<(), Fail> {
         users,
         [Ok(UserId(0)), Ok(UserId(1)), Err(NameFault::Twice)]
     );
-    let (ann, bob, clerk, admin) = (UserId(0), UserId(1), RoleId(0), RoleId(1));
     assert!(rt; roster.users().len() == 2 && roster.roles().len() == 2);
-    let enrolled = [
-        roster.enrol(ann, clerk),
-        roster.enrol(bob, clerk),
-        roster.enrol(ann, admin),
-        roster.enrol(bob, clerk),
-    ];
+    Ok(())
+}
+
+#[test]
+fn a_role_is_given_once(rt: HostRuntime) -> Result<(), Fail> {
+    let mut roster = two_users(rt.alloc())?;
+    let (bob, clerk) = (UserId(1), RoleId(0));
+    roster.enrol(bob, clerk).ok().ok_or("no room")?;
+    assert_eq!(rt; roster.enrol(bob, clerk), Err(RosterFault::Already));
+    Ok(())
+}
+
+#[test]
+fn a_role_is_taken_away_once(rt: HostRuntime) -> Result<(), Fail> {
+    let mut roster = two_users(rt.alloc())?;
+    let (bob, clerk) = (UserId(1), RoleId(0));
+    roster.enrol(bob, clerk).ok().ok_or("no room")?;
+    roster.dismiss(bob, clerk).ok().ok_or("not held")?;
+    assert_eq!(rt; roster.dismiss(bob, clerk), Err(RosterFault::Absent));
+    Ok(())
+}
+
+#[test]
+fn a_copy_keeps_the_roles(rt: HostRuntime) -> Result<(), Fail> {
+    let mut roster = two_users(rt.alloc())?;
+    roster.enrol(UserId(1), RoleId(0)).ok().ok_or("no room")?;
     let copy = roster.copy()?;
-    let dismissed = [
-        roster.dismiss(bob, clerk),
-        roster.dismiss(bob, clerk),
-        roster.dismiss(bob, admin),
-    ];
     assert_eq!(rt;
-        (enrolled, dismissed),
-        (
-            [Ok(()), Ok(()), Ok(()), Err(RosterFault::Already)],
-            [Ok(()), Err(RosterFault::Absent), Err(RosterFault::Absent)]
-        )
-    );
-    assert_eq!(rt;
-        (
-            [
-                roster.has(ann, clerk),
-                roster.has(ann, admin),
-                roster.has(bob, clerk)
-            ],
-            [copy.has(bob, clerk), copy.has(bob, admin)],
-            copy.users().find(&read("bob")?),
-            copy.roles().find(&read("admin")?)
-        ),
-        ([true, true, false], [true, false], Some(1), Some(1))
+        [
+            copy.has(UserId(1), RoleId(0)),
+            copy.has(UserId(1), RoleId(1))
+        ],
+        [true, false]
     );
     Ok(())
+}
+
+/// A roster of two users and two roles.
+fn two_users(alloc: Global) -> Result<Roster, Fail>
+    ensures { IfOk result (λ roster. (length roster.users ≡ 2) × (length roster.roles ≡ 2)) }
+{
+    let mut roster = Roster::new(alloc, two_roles(alloc)?)?;
+    roster.add_user(read("ann")?).ok().ok_or("no room")?;
+    roster.add_user(read("bob")?).ok().ok_or("no room")?;
+    Ok(roster)
 }
 
 fn two_roles(alloc: Global) -> Result<NameTable, Fail>
