@@ -1,0 +1,6 @@
+pub mod States
+pub mod Answers
+pub mod Steps
+pub mod Kept
+pub mod Histories
+pub mod Boards

@@ -1,0 +1,6 @@
+//! The state of a session: the policy with the table of cases, and the answers to what is asked.
+#![tactic(auto)]
+
+mod board;
+
+pub use board::Board;
