@@ -1,5 +1,4 @@
 -- A board, as contracts see it.
-use Rattle.std.specs.Prelude.{ℕ}
 use Rattle.policy_book.specs.Shapes.{PolicyShape}
 use Rattle.grant_table.specs.Tables.{CasesShape}
 use Rattle.wf_board.specs.Kept.{ArePlanned, AreOfPolicy}

@@ -44,7 +44,7 @@ batch_jobs batch_ends k jobs = drop (batch_start batch_ends k) (take (batch_end 
 pub record FillsJobs (entries : List Entry) (jobs : List Job) (batch_ends : List ℕ) : Type 0 where
   pub whole : length entries ≡ length jobs
   pub batches : (k : ℕ) → k < length batch_ends → (lane : ℕ) →
-    lane_jobs lane (batch_jobs batch_ends k (map job_of_entry entries)) ≡ lane_jobs lane (batch_jobs batch_ends k jobs)
+      lane_jobs lane (batch_jobs batch_ends k (map job_of_entry entries)) ≡ lane_jobs lane (batch_jobs batch_ends k jobs)
 
 -- a list that is the front of another
 abbrev pub IsFront : List Job → List Job → Type 0
@@ -54,6 +54,6 @@ IsFront front all = (rest : List Job) × (all ≡ front ++ rest)
 pub record FillsPart (entries : List Entry) (jobs : List Job) (batch_ends : List ℕ) : Type 0 where
   pub within : length entries ≤ length jobs
   pub batches : (k : ℕ) → k < length batch_ends → batch_end batch_ends k ≤ length entries → (lane : ℕ) →
-    lane_jobs lane (batch_jobs batch_ends k (map job_of_entry entries)) ≡ lane_jobs lane (batch_jobs batch_ends k jobs)
+      lane_jobs lane (batch_jobs batch_ends k (map job_of_entry entries)) ≡ lane_jobs lane (batch_jobs batch_ends k jobs)
   pub next : (k : ℕ) → k < length batch_ends → batch_start batch_ends k ≤ length entries → length entries < batch_end batch_ends k → (lane : ℕ) →
-    IsFront (lane_jobs lane (drop (batch_start batch_ends k) (map job_of_entry entries))) (lane_jobs lane (batch_jobs batch_ends k jobs))
+      IsFront (lane_jobs lane (drop (batch_start batch_ends k) (map job_of_entry entries))) (lane_jobs lane (batch_jobs batch_ends k jobs))

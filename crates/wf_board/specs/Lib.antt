@@ -4,3 +4,4 @@ pub mod Steps
 pub mod Kept
 pub mod Histories
 pub mod Boards
+pub mod HistoryLaws

@@ -1,5 +1,5 @@
 -- The state of a session.
-use Rattle.std.specs.Prelude.{ℕ, ◌||◌, nat_le, Bool, List, [], Option, length}
+use Rattle.std.specs.Prelude.{ℕ, ◌||◌, nat_le, Bool, List, [], Option}
 use Rattle.wf_names.specs.Table.{place_of}
 use Rattle.wf_names.specs.declared.limits.TheConstants.{OPEN_CASE_LIMIT, CASE_LIMIT}
 use Rattle.policy_book.specs.Shapes.{PolicyShape}
