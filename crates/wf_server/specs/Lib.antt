@@ -4,3 +4,5 @@ pub mod Answers
 pub mod Endings
 pub mod Asked
 pub mod Statuses
+pub mod Reading
+pub mod Sessions

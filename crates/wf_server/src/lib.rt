@@ -9,9 +9,11 @@ mod input;
 mod judge;
 mod load;
 mod plan;
+mod reader;
 mod run;
 #[cfg(test)]
 mod tests;
+mod turn;
 mod words;
 
 pub use fault::{InputFault, RunFault};
