@@ -10,6 +10,7 @@ mod judge;
 mod load;
 mod plan;
 mod run;
+mod solve;
 #[cfg(test)]
 mod tests;
 mod words;
