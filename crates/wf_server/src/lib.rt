@@ -11,6 +11,7 @@ mod load;
 mod plan;
 mod reader;
 mod run;
+mod solve;
 #[cfg(test)]
 mod tests;
 mod turn;

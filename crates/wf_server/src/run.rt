@@ -1,14 +1,15 @@
 //! The top call: one run of the program over a source, a sink and a shelf.
-ghost use Rattle.std.specs.Prelude.{◌≡◌, ◌↔◌, ◌≤◌, ℕ, List, map, string_bytes, None, Some, true, IfSome};
+ghost use Rattle.std.specs.Prelude.{◌≡◌, ◌↔◌, ◌≤◌, ℕ, List, map, string_bytes, None, Some, true, false, IfSome};
 ghost use Rattle.wf_outside.specs.Outside.{Rose};
 ghost use Rattle.wf_server.specs.Statuses.{status_of};
-ghost use Rattle.wf_server.specs.Words.{command_of, policy_named};
+ghost use Rattle.wf_server.specs.Words.{command_of, policy_named, reads_input};
 ghost use Rattle.wf_server.specs.Answers.{IsRun};
 ghost use Rattle.wf_server.specs.Endings.{Ends, IsQuiet, is_before_input};
 
 use crate::RunFault;
 use crate::plan::run_plan;
-use crate::words::read_words;
+use crate::solve::run_solve;
+use crate::words::{Command, read_words};
 use std::alloc::Global;
 use wf_outside::{Shelf, Sink, Source};
 
@@ -40,6 +41,7 @@ pub fn run_alone<F: Shelf, S: Source, K: Sink>(
 
     // What else it does, whether they tell or not.
     ensures quiet { IsQuiet result.fault (K.held sink.old) (K.held sink.new) }
+    ensures untouched { IfSome (command_of (map string_bytes words.now)) (λ command. reads_input command ≡ false → source.new ≡ source.old) }
     ensures unread { is_before_input result.fault ≡ true → S.left source.new ≡ S.left source.old }
 
     // Faults of the outside come only where its counts rose.
@@ -48,7 +50,10 @@ pub fn run_alone<F: Shelf, S: Source, K: Sink>(
     ensures load { result.fault ≡ RunFault.Load → Rose (F.faults shelf.old) (F.faults shelf.new) }
 {
     match read_words(words) {
-        Some(asked) => report_of(run_plan(alloc, asked.policy, asked.flow, shelf, source, sink)),
+        Some(Command::Plan { policy, flow }) => {
+            report_of(run_plan(alloc, policy, flow, shelf, source, sink))
+        }
+        Some(Command::Solve { policy }) => report_of(run_solve(alloc, policy, shelf, sink)),
         None => report_of(RunFault::Usage),
     }
 }
