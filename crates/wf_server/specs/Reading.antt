@@ -57,14 +57,14 @@ PausesAs c r left Batch = (is_some r.cut.stop ≡ false) × (r.cut.from ≡ leng
 PausesAs c r left End = (is_some r.cut.stop ≡ false) × (pending r ≡ []) × IsAtEnd left
 PausesAs c r left Failed = (is_some r.cut.stop ≡ false) × (pending r ≡ [])
 PausesAs c r left (Stopped stop) = r.cut.stop ≡ Some stop
-PausesAs c r left NoMemory = (is_some r.cut.stop ≡ false) × (r.cut.from ≡ c.from) × (r.cut.ends ≡ c.ends)
+PausesAs c r left NoMemory = Unit {0}
 
 -- how the piece was cut
 abbrev pub CutsAs : Cut → Reader → Why → Type 0
-CutsAs c r why.All = (is_some r.cut.stop ≡ false) × (pending r ≡ []) × (r.cut.from ≡ c.from) × (r.cut.ends ≡ c.ends)
+CutsAs c r why.All = (is_some r.cut.stop ≡ false) × (pending r ≡ [])
 CutsAs c r why.Batch = (is_some r.cut.stop ≡ false) × (r.cut.from ≡ length r.cut.jobs) × (place c < place r.cut)
 CutsAs c r (why.Stop stop) = r.cut.stop ≡ Some stop
-CutsAs c r why.NoMemory = (is_some r.cut.stop ≡ false) × (r.cut.from ≡ c.from) × (r.cut.ends ≡ c.ends)
+CutsAs c r why.NoMemory = Unit {0}
 
 -- what a reader meets that can read on
 pub record IsBetween (r : Reader) : Type 0 where
@@ -72,14 +72,10 @@ pub record IsBetween (r : Reader) : Type 0 where
   pub going : is_some r.cut.stop ≡ false
   pub closed : r.cut.from ≡ length r.cut.jobs
 
--- the cutting without the jobs of the open batch
-abbrev pub without_open : Cut → Cut
-without_open c = record c { jobs = take c.from c.jobs }
-
--- the input is ended, as far as there was memory
+-- the input is ended, unless memory was refused
 abbrev pub FinishesAs : Cut → Cut → Bool → Paused → Paused → Type 0
 FinishesAs c d ended paused result =
-    ((result ≡ paused) × (d ≡ end_batch (flush ended c))) ⊎ ((result ≡ NoMemory) × (d ≡ without_open c))
+    ((result ≡ paused) × (d ≡ end_batch (flush ended c))) ⊎ ((result ≡ NoMemory) × (d ≡ c))
 
 -- the open batch is ended where reading paused so
 abbrev pub ClosesAs : Cut → Cut → Paused → Paused → Type 0
@@ -87,4 +83,4 @@ ClosesAs c d Batch result = (result ≡ Batch) × (d ≡ c)
 ClosesAs c d End result = FinishesAs c d true End result
 ClosesAs c d Failed result = FinishesAs c d false Failed result
 ClosesAs c d (Stopped stop) result = FinishesAs c d false (Stopped stop) result
-ClosesAs c d NoMemory result = (result ≡ NoMemory) × (d ≡ without_open c)
+ClosesAs c d NoMemory result = (result ≡ NoMemory) × (d ≡ c)

@@ -5,7 +5,7 @@ ghost use Rattle.wf_board.specs.Histories.{IsFront};
 ghost use Rattle.wire_json.specs.Jobs as jobs;
 ghost use Rattle.wire_json.specs.JobLaws.{IsSound, Grows, FedAs, place};
 ghost use Rattle.wf_names.specs.declared.limits.TheConstants.{SESSION_LINE_LIMIT};
-ghost use Rattle.wf_server.specs.Reading.{pending, IsReady, IsBetween, HasRead, IsCutUp, ReadsTo, PausesAs, CutsAs, ClosesAs, FinishesAs, without_open};
+ghost use Rattle.wf_server.specs.Reading.{pending, IsReady, IsBetween, HasRead, IsCutUp, ReadsTo, PausesAs, CutsAs, ClosesAs, FinishesAs};
 
 use std::alloc::{AllocError, Global};
 use wf_outside::{Failed, Source};
@@ -67,8 +67,12 @@ pub(crate) fn read_on<S: Source>(r: &mut Reader, alloc: Global, source: &mut S) 
     ensures faults { S.faults source.old ≤ S.faults source.new }
     ensures rose { result ≡ Paused.Failed → Rose (S.faults source.old) (S.faults source.new) }
 {
+    let (jobs, ends) = (r.cut.jobs.len(), r.cut.ends.len());
     let paused = read_batch(r, alloc, source);
-    close_batch(&mut r.cut, alloc, paused)
+    match close_batch(&mut r.cut, alloc, paused) {
+        Paused::NoMemory => drop_after(&mut r.cut, jobs, ends),
+        other => other,
+    }
 }
 
 // Ends the open batch where reading paused otherwise than at the end of a batch.
@@ -77,30 +81,31 @@ fn close_batch(cut: &mut Cutter, alloc: Global, paused: Paused) -> Paused
     ensures { ClosesAs cut.old cut.new paused result }
 {
     match paused {
-        Paused::Batch => Paused::Batch,
-        Paused::End => finish_or_drop(cut, alloc, true, paused),
-        Paused::Failed | Paused::Stopped(_) => finish_or_drop(cut, alloc, false, paused),
-        Paused::NoMemory => drop_open(cut),
+        Paused::Batch | Paused::NoMemory => paused,
+        Paused::End => finish_input(cut, alloc, true, paused),
+        Paused::Failed | Paused::Stopped(_) => finish_input(cut, alloc, false, paused),
     }
 }
 
 // Ends the input, or what was read of it.
-fn finish_or_drop(cut: &mut Cutter, alloc: Global, ended: bool, paused: Paused) -> Paused
+fn finish_input(cut: &mut Cutter, alloc: Global, ended: bool, paused: Paused) -> Paused
     requires { IsSound cut.old }
     ensures { FinishesAs cut.old cut.new ended paused result }
 {
     match finish(cut, alloc, ended) {
         Ok(()) => paused,
-        Err(_) => drop_open(cut),
+        Err(_) => Paused::NoMemory,
     }
 }
 
-// Drops the jobs of the open batch.
-fn drop_open(cut: &mut Cutter) -> Paused
+// Keeps the first so many jobs and ends alone.
+fn drop_after(cut: &mut Cutter, jobs: usize, ends: usize) -> Paused
     ensures answer { result ≡ Paused.NoMemory }
-    ensures dropped { cut.new ≡ without_open cut.old }
+    ensures jobs { cut.new.jobs ≡ take jobs cut.old.jobs }
+    ensures ends { cut.new.ends ≡ take ends cut.old.ends }
 {
-    cut.jobs.truncate(cut.from);
+    cut.jobs.truncate(jobs);
+    cut.ends.truncate(ends);
     Paused::NoMemory
 }
 

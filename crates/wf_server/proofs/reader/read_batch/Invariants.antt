@@ -11,8 +11,6 @@ invariant-reading g l =
       ready : IsReady l.r;
       going : is_some l.r.cut.stop ≡ false;
       grows : (c : Cut) → Grows c l.fn.r.cut → Grows c l.r.cut;
-      from : l.r.cut.from ≡ l.fn.r.cut.from;
-      ends : l.r.cut.ends ≡ l.fn.r.cut.ends;
       further : place l.fn.r.cut ≤ place l.r.cut;
       faults : g.S.Source.faults l.fn.source ≤ g.S.Source.faults l.source;
     }
