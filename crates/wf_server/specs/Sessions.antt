@@ -8,6 +8,7 @@ use Rattle.wire_json.specs.Jobs.{Cut, jobs_of_input, UpToAnEnd}
 use Rattle.wire_json.specs.Entries.{transcript_text}
 use Rattle.policy_book.specs.Shapes.{PolicyShape}
 use Rattle.wf_board.specs.States.{State, opening_state}
+use Rattle.wf_board.specs.Steps.{IsStep, state_after_step}
 use Rattle.wf_board.specs.Kept.{KeepsPlans}
 use Rattle.wf_board.specs.Histories.{IsLegal, FillsJobs, FillsPart, IsFront, job_of_entry, state_after}
 use Rattle.wf_server.specs.declared.fault.RunFault.{RunFault}
@@ -74,10 +75,13 @@ pub record LeadsTo (start : State) (entries : List Entry) (s : State) : Type 0 w
   pub legal : IsLegal start entries
   pub state : state_after start entries ≡ s
 
--- there is one more entry, for a job
-pub record HasOneMoreEntry (before after : List Entry) (job : Job) : Type 0 where
+-- there is one more entry: it answers a job in a state, and leads to the next
+pub record HasAnsweredOne (before after : List Entry) (s next : State) (job : Job) : Type 0 where
   pub entry : Entry
+  pub at : entry.at ≡ length before
   pub answers : job_of_entry entry ≡ job
+  pub step : IsStep s entry.ask entry.reply
+  pub state : next ≡ state_after_step s entry.ask entry.reply
   pub pushed : after ≡ before ++ entry ∷ []
 
 -- the jobs so far are answered, and the entries written

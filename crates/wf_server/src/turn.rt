@@ -8,7 +8,7 @@ ghost use Rattle.wf_board.specs.Boards.{state_on};
 ghost use Rattle.wf_board.specs.States.{State};
 ghost use Rattle.wf_board.specs.Histories.{IsFront, job_of_entry};
 ghost use Rattle.wire_json.specs.Entries.{entry_text, transcript_text};
-ghost use Rattle.wf_server.specs.Sessions.{LeadsTo, HasAnswered, HasOneMoreEntry, TurnsTo};
+ghost use Rattle.wf_server.specs.Sessions.{LeadsTo, HasAnswered, HasAnsweredOne, TurnsTo};
 
 use policy_book::Policy;
 use std::alloc::Global;
@@ -45,13 +45,31 @@ pub(crate) fn take_turn<K: Sink>(
     ensures rose { result ≡ Turn.Failed → Rose (K.faults sink.old) (K.faults sink.new) }
 {
     let done = journal.len();
-    let left = &jobs.as_slice()[done..];
+    let left = jobs_after(jobs, done);
     match journal.reserve(left.len()) {
         Ok(()) => {}
         Err(_) => return Turn::NoMemory,
     }
     answer_jobs(board, journal, left);
-    write_entries(alloc, board.policy(), &journal.as_slice()[done..], sink)
+    write_entries(alloc, board.policy(), entries_after(journal, done), sink)
+}
+
+// The jobs behind the first so many.
+#[tactic(auto, using(crate::proofs::TurnLaws::rest_after))]
+fn jobs_after(jobs: &Jobs, done: usize) -> &[Job]
+    requires { done ≤ length jobs.now }
+    ensures { result.now ≡ drop done jobs.now }
+{
+    &jobs.as_slice()[done..]
+}
+
+// The entries behind the first so many.
+#[tactic(auto, using(crate::proofs::TurnLaws::rest_after))]
+fn entries_after(journal: &Journal, done: usize) -> &[Entry]
+    requires { done ≤ length journal.now.entries }
+    ensures { result.now ≡ drop done journal.now.entries }
+{
+    &journal.as_slice()[done..]
 }
 
 // Answers each job; there is room for their entries.
@@ -61,7 +79,6 @@ fn answer_jobs(board: &mut Board, journal: &mut Journal, jobs: &[Job])
     ensures leads { (start : State) → LeadsTo start journal.old.entries (state_on board.old) → LeadsTo start journal.new.entries (state_on board.new) }
     ensures filled { map job_of_entry journal.new.entries ≡ map job_of_entry journal.old.entries ++ jobs.now }
     ensures kept { take (length journal.old.entries) journal.new.entries ≡ journal.old.entries }
-    ensures policy { board.new.policy ≡ board.old.policy }
 {
     'answering: for job in jobs {
         answer_job(board, journal, job);
@@ -72,10 +89,8 @@ fn answer_jobs(board: &mut Board, journal: &mut Journal, jobs: &[Job])
 fn answer_job(board: &mut Board, journal: &mut Journal, job: &Job)
     requires room { 0 < journal.old.spare }
     requires few { length journal.old.entries ≤ SESSION_LINE_LIMIT }
-    ensures leads { (start : State) → LeadsTo start journal.old.entries (state_on board.old) → LeadsTo start journal.new.entries (state_on board.new) }
-    ensures one { HasOneMoreEntry journal.old.entries journal.new.entries job.now }
+    ensures one { HasAnsweredOne journal.old.entries journal.new.entries (state_on board.old) (state_on board.new) job.now }
     ensures room { journal.old.spare ≤ journal.new.spare + 1 }
-    ensures policy { board.new.policy ≡ board.old.policy }
 {
     let reply = board.answer(&job.ask);
     let entry = Entry {
