@@ -7,3 +7,4 @@ pub mod Asked
 pub mod Statuses
 pub mod Reading
 pub mod Sessions
+pub mod Reports

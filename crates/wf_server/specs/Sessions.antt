@@ -12,9 +12,13 @@ use Rattle.wf_board.specs.Steps.{IsStep, state_after_step}
 use Rattle.wf_board.specs.Kept.{KeepsPlans}
 use Rattle.wf_board.specs.Histories.{IsLegal, FillsJobs, FillsPart, IsFront, job_of_entry, state_after}
 use Rattle.wf_server.specs.declared.fault.RunFault.{RunFault}
-use Rattle.wf_server.specs.declared.fault.RunFault.TheVariants.{Nothing, Policy, Read, Write, Load, NoMemory, FileTooLong, LineTooLong, TooManyLines}
+use Rattle.wf_server.specs.declared.fault.RunFault.TheVariants.{Nothing, Read, Write, NoMemory, LineTooLong, TooManyLines}
+use Rattle.wf_server.specs.declared.reader.Reader.{Reader}
+use Rattle.wf_server.specs.declared.reader.Paused.{Paused}
+use Rattle.wf_server.specs.declared.reader.Paused.TheVariants as paused
 use Rattle.wf_server.specs.declared.turn.Turn.{Turn}
 use Rattle.wf_server.specs.declared.turn.Turn.TheVariants as turn
+use Rattle.wf_server.specs.Reading.{pending, HasRead}
 
 -- what a report tells of a session: the entries, the jobs that they answer, and the ends of the batches
 pub record Told : Type 0 where
@@ -45,6 +49,11 @@ pub record PartServed (p : PolicyShape) (all : Cut) (held held-after : Option (L
   pub fills : FillsPart told.entries told.jobs told.batch_ends
   pub written : HasPart held held-after (transcript_text p told.entries)
 
+-- a part of what was read is served
+abbrev pub PartlyServed : PolicyShape → List ℕ → Option (List ℕ) → Option (List ℕ) → Option (List ℕ) → Told → Type 0
+PartlyServed p bytes left held held-after told =
+    (ended : Bool) × (ended ≡ true → IsAtEnd left) × PartServed p (jobs_of_input bytes ended 1) held held-after told
+
 -- the bytes that were read are served, by how the session ended
 abbrev pub ServedAs : PolicyShape → List ℕ → Option (List ℕ) → Option (List ℕ) → Option (List ℕ) → Told → RunFault → Type 0
 ServedAs p bytes left held held-after told Nothing =
@@ -55,17 +64,19 @@ ServedAs p bytes left held held-after told (LineTooLong line) =
     AllServed p (jobs_of_input bytes false 1) held held-after told × ((jobs_of_input bytes false 1).stop ≡ Some (stop.LineTooLong line))
 ServedAs p bytes left held held-after told TooManyLines =
     AllServed p (jobs_of_input bytes false 1) held held-after told × ((jobs_of_input bytes false 1).stop ≡ Some stop.TooManyLines)
-ServedAs p bytes left held held-after told Write =
-    (ended : Bool) × (ended ≡ true → IsAtEnd left) × PartServed p (jobs_of_input bytes ended 1) held held-after told
-ServedAs p bytes left held held-after told NoMemory =
-    (ended : Bool) × (ended ≡ true → IsAtEnd left) × PartServed p (jobs_of_input bytes ended 1) held held-after told
+ServedAs p bytes left held held-after told Write = PartlyServed p bytes left held held-after told
+ServedAs p bytes left held held-after told NoMemory = PartlyServed p bytes left held held-after told
 ServedAs p bytes left held held-after told fault = ⊥
 
--- the session of a policy over a source that had `before` left and has `after` left, and a sink
-pub record Served (p : PolicyShape) (before after held held-after : Option (List ℕ)) (told : Told) (fault : RunFault) : Type 0 where
+-- a session of a policy over a source that had `before` left and has `after` left, and a sink
+pub record Serves (p : PolicyShape) (before after held held-after : Option (List ℕ)) (told : Told) (fault : RunFault) : Type 0 where
   pub bytes : List ℕ
   pub taken : HasTaken before after bytes
   pub served : ServedAs p bytes after held held-after told fault
+
+-- and after each entry every open case has a valid plan
+pub record Served (p : PolicyShape) (before after held held-after : Option (List ℕ)) (told : Told) (fault : RunFault) : Type 0 where
+  pub serves : Serves p before after held held-after told fault
   pub kept : AlwaysKeepsPlans p told.entries
 
 -- ---- between the batches
@@ -101,3 +112,19 @@ abbrev pub TurnsTo : PolicyShape → Option (List ℕ) → Option (List ℕ) →
 TurnsTo p held held-after s entries jobs turn.Done = HasAnswered p held held-after s entries jobs
 TurnsTo p held held-after s entries jobs turn.Failed = HasAnsweredPart p held held-after entries jobs
 TurnsTo p held held-after s entries jobs turn.NoMemory = HasAnsweredPart p held held-after entries jobs
+
+-- how a session ends where reading paused so and all is answered, if it does
+abbrev pub ending_of : Paused → Option RunFault
+ending_of paused.Batch = None
+ending_of paused.End = Some Nothing
+ending_of paused.Failed = Some Read
+ending_of (paused.Stopped (stop.LineTooLong line)) = Some (LineTooLong line)
+ending_of (paused.Stopped stop.TooManyLines) = Some TooManyLines
+ending_of paused.NoMemory = Some NoMemory
+
+-- after a batch the session goes on, or ends
+abbrev pub BatchEnds : PolicyShape → Option (List ℕ) → Option (List ℕ) → Option (List ℕ) → Option (List ℕ) → Reader → State → List Entry → Option RunFault → Type 0
+BatchEnds p before after held held-after r s entries None =
+    HasRead before after r.cut (pending r) × HasAnswered p held held-after s entries r.cut.jobs
+BatchEnds p before after held held-after r s entries (Some fault) =
+    Serves p before after held held-after (record { entries = entries; jobs = r.cut.jobs; batch_ends = r.cut.ends }) fault

@@ -10,7 +10,9 @@ mod judge;
 mod load;
 mod plan;
 mod reader;
+mod report;
 mod run;
+mod session;
 mod solve;
 #[cfg(test)]
 mod tests;
@@ -18,4 +20,5 @@ mod turn;
 mod words;
 
 pub use fault::{InputFault, RunFault};
-pub use run::{Report, run_alone};
+pub use report::Report;
+pub use run::run_alone;

@@ -8,19 +8,11 @@ ghost use Rattle.wf_server.specs.Endings.{Ends, IsQuiet, is_before_input};
 
 use crate::RunFault;
 use crate::plan::run_plan;
+use crate::report::{Report, bare_report};
 use crate::solve::run_solve;
 use crate::words::{Command, read_words};
 use std::alloc::Global;
 use wf_outside::{Shelf, Sink, Source};
-
-/// What came of a run.
-#[derive(Clone, Copy, Debug)]
-pub struct Report {
-    /// The status with which the program ends.
-    pub status: u8,
-    /// How the run ended.
-    pub fault: RunFault,
-}
 
 /// Runs the command that the words are, which are those after the program's name. It always
 /// returns, starts no thread and waits for nothing.
@@ -51,19 +43,9 @@ pub fn run_alone<F: Shelf, S: Source, K: Sink>(
 {
     match read_words(words) {
         Some(Command::Plan { policy, flow }) => {
-            report_of(run_plan(alloc, policy, flow, shelf, source, sink))
+            bare_report(alloc, run_plan(alloc, policy, flow, shelf, source, sink))
         }
-        Some(Command::Solve { policy }) => report_of(run_solve(alloc, policy, shelf, sink)),
-        None => report_of(RunFault::Usage),
-    }
-}
-
-fn report_of(fault: RunFault) -> Report
-    ensures status { result.status ≡ status_of fault }
-    ensures fault { result.fault ≡ fault }
-{
-    Report {
-        status: fault.status(),
-        fault,
+        Some(Command::Solve { policy }) => bare_report(alloc, run_solve(alloc, policy, shelf, sink)),
+        None => bare_report(alloc, RunFault::Usage),
     }
 }
