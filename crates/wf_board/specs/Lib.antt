@@ -5,3 +5,4 @@ pub mod Kept
 pub mod Histories
 pub mod Boards
 pub mod HistoryLaws
+pub mod Laws

@@ -21,7 +21,8 @@ pub struct Board {
 impl Model for Board {
     ghost use Rattle.std.specs.Coded.{codes};
     ghost use Rattle.policy_book.specs.Shapes.{policy_code};
-    ghost use Rattle.wf_board.specs.Boards.{BoardShape, IsKept};
+    ghost use Rattle.wf_board.specs.Boards.{BoardShape, state_of};
+    ghost use Rattle.wf_board.specs.Kept.{IsKept};
 
     ghost Value = { BoardShape };
 
@@ -29,7 +30,7 @@ impl Model for Board {
 
     ghost view = { λ b. record { policy = b.policy; cases = b.cases } };
 
-    ghost invariant = { λ b. IsKept b.policy b.cases };
+    ghost invariant = { λ b. IsKept (state_of b.policy b.cases) };
 }
 
 impl Board {
