@@ -6,3 +6,4 @@ pub mod Histories
 pub mod Boards
 pub mod HistoryLaws
 pub mod Laws
+pub mod Named

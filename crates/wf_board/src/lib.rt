@@ -2,5 +2,6 @@
 #![tactic(auto)]
 
 mod board;
+pub mod laws;
 
 pub use board::Board;
