@@ -1,25 +1,26 @@
 -- What a session keeps, step by step.
-use Rattle.std.proofs.Common.{◌≡◌, ◌≢◌, eqb, ℕ, ◌+◌, ◌<◌, ◌⊎◌, inl, inr, Bool, true, false, List, [], ◌∷◌, ◌++◌, length, Option, None, Some, is_some, unwrap_or, refl, sym, ap, subst, ◌∙◌, arith}
+use Rattle.std.proofs.Common.{◌≡◌, ◌≢◌, eqb, ℕ, ◌+◌, ◌<◌, ◌⊎◌, inl, inr, Bool, true, false, List, [], ◌∷◌, ◌++◌, length, Option, None, Some, is_some, IsSomeAnd, unwrap_or, slice_set, refl, sym, ap, subst, ◌∙◌, arith}
+use Rattle.std.specs.Option.{option_map}
 use Rattle.std.proofs.lemmas.Bool.Decides.{eqb_tells}
 use Rattle.std.proofs.lemmas.List.{length-replicate, length-set}
 use Rattle.wf_names.specs.declared.states.StepState.TheVariants.{Free, Held}
-use Rattle.wf_names.specs.States.{is_held}
+use Rattle.wf_names.specs.States.{is_done, is_held}
 use Rattle.constraint_forms.specs.Assigned.{no_steps, no_users, planned}
 use Rattle.policy_book.specs.Shapes.{PolicyShape}
 use Rattle.policy_book.specs.Policies.{flow_at, problem_of}
 use Rattle.policy_book.specs.Plans.{IsValidPlan}
 use Rattle.case_record.specs.Cases.{CaseShape, as_finished, assigned_of, finished_case, finished_of, fresh_case, is_open, state_at, with_state}
 use Rattle.grant_table.specs.declared.rows.Row.{Row}
-use Rattle.grant_table.specs.Tables.{case_in, finished_row, held_row, plan_of, plan_while, row_at}
+use Rattle.grant_table.specs.Tables.{case_in, change_row, finished_row, held_row, plan_of, plan_while, row_at, HasFreeStep}
 use Rattle.wf_talk.specs.declared.reply.Reply.TheVariants as reply
 use Rattle.wf_board.specs.States.{State}
 use Rattle.wf_board.specs.Answers.{claim_step, finish_step, kept_plan}
 use Rattle.wf_board.specs.Steps.{with_changed, with_opened}
 use Rattle.wf_board.specs.Kept.{IsKept, IsOfPolicy, IsPlanned, KeepsCompletable, KeepsPlans}
 use Rattle.wf_board.specs.Named.{AreNamed}
-use Rattle.wf_board.proofs.Rows.{each_added, each_at, each_changed, row_of_case, there_added, there_changed, there_last}
+use Rattle.wf_board.proofs.Rows.{changed_case, each_added, each_at, each_changed, row_of_case, there_added, there_changed, there_last}
 use Rattle.wf_board.proofs.Told.{grant_tells, finish_tells, place_within}
-use Rattle.wf_board.proofs.Valid.{valid_claimed, valid_finished, valid_fresh}
+use Rattle.wf_board.proofs.Valid.{valid_claimed, valid_finished, valid_fresh, valid_given}
 
 live_apart : {X : Type 0} (c : CaseShape) → is_open c ≡ true → is_open c ≡ false → X
 live_apart c live closed = let is : true ≡ false = sym live ∙ closed in cc
@@ -70,6 +71,10 @@ row_known s n c kept here =
       planned = subst (λ d. IsPlanned s.policy d found.0.plan) found.1.1 (each_at (λ r. IsPlanned s.policy r.case r.plan) n s.rows found.0 kept.plans found.1.0);
     }
 
+-- a case is of a workflow of the policy
+pub case_of_policy : (s : State) (n : ℕ) (c : CaseShape) → IsKept s → case_in n s.rows ≡ Some c → IsOfPolicy s.policy c
+case_of_policy s n c kept here = (row_known s n c kept here).of_policy
+
 -- a step with a name is one of the case's
 pub step_within : (s : State) (n : ℕ) (step user : List ℕ) (c : CaseShape) (t u : ℕ) → IsKept s → AreNamed s n step user c t u → t < length c.states
 step_within s n step user c t u kept named =
@@ -84,6 +89,13 @@ kept_valid s n c kept here live =
     let has = planned_open s.policy c known.row.plan live known.planned in
     let is : kept_plan s n ≡ has.0 = ap (λ o. unwrap_or (plan_of o) []) known.there ∙ ap (λ o. unwrap_or o []) has.1.0 in
     subst (IsValidPlan (problem_of s.policy c.flow) (assigned_of c) (finished_of c)) (sym is) has.1.1
+
+-- the plan that is kept for an open case has a user for each of its steps
+pub plan_has : (s : State) (n : ℕ) (c : CaseShape) (t : ℕ) (plan : List ℕ) → IsKept s → case_in n s.rows ≡ Some c → is_open c ≡ true → t < length c.states →
+    plan_of (row_at n s.rows) ≡ Some plan → t < length plan
+plan_has s n c t plan kept here live below is =
+    let whole = (subst (IsValidPlan (problem_of s.policy c.flow) (assigned_of c) (finished_of c)) (ap (λ o. unwrap_or o []) is) (kept_valid s n c kept here live)).whole in
+    subst (λ m. t < m) ((case_of_policy s n c kept here).steps ∙ sym whole) below
 
 same_row : (a b : Row) → Some a ≡ Some b → a ≡ b
 same_row a b h = cc
@@ -125,6 +137,22 @@ claimed_keeps s n step user c t u plan kept named granted =
           valid_claimed (problem_of s.policy c.flow) c t u plan (step_within s n step user c t u kept named) tells.free tells.gives valid,
         )
 
+-- a claim that is granted is of a free step of an open case
+pub grant_free : (s : State) (n : ℕ) (step user : List ℕ) (c : CaseShape) (t u : ℕ) (plan : List ℕ) → IsKept s → AreNamed s n step user c t u →
+    claim_step s n c t u (state_at c t) ≡ reply.Granted plan → IsSomeAnd (case_in n s.rows) (λ k. HasFreeStep k t)
+grant_free s n step user c t u plan kept named granted =
+    subst (λ o. IsSomeAnd o (λ k. HasFreeStep k t)) (sym named.its_case)
+    record { open_case = named.open_case; step = step_within s n step user c t u kept named; free = (grant_tells s n c t u (state_at c t) plan granted).free }
+
+-- and the kept plan is valid with the user there
+pub grant_valid : (s : State) (n : ℕ) (step user : List ℕ) (c : CaseShape) (t u : ℕ) (plan : List ℕ) → IsKept s → AreNamed s n step user c t u →
+    claim_step s n c t u (state_at c t) ≡ reply.Granted plan →
+    IsSomeAnd (case_in n s.rows) (λ k. IsValidPlan (problem_of s.policy k.flow) (slice_set (assigned_of k) t (Some u)) (finished_of k) plan)
+grant_valid s n step user c t u plan kept named granted =
+    let tells = grant_tells s n c t u (state_at c t) plan granted in
+    subst (λ o. IsSomeAnd o (λ k. IsValidPlan (problem_of s.policy k.flow) (slice_set (assigned_of k) t (Some u)) (finished_of k) plan)) (sym named.its_case)
+    (valid_given (problem_of s.policy c.flow) c t u plan tells.gives (subst (IsValidPlan (problem_of s.policy c.flow) (assigned_of c) (finished_of c)) tells.kept (kept_valid s n c kept named.its_case named.open_case)))
+
 -- ---- finishing
 
 finished_planned : (p : PolicyShape) (c : CaseShape) (t : ℕ) (o : Option (List ℕ)) → is_open c ≡ true → is_held (state_at c t) ≡ true → IsPlanned p c o →
@@ -141,6 +169,13 @@ finished_keeps s n step user c t u done kept named finished =
       of_policy_still s.policy c (finished_case c t) refl (length-set c.states t (as_finished (state_at c t))) known,
       finished_planned s.policy c t r.plan named.open_case (ap is_held (finish_tells c t u (state_at c t) done finished)) before (is_open (finished_case c t)) refl,
     ))
+
+-- whether a case is done once a step of it is finished
+pub done_is : (rows : List Row) (n t : ℕ) (c : CaseShape) (done : Bool) → case_in n rows ≡ Some c →
+    IsSomeAnd (case_in n (change_row n (finished_row t) rows)) (λ k. done ≡ is_done k.phase) → done ≡ is_done (finished_case c t).phase
+done_is rows n t c done here after =
+    subst (λ o. IsSomeAnd o (λ k. done ≡ is_done k.phase))
+    (changed_case n (finished_row t) (λ k. finished_case k t) rows (λ r. refl) (λ r. refl) ∙ ap (option_map (λ k. finished_case k t)) here) after
 
 -- ---- completing
 

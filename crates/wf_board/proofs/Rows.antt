@@ -72,3 +72,14 @@ there_last m (x ∷ xs) new same = at_first (nat_eq x.number m) (there_last m xs
     at_first : (b : Bool) → is_some (case_in m (xs ++ new ∷ [])) ≡ true → is_some (option_map (λ (r : Row). r.case) (if b then Some x else row_at m (xs ++ new ∷ []))) ≡ true
     at_first true rest = refl
     at_first false rest = rest
+
+-- the case with a number after a change of its row
+pub changed_case : (n : ℕ) (f : Row → Row) (g : CaseShape → CaseShape) (rows : List Row) → ((r : Row) → (f r).number ≡ r.number) → ((r : Row) → (f r).case ≡ g r.case) →
+    case_in n (change_row n f rows) ≡ option_map g (case_in n rows)
+changed_case n f g [] same changes = refl
+changed_case n f g (x ∷ xs) same changes = at_first (nat_eq x.number n) refl (changed_case n f g xs same changes)
+  where
+    at_first : (b : Bool) → nat_eq x.number n ≡ b → case_in n (change_row n f xs) ≡ option_map g (case_in n xs) →
+        case_in n (if b then f x ∷ xs else x ∷ change_row n f xs) ≡ option_map g (option_map (λ (r : Row). r.case) (if b then Some x else row_at n xs))
+    at_first true here rest = rw (ap (λ k. nat_eq k n) (same x) ∙ here) (ap Some (changes x))
+    at_first false here rest = rw here rest

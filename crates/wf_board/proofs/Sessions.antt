@@ -32,10 +32,10 @@ user_is s n step user c t u named = ap (λ o. unwrap_or o 0) named.its_user
 opened_request : (s : State) (flow : List ℕ) (names : List (List ℕ)) (n : ℕ) (plan : List ℕ) → length s.policy.flow_names ≡ length s.policy.flows → IsKept s →
     answer_to_request s (request.OpenWith flow names) ≡ reply.Opened n plan → IsKept (with_opened s (unwrap_or (flow_named s flow) 0) plan)
 opened_request s flow names n plan count kept is =
-    let tells = opening_tells s (flow_named s flow) (λ f. plan_named s f names) n plan is in
+    let tells = opening_tells s (flow_named s flow) (λ f. plan_named s.policy f names) n plan is in
     let within = place_within s.policy.flow_names flow tells.its_flow tells.known in
     subst (λ f. IsKept (with_opened s f plan)) (sym (ap (λ o. unwrap_or o 0) tells.known))
-    (opened_keeps s tells.its_flow plan kept (omega (arith, within, count)) (plan_named_tells s tells.its_flow names plan tells.valid))
+    (opened_keeps s tells.its_flow plan kept (omega (arith, within, count)) (plan_named_tells s.policy tells.its_flow names plan tells.valid))
 
 claimed_request : (s : State) (n : ℕ) (step user plan : List ℕ) → IsKept s →
     answer_to_request s (request.Claim n step user) ≡ reply.Granted plan → IsKept (with_changed s n (held_row (step_of_case s n step) (known_user s user) plan))

@@ -24,7 +24,7 @@ use Rattle.wf_talk.specs.declared.reply.Reply.TheVariants as reply
 use Rattle.wf_talk.specs.declared.reply.Denial.{Denial}
 use Rattle.wf_talk.specs.declared.reply.Denial.TheVariants as denial
 use Rattle.wf_board.specs.States.{State, is_full, step_named, user_named}
-use Rattle.wf_board.specs.Answers.{claim_in_order, claim_on_plan, claim_step, finish_step, if_valid, is_valid_plan, kept_plan, on_case, on_names, on_step, on_user, open_answer, opened_with, plan_named, users_named}
+use Rattle.wf_board.specs.Answers.{claim_in_order, claim_on_plan, claim_step, finish_step, if_valid, is_held_by, is_valid_plan, kept_plan, on_case, on_names, on_step, on_user, open_answer, opened_with, plan_named, users_named}
 use Rattle.wf_board.specs.Named.{AreNamed}
 use Rattle.wf_board.proofs.Valid.{nobody_within}
 
@@ -73,14 +73,14 @@ valid_users p f us below test =
     let parts = and_parts (length us == length (flow_at p f).flow.steps) (is_ok (plan_verdict (problem_of p f) no_users no_steps us)) test in
     (verdict_tells (problem_of p f) no_users no_steps us (eqb-true (length us) (length (flow_at p f).flow.steps) parts.0) below (nobody_within (problem_of p f))).0 parts.1
 
-pub plan_named_tells : (s : State) (f : ℕ) (names : List (List ℕ)) (plan : List ℕ) → plan_named s f names ≡ Some plan → IsValidPlan (problem_of s.policy f) no_users no_steps plan
-plan_named_tells s f names plan h = from_users (users_named s.policy.roster.users names) refl h
+pub plan_named_tells : (p : PolicyShape) (f : ℕ) (names : List (List ℕ)) (plan : List ℕ) → plan_named p f names ≡ Some plan → IsValidPlan (problem_of p f) no_users no_steps plan
+plan_named_tells p f names plan h = from_users (users_named p.roster.users names) refl h
   where
-    from_users : (o : Option (List ℕ)) → users_named s.policy.roster.users names ≡ o → option_and_then (if_valid s.policy f) o ≡ Some plan → IsValidPlan (problem_of s.policy f) no_users no_steps plan
+    from_users : (o : Option (List ℕ)) → users_named p.roster.users names ≡ o → option_and_then (if_valid p f) o ≡ Some plan → IsValidPlan (problem_of p f) no_users no_steps plan
     from_users None there e = cc
     from_users (Some us) there e =
-        let tells = if_valid_tells s.policy f us plan e in
-        subst (IsValidPlan (problem_of s.policy f) no_users no_steps) tells.0 (valid_users s.policy f us (named_below s.policy.roster.users names us there) tells.1)
+        let tells = if_valid_tells p f us plan e in
+        subst (IsValidPlan (problem_of p f) no_users no_steps) tells.0 (valid_users p f us (named_below p.roster.users names us there) tells.1)
 
 -- what an opening tells
 pub record IsOpening (s : State) (flow : Option ℕ) (plan_for : ℕ → Option (List ℕ)) (n : ℕ) (plan : List ℕ) : Type 0 where
@@ -169,12 +169,23 @@ grant_tells s n c t u Free plan h = by_order (first_missing c (flow_at s.policy 
 grant_tells s n c t u (Held v) plan h = cc
 grant_tells s n c t u (Finished v) plan h = cc
 
+held_by : (u : ℕ) (x : StepState) → is_held_by u x ≡ true → x ≡ Held u
+held_by u Free h = cc
+held_by u (Held v) h = ap Held (eqb-true v u h)
+held_by u (Finished v) h = cc
+
 -- a finish is of a step that the user holds
 pub finish_tells : (c : CaseShape) (t u : ℕ) (x : StepState) (done : Bool) → finish_step c t u x ≡ reply.Finished done → x ≡ Held u
-finish_tells c t u Free done h = cc
-finish_tells c t u (Finished v) done h = cc
-finish_tells c t u (Held v) done h = by_test (v == u) refl h
+finish_tells c t u x done h = by_test (is_held_by u x) refl h
   where
-    by_test : (b : Bool) → (v == u) ≡ b → (if b then reply.Finished (is_done (finished_case c t).phase) else reply.Denied (denial.NotHeld (Held v))) ≡ reply.Finished done → Held v ≡ Held u
-    by_test true test e = ap Held (eqb-true v u test)
+    by_test : (b : Bool) → is_held_by u x ≡ b → (if b then reply.Finished (is_done (finished_case c t).phase) else reply.Denied (denial.NotHeld x)) ≡ reply.Finished done → x ≡ Held u
+    by_test true test e = held_by u x test
     by_test false test e = cc
+
+-- a step that the user holds is finished
+pub finish_is : (c : CaseShape) (t u : ℕ) (x : StepState) → is_held_by u x ≡ true → finish_step c t u x ≡ reply.Finished (is_done (finished_case c t).phase)
+finish_is c t u x held = rw held refl
+
+-- where a case, a step and a user are named, the answer is the one for them
+pub names_are : (s : State) (n : ℕ) (step user : List ℕ) (next : CaseShape → ℕ → ℕ → Reply) (c : CaseShape) (t u : ℕ) → AreNamed s n step user c t u → on_names s n step user next ≡ next c t u
+names_are s n step user next c t u named = rw (named.its_case, named.open_case, named.its_step, named.its_user) refl

@@ -35,8 +35,8 @@ abbrev pub if_valid : PolicyShape → ℕ → List ℕ → Option (List ℕ)
 if_valid p f plan = if is_valid_plan p f plan then Some plan else None
 
 -- the valid plan that these names are for a workflow, if they are one
-abbrev pub plan_named : State → ℕ → List (List ℕ) → Option (List ℕ)
-plan_named s f names = option_and_then (if_valid s.policy f) (users_named s.policy.roster.users names)
+abbrev pub plan_named : PolicyShape → ℕ → List (List ℕ) → Option (List ℕ)
+plan_named p f names = option_and_then (if_valid p f) (users_named p.roster.users names)
 
 -- ---- opening a case
 
@@ -95,17 +95,21 @@ claim_step s n c t u (Finished v) = reply.Denied (denial.Taken v)
 
 -- ---- finishing a step
 
+-- a user holds a step that stands so
+abbrev pub is_held_by : ℕ → StepState → Bool
+is_held_by u Free = false
+is_held_by u (Held v) = v == u
+is_held_by u (Finished v) = false
+
 -- the step is held by the user
 abbrev pub finish_step : CaseShape → ℕ → ℕ → StepState → Reply
-finish_step c t u (Held v) = if v == u then reply.Finished (is_done (finished_case c t).phase) else reply.Denied (denial.NotHeld (Held v))
-finish_step c t u Free = reply.Denied (denial.NotHeld Free)
-finish_step c t u (Finished v) = reply.Denied (denial.NotHeld (Finished v))
+finish_step c t u state = if is_held_by u state then reply.Finished (is_done (finished_case c t).phase) else reply.Denied (denial.NotHeld state)
 
 -- ---- all requests
 
 -- the answer to a request
 abbrev pub answer_to_request : State → Request → Reply
-answer_to_request s (request.OpenWith flow plan) = open_answer s (flow_named s flow) (λ f. plan_named s f plan)
+answer_to_request s (request.OpenWith flow plan) = open_answer s (flow_named s flow) (λ f. plan_named s.policy f plan)
 answer_to_request s (request.OpenWithTooMany flow) = open_answer s (flow_named s flow) (λ f. None)
 answer_to_request s (request.Claim n step user) = on_names s n step user (λ c t u. claim_step s n c t u (state_at c t))
 answer_to_request s (request.Finish n step user) = on_names s n step user (λ c t u. finish_step c t u (state_at c t))

@@ -3,5 +3,7 @@
 
 mod board;
 pub mod laws;
+mod plans;
+mod replies;
 
 pub use board::Board;
