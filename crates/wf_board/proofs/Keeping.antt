@@ -91,11 +91,8 @@ kept_valid s n c kept here live =
     subst (IsValidPlan (problem_of s.policy c.flow) (assigned_of c) (finished_of c)) (sym is) has.1.1
 
 -- the plan that is kept for an open case has a user for each of its steps
-pub plan_has : (s : State) (n : ℕ) (c : CaseShape) (t : ℕ) (plan : List ℕ) → IsKept s → case_in n s.rows ≡ Some c → is_open c ≡ true → t < length c.states →
-    plan_of (row_at n s.rows) ≡ Some plan → t < length plan
-plan_has s n c t plan kept here live below is =
-    let whole = (subst (IsValidPlan (problem_of s.policy c.flow) (assigned_of c) (finished_of c)) (ap (λ o. unwrap_or o []) is) (kept_valid s n c kept here live)).whole in
-    subst (λ m. t < m) ((case_of_policy s n c kept here).steps ∙ sym whole) below
+pub plan_whole : (s : State) (n : ℕ) (c : CaseShape) → IsKept s → case_in n s.rows ≡ Some c → is_open c ≡ true → length (kept_plan s n) ≡ length c.states
+plan_whole s n c kept here live = (kept_valid s n c kept here live).whole ∙ sym (case_of_policy s n c kept here).steps
 
 same_row : (a b : Row) → Some a ≡ Some b → a ≡ b
 same_row a b h = cc

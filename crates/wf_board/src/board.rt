@@ -1,10 +1,10 @@
 //! The board: a policy and its cases.
-ghost use Rattle.std.specs.Prelude.{◌≡◌, ◌≢◌, ◌<◌, ◌≤◌, true, IfOk, OnErr, OnOk};
+ghost use Rattle.std.specs.Prelude.{◌≡◌, ◌≢◌, ◌+◌, ◌<◌, ◌≤◌, true, IfOk, OnErr, OnOk};
 ghost use Rattle.wf_board.specs.Answers.{answer_to, answer_to_request, is_opening};
 ghost use Rattle.wf_board.specs.States.{is_full, opening_state};
 ghost use Rattle.wf_board.specs.Steps.{IsStep, state_after_request, state_after_step};
 ghost use Rattle.wf_board.specs.Boards.{state_on};
-ghost use Rattle.wf_board.specs.Kept.{KeepsPlans};
+ghost use Rattle.wf_board.specs.Kept.{IsKept, KeepsPlans};
 
 use crate::plans::plan_named;
 use crate::replies::{claim_reply, holds, named};
@@ -65,6 +65,7 @@ impl Board {
         ensures step { IsStep (state_on self.old) ask.now result }
         ensures next { state_on self.new ≡ state_after_step (state_on self.old) ask.now result }
         ensures memory { result ≡ Reply.NoMemory → (is_opening (answer_to (state_on self.old) ask.now) ≡ true) × (self.old.cases.spare ≡ 0) }
+        ensures room { self.old.cases.spare ≤ self.new.cases.spare + 1 }
     {
         match ask {
             Ask::Request(request) => self.answer_request(request),
@@ -76,6 +77,7 @@ impl Board {
         ensures step { IsStep (state_on self.old) (Ask.Request request.now) result }
         ensures next { state_on self.new ≡ state_after_request (state_on self.old) request.now result }
         ensures memory { result ≡ Reply.NoMemory → (is_opening (answer_to_request (state_on self.old) request.now) ≡ true) × (self.old.cases.spare ≡ 0) }
+        ensures room { self.old.cases.spare ≤ self.new.cases.spare + 1 }
     {
         match request {
             Request::OpenWith { flow, plan } => self.open_with(flow, plan),
@@ -90,6 +92,7 @@ impl Board {
         ensures step { IsStep (state_on self.old) (Ask.Request (Request.OpenWith flow.now names.now)) result }
         ensures next { state_on self.new ≡ state_after_request (state_on self.old) (Request.OpenWith flow.now names.now) result }
         ensures memory { result ≡ Reply.NoMemory → (is_opening (answer_to_request (state_on self.old) (Request.OpenWith flow.now names.now)) ≡ true) × (self.old.cases.spare ≡ 0) }
+        ensures room { self.old.cases.spare ≤ self.new.cases.spare + 1 }
     {
         let Some(f) = self.policy.find_flow(flow) else {
             return Reply::Denied(Denial::NoFlow);
@@ -127,6 +130,7 @@ impl Board {
         ensures answer { result ≡ answer_to_request (state_on self.old) (Request.Claim n step.now user.now) }
         ensures next { state_on self.new ≡ state_after_request (state_on self.old) (Request.Claim n step.now user.now) result }
         ensures memory { result ≢ Reply.NoMemory }
+        ensures room { self.new.cases.spare ≡ self.old.cases.spare }
     {
         let (case, t, u) = match named(&self.policy, &self.cases, n, step, user) {
             Ok(found) => found,
@@ -144,6 +148,7 @@ impl Board {
         ensures answer { result ≡ answer_to_request (state_on self.old) (Request.Finish n step.now user.now) }
         ensures next { state_on self.new ≡ state_after_request (state_on self.old) (Request.Finish n step.now user.now) result }
         ensures memory { result ≢ Reply.NoMemory }
+        ensures room { self.new.cases.spare ≡ self.old.cases.spare }
     {
         let (case, t, u) = match named(&self.policy, &self.cases, n, step, user) {
             Ok(found) => found,
@@ -174,6 +179,7 @@ impl Board {
     /// The cases with their kept plans.
     pub fn cases(&self) -> &Cases
         ensures cases { result.now ≡ self.now.cases }
+        ensures kept { IsKept (state_on self.now) }
     {
         &self.cases
     }
@@ -182,6 +188,7 @@ impl Board {
 /// Makes room for one more case, where there is none.
 fn make_room(cases: &mut Cases) -> Result<(), AllocError>
     ensures room { OnOk result (0 < cases.new.spare) }
+    ensures kept { cases.old.spare ≤ cases.new.spare }
     ensures same { cases.new ≡ record cases.old { spare = cases.new.spare } }
     ensures short { OnErr result (cases.old.spare ≡ 0) }
     ensures unchanged { OnErr result (cases.new ≡ cases.old) }

@@ -3,12 +3,13 @@ ghost use Rattle.std.specs.Prelude.{◌≡◌, ◌<◌, ℕ, true, length, Some,
 ghost use Rattle.case_record.specs.Cases.{CaseShape, is_open, state_at};
 ghost use Rattle.grant_table.specs.Tables.{case_in};
 ghost use Rattle.wf_talk.specs.declared.reply.Reply.{Reply};
-ghost use Rattle.wf_board.specs.Answers.{claim_step, is_held_by, on_names};
+ghost use Rattle.wf_board.specs.Answers.{claim_step, is_held_by, kept_plan, on_names};
 ghost use Rattle.wf_board.specs.Boards.{state_of};
 ghost use Rattle.wf_board.specs.Kept.{IsKept};
 ghost use Rattle.wf_board.specs.Named.{AreNamed};
 
 use case_record::Case;
+use constraint_forms::Plan;
 use grant_table::Cases;
 use policy_book::Policy;
 use wf_names::{CaseId, Name, StepId, StepState, UserId};
@@ -63,13 +64,27 @@ pub(crate) fn claim_reply(
     if let Some(before) = case.first_missing(p.flow(flow), t) {
         return Reply::Denied(Denial::Order { flow, step: before });
     }
-    let Some(plan) = cases.plan(n) else {
-        unreachable!()
-    };
+    let plan = kept_plan(p, cases, n, case);
     if plan.at(t) == u {
         Reply::Granted(plan)
     } else {
         Reply::Denied(Denial::OffPlan(plan.at(t)))
+    }
+}
+
+/// The plan that is kept for an open case.
+fn kept_plan(p: &Policy, cases: &Cases, n: CaseId, case: &Case) -> Plan
+    requires kept { IsKept (state_of p.now cases.now) }
+    requires case { case_in n cases.now.rows ≡ Some case.now }
+    requires open { is_open case.now ≡ true }
+    ensures plan { result ≡ kept_plan (state_of p.now cases.now) n }
+    ensures whole { length result ≡ length case.now.states }
+{
+    let _ = p;
+    let _ = case;
+    match cases.plan(n) {
+        Some(plan) => plan,
+        None => unreachable!(),
     }
 }
 

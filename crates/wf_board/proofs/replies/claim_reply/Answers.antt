@@ -1,7 +1,7 @@
 use Rattle.std.proofs.Common.{◌<◌, length, sym, subst, ◌∙◌, ap}
 use Rattle.policy_book.specs.Policies.{flow_at}
 use Rattle.wf_board.specs.Boards.{state_of}
-use Rattle.wf_board.proofs.Keeping.{case_of_policy, plan_has}
+use Rattle.wf_board.proofs.Keeping.{case_of_policy}
 use Rattle.wf_board.proofs.replies.claim_reply.Goals as goal
 
 pub flow-requires : goal.flow-requires
@@ -13,9 +13,3 @@ pub first_missing-requires : goal.first_missing-requires
 first_missing-requires c =
     let known = case_of_policy (state_of c.args.p.now c.args.cases.now) c.args.n c.args.case.now c.requires.kept c.requires.case in
     record { steps = known.steps ∙ ap (λ f. length (flow_at c.args.p.now f).flow.steps) (sym c.flow-flow.ensures) ∙ (λ i. length (sym c.flow.ensures.flow i).steps) }
-
-pub at-requires : goal.at-requires
-at-requires c = plan_has (state_of c.args.p.now c.args.cases.now) c.args.n c.args.case.now c.args.t c.in-Some-plan.plan c.requires.kept c.requires.case c.requires.open c.requires.step (sym c.plan.ensures.plan ∙ c.in-Some-plan.is)
-
-pub at-requires-else-eq : goal.at-requires-else-eq
-at-requires-else-eq c = plan_has (state_of c.args.p.now c.args.cases.now) c.args.n c.args.case.now c.args.t c.in-Some-plan.plan c.requires.kept c.requires.case c.requires.open c.requires.step (sym c.plan.ensures.plan ∙ c.in-Some-plan.is)
