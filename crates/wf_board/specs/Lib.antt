@@ -5,3 +5,5 @@ pub mod Kept
 pub mod Histories
 pub mod Boards
 pub mod HistoryLaws
+pub mod Laws
+pub mod Named

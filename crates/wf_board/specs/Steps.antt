@@ -5,7 +5,7 @@ use Rattle.std.proofs.Common.{◌⊎◌}
 use Rattle.policy_book.specs.Policies.{flow_at}
 use Rattle.case_record.specs.Cases.{fresh_case}
 use Rattle.grant_table.specs.declared.rows.Row.{Row}
-use Rattle.grant_table.specs.Tables.{row_at, change_row, held_row, finished_row}
+use Rattle.grant_table.specs.Tables.{case_in, change_row, held_row, finished_row}
 use Rattle.wf_talk.specs.declared.request.Request.{Request}
 use Rattle.wf_talk.specs.declared.request.Request.TheVariants as request
 use Rattle.wf_talk.specs.declared.request.Ask.{Ask}
@@ -32,7 +32,7 @@ with_changed s n change = record s { rows = change_row n change s.rows }
 
 -- the step of a case with a name
 abbrev pub step_of_case : State → ℕ → List ℕ → ℕ
-step_of_case s n name = unwrap_or (option_and_then (λ r. step_named s r.case.flow name) (row_at n s.rows)) 0
+step_of_case s n name = unwrap_or (option_and_then (λ c. step_named s c.flow name) (case_in n s.rows)) 0
 
 -- the user with a name
 abbrev pub known_user : State → List ℕ → ℕ

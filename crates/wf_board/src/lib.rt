@@ -2,5 +2,8 @@
 #![tactic(auto)]
 
 mod board;
+pub mod laws;
+mod plans;
+mod replies;
 
 pub use board::Board;
