@@ -12,6 +12,8 @@ mod plan;
 mod run;
 mod solve;
 #[cfg(test)]
+mod solve_tests;
+#[cfg(test)]
 mod tests;
 mod words;
 
