@@ -15,6 +15,8 @@ mod run;
 mod session;
 mod solve;
 #[cfg(test)]
+mod solve_tests;
+#[cfg(test)]
 mod tests;
 mod turn;
 mod words;
