@@ -11,14 +11,17 @@ use Rattle.wire_json.specs.Jobs.{Cut, start, cut_all, jobs_of_input}
 use Rattle.wire_json.specs.Entries.{transcript_text}
 use Rattle.wf_board.specs.States.{State, opening_state}
 use Rattle.wf_board.specs.Histories.{IsLegal, job_of_entry, state_after}
+use Rattle.wf_board.specs.Laws.{HistoriesKeepPlans}
 use Rattle.wf_board.specs.HistoryLaws.{in_order_fills, in_order_front}
 use Rattle.wf_server.specs.declared.fault.RunFault.{RunFault}
 use Rattle.wf_server.specs.declared.fault.RunFault.TheVariants.{Write, NoMemory}
+use Rattle.wf_server.specs.declared.fault.RunFault.TheVariants as fault
 use Rattle.wf_server.specs.declared.reader.Reader.{Reader}
 use Rattle.wf_server.specs.declared.reader.Paused.{Paused}
 use Rattle.wf_server.specs.declared.reader.Paused.TheVariants as paused
+use Rattle.wf_server.specs.Endings.{is_before_input}
 use Rattle.wf_server.specs.Reading.{pending, HasRead, IsCutWhole, IsCutUp, ReadsTo}
-use Rattle.wf_server.specs.Sessions.{Told, AllServed, PartServed, PartlyServed, Serves, HasAnswered, HasAnsweredPart, BatchEnds, ending_of, nothing_told}
+use Rattle.wf_server.specs.Sessions.{Told, AllServed, PartServed, PartlyServed, ServedAs, Serves, Served, HasAnswered, HasAnsweredPart, BatchEnds, ending_of, nothing_told}
 
 -- what a session tells after these entries
 abbrev told_of : Reader → List Entry → Told
@@ -91,8 +94,8 @@ pub opening_read : (left : Option (List ℕ)) (c : Cut) (rest : List ℕ) → c 
 opening_read left c rest begun none = record { bytes = []; taken = nothing_taken left; cut = ap (cut_all c) none ∙ begun }
 
 -- where there was no memory for a session
-pub bare_serves : (p : PolicyShape) (left held : Option (List ℕ)) (told : Told) (fault : RunFault) → told ≡ nothing_told → fault ≡ NoMemory → Serves p left left held held told fault
-bare_serves p left held told fault nothing memory = rw (nothing, memory) (record {
+pub bare_serves : (p : PolicyShape) (left held : Option (List ℕ)) (told : Told) (ending : RunFault) → told ≡ nothing_told → ending ≡ NoMemory → Serves p left left held held told ending
+bare_serves p left held told ending nothing memory = rw (nothing, memory) (record {
   bytes = [];
   taken = nothing_taken left;
   served = (false, λ e. cc, record {
@@ -102,3 +105,42 @@ bare_serves p left held told fault nothing memory = rw (nothing, memory) (record
     written = part_none held [];
   });
 })
+
+-- the entries of a session are a legal history
+legal_as : (p : PolicyShape) (bytes : List ℕ) (left held held-after : Option (List ℕ)) (told : Told) (ending : RunFault) → ServedAs p bytes left held held-after told ending → IsLegal (opening_state p) told.entries
+legal_as p bytes left held held-after told fault.Nothing h = h.0.legal
+legal_as p bytes left held held-after told fault.Read h = h.0.legal
+legal_as p bytes left held held-after told (fault.LineTooLong line) h = h.0.legal
+legal_as p bytes left held held-after told fault.TooManyLines h = h.0.legal
+legal_as p bytes left held held-after told fault.Write h = h.2.legal
+legal_as p bytes left held held-after told fault.NoMemory h = h.2.legal
+legal_as p bytes left held held-after told fault.Found h = absurd h
+legal_as p bytes left held held-after told fault.Usage h = absurd h
+legal_as p bytes left held held-after told (fault.Policy e) h = absurd h
+legal_as p bytes left held held-after told fault.Load h = absurd h
+legal_as p bytes left held held-after told fault.FileTooLong h = absurd h
+legal_as p bytes left held held-after told (fault.BadInput e) h = absurd h
+
+pub serves_kept : (p : PolicyShape) (before after held held-after : Option (List ℕ)) (told : Told) (ending : RunFault) → HistoriesKeepPlans p → Serves p before after held held-after told ending → Served p before after held held-after told ending
+serves_kept p before after held held-after told ending keeps h = record {
+  serves = h;
+  kept = keeps told.entries (legal_as p h.bytes after held held-after told ending h.served);
+}
+
+-- a session ends with its own endings alone
+late_as : (p : PolicyShape) (bytes : List ℕ) (left held held-after : Option (List ℕ)) (told : Told) (ending : RunFault) → ServedAs p bytes left held held-after told ending → is_before_input ending ≡ false
+late_as p bytes left held held-after told fault.Nothing h = refl
+late_as p bytes left held held-after told fault.Read h = refl
+late_as p bytes left held held-after told (fault.LineTooLong line) h = refl
+late_as p bytes left held held-after told fault.TooManyLines h = refl
+late_as p bytes left held held-after told fault.Write h = refl
+late_as p bytes left held held-after told fault.NoMemory h = refl
+late_as p bytes left held held-after told fault.Found h = refl
+late_as p bytes left held held-after told fault.Usage h = absurd h
+late_as p bytes left held held-after told (fault.Policy e) h = absurd h
+late_as p bytes left held held-after told fault.Load h = absurd h
+late_as p bytes left held held-after told fault.FileTooLong h = absurd h
+late_as p bytes left held held-after told (fault.BadInput e) h = absurd h
+
+pub serves_late : (p : PolicyShape) (before after held held-after : Option (List ℕ)) (told : Told) (ending : RunFault) → Serves p before after held held-after told ending → is_before_input ending ≡ false
+serves_late p before after held held-after told ending h = late_as p h.bytes after held held-after told ending h.served

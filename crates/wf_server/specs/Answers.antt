@@ -14,7 +14,7 @@ use Rattle.wf_server.specs.declared.fault.RunFault.{RunFault}
 use Rattle.wf_server.specs.declared.fault.RunFault.TheVariants.{Nothing, Found, Policy, FileTooLong, LineTooLong, BadInput}
 use Rattle.wf_server.specs.declared.fault.InputFault.TheVariants.{NoFlow}
 use Rattle.wf_server.specs.Inputs.{plan_of_input, number_named}
-use Rattle.wf_server.specs.Words.{Command, plan, solve}
+use Rattle.wf_server.specs.Words.{Command, plan, solve, serve}
 use Rattle.wf_server.specs.Solving.{TellsFirst}
 
 -- the line that names the first fault of a plan; a plan from nothing moves no step
@@ -55,7 +55,8 @@ JudgesInput p word input fault text =
 abbrev pub SolvesAll : PolicyShape → RunFault → List ℕ → Type 0
 SolvesAll p fault text = (fault ≡ Nothing) × TellsFirst p (length p.flows) text
 
--- what the run of a command over its policy file and the input answers
+-- what the run of a command over its policy file and the input answers; a session is no such run
 abbrev pub IsRun : Command → List ℕ → List ℕ → RunFault → List ℕ → Type 0
 IsRun (plan policy flow) file input fault text = OverPolicy file (λ p. JudgesInput p flow input) fault text
 IsRun (solve policy) file input fault text = OverPolicy file SolvesAll fault text
+IsRun (serve policy) file input fault text = ⊥

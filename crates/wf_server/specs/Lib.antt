@@ -8,3 +8,4 @@ pub mod Statuses
 pub mod Reading
 pub mod Sessions
 pub mod Reports
+pub mod Serving

@@ -12,6 +12,9 @@ mod plan;
 mod reader;
 mod report;
 mod run;
+mod serve;
+#[cfg(test)]
+mod serve_tests;
 mod session;
 mod solve;
 #[cfg(test)]

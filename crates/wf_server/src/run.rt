@@ -3,12 +3,14 @@ ghost use Rattle.std.specs.Prelude.{◌≡◌, ◌↔◌, ◌≤◌, ℕ, List, 
 ghost use Rattle.wf_outside.specs.Outside.{Rose};
 ghost use Rattle.wf_server.specs.Statuses.{status_of};
 ghost use Rattle.wf_server.specs.Words.{command_of, policy_named, reads_input};
-ghost use Rattle.wf_server.specs.Answers.{IsRun};
-ghost use Rattle.wf_server.specs.Endings.{Ends, IsQuiet, is_before_input};
+ghost use Rattle.wf_server.specs.Endings.{is_before_input};
+ghost use Rattle.wf_server.specs.Reports.{told_by};
+ghost use Rattle.wf_server.specs.Serving.{RunsOver, QuietFor, TellsFor};
 
 use crate::RunFault;
 use crate::plan::run_plan;
 use crate::report::{Report, bare_report};
+use crate::serve::run_serve;
 use crate::solve::run_solve;
 use crate::words::{Command, read_words};
 use std::alloc::Global;
@@ -27,12 +29,13 @@ pub fn run_alone<F: Shelf, S: Source, K: Sink>(
     ensures usage { (result.fault ≡ RunFault.Usage) ↔ (command_of (map string_bytes words.now) ≡ None) }
 
     // What a run answers and writes, where the shelf and the source tell what they hold.
-    ensures runs { IfSome (command_of (map string_bytes words.now)) (λ command. (file input : List ℕ) →
-        F.file shelf.old (policy_named command) ≡ Some file → S.left source.old ≡ Some input →
-        Ends (IsRun command file input) (K.held sink.old) (K.held sink.new) result.fault) }
+    ensures runs { IfSome (command_of (map string_bytes words.now)) (λ command. (file : List ℕ) →
+        F.file shelf.old (policy_named command) ≡ Some file →
+        RunsOver command file (S.left source.old) (S.left source.new) (K.held sink.old) (K.held sink.new) (told_by result) result.fault) }
 
     // What else it does, whether they tell or not.
-    ensures quiet { IsQuiet result.fault (K.held sink.old) (K.held sink.new) }
+    ensures quiet { QuietFor (command_of (map string_bytes words.now)) result.fault (K.held sink.old) (K.held sink.new) }
+    ensures told { TellsFor (command_of (map string_bytes words.now)) result.fault (told_by result) }
     ensures untouched { IfSome (command_of (map string_bytes words.now)) (λ command. reads_input command ≡ false → source.new ≡ source.old) }
     ensures unread { is_before_input result.fault ≡ true → S.left source.new ≡ S.left source.old }
 
@@ -46,6 +49,7 @@ pub fn run_alone<F: Shelf, S: Source, K: Sink>(
             bare_report(alloc, run_plan(alloc, policy, flow, shelf, source, sink))
         }
         Some(Command::Solve { policy }) => bare_report(alloc, run_solve(alloc, policy, shelf, sink)),
+        Some(Command::Serve { policy }) => run_serve(alloc, policy, shelf, source, sink),
         None => bare_report(alloc, RunFault::Usage),
     }
 }

@@ -10,6 +10,8 @@ pub(crate) enum Command<'a> {
     Plan { policy: &'a str, flow: &'a str },
     /// Finds a plan for each workflow, or shows that there is none.
     Solve { policy: &'a str },
+    /// Answers the requests in the input.
+    Serve { policy: &'a str },
 }
 
 /// The command that the words are, where they are one.
@@ -37,6 +39,9 @@ fn read_two<'a>(word: &str, policy: &'a str) -> Option<Command<'a>>
 {
     if word == "solve" {
         return Some(Command::Solve { policy });
+    }
+    if word == "serve" {
+        return Some(Command::Serve { policy });
     }
     None
 }
