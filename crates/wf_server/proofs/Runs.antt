@@ -3,7 +3,7 @@ use Rattle.std.proofs.Common.{◌≡◌, ℕ, List, [], Option, Err, refl, sym}
 use Rattle.wf_outside.specs.Outside.{with_bytes}
 use Rattle.wf_outside.proofs.OutsideLaws.{nothing_put}
 use Rattle.wf_server.specs.declared.fault.RunFault.{RunFault}
-use Rattle.wf_server.specs.declared.fault.RunFault.TheVariants.{Nothing, Found, Usage, Policy, Read, Write, Load, NoMemory, FileTooLong, LineTooLong, BadInput}
+use Rattle.wf_server.specs.declared.fault.RunFault.TheVariants.{Nothing, Found, Usage, Policy, Read, Write, Load, NoMemory, FileTooLong, LineTooLong, TooManyLines, BadInput}
 use Rattle.wf_server.specs.Endings.{AnswersAs, Ends, IsAnswer}
 
 -- a run that ends without an answer writes nothing
@@ -14,6 +14,7 @@ ends_without Run before NoMemory ending h = refl
 ends_without Run before (Policy fault) ending h = ([], h, sym (nothing_put before))
 ends_without Run before FileTooLong ending h = ([], h, sym (nothing_put before))
 ends_without Run before (LineTooLong line) ending h = ([], h, sym (nothing_put before))
+ends_without Run before TooManyLines ending h = ([], h, sym (nothing_put before))
 ends_without Run before (BadInput fault) ending h = ([], h, sym (nothing_put before))
 ends_without Run before Nothing ending h = absurd ending
 ends_without Run before Found ending h = absurd ending

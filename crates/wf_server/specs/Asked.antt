@@ -1,7 +1,10 @@
 -- A command of the code, as the definitions see it.
-use Rattle.wf_server.specs.declared.words.PlanWords.{PlanWords}
-use Rattle.wf_server.specs.Words.{Command, plan}
+use Rattle.wf_server.specs.declared.words.Command.{Command as Words}
+use Rattle.wf_server.specs.declared.words.Command.TheVariants.{Plan, Solve, Serve}
+use Rattle.wf_server.specs.Words.{Command, plan, solve, serve}
 
 -- the command with its words
-abbrev pub asked : PlanWords → Command
-asked words = plan words.policy.now words.flow.now
+abbrev pub asked : Words → Command
+asked (Plan policy flow) = plan policy.now flow.now
+asked (Solve policy) = solve policy.now
+asked (Serve policy) = serve policy.now

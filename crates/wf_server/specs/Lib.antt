@@ -1,6 +1,11 @@
 pub mod Words
 pub mod Inputs
+pub mod Solving
 pub mod Answers
 pub mod Endings
 pub mod Asked
 pub mod Statuses
+pub mod Reading
+pub mod Sessions
+pub mod Reports
+pub mod Serving

@@ -1,7 +1,7 @@
 -- The statuses with which the program ends.
 use Rattle.std.specs.Prelude.{ℕ}
 use Rattle.wf_server.specs.declared.fault.RunFault.{RunFault}
-use Rattle.wf_server.specs.declared.fault.RunFault.TheVariants.{Nothing, Found, Usage, Policy, Read, Write, Load, NoMemory, FileTooLong, LineTooLong, BadInput}
+use Rattle.wf_server.specs.declared.fault.RunFault.TheVariants.{Nothing, Found, Usage, Policy, Read, Write, Load, NoMemory, FileTooLong, LineTooLong, TooManyLines, BadInput}
 
 -- the status of each ending
 abbrev pub status_of : RunFault → ℕ
@@ -15,4 +15,5 @@ status_of Load = 6
 status_of NoMemory = 7
 status_of FileTooLong = 8
 status_of (LineTooLong line) = 9
+status_of TooManyLines = 10
 status_of (BadInput fault) = 11

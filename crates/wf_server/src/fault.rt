@@ -51,6 +51,9 @@ pub enum RunFault {
     /// A line is longer than its limit; for `plan` the whole input counts as line 0.
     #[error("wfserve: line {0} too long")]
     LineTooLong(u32),
+    /// There are more lines than a session may have.
+    #[error("wfserve: too many lines")]
+    TooManyLines,
     /// The input of `plan` has this fault.
     #[error("wfserve: bad input")]
     BadInput(InputFault),
@@ -72,6 +75,7 @@ impl RunFault {
             RunFault::NoMemory => 7,
             RunFault::FileTooLong => 8,
             RunFault::LineTooLong(_) => 9,
+            RunFault::TooManyLines => 10,
             RunFault::BadInput(_) => 11,
         }
     }

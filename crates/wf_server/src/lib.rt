@@ -9,10 +9,21 @@ mod input;
 mod judge;
 mod load;
 mod plan;
+mod reader;
+mod report;
 mod run;
+mod serve;
+#[cfg(test)]
+mod serve_tests;
+mod session;
+mod solve;
+#[cfg(test)]
+mod solve_tests;
 #[cfg(test)]
 mod tests;
+mod turn;
 mod words;
 
 pub use fault::{InputFault, RunFault};
-pub use run::{Report, run_alone};
+pub use report::Report;
+pub use run::run_alone;

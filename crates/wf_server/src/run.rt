@@ -1,25 +1,20 @@
 //! The top call: one run of the program over a source, a sink and a shelf.
-ghost use Rattle.std.specs.Prelude.{◌≡◌, ◌↔◌, ◌≤◌, ℕ, List, map, string_bytes, None, Some, true, IfSome};
+ghost use Rattle.std.specs.Prelude.{◌≡◌, ◌↔◌, ◌≤◌, ℕ, List, map, string_bytes, None, Some, true, false, IfSome};
 ghost use Rattle.wf_outside.specs.Outside.{Rose};
 ghost use Rattle.wf_server.specs.Statuses.{status_of};
-ghost use Rattle.wf_server.specs.Words.{command_of, policy_named};
-ghost use Rattle.wf_server.specs.Answers.{IsRun};
-ghost use Rattle.wf_server.specs.Endings.{Ends, IsQuiet, is_before_input};
+ghost use Rattle.wf_server.specs.Words.{command_of, policy_named, reads_input};
+ghost use Rattle.wf_server.specs.Endings.{is_before_input};
+ghost use Rattle.wf_server.specs.Reports.{told_by};
+ghost use Rattle.wf_server.specs.Serving.{RunsOver, QuietFor, TellsFor};
 
 use crate::RunFault;
 use crate::plan::run_plan;
-use crate::words::read_words;
+use crate::report::{Report, bare_report};
+use crate::serve::run_serve;
+use crate::solve::run_solve;
+use crate::words::{Command, read_words};
 use std::alloc::Global;
 use wf_outside::{Shelf, Sink, Source};
-
-/// What came of a run.
-#[derive(Clone, Copy, Debug)]
-pub struct Report {
-    /// The status with which the program ends.
-    pub status: u8,
-    /// How the run ended.
-    pub fault: RunFault,
-}
 
 /// Runs the command that the words are, which are those after the program's name. It always
 /// returns, starts no thread and waits for nothing.
@@ -34,12 +29,14 @@ pub fn run_alone<F: Shelf, S: Source, K: Sink>(
     ensures usage { (result.fault ≡ RunFault.Usage) ↔ (command_of (map string_bytes words.now) ≡ None) }
 
     // What a run answers and writes, where the shelf and the source tell what they hold.
-    ensures runs { IfSome (command_of (map string_bytes words.now)) (λ command. (file input : List ℕ) →
-        F.file shelf.old (policy_named command) ≡ Some file → S.left source.old ≡ Some input →
-        Ends (IsRun command file input) (K.held sink.old) (K.held sink.new) result.fault) }
+    ensures runs { IfSome (command_of (map string_bytes words.now)) (λ command. (file : List ℕ) →
+        F.file shelf.old (policy_named command) ≡ Some file →
+        RunsOver command file (S.left source.old) (S.left source.new) (K.held sink.old) (K.held sink.new) (told_by result) result.fault) }
 
     // What else it does, whether they tell or not.
-    ensures quiet { IsQuiet result.fault (K.held sink.old) (K.held sink.new) }
+    ensures quiet { QuietFor (command_of (map string_bytes words.now)) result.fault (K.held sink.old) (K.held sink.new) }
+    ensures told { TellsFor (command_of (map string_bytes words.now)) result.fault (told_by result) }
+    ensures untouched { IfSome (command_of (map string_bytes words.now)) (λ command. reads_input command ≡ false → source.new ≡ source.old) }
     ensures unread { is_before_input result.fault ≡ true → S.left source.new ≡ S.left source.old }
 
     // Faults of the outside come only where its counts rose.
@@ -48,17 +45,11 @@ pub fn run_alone<F: Shelf, S: Source, K: Sink>(
     ensures load { result.fault ≡ RunFault.Load → Rose (F.faults shelf.old) (F.faults shelf.new) }
 {
     match read_words(words) {
-        Some(asked) => report_of(run_plan(alloc, asked.policy, asked.flow, shelf, source, sink)),
-        None => report_of(RunFault::Usage),
-    }
-}
-
-fn report_of(fault: RunFault) -> Report
-    ensures status { result.status ≡ status_of fault }
-    ensures fault { result.fault ≡ fault }
-{
-    Report {
-        status: fault.status(),
-        fault,
+        Some(Command::Plan { policy, flow }) => {
+            bare_report(alloc, run_plan(alloc, policy, flow, shelf, source, sink))
+        }
+        Some(Command::Solve { policy }) => bare_report(alloc, run_solve(alloc, policy, shelf, sink)),
+        Some(Command::Serve { policy }) => run_serve(alloc, policy, shelf, source, sink),
+        None => bare_report(alloc, RunFault::Usage),
     }
 }

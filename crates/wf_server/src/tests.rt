@@ -1,11 +1,13 @@
 //! Runs over a source, a sink and a shelf in memory: the plans of example policies, and every status.
 
 use crate::run_alone;
+use crate::solve_tests::{is_valid, plan_numbered};
+use policy_book::Policy;
 use std::alloc::{AllocError, Global};
 use std::test::Fail;
 use wf_outside::{MemFile, MemShelf, MemSink, MemSource};
 
-const PAY: &str = r#"
+pub(crate) const PAY: &str = r#"
 format = 1
 admin = "chief"
 roles = ["boss", "chief", "clerk"]
@@ -64,8 +66,26 @@ fn other_runs_write_nothing(rt: HostRuntime) -> Result<(), Fail> {
     Ok(())
 }
 
+#[test]
+fn two_of_the_64_plans_are_valid(rt: HostRuntime) -> Result<(), Fail> {
+    let p = policy_reader::read(rt.alloc(), PAY.as_bytes())?;
+    // Of ann, bob, cyd and eve, who are numbered from 0: ann, cyd, bob and bob, cyd, ann.
+    assert!(rt; are_the_valid_plans(&p, 2 * 4 + 1, 16 + 2 * 4));
+    Ok(())
+}
+
+// Whether the plans with these two numbers are the valid ones.
+fn are_the_valid_plans(p: &Policy, one: u16, other: u16) -> bool {
+    for number in 0..64 {
+        if is_valid(p, &plan_numbered(number)) != (number == one || number == other) {
+            return false;
+        }
+    }
+    true
+}
+
 // The status of a run with one policy file, and what it wrote.
-fn run(
+pub(crate) fn run(
     alloc: Global,
     words: &[&str],
     file: &str,

@@ -4,3 +4,5 @@ pub mod Requests
 pub mod Jobs
 pub mod JobLaws
 pub mod Entries
+pub mod Trees
+pub mod Findings

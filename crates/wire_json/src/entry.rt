@@ -122,7 +122,7 @@ fn bad_value(alloc: Global, bad: Bad) -> Result<Value, AllocError>
 }
 
 // The names of a plan's users.
-fn plan_value(alloc: Global, users: &NameTable, plan: &Plan) -> Result<Value, AllocError>
+pub(crate) fn plan_value(alloc: Global, users: &NameTable, plan: &Plan) -> Result<Value, AllocError>
     ensures { IfOk result (λ v. view v ≡ plan_data users.now.names plan.now) }
 {
     let mut names = Vec::new(alloc);
@@ -132,13 +132,18 @@ fn plan_value(alloc: Global, users: &NameTable, plan: &Plan) -> Result<Value, Al
     Ok(Value::Array(names))
 }
 
-fn user_value(alloc: Global, p: &Policy, u: UserId) -> Result<Value, AllocError>
+pub(crate) fn user_value(alloc: Global, p: &Policy, u: UserId) -> Result<Value, AllocError>
     ensures { IfOk result (λ v. view v ≡ user_data p.now u) }
 {
     name_value(alloc, p.roster().users(), u.0)
 }
 
-fn step_value(alloc: Global, p: &Policy, f: FlowId, s: StepId) -> Result<Value, AllocError>
+pub(crate) fn step_value(
+    alloc: Global,
+    p: &Policy,
+    f: FlowId,
+    s: StepId,
+) -> Result<Value, AllocError>
     ensures { IfOk result (λ v. view v ≡ step_data p.now f s) }
 {
     if (f.0 as u16) < p.flows().len() {
@@ -149,7 +154,7 @@ fn step_value(alloc: Global, p: &Policy, f: FlowId, s: StepId) -> Result<Value, 
 }
 
 // The name with a number, as text; the empty text where there is none.
-fn name_value(alloc: Global, names: &NameTable, n: u16) -> Result<Value, AllocError>
+pub(crate) fn name_value(alloc: Global, names: &NameTable, n: u16) -> Result<Value, AllocError>
     ensures { IfOk result (λ v. view v ≡ named names.now.names n) }
 {
     if n < names.len() {

@@ -1,4 +1,5 @@
 use Rattle.wf_server.proofs.run.run_alone.Goals as goal
 
-pub returns-in-Some-clause-runs : goal.returns-in-Some-clause-runs
-returns-in-Some-clause-runs g c = rw (← c.in-Some.ensures, c.report_of.ensures.fault) c.run_plan.ensures.runs
+pub returns-in-Some-Solve-clause-runs : goal.returns-in-Some-Solve-clause-runs
+returns-in-Some-Solve-clause-runs g c =
+    rw (← c.in-Some-Solve.ensures, c.in-Some-Solve.field-0-is, c.bare_report-in-Some-Solve.ensures.fault) (λ file told input given. c.run_solve.ensures.runs file told)

@@ -1,0 +1,9 @@
+pub mod States
+pub mod Answers
+pub mod Steps
+pub mod Kept
+pub mod Histories
+pub mod Boards
+pub mod HistoryLaws
+pub mod Laws
+pub mod Named

@@ -1,0 +1,81 @@
+//! Trees that refute, as JSON.
+ghost use Rattle.std.specs.Prelude.{◌≡◌, ◌∷◌, IfOk};
+ghost use Rattle.serde_json.specs.Data.{array};
+ghost use Rattle.serde_json.specs.View.{view, items_of};
+ghost use Rattle.refutation_tree.specs.Shapes.{Kids, branch_onto, holder, kids_of_items, shape_of};
+ghost use Rattle.wire_json.specs.Trees.{branches_data, node_data, tree_data};
+
+use crate::entry::{step_value, user_value};
+use policy_book::Policy;
+use refutation_tree::{Branch, Kid, Tree};
+use serde_json::{Value, json};
+use std::alloc::{AllocError, Global};
+use wf_names::{FlowId, StepId};
+
+/// The value that is written for a tree over a workflow's steps. A number that names no user or
+/// step of the policy is written as an empty text.
+#[cycle(tree_value)]
+pub fn tree_value(alloc: Global, p: &Policy, f: FlowId, t: &Tree) -> Result<Value, AllocError>
+    ensures { IfOk result (λ v. view v ≡ tree_data p.now f (shape_of t.now)) }
+{
+    match t {
+        Tree::Holder(s) => holder_value(alloc, p, f, *s),
+        Tree::Rule(k) => json!(in alloc; {"rule": (*k)}),
+        Tree::Step(s, branches) => {
+            let users = branches_value(alloc, p, f, &branches.items)?;
+            node_value(alloc, p, f, *s, &users)
+        }
+    }
+}
+
+fn holder_value(alloc: Global, p: &Policy, f: FlowId, s: StepId) -> Result<Value, AllocError>
+    ensures { IfOk result (λ v. view v ≡ tree_data p.now f (holder s)) }
+{
+    let step = step_value(alloc, p, f, s)?;
+    json!(in alloc; {"holder": (&step)})
+}
+
+// The value of a node whose branches have theirs.
+fn node_value(
+    alloc: Global,
+    p: &Policy,
+    f: FlowId,
+    s: StepId,
+    users: &Value,
+) -> Result<Value, AllocError>
+    ensures { IfOk result (λ v. view v ≡ node_data p.now f s (view users.now)) }
+{
+    let step = step_value(alloc, p, f, s)?;
+    json!(in alloc; {"step": (&step), "users": (users)})
+}
+
+// The users and trees of branches, in order.
+#[cycle(tree_value)]
+fn branches_value(
+    alloc: Global,
+    p: &Policy,
+    f: FlowId,
+    branches: &[Branch],
+) -> Result<Value, AllocError>
+    ensures { IfOk result (λ v. view v ≡ array (items_of (branches_data p.now f (kids_of_items branches.now)))) }
+{
+    let mut values = Vec::new(alloc);
+    'branches: for branch in branches {
+        values.push(branch_value(alloc, p, f, branch)?)?;
+    }
+    Ok(Value::Array(values))
+}
+
+// The user and the tree of a branch.
+#[cycle(tree_value)]
+fn branch_value(alloc: Global, p: &Policy, f: FlowId, branch: &Branch) -> Result<Value, AllocError>
+    ensures { IfOk result (λ v. (rest : Kids) → branches_data p.now f (branch_onto branch.now rest) ≡ view v ∷ branches_data p.now f rest) }
+{
+    match &branch.kid {
+        Kid::Tree(tree) => {
+            let user = user_value(alloc, p, branch.user)?;
+            let tree = tree_value(alloc, p, f, tree)?;
+            json!(in alloc; [(&user), (&tree)])
+        }
+    }
+}
