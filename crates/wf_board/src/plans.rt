@@ -1,9 +1,6 @@
 //! Plans that a request has, as users' names.
-ghost use Rattle.std.specs.Prelude.{◌≡◌, ◌<◌, ◌≤◌, length, IfSome};
+ghost use Rattle.std.specs.Prelude.{◌≡◌, ◌<◌, ◌≤◌, length};
 ghost use Rattle.wf_names.specs.declared.limits.TheConstants.{STEP_LIMIT};
-ghost use Rattle.constraint_forms.specs.Assigned.{no_steps, no_users};
-ghost use Rattle.policy_book.specs.Plans.{IsValidPlan};
-ghost use Rattle.policy_book.specs.Policies.{problem_of};
 ghost use Rattle.wf_board.specs.Answers.{plan_named, users_named};
 
 use certificate_check::check_plan;
@@ -15,8 +12,7 @@ use wf_talk::UserNames;
 /// The plan that users of these names are for a workflow, where they are known and it is valid.
 pub(crate) fn plan_named(p: &Policy, f: FlowId, names: &UserNames) -> Option<Plan>
     requires { f < length p.now.flows }
-    ensures plan { result ≡ plan_named p.now f names.now }
-    ensures valid { IfSome result (λ plan. IsValidPlan (problem_of p.now f) no_users no_steps plan) }
+    ensures { result ≡ plan_named p.now f names.now }
 {
     let plan = users_named(p.roster().users(), names.as_slice())?;
     if plan.len() as u16 != p.flow(f).steps().len() {
