@@ -37,7 +37,7 @@ fn plan_found(alloc: Global, p: &Policy, f: FlowId, plan: &Plan) -> Result<Value
 {
     let flow = name_value(alloc, p.flows(), f.0 as u16)?;
     let users = plan_value(alloc, p.roster().users(), plan)?;
-    json!(in alloc; {"flow": (&flow), "plan": (&users)})
+    json!(in alloc; {"flow": (flow), "plan": (users)})
 }
 
 fn tree_found(alloc: Global, p: &Policy, f: FlowId, tree: &Tree) -> Result<Value, AllocError>
@@ -45,7 +45,7 @@ fn tree_found(alloc: Global, p: &Policy, f: FlowId, tree: &Tree) -> Result<Value
 {
     let flow = name_value(alloc, p.flows(), f.0 as u16)?;
     let tree = tree_value(alloc, p, f, tree)?;
-    json!(in alloc; {"flow": (&flow), "tree": (&tree)})
+    json!(in alloc; {"flow": (flow), "tree": (tree)})
 }
 
 // The text of a value, and LF.

@@ -23,7 +23,7 @@ pub fn tree_value(alloc: Global, p: &Policy, f: FlowId, t: &Tree) -> Result<Valu
         Tree::Rule(k) => json!(in alloc; {"rule": (*k)}),
         Tree::Step(s, branches) => {
             let users = branches_value(alloc, p, f, &branches.items)?;
-            node_value(alloc, p, f, *s, &users)
+            node_value(alloc, p, f, *s, users)
         }
     }
 }
@@ -32,7 +32,7 @@ fn holder_value(alloc: Global, p: &Policy, f: FlowId, s: StepId) -> Result<Value
     ensures { IfOk result (λ v. view v ≡ tree_data p.now f (holder s)) }
 {
     let step = step_value(alloc, p, f, s)?;
-    json!(in alloc; {"holder": (&step)})
+    json!(in alloc; {"holder": (step)})
 }
 
 // The value of a node whose branches have theirs.
@@ -41,12 +41,12 @@ fn node_value(
     p: &Policy,
     f: FlowId,
     s: StepId,
-    users: &Value,
+    users: Value,
 ) -> Result<Value, AllocError>
-    ensures { IfOk result (λ v. view v ≡ node_data p.now f s (view users.now)) }
+    ensures { IfOk result (λ v. view v ≡ node_data p.now f s (view users)) }
 {
     let step = step_value(alloc, p, f, s)?;
-    json!(in alloc; {"step": (&step), "users": (users)})
+    json!(in alloc; {"step": (step), "users": (users)})
 }
 
 // The users and trees of branches, in order.
@@ -75,7 +75,7 @@ fn branch_value(alloc: Global, p: &Policy, f: FlowId, branch: &Branch) -> Result
         Kid::Tree(tree) => {
             let user = user_value(alloc, p, branch.user)?;
             let tree = tree_value(alloc, p, f, tree)?;
-            json!(in alloc; [(&user), (&tree)])
+            json!(in alloc; [(user), (tree)])
         }
     }
 }
