@@ -31,7 +31,7 @@ or_pass false b c = refl
 same : (s t : Pairs) → ((q : ℕ × ℕ) → set.contains s q ≡ set.contains t q) → s ≡ t
 same s t each = set.same_set pair_cmp_total pair_cmp-IsAntisymmetric s t each
 
-contains_put : (s : Pairs) (ps : List (ℕ × ℕ)) (q : ℕ × ℕ) → set.contains (put_all s ps) q ≡ (list_any (eq_by_cmp pair_cmp q) ps || set.contains s q)
+pub contains_put : (s : Pairs) (ps : List (ℕ × ℕ)) (q : ℕ × ℕ) → set.contains (put_all s ps) q ≡ (list_any (eq_by_cmp pair_cmp q) ps || set.contains s q)
 contains_put s [] q = refl
 contains_put s (p ∷ ps) q =
     contains_put (set.insert s p) ps q ∙ ap (λ b. list_any (eq_by_cmp pair_cmp q) ps || b) (set.contains-insert pair_cmp_total s p q)

@@ -9,3 +9,4 @@ pub mod Drafts
 pub mod Rules
 pub mod Flows
 pub mod Files
+pub mod Documents

@@ -1,0 +1,8 @@
+use Rattle.std.proofs.Common.{◌≡◌, map, take, length}
+use Rattle.toml.specs.Data.{string}
+use Rattle.toml.specs.View.{view, table_view}
+use Rattle.policy_reader.specs.Documents.{table_below, permit_entry}
+use Rattle.policy_reader.proofs.written_flows.permits_value.Given as goal
+
+abbrev pub invariant-steps : goal.invariant-steps
+invariant-steps l = table_view l.table ≡ table_below l.s (permit_entry l.roles.names l.flow)

@@ -1,0 +1,8 @@
+use Rattle.std.proofs.Common.{◌≡◌, map, take, length}
+use Rattle.toml.specs.Data.{string}
+use Rattle.toml.specs.View.{view, table_view}
+use Rattle.policy_reader.specs.Documents.{rule_data}
+use Rattle.policy_reader.proofs.written_flows.rules_value.Given as goal
+
+abbrev pub invariant-rules : goal.invariant-rules
+invariant-rules l = map view l.values.items ≡ map (rule_data l.relations l.steps.names) (take l.k l.rules)

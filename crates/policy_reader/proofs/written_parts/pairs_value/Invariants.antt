@@ -1,0 +1,8 @@
+use Rattle.std.proofs.Common.{◌≡◌, map, take, length}
+use Rattle.toml.specs.Data.{string}
+use Rattle.toml.specs.View.{view, table_view}
+use Rattle.policy_reader.specs.Documents.{pair_data}
+use Rattle.policy_reader.proofs.written_parts.pairs_value.Given as goal
+
+abbrev pub invariant-pairs : goal.invariant-pairs
+invariant-pairs l = map view l.values.items ≡ map (pair_data l.names.names) (take l.pair-index l.pairs)

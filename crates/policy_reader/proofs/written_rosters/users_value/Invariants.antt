@@ -1,0 +1,8 @@
+use Rattle.std.proofs.Common.{◌≡◌, map, take, length}
+use Rattle.toml.specs.Data.{string}
+use Rattle.toml.specs.View.{view, table_view}
+use Rattle.policy_reader.specs.Documents.{table_below, user_entry}
+use Rattle.policy_reader.proofs.written_rosters.users_value.Given as goal
+
+abbrev pub invariant-users : goal.invariant-users
+invariant-users l = table_view l.table ≡ table_below l.u (user_entry l.roster)
