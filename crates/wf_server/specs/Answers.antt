@@ -14,7 +14,7 @@ use Rattle.wf_server.specs.declared.fault.RunFault.{RunFault}
 use Rattle.wf_server.specs.declared.fault.RunFault.TheVariants.{Nothing, Found, Policy, FileTooLong, LineTooLong, BadInput}
 use Rattle.wf_server.specs.declared.fault.InputFault.TheVariants.{NoFlow}
 use Rattle.wf_server.specs.Inputs.{plan_of_input, number_named}
-use Rattle.wf_server.specs.Words.{Command, plan, solve, serve}
+use Rattle.wf_server.specs.Words.{Command, plan, show, solve, serve}
 use Rattle.wf_server.specs.Solving.{TellsFirst}
 
 -- the line that names the first fault of a plan; a plan from nothing moves no step
@@ -51,6 +51,10 @@ abbrev pub JudgesInput : PolicyShape → List ℕ → List ℕ → RunFault → 
 JudgesInput p word input fault text =
     MatchOption (number_named p.flow_names word) (Refuses (BadInput NoFlow) fault text) (λ f. JudgesAll p f input fault text)
 
+-- `show` writes a text that reads as the policy
+abbrev pub Shows : PolicyShape → RunFault → List ℕ → Type 0
+Shows p fault text = (fault ≡ Nothing) × (policy_of_file text ≡ Ok p)
+
 -- `solve` tells for each workflow a valid plan, or a tree that shows that there is none
 abbrev pub SolvesAll : PolicyShape → RunFault → List ℕ → Type 0
 SolvesAll p fault text = (fault ≡ Nothing) × TellsFirst p (length p.flows) text
@@ -58,5 +62,6 @@ SolvesAll p fault text = (fault ≡ Nothing) × TellsFirst p (length p.flows) te
 -- what the run of a command over its policy file and the input answers; a session is no such run
 abbrev pub IsRun : Command → List ℕ → List ℕ → RunFault → List ℕ → Type 0
 IsRun (plan policy flow) file input fault text = OverPolicy file (λ p. JudgesInput p flow input) fault text
+IsRun (show policy) file input fault text = OverPolicy file Shows fault text
 IsRun (solve policy) file input fault text = OverPolicy file SolvesAll fault text
 IsRun (serve policy) file input fault text = ⊥

@@ -1,10 +1,11 @@
 -- A command of the code, as the definitions see it.
 use Rattle.wf_server.specs.declared.words.Command.{Command as Words}
-use Rattle.wf_server.specs.declared.words.Command.TheVariants.{Plan, Solve, Serve}
-use Rattle.wf_server.specs.Words.{Command, plan, solve, serve}
+use Rattle.wf_server.specs.declared.words.Command.TheVariants.{Plan, Show, Solve, Serve}
+use Rattle.wf_server.specs.Words.{Command, plan, show, solve, serve}
 
 -- the command with its words
 abbrev pub asked : Words → Command
 asked (Plan policy flow) = plan policy.now flow.now
+asked (Show policy) = show policy.now
 asked (Solve policy) = solve policy.now
 asked (Serve policy) = serve policy.now

@@ -18,6 +18,7 @@ mod serve;
 #[cfg(test)]
 mod serve_tests;
 mod session;
+mod show;
 mod solve;
 #[cfg(test)]
 mod solve_tests;

@@ -11,6 +11,7 @@ use crate::RunFault;
 use crate::plan::run_plan;
 use crate::report::{Report, bare_report};
 use crate::serve::run_serve;
+use crate::show::run_show;
 use crate::solve::run_solve;
 use crate::words::{Command, read_words};
 use std::alloc::Global;
@@ -48,6 +49,7 @@ pub fn run_alone<F: Shelf, S: Source, K: Sink>(
         Some(Command::Plan { policy, flow }) => {
             bare_report(alloc, run_plan(alloc, policy, flow, shelf, source, sink))
         }
+        Some(Command::Show { policy }) => bare_report(alloc, run_show(alloc, policy, shelf, sink)),
         Some(Command::Solve { policy }) => bare_report(alloc, run_solve(alloc, policy, shelf, sink)),
         Some(Command::Serve { policy }) => run_serve(alloc, policy, shelf, source, sink),
         None => bare_report(alloc, RunFault::Usage),

@@ -8,6 +8,8 @@ ghost use Rattle.wf_server.specs.Asked.{asked};
 pub(crate) enum Command<'a> {
     /// Judges the plan in the input for a workflow.
     Plan { policy: &'a str, flow: &'a str },
+    /// Writes the policy.
+    Show { policy: &'a str },
     /// Finds a plan for each workflow, or shows that there is none.
     Solve { policy: &'a str },
     /// Answers the requests in the input.
@@ -37,6 +39,9 @@ fn read_three<'a>(word: &str, policy: &'a str, flow: &'a str) -> Option<Command<
 fn read_two<'a>(word: &str, policy: &'a str) -> Option<Command<'a>>
     ensures { option_map asked result ≡ command_of (word.now ∷ policy.now ∷ []) }
 {
+    if word == "show" {
+        return Some(Command::Show { policy });
+    }
     if word == "solve" {
         return Some(Command::Solve { policy });
     }
