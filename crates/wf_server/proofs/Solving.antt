@@ -1,5 +1,5 @@
 -- How the lines of workflows follow one another.
-use Rattle.std.proofs.Common.{◌≡◌, ℕ, suc, ◌+◌, List, ◌++◌, sym, subst, arith}
+use Rattle.std.proofs.Common.{◌≡◌, ℕ, suc, ◌+◌, List, ◌++◌, subst, arith}
 use Rattle.policy_book.specs.Shapes.{PolicyShape}
 use Rattle.wf_server.specs.Solving.{TellsFirst, TellsFlow}
 

@@ -1,4 +1,4 @@
-use Rattle.std.proofs.Common.{◌≡◌, ℕ, List, Bool, Option, inl, subst}
+use Rattle.std.proofs.Common.{ℕ, List, Bool, Option, inl, subst}
 use Rattle.std.proofs.lemmas.Result.{IfOk-weaker}
 use Rattle.constraint_forms.specs.Assigned.{no_steps}
 use Rattle.policy_book.specs.Plans.{IsValidPlan}
