@@ -28,6 +28,9 @@ rules = [
 ]
 "#;
 
+const BAD: &str = r#"{"at":0,"lane":0,"line":0,"reply":{"bad":"syntax"}}
+"#;
+
 const OPEN: &str = r#"{"do":"open_with","flow":"pay","plan":["ann","cyd","bob"]}"#;
 
 #[test]
@@ -103,7 +106,7 @@ fn other_lines_are_bad(rt: HostRuntime) -> Result<(), Fail> {
     for line in rows {
         let session = serve(rt.alloc(), line.as_bytes(), ample())?;
         assert!(rt;
-            session.written.as_slice() == b"{\"at\":0,\"lane\":0,\"line\":0,\"reply\":{\"bad\":\"syntax\"}}\n",
+            session.written.as_slice() == BAD.as_bytes(),
             "{line}"
         );
     }
