@@ -19,6 +19,8 @@ mod serve;
 mod serve_tests;
 mod session;
 mod show;
+#[cfg(test)]
+mod show_tests;
 mod solve;
 #[cfg(test)]
 mod solve_tests;
