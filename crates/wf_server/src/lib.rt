@@ -3,8 +3,6 @@
 
 mod answer;
 #[cfg(test)]
-mod board_tests;
-#[cfg(test)]
 mod change_tests;
 mod fault;
 mod input;
