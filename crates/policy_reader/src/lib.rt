@@ -20,3 +20,5 @@ pub use written::print;
 
 #[cfg(test)]
 mod tests;
+#[cfg(test)]
+mod written_tests;
