@@ -174,16 +174,16 @@ closed_job c d (Stopped stop) result closes = finished_job false c d (Stopped st
 pub closed_none : (c d : Cut) (paused result : Paused) → ClosesAs c d paused result → result ≡ NoMemory → d ≡ c
 closed_none c d Batch result closes e = closes.1
 closed_none c d NoMemory result closes e = closes.1
-closed_none c d End result closes e = elim closes [ | inl done ↦ cc | inr none ↦ none.1 ]
-closed_none c d Failed result closes e = elim closes [ | inl done ↦ cc | inr none ↦ none.1 ]
-closed_none c d (Stopped stop) result closes e = elim closes [ | inl done ↦ cc | inr none ↦ none.1 ]
+closed_none c d End result closes e = elim closes [ inl done ↦ cc | inr none ↦ none.1 ]
+closed_none c d Failed result closes e = elim closes [ inl done ↦ cc | inr none ↦ none.1 ]
+closed_none c d (Stopped stop) result closes e = elim closes [ inl done ↦ cc | inr none ↦ none.1 ]
 
 pub closed_failed : (c d : Cut) (paused result : Paused) → ClosesAs c d paused result → result ≡ Failed → paused ≡ Failed
 closed_failed c d Batch result closes e = cc
 closed_failed c d NoMemory result closes e = cc
-closed_failed c d End result closes e = elim closes [ | inl done ↦ cc | inr none ↦ cc ]
+closed_failed c d End result closes e = elim closes [ inl done ↦ cc | inr none ↦ cc ]
 closed_failed c d Failed result closes e = refl
-closed_failed c d (Stopped stop) result closes e = elim closes [ | inl done ↦ cc | inr none ↦ cc ]
+closed_failed c d (Stopped stop) result closes e = elim closes [ inl done ↦ cc | inr none ↦ cc ]
 
 -- the jobs and ends that were there before, where memory was refused
 pub dropped_jobs : (c d e : Cut) (js : List Job) (n : ℕ) → Grows c d → e ≡ d → n ≡ length c.jobs → js ≡ take n e.jobs → js ≡ c.jobs
@@ -203,9 +203,9 @@ closed_between c d r left Batch result ready pauses closes e =
     subst (λ (x : Cut). IsBetween (record r { cut = x }) × (place c < place x)) (sym closes.1)
     (record { ready = record { sound = ready.sound; begun = ready.begun; within = ready.within; room = ready.room }; going = pauses.0; closed = pauses.1 }, pauses.2)
 closed_between c d r left NoMemory result ready pauses closes e = cc
-closed_between c d r left End result ready pauses closes e = elim closes [ | inl done ↦ cc | inr none ↦ cc ]
-closed_between c d r left Failed result ready pauses closes e = elim closes [ | inl done ↦ cc | inr none ↦ cc ]
-closed_between c d r left (Stopped stop) result ready pauses closes e = elim closes [ | inl done ↦ cc | inr none ↦ cc ]
+closed_between c d r left End result ready pauses closes e = elim closes [ inl done ↦ cc | inr none ↦ cc ]
+closed_between c d r left Failed result ready pauses closes e = elim closes [ inl done ↦ cc | inr none ↦ cc ]
+closed_between c d r left (Stopped stop) result ready pauses closes e = elim closes [ inl done ↦ cc | inr none ↦ cc ]
 
 -- no bytes are left where the places are one
 pub none_left : (bytes : List ℕ) (at filled : ℕ) → filled ≤ length bytes → drop at (take filled bytes) ≡ [] → filled ≤ at

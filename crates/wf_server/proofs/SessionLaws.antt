@@ -1,5 +1,5 @@
 -- How the batches of a session follow one another.
-use Rattle.std.proofs.Common.{◌≡◌, ℕ, Bool, true, false, List, [], ◌++◌, map, Option, None, Some, refl, sym, ◌∙◌, ap, subst}
+use Rattle.std.proofs.Common.{◌≡◌, ℕ, true, false, List, [], map, Option, refl, sym, ◌∙◌, ap, subst}
 use Rattle.std.proofs.lemmas.List.{append-nil}
 use Rattle.wf_outside.specs.Outside.{with_bytes}
 use Rattle.wf_outside.proofs.OutsideLaws.{nothing_taken, nothing_put, part_all, part_none}
@@ -20,8 +20,8 @@ use Rattle.wf_server.specs.declared.reader.Reader.{Reader}
 use Rattle.wf_server.specs.declared.reader.Paused.{Paused}
 use Rattle.wf_server.specs.declared.reader.Paused.TheVariants as paused
 use Rattle.wf_server.specs.Endings.{is_before_input}
-use Rattle.wf_server.specs.Reading.{pending, HasRead, IsCutWhole, IsCutUp, ReadsTo}
-use Rattle.wf_server.specs.Sessions.{Told, AllServed, PartServed, PartlyServed, ServedAs, Serves, Served, HasAnswered, HasAnsweredPart, BatchEnds, ending_of, nothing_told}
+use Rattle.wf_server.specs.Reading.{pending, HasRead, IsCutUp, ReadsTo}
+use Rattle.wf_server.specs.Sessions.{Told, AllServed, PartlyServed, ServedAs, Serves, Served, HasAnswered, HasAnsweredPart, BatchEnds, ending_of, nothing_told}
 
 -- what a session tells after these entries
 abbrev told_of : Reader → List Entry → Told
@@ -39,12 +39,16 @@ all_served p held held-after r s entries all e h = record {
 
 -- a part of it is answered
 pub part_serves : (p : PolicyShape) (before after held held-after : Option (List ℕ)) (r : Reader) (entries : List Entry) (up : IsCutUp before after r.cut.jobs r.cut.ends) → HasAnsweredPart p held held-after entries r.cut.jobs → PartlyServed p up.bytes after held held-after (told_of r entries)
-part_serves p before after held held-after r entries up h = (up.ended, up.at_end, record {
-  up = up.up;
-  legal = h.legal;
-  fills = in_order_front entries h.filled.0 r.cut.jobs r.cut.ends h.filled.1;
-  written = h.written;
-})
+part_serves p before after held held-after r entries up h = (
+  up.ended,
+  up.at_end,
+  record {
+    up = up.up;
+    legal = h.legal;
+    fills = in_order_front entries h.filled.0 r.cut.jobs r.cut.ends h.filled.1;
+    written = h.written;
+  },
+)
 
 pub write_serves : (p : PolicyShape) (before after held held-after : Option (List ℕ)) (r : Reader) (entries : List Entry) → IsCutUp before after r.cut.jobs r.cut.ends → HasAnsweredPart p held held-after entries r.cut.jobs → Serves p before after held held-after (told_of r entries) Write
 write_serves p before after held held-after r entries up h = record { bytes = up.bytes; taken = up.taken; served = part_serves p before after held held-after r entries up h }
@@ -98,12 +102,16 @@ pub bare_serves : (p : PolicyShape) (left held : Option (List ℕ)) (told : Told
 bare_serves p left held told ending nothing memory = rw (nothing, memory) (record {
   bytes = [];
   taken = nothing_taken left;
-  served = (false, λ e. cc, record {
-    up = record { ends = (0, refl); within = refl };
-    legal = tt;
-    fills = in_order_front [] [] [] [] refl;
-    written = part_none held [];
-  });
+  served = (
+    false,
+    λ e. cc,
+    record {
+      up = record { ends = (0, refl); within = refl };
+      legal = tt;
+      fills = in_order_front [] [] [] [] refl;
+      written = part_none held [];
+    },
+  );
 })
 
 -- the entries of a session are a legal history

@@ -1,5 +1,5 @@
 -- How the entries of a turn follow those before.
-use Rattle.std.proofs.Common.{◌≡◌, ℕ, ◌+◌, ◌-◌, ◌<◌, ◌≤◌, List, [], ◌∷◌, ◌++◌, length, take, drop, map, get_or, Option, refl, sym, ◌∙◌, ap, subst, arith, append_assoc}
+use Rattle.std.proofs.Common.{◌≡◌, ℕ, ◌+◌, ◌-◌, ◌<◌, ◌≤◌, List, [], ◌∷◌, ◌++◌, length, take, drop, map, get_or, Option, refl, sym, ◌∙◌, ap, subst, append_assoc}
 use Rattle.std.proofs.lemmas.List.{take_rest, take-append-drop, take-append-le, append-nil, drop_more, take_more, length-map}
 use Rattle.std.proofs.Math.Seq.{drop-append_seam}
 use Rattle.wf_outside.specs.Outside.{with_bytes, HasPart}
@@ -109,8 +109,8 @@ part_ends p held mid after s next old new jobs text answered leads filled kept i
   legal = leads.legal;
   filled = ([], sym filled ∙ sym (append-nil (map job_of_entry new)));
   written = subst (HasPart held after) (sym (whole_text p old new kept))
-    (part_second held after (transcript_text p old) (transcript_text p (drop (length old) new))
-    (subst (λ t. HasPart (with_bytes held (transcript_text p old)) after t) is (subst (λ m. HasPart m after text) answered.written part)));
+      (part_second held after (transcript_text p old) (transcript_text p (drop (length old) new))
+      (subst (λ t. HasPart (with_bytes held (transcript_text p old)) after t) is (subst (λ m. HasPart m after text) answered.written part)));
 }
 
 -- what a turn has answered, where it answered all jobs
@@ -121,7 +121,7 @@ turn_ends p held mid after s next old new jobs text Done answered leads filled k
   leads = leads;
   filled = filled;
   written = all refl ∙ ap (with_bytes mid) is ∙ ap (λ m. with_bytes m (transcript_text p (drop (length old) new))) answered.written
-    ∙ more_put held (transcript_text p old) (transcript_text p (drop (length old) new)) ∙ ap (with_bytes held) (sym (whole_text p old new kept));
+      ∙ more_put held (transcript_text p old) (transcript_text p (drop (length old) new)) ∙ ap (with_bytes held) (sym (whole_text p old new kept));
 }
 turn_ends p held mid after s next old new jobs text Failed answered leads filled kept is all part = part_ends p held mid after s next old new jobs text answered leads filled kept is part
 turn_ends p held mid after s next old new jobs text NoMemory answered leads filled kept is all part = part_ends p held mid after s next old new jobs text answered leads filled kept is part

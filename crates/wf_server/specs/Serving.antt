@@ -1,5 +1,5 @@
 -- A run of `serve` over its policy file, and what each command leaves untouched.
-use Rattle.std.specs.Prelude.{◌≡◌, ℕ, ◌<◌, ◌≤◌, true, List, length, Option, None, Some, Ok, Err}
+use Rattle.std.specs.Prelude.{◌≡◌, ℕ, ◌<◌, ◌≤◌, true, List, length, Option, Some, Ok, Err}
 use Rattle.std.proofs.Common.{◌⊎◌}
 use Rattle.wf_names.specs.declared.limits.TheConstants.{POLICY_FILE_LIMIT}
 use Rattle.policy_book.specs.Shapes.{PolicyShape}

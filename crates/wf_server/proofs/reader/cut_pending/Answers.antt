@@ -1,4 +1,4 @@
-use Rattle.std.proofs.Common.{◌≡◌, ◌+◌, ◌-◌, take, drop, rules, ap, sym, ◌∙◌}
+use Rattle.std.proofs.Common.{◌≡◌, ◌-◌, take, drop, rules, ap, sym, ◌∙◌}
 use Rattle.wire_json.specs.Jobs.{cut_all}
 use Rattle.wf_server.proofs.ReadingLaws.{still_read, left_between, all_between}
 use Rattle.wf_server.proofs.reader.cut_pending.Goals as goal

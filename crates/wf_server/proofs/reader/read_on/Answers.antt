@@ -1,4 +1,4 @@
-use Rattle.std.proofs.Common.{◌≡◌, [], ◌++◌, ◌∙◌, ap, sym, length, arith, append_assoc, length-append}
+use Rattle.std.proofs.Common.{[], ◌++◌, ◌∙◌, ap, sym, length, arith, append_assoc, length-append}
 use Rattle.std.proofs.lemmas.List.{append-nil}
 use Rattle.wire_json.specs.JobLaws.{grows_none}
 use Rattle.wf_server.specs.Reading.{pending}
@@ -12,9 +12,9 @@ returns-in-NoMemory-clause-up g c = λ before read.
     let grown = c.read_batch-paused.ensures.grows old (grows_none old) in
     let same = closed_none mid.cut c.close_batch.new.cut _ _ c.close_batch.ensures c.in-NoMemory.is in
     up_same before _ _ _ _ _
-        (dropped_jobs old mid.cut c.close_batch.new.cut _ _ grown same c.len-jobs.ensures c.drop_after.ensures.jobs)
-        (dropped_ends old mid.cut c.close_batch.new.cut _ _ grown same c.len-ends.ensures c.drop_after.ensures.ends)
-        (kept_up before _ old mid.cut (pending mid) c.requires.ready.sound c.requires.closed grown (c.read_batch-paused.ensures.read before read))
+    (dropped_jobs old mid.cut c.close_batch.new.cut _ _ grown same c.len-jobs.ensures c.drop_after.ensures.jobs)
+    (dropped_ends old mid.cut c.close_batch.new.cut _ _ grown same c.len-ends.ensures c.drop_after.ensures.ends)
+    (kept_up before _ old mid.cut (pending mid) c.requires.ready.sound c.requires.closed grown (c.read_batch-paused.ensures.read before read))
 
 pub returns-in-NoMemory-clause-front : goal.returns-in-NoMemory-clause-front
 returns-in-NoMemory-clause-front g c =

@@ -10,7 +10,7 @@ returns-in-Done-clause-batch g c = λ p before held read answered.
     let r = c.read_on-paused.new.r in
     subst (BatchEnds p before _ held _ r (state_on c.take_turn.new.board) c.take_turn.new.journal.entries) (sym c.ending_of.ensures)
     (done_ends p before _ held _ r (state_on c.take_turn.new.board) c.take_turn.new.journal.entries c.read_on-paused.result
-      (c.read_on-paused.ensures.reads before read) (c.read_on-paused.ensures.up before read) (c.in-Done.ensures.turns p held old))
+    (c.read_on-paused.ensures.reads before read) (c.read_on-paused.ensures.up before read) (c.in-Done.ensures.turns p held old))
 
 pub returns-in-Failed-clause-batch : goal.returns-in-Failed-clause-batch
 returns-in-Failed-clause-batch g c = λ p before held read answered.

@@ -1,7 +1,6 @@
-use Rattle.std.proofs.Common.{◌≡◌, ◌≤◌, ◌-◌, map}
+use Rattle.std.proofs.Common.{◌≤◌, ◌-◌}
 use Rattle.wire_json.specs.JobLaws.{place, last_place}
 use Rattle.wf_board.specs.Boards.{state_on}
-use Rattle.wf_board.specs.Histories.{job_of_entry}
 use Rattle.wf_server.specs.Reading.{pending, IsBetween, HasRead}
 use Rattle.wf_server.specs.Sessions.{HasAnswered}
 use Rattle.wf_server.proofs.session.serve_batches.Given as goal

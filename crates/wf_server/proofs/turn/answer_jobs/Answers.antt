@@ -1,4 +1,4 @@
-use Rattle.std.proofs.Common.{◌≡◌, ◌++◌, ◌∷◌, [], ◌∙◌, ap, sym, length, map, take, arith, append_assoc, length-append}
+use Rattle.std.proofs.Common.{◌++◌, ◌∷◌, [], ◌∙◌, ap, sym, length, map, take, arith, append_assoc, length-append}
 use Rattle.wf_board.specs.Boards.{state_on}
 use Rattle.wf_board.specs.Histories.{job_of_entry}
 use Rattle.wf_server.proofs.TurnLaws.{leads_more, filled_more, kept_more, take_next}
@@ -17,7 +17,7 @@ answering-preserved c =
     record {
       leads = λ start leads. leads_more start (state_on c.answering.board) (state_on c.answer_job.new.board) before after job one (inv.leads start leads);
       filled = filled_more (state_on c.answering.board) (state_on c.answer_job.new.board) before after job one ∙ ap (λ js. js ++ job ∷ []) inv.filled
-        ∙ append_assoc (map job_of_entry old) (take i jobs) (job ∷ []) ∙ ap (λ js. map job_of_entry old ++ js) (sym (take_next jobs i job c.answering-test.true c.job-item.is));
+          ∙ append_assoc (map job_of_entry old) (take i jobs) (job ∷ []) ∙ ap (λ js. map job_of_entry old ++ js) (sym (take_next jobs i job c.answering-test.true c.job-item.is));
       kept = kept_more before after (length old) one.entry (omega (arith, inv.count)) one.pushed ∙ inv.kept;
       count = let longer = ap length one.pushed in omega (arith, longer, length-append before (one.entry ∷ []), inv.count);
       room = omega (arith, inv.room, c.answer_job.ensures.room);
