@@ -50,7 +50,10 @@ pub fn run_alone<F: Shelf, S: Source, K: Sink>(
             bare_report(alloc, run_plan(alloc, policy, flow, shelf, source, sink))
         }
         Some(Command::Show { policy }) => bare_report(alloc, run_show(alloc, policy, shelf, sink)),
-        Some(Command::Solve { policy }) => bare_report(alloc, run_solve(alloc, policy, shelf, sink)),
+        Some(Command::Solve { policy }) => bare_report(
+            alloc,
+            run_solve(alloc, policy, shelf, sink),
+        ),
         Some(Command::Serve { policy }) => run_serve(alloc, policy, shelf, source, sink),
         None => bare_report(alloc, RunFault::Usage),
     }

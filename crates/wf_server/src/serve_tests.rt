@@ -105,10 +105,7 @@ fn other_lines_are_bad(rt: HostRuntime) -> Result<(), Fail> {
     ];
     for line in rows {
         let session = serve(rt.alloc(), line.as_bytes(), ample())?;
-        assert!(rt;
-            session.written.as_slice() == BAD.as_bytes(),
-            "{line}"
-        );
+        assert!(rt; session.written.as_slice() == BAD.as_bytes(), "{line}");
     }
     Ok(())
 }
@@ -195,8 +192,14 @@ fn a_sink_may_fail(rt: HostRuntime) -> Result<(), Fail> {
     };
     let begun = serve(rt.alloc(), b"{\n{\n", second)?;
     let closed = serve(rt.alloc(), b"{\n", Outside { put: 0, ..ample() })?;
-    assert_eq!(rt; (begun.status, begun.entries, begun.written.as_slice()), (5, 2, b"{\"at\":0,\"l".as_slice()));
-    assert_eq!(rt; (closed.status, closed.entries, closed.written.len()), (5, 1, 0));
+    assert_eq!(rt;
+        (begun.status, begun.entries, begun.written.as_slice()),
+        (5, 2, b"{\"at\":0,\"l".as_slice())
+    );
+    assert_eq!(rt;
+        (closed.status, closed.entries, closed.written.len()),
+        (5, 1, 0)
+    );
     Ok(())
 }
 
@@ -207,7 +210,10 @@ fn serve_takes_two_words(rt: HostRuntime) -> Result<(), Fail> {
     let mut sink = MemSink::new(rt.alloc(), 100, 9, Vec::new(rt.alloc()))?;
     let words = words(rt.alloc(), &["serve", "policy", "--lanes", "2"])?;
     let report = run_alone(rt.alloc(), &words, &mut shelf, &mut source, &mut sink);
-    assert_eq!(rt; (report.status, report.entries.len(), source.left()), (2, 0, b"{\n".as_slice()));
+    assert_eq!(rt;
+        (report.status, report.entries.len(), source.left()),
+        (2, 0, b"{\n".as_slice())
+    );
     Ok(())
 }
 

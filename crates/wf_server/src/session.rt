@@ -12,10 +12,10 @@ ghost use Rattle.wf_server.specs.Reading.{pending, IsReady, IsBetween, HasRead};
 ghost use Rattle.wf_server.specs.Sessions.{BatchEnds, HasAnswered, Serves, Served, ending_of};
 ghost use Rattle.wf_server.specs.Reports.{told_by};
 
+use crate::RunFault;
 use crate::reader::{Paused, Reader, read_on};
 use crate::report::{Report, bare_report};
 use crate::turn::{Turn, take_turn};
-use crate::RunFault;
 use policy_book::Policy;
 use std::alloc::Global;
 use wf_board::Board;

@@ -15,7 +15,10 @@ fn a_shown_policy_reads_as_the_same(rt: HostRuntime) -> Result<(), Fail> {
     let policy = policy_reader::read(rt.alloc(), &once)
         .ok()
         .ok_or("not read")?;
-    assert_eq!(rt; (status, once == twice, facts(&policy)), (0, true, (4, 3, 1, 3, 3, true)));
+    assert_eq!(rt;
+        (status, once == twice, facts(&policy)),
+        (0, true, (4, 3, 1, 3, 3, true))
+    );
     Ok(())
 }
 
