@@ -1,7 +1,7 @@
 -- How the flags of a word change with its bits.
-use Rattle.std.proofs.Common.{◌≡◌, ◌≢◌, ℕ, zero, suc, ◌+◌, ◌*◌, ◌/◌, ◌%◌, ◌^◌, ◌<◌, ◌≤◌, Bool, true, false, cond, ◌==◌, nat_eq, nat_lt, List, [], ◌∷◌, length, get_or, set, replicate, slice_index_or, slice_set, refl, sym, ap, subst, ◌∙◌, inl, inr, arith, bit_and, bit_or, length-set, get_or-set_same, get_or-set_other}
-use Rattle.std.specs.Int.{bit_at, Width, w32}
-use Rattle.std.proofs.lemmas.Nat.Bits.{bit_at-suc, bit_at_lowest, shr_and_one, bit_at_set_same, bit_at_set_other, bit_at_above}
+use Rattle.std.proofs.Common.{◌≡◌, ℕ, zero, suc, ◌*◌, ◌/◌, ◌%◌, ◌^◌, ◌<◌, ◌≤◌, Bool, true, false, nat_eq, nat_lt, List, ◌∷◌, length, get_or, set, replicate, slice_index_or, slice_set, refl, sym, ap, subst, ◌∙◌, inl, inr, arith, bit_and, bit_or, length-set, get_or-set_same, get_or-set_other}
+use Rattle.std.specs.Int.{bit_at, w32}
+use Rattle.std.proofs.lemmas.Nat.Bits.{bit_at-suc, bit_at_lowest, shr_and_one, bit_at_set_same, bit_at_set_other}
 use Rattle.std.proofs.lemmas.List.{same_lists, get_or_past}
 use Rattle.std.proofs.lemmas.Bool.{cases_eq}
 use Rattle.constraint_forms.specs.Flags.{flags_of, word_of, word_of-flags_of}

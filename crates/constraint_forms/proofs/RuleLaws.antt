@@ -1,11 +1,10 @@
 -- What is true of the tests over a set's members, and of rules by their forms.
-use Rattle.std.proofs.Common.{◌≡◌, ℕ, zero, suc, ◌+◌, ◌<◌, ◌≤◌, Bool, true, false, not, ◌&&◌, ◌||◌, ◌==◌, List, [], ◌∷◌, length, get_or, Option, Some, None, is_some, refl, sym, ap, subst, ◌∙◌, arith, eq-eqb, add-zero, zero-add}
+use Rattle.std.proofs.Common.{◌≡◌, ℕ, zero, suc, ◌+◌, Bool, true, false, not, ◌&&◌, ◌||◌, ◌==◌, List, [], ◌∷◌, Option, Some, None, is_some, refl, sym, subst, arith, eq-eqb, add-zero, zero-add}
 use Rattle.std.specs.Bool.{IsTrue}
-use Rattle.constraint_forms.specs.declared.rule.Rule.{Rule}
 use Rattle.constraint_forms.specs.declared.rule.Rule.TheVariants.{Pair, SomeOf, AllOf}
 use Rattle.constraint_forms.specs.Assigned.{is_member}
-use Rattle.constraint_forms.specs.Rules.{any_from, all_from, are_unrelated, is_satisfied, is_falsified, names, relation_of, Relating, IsRuleOf}
-use Rattle.constraint_forms.specs.Laws.{TotalsDecide, IsExtension, StaysFalsified, AgreeOnNamed, FalsifiedByNamed, SatisfiedByNamed, AreAlike, SeesRelatedness, exchanged, AreInterchangeable, ExchangeDoesNotMatter}
+use Rattle.constraint_forms.specs.Rules.{any_from, all_from, are_unrelated, names, Relating}
+use Rattle.constraint_forms.specs.Laws.{TotalsDecide, StaysFalsified, FalsifiedByNamed, SatisfiedByNamed, SeesRelatedness}
 
 -- ---- what a rule names
 

@@ -1,6 +1,6 @@
 -- A word of bits as a list of flags, the flag of bit 0 first.
-use Rattle.std.specs.Prelude.{◌≡◌, ℕ, ◌+◌, ◌*◌, ◌/◌, ◌%◌, ◌^◌, ◌<◌, Bool, true, false, cond, ◌==◌, List, [], ◌∷◌, length}
-use Rattle.std.proofs.Common.{zero, suc, refl, sym, ap, ◌∙◌, arith}
+use Rattle.std.specs.Prelude.{◌≡◌, ℕ, ◌+◌, ◌*◌, ◌/◌, ◌%◌, ◌^◌, ◌<◌, Bool, cond, ◌==◌, List, [], ◌∷◌}
+use Rattle.std.proofs.Common.{zero, suc, refl, arith}
 
 -- the lowest n bits of a word
 unfoldable pub flags_of : ℕ → ℕ → List Bool

@@ -8,8 +8,8 @@ use Rattle.std.proofs.lemmas.Bool.{cases_eq, leb-false}
 use Rattle.std.proofs.lemmas.List.{map-append}
 use Rattle.std.proofs.lemmas.Map.Keys.{IsDistinct-push}
 use Rattle.std.proofs.Math.Seq.{take-append_seam}
-use Rattle.pair_set.specs.Pairs.{Pairs, pair_cmp, AllPairs}
-use Rattle.pair_set.specs.PairLaws.{pair_cmp_total, all_empty, all_insert, all_remove}
+use Rattle.pair_set.specs.Pairs.{Pairs, AllPairs}
+use Rattle.pair_set.specs.PairLaws.{pair_cmp_total, all_insert, all_remove}
 use Rattle.wf_names.specs.Table.{place_of}
 use Rattle.wf_names.specs.declared.limits.TheConstants.{USER_LIMIT, RELATION_LIMIT, PAIR_LIMIT}
 use Rattle.user_relations.specs.declared.RelationFault.{RelationFault}
@@ -17,10 +17,9 @@ use Rattle.user_relations.specs.declared.RelationFault.TheVariants.{Already, Ful
 use Rattle.user_relations.specs.Relations.{RelationShape, RelationKind, listed, complement, kind_of, has_list, is_listed, complemented, complement_of, listed_pairs, pairs_of, known_names, change_kind, with_kind}
 use Rattle.user_relations.specs.Faults.{AnswersFault, put_fault, take_fault, relate_fault, unrelate_fault}
 use Rattle.user_relations.specs.Soundness.{AreSound}
-use Rattle.user_relations.specs.declared.kinds.Kind.{Kind}
 use Rattle.user_relations.specs.declared.kinds.Kind.TheVariants.{Listed}
 use Rattle.user_relations.specs.declared.kinds.Relation.{Relation}
-use Rattle.user_relations.specs.View.{kind_view, relation_view, shapes}
+use Rattle.user_relations.specs.View.{relation_view, shapes}
 use Rattle.user_relations.proofs.Named.{unknown}
 
 abbrev AreUsers : ℕ → ℕ → Type 0

@@ -1,6 +1,6 @@
-use Rattle.std.proofs.Common.{◌≡◌, ℕ, ◌+◌, Bool, drop}
-use Rattle.constraint_forms.specs.Assigned.{user_at, planned, is_member}
-use Rattle.constraint_forms.specs.Rules.{any_from, all_from, are_unrelated}
+use Rattle.std.proofs.Common.{◌≡◌, ℕ, drop}
+use Rattle.constraint_forms.specs.Assigned.{user_at}
+use Rattle.constraint_forms.specs.Rules.{all_from, are_unrelated}
 use Rattle.constraint_forms.proofs.evaluate.all_unrelated.Given as goal
 
 abbrev pub invariant-members : goal.invariant-members

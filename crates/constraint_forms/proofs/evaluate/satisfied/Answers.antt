@@ -1,5 +1,3 @@
-use Rattle.std.proofs.Common.{sym}
-use Rattle.constraint_forms.specs.Rules.{IsRuleOf}
 use Rattle.constraint_forms.proofs.RuleLaws.{first-named, second-named, step-named, member-named}
 use Rattle.constraint_forms.proofs.evaluate.satisfied.Goals as goal
 

@@ -1,6 +1,4 @@
-use Rattle.std.proofs.Common.{rules, arith, refl, sym, ap, subst, ◌∙◌, ◌≡◌, ℕ, ◌<◌, false, true, length, replicate, slice_index_or, slice_set, ◌+◌, ◌-◌, ◌*◌, ◌≤◌, ◌/◌, ◌%◌, ◌^◌, Bool, nat_eq, nat_lt, List, [], ◌∷◌, ◌++◌, bit_and, bit_or, get_or, set}
 use Rattle.wf_names.specs.declared.limits.TheConstants.{STEP_LIMIT}
-use Rattle.constraint_forms.specs.Flags.{flags_of}
 use Rattle.constraint_forms.proofs.Bits.{length-flags_of, not_below, has_flag, has_no_flag}
 use Rattle.constraint_forms.proofs.step_set.StepSet.has.Goals as goal
 

@@ -1,5 +1,4 @@
 use Rattle.std.proofs.Common.{◌∙◌, sym, ap, arith}
-use Rattle.std.specs.FinSet as set
 use Rattle.pair_set.specs.Pairs.{Pairs}
 use Rattle.pair_set.specs.PairLaws.{pair_cmp_total, pair_cmp-IsAntisymmetric, remove_absent}
 use Rattle.workflow_schema.specs.Tables.{pairs_of}
