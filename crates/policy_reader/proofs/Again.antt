@@ -1,24 +1,23 @@
 -- A policy is read from the document that it is written as.
-use Rattle.std.proofs.Common.{◌≡◌, ℕ, zero, suc, ◌+◌, ◌<◌, ◌≤◌, Bool, true, false, ◌&&◌, List, [], ◌∷◌, ◌++◌, length, map, Ordering, Less, Equal, Greater, nat_cmp, refl, sym, ap, subst, ◌∙◌, arith}
-use Rattle.std.specs.Prelude.{codes, Option, Some, None, Result, Ok, Err}
+use Rattle.std.proofs.Common.{◌≡◌, ℕ, Bool, true, false, ◌&&◌, List, [], Ordering, Less, Equal, Greater, nat_cmp, refl, sym, ap, subst, ◌∙◌}
+use Rattle.std.specs.Prelude.{codes, Option, Some, None, Ok}
 use Rattle.std.specs.Ordering.{match_ordering}
 use Rattle.std.specs.Cmp.Lexicographic.{slice_cmp}
-use Rattle.toml.specs.Data.{Data, string, integer, float, boolean, datetime, array, table, Items, Members, no_members, member, get_member, as_str, as_array, as_table, is_before, is_sorted, members_are_sorted}
-use Rattle.wf_names.specs.Names.{is_name}
+use Rattle.toml.specs.Data.{Data, string, integer, float, boolean, datetime, array, table, Members, no_members, member, get_member, as_table, is_before, is_sorted, members_are_sorted}
 use Rattle.rbac_state.specs.Rosters.{RosterShape}
 use Rattle.user_relations.specs.Relations.{RelationShape}
-use Rattle.policy_book.specs.Shapes.{PolicyShape, WorkflowShape}
-use Rattle.first_fault.specs.Reading.{◌>>=◌, or_fault, check, each}
+use Rattle.policy_book.specs.Shapes.{PolicyShape}
+use Rattle.first_fault.specs.Reading.{check}
 use Rattle.policy_reader.specs.declared.fault.PolicyPart.TheVariants.{File, Users}
 use Rattle.policy_reader.specs.declared.fault.PolicyKind.TheVariants as word
-use Rattle.policy_reader.specs.Faults.{Reading, fault}
-use Rattle.policy_reader.specs.Parts.{items, entries, value_at, text_in, name_in, number_in, no_others, known_key}
+use Rattle.policy_reader.specs.Faults.{fault}
+use Rattle.policy_reader.specs.Parts.{entries, value_at, text_in, name_in, number_in, no_others, known_key}
 use Rattle.policy_reader.specs.Rosters.{roles_of, roster_of, is_held}
 use Rattle.policy_reader.specs.Relations.{relations_of}
 use Rattle.policy_reader.specs.Flows.{flows_of}
 use Rattle.policy_reader.specs.Files.{format_of, admin_of, file_keys, start_of, policy_in}
 use Rattle.policy_reader.specs.Documents.{name_at, names_data, users_data, relations_data, flows_data, document_of}
-use Rattle.policy_reader.proofs.Readings.{then_of, check_of, fault_of_none, ok_same, items_back, IsNamed, number_of, number_back, text_of}
+use Rattle.policy_reader.proofs.Readings.{then_of, ok_same, number_of}
 use Rattle.policy_reader.proofs.NamesAgain.{roles_back}
 use Rattle.policy_reader.proofs.UsersAgain.{roster_back, roles_kept}
 use Rattle.policy_reader.proofs.RelationsAgain.{relations_back}

@@ -1,5 +1,5 @@
 -- How many items an array and how many entries a table has.
-use Rattle.std.proofs.Common.{◌≡◌, List, [], ◌∷◌, length, String, Global, refl, ap, get_or, ◌≢◌, None, arith, ◌<◌, ◌≤◌, ℕ, true, Bool, nat_lt, nat_le}
+use Rattle.std.proofs.Common.{◌≡◌, List, [], ◌∷◌, length, String, Global, refl, ap, get_or, ◌≢◌, None, arith, ◌<◌, ◌≤◌, ℕ, true}
 use Rattle.std.proofs.lemmas.Bool.Decides.{nat_tests}
 use Rattle.wf_names.specs.declared.limits.TheConstants.{STEP_LIMIT}
 use Rattle.workflow_schema.specs.Flows.{is_count}

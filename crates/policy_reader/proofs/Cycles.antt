@@ -1,5 +1,5 @@
 -- What a workflow that was refused tells of its order.
-use Rattle.std.proofs.Common.{◌≡◌, ℕ, List, [], length, Option, None, Some, Result, Ok, Err, refl, ap}
+use Rattle.std.proofs.Common.{◌≡◌, ℕ, List, [], length, None, Some, Ok, Err, refl, ap}
 use Rattle.std.specs.Prelude.{slice_index_or}
 use Rattle.pair_set.specs.Pairs.{Pairs}
 use Rattle.workflow_schema.specs.Flows.{is_before}

@@ -1,5 +1,5 @@
 -- The last check of a document.
-use Rattle.std.proofs.Common.{◌≡◌, Option, None, Some, Ok, Err, ap, ◌∙◌}
+use Rattle.std.proofs.Common.{◌≡◌, Option, None, Some, Ok, ap, ◌∙◌}
 use Rattle.toml.specs.Data.{Members}
 use Rattle.policy_book.specs.Shapes.{PolicyShape}
 use Rattle.first_fault.specs.Reading.{◌>>=◌, Fails}

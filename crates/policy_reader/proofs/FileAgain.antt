@@ -1,13 +1,12 @@
 -- What is written of a policy that a file gave reads as that policy.
-use Rattle.std.proofs.Common.{◌≡◌, ℕ, Bool, true, false, ◌==◌, List, length, refl, sym, ap, subst, ◌∙◌}
-use Rattle.std.specs.Prelude.{Option, Some, None, Result, Ok, Err, if◌then◌else◌}
+use Rattle.std.proofs.Common.{◌≡◌, ℕ, Bool, true, false, ◌==◌, List, length, ap, ◌∙◌}
+use Rattle.std.specs.Prelude.{Ok, Err, if◌then◌else◌}
 use Rattle.std.specs.Str.Lossy.{utf8_valid_len}
 use Rattle.toml.specs.Data.{Members, members_are_sorted}
 use Rattle.toml.specs.Parse.{parse_document}
 use Rattle.policy_book.specs.Shapes.{PolicyShape}
-use Rattle.first_fault.specs.Reading.{◌>>=◌, or_fault}
+use Rattle.first_fault.specs.Reading.{◌>>=◌}
 use Rattle.policy_reader.specs.declared.fault.PolicyFault.{PolicyFault}
-use Rattle.policy_reader.specs.Faults.{Reading}
 use Rattle.policy_reader.specs.Files.{document_in, document_in_text, policy_in, policy_of_file}
 use Rattle.policy_reader.specs.Documents.{document_of}
 use Rattle.policy_reader.proofs.Readings.{then_of, fault_of_none}

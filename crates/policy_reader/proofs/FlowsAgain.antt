@@ -1,25 +1,25 @@
 -- The workflows are read from what they are written as.
-use Rattle.std.proofs.Common.{◌≡◌, ℕ, zero, suc, ◌+◌, ◌<◌, ◌≤◌, Bool, true, false, List, [], ◌∷◌, ◌++◌, length, map, refl, sym, ap, subst, ◌∙◌, append_assoc, arith}
-use Rattle.std.specs.Prelude.{codes, Option, Some, None, Result, Ok, Err, slice_index_or}
+use Rattle.std.proofs.Common.{◌≡◌, ℕ, suc, true, false, List, [], ◌∷◌, ◌++◌, length, map, refl, sym, ap, subst, ◌∙◌, append_assoc, arith}
+use Rattle.std.specs.Prelude.{codes, Option, Some, None, Ok, slice_index_or}
 use Rattle.std.specs.FinSet as set
 use Rattle.std.proofs.lemmas.List.{append-nil}
-use Rattle.toml.specs.Data.{Data, string, array, table, Items, Members, get_member, as_array, as_table}
+use Rattle.toml.specs.Data.{Data, table, Members, get_member, as_table}
 use Rattle.wf_names.specs.Names.{is_name}
 use Rattle.wf_names.specs.declared.limits.TheConstants.{FLOW_LIMIT}
-use Rattle.pair_set.specs.Pairs.{Pairs, pair_cmp, AllPairs}
+use Rattle.pair_set.specs.Pairs.{Pairs}
 use Rattle.pair_set.specs.PairLaws.{all_empty}
 use Rattle.user_relations.specs.Relations.{RelationShape}
 use Rattle.workflow_schema.specs.Flows.{FlowShape}
 use Rattle.constraint_forms.specs.declared.rule.Rule.{Rule}
 use Rattle.policy_book.specs.Shapes.{PolicyShape, WorkflowShape}
-use Rattle.policy_book.specs.Policies.{flow_at, no_workflow}
-use Rattle.first_fault.specs.Reading.{◌>>=◌, or_fault, check, each}
+use Rattle.policy_book.specs.Policies.{no_workflow}
+use Rattle.first_fault.specs.Reading.{◌>>=◌, each}
 use Rattle.policy_reader.specs.declared.fault.PolicyPart.TheVariants.{Flows}
 use Rattle.policy_reader.specs.Faults.{Reading}
-use Rattle.policy_reader.specs.Parts.{items, entries, value_at, array_in, table_in, at_least_one, at_most, name_in, next_pair, no_others, known_key}
+use Rattle.policy_reader.specs.Parts.{items, entries, value_at, array_in, table_in, at_least_one, at_most, name_in, no_others, known_key}
 use Rattle.policy_reader.specs.Rules.{rules_of}
-use Rattle.policy_reader.specs.Flows.{steps_of, order_in, pairs_of, no_cycle, permits_of, workflow_in, with_workflow, next_flow, flows_of}
-use Rattle.policy_reader.specs.Documents.{name_at, pair_data, pairs_data, names_data, rows, table_below, permits_data, rules_data, workflow_members, flow_entry, flows_data}
+use Rattle.policy_reader.specs.Flows.{steps_of, order_in, pairs_of, no_cycle, permits_of, workflow_in, next_flow, flows_of}
+use Rattle.policy_reader.specs.Documents.{name_at, pair_data, pairs_data, names_data, rows, table_below, rules_data, workflow_members, flow_entry, flows_data}
 use Rattle.policy_reader.proofs.Readings.{then_of, check_of, fault_of_none, ok_same, items_back, IsNamed}
 use Rattle.policy_reader.proofs.PairsAgain.{AreNamed, pairs_read, pairs_back}
 use Rattle.policy_reader.proofs.NamesAgain.{steps_back, steps_read}

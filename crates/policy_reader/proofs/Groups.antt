@@ -1,6 +1,6 @@
 -- A group with one more step has some step.
 use Rattle.std.proofs.Common.{◌≡◌, ℕ, zero, suc, ◌+◌, ◌<◌, Bool, true, false, ◌||◌, ◌&&◌, List, [], ◌∷◌, length, refl, ap, ◌∙◌, arith}
-use Rattle.std.specs.Prelude.{IsTrue, slice_set}
+use Rattle.std.specs.Prelude.{slice_set}
 use Rattle.constraint_forms.specs.Rules.{any_from}
 
 or_true : (a : Bool) → (a || true) ≡ true

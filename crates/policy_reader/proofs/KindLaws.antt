@@ -1,6 +1,6 @@
 -- The kinds of relations after a change of one of them, and with one more at the end.
 use Rattle.std.proofs.Common.{◌≡◌, ℕ, zero, suc, List, [], ◌∷◌, ◌++◌, length, map, refl, ap, ◌⊎◌, inl, inr}
-use Rattle.std.specs.Prelude.{Option, Some, None, option_map, slice_get}
+use Rattle.std.specs.Prelude.{Some, None, option_map, slice_get}
 use Rattle.user_relations.specs.Relations.{RelationShape, RelationKind, kind_of, change_kind, with_kind}
 
 pub names_kept : (rs : List RelationShape) (n : ℕ) (k : RelationKind) → map (λ r. r.name) (change_kind rs n k) ≡ map (λ r. r.name) rs

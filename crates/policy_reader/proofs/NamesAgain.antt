@@ -1,6 +1,6 @@
 -- Lists of names are read from what they are written as.
-use Rattle.std.proofs.Common.{◌≡◌, ℕ, zero, suc, ◌+◌, ◌<◌, ◌≤◌, Bool, true, false, not, nat_le, nat_eq, ◌⊎◌, inl, inr, arith, List, [], ◌∷◌, ◌++◌, length, map, refl, sym, ap, subst, ◌∙◌, append_assoc}
-use Rattle.std.specs.Prelude.{codes, Option, Some, None, Result, Ok, Err, is_some, position}
+use Rattle.std.proofs.Common.{◌≡◌, ℕ, zero, suc, ◌<◌, ◌≤◌, Bool, true, false, not, nat_le, nat_eq, inl, inr, arith, List, [], ◌∷◌, ◌++◌, length, map, refl, sym, ap, subst, ◌∙◌, append_assoc}
+use Rattle.std.specs.Prelude.{codes, Some, Ok, is_some, position}
 use Rattle.std.specs.Cmp.Lexicographic.{pointwise, nat_list_eq_equiv}
 use Rattle.std.proofs.lemmas.Bool.{cases_lt}
 use Rattle.std.proofs.lemmas.Bool.Decides.{nat_tests}
@@ -8,11 +8,11 @@ use Rattle.std.proofs.lemmas.Grind.{common_steps}
 use Rattle.std.proofs.lemmas.List.Sums.{prefix_len-le-length}
 use Rattle.wf_names.specs.Names.{is_name}
 use Rattle.std.proofs.lemmas.List.{append-nil, length-append}
-use Rattle.toml.specs.Data.{Data, string, Items, Members, get_member, as_str}
+use Rattle.toml.specs.Data.{Data, string, Members, get_member, as_str}
 use Rattle.toml.specs.View.{items_of}
 use Rattle.wf_names.specs.declared.limits.TheConstants.{ROLE_LIMIT, STEP_LIMIT}
 use Rattle.wf_names.specs.Table.{place_of}
-use Rattle.first_fault.specs.Reading.{◌>>=◌, or_fault, check, each}
+use Rattle.first_fault.specs.Reading.{◌>>=◌, each}
 use Rattle.policy_reader.specs.declared.fault.PolicyPart.{PolicyPart}
 use Rattle.policy_reader.specs.declared.fault.PolicyPart.TheVariants.{Roles, Flows}
 use Rattle.policy_reader.specs.Faults.{Reading}

@@ -1,23 +1,22 @@
 -- Sets of pairs are read from what they are written as.
-use Rattle.std.proofs.Common.{◌≡◌, ℕ, ◌+◌, ◌<◌, ◌≤◌, Bool, true, false, not, ◌||◌, cond, List, [], ◌∷◌, ◌++◌, length, map, refl, sym, ap, subst, ◌∙◌, arith}
-use Rattle.std.specs.Prelude.{codes, Option, Some, None, Result, Ok, Err, option_and_then}
+use Rattle.std.proofs.Common.{◌≡◌, ℕ, ◌+◌, ◌<◌, Bool, true, false, not, ◌||◌, cond, List, [], ◌∷◌, length, map, refl, sym, ap, subst, ◌∙◌, arith}
+use Rattle.std.specs.Prelude.{Ok}
 use Rattle.std.specs.List.{list_any, AllByRecursion}
 use Rattle.std.specs.Ordering.{eq_by_cmp, is_eq, ordering_reverse}
 use Rattle.std.specs.declared.cmp.Ordering.TheVariants.{Less}
 use Rattle.std.specs.FinSet as set
 use Rattle.std.proofs.lemmas.Map.Keys.{sorted_head, sorted_tail}
-use Rattle.toml.specs.Data.{Data, string, array, Items, no_items, item, as_str, as_array}
-use Rattle.toml.specs.View.{items_of}
+use Rattle.toml.specs.Data.{Data}
 use Rattle.pair_set.specs.Pairs.{Pairs, pair_cmp, IsAscending, AllPairs}
-use Rattle.pair_set.specs.PairLaws.{pair_cmp_total, pair_cmp-IsAntisymmetric, all_insert, all_empty}
-use Rattle.first_fault.specs.Reading.{◌>>=◌, or_fault, check, each}
+use Rattle.pair_set.specs.PairLaws.{pair_cmp_total, pair_cmp-IsAntisymmetric, all_insert}
+use Rattle.first_fault.specs.Reading.{or_fault, each}
 use Rattle.policy_reader.specs.declared.fault.PolicyPart.{PolicyPart}
 use Rattle.policy_reader.specs.Bounds.{put_all}
-use Rattle.policy_reader.specs.Faults.{Reading, fault}
+use Rattle.policy_reader.specs.Faults.{fault}
 use Rattle.policy_reader.specs.declared.fault.PolicyKind.TheVariants as kind
-use Rattle.policy_reader.specs.Parts.{items, two_texts, number_in, once, next_pair}
-use Rattle.policy_reader.specs.Documents.{name_at, pair_data, listed_data, pairs_data, rows}
-use Rattle.policy_reader.proofs.Readings.{then_of, check_of, fault_of_none, ok_same, items_back, IsNamed, number_of, number_back}
+use Rattle.policy_reader.specs.Parts.{two_texts, number_in, once, next_pair}
+use Rattle.policy_reader.specs.Documents.{pair_data, rows}
+use Rattle.policy_reader.proofs.Readings.{then_of, check_of, ok_same, IsNamed, number_of, number_back}
 use Rattle.policy_reader.proofs.PairLists.{contains_put}
 use Rattle.policy_reader.proofs.Writing.{rows_all}
 use Rattle.policy_reader.proofs.Rows.{rows_ascend, rows_have}

@@ -1,22 +1,21 @@
 -- The permissions of a workflow are read from what they are written as.
-use Rattle.std.proofs.Common.{◌≡◌, ℕ, zero, suc, ◌+◌, ◌<◌, ◌≤◌, Bool, true, false, not, List, [], ◌∷◌, ◌++◌, length, map, Equal, refl, sym, ap, subst, ◌∙◌, ◌⊎◌, inl, inr, arith}
-use Rattle.std.specs.Prelude.{codes, Option, Some, None, Result, Ok, Err}
+use Rattle.std.proofs.Common.{◌≡◌, ℕ, suc, ◌<◌, Bool, true, false, List, [], ◌∷◌, length, map, Equal, refl, sym, ap, subst, ◌∙◌, ◌⊎◌, inl, inr, arith}
+use Rattle.std.specs.Prelude.{codes, Option, Some, None, Ok}
 use Rattle.std.specs.FinSet as set
 use Rattle.std.specs.FinMap.{slice_cmp-IsAntisymmetric, nat_cmp-IsAntisymmetric}
 use Rattle.std.specs.List.{AllByRecursion}
-use Rattle.toml.specs.Data.{Data, string, array, table, Items, Members, get_member, as_str, as_array}
+use Rattle.toml.specs.Data.{Data, Members, get_member}
 use Rattle.std.proofs.lemmas.Bool.{cases_lt}
-use Rattle.pair_set.specs.Pairs.{Pairs, pair_cmp, AllPairs}
+use Rattle.pair_set.specs.Pairs.{Pairs, AllPairs}
 use Rattle.pair_set.specs.PairLaws.{all_insert, all_empty}
 use Rattle.wf_names.specs.Table.{place_of}
 use Rattle.workflow_schema.specs.Flows.{FlowShape}
-use Rattle.first_fault.specs.Reading.{◌>>=◌, or_fault, check, each}
+use Rattle.first_fault.specs.Reading.{◌>>=◌, each}
 use Rattle.policy_reader.specs.declared.fault.PolicyPart.TheVariants.{Flows}
 use Rattle.policy_reader.proofs.Portions.{IsPart}
-use Rattle.policy_reader.specs.Faults.{Reading}
 use Rattle.policy_reader.specs.Parts.{items, entries, value_at, array_in, table_in, text_in, number_in, once}
 use Rattle.policy_reader.specs.Flows.{next_permitted, next_permit, permits_of}
-use Rattle.policy_reader.specs.Documents.{name_at, names_where, chosen, table_below, permit_entry, permits_data}
+use Rattle.policy_reader.specs.Documents.{name_at, chosen, table_below, permit_entry, permits_data}
 use Rattle.policy_reader.proofs.Readings.{then_of, ok_same, items_back, IsNamed, number_of, number_back}
 use Rattle.policy_reader.proofs.Portions.{part_none, part_free, part_put, part_same, part_whole}
 use Rattle.policy_reader.proofs.Picked.{text_at, IsNext, reached}

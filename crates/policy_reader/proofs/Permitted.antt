@@ -1,5 +1,5 @@
 -- A workflow that permits nothing.
-use Rattle.std.proofs.Common.{◌≡◌, ℕ, ◌<◌, List, true, false}
+use Rattle.std.proofs.Common.{◌≡◌, ℕ, List}
 use Rattle.std.specs.FinSet as set
 use Rattle.pair_set.specs.Pairs.{Pairs, pair_cmp}
 use Rattle.workflow_schema.specs.Flows.{FlowShape}

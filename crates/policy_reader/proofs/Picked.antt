@@ -1,16 +1,12 @@
 -- Numbers that are read one after the other, those that pass.
-use Rattle.std.proofs.Common.{◌≡◌, ℕ, zero, suc, ◌+◌, ◌<◌, ◌≤◌, Bool, true, false, List, [], ◌∷◌, ◌++◌, length, map, refl, sym, ap, subst, ◌∙◌, arith}
-use Rattle.std.specs.Prelude.{codes, Option, Some, None, Result, Ok, Err, if◌then◌else◌}
-use Rattle.std.specs.FinSet as set
+use Rattle.std.proofs.Common.{◌≡◌, ℕ, zero, suc, Bool, true, false, List, [], ◌∷◌, ◌++◌, map, refl, ap, ◌∙◌}
+use Rattle.std.specs.Prelude.{Ok, if◌then◌else◌}
 use Rattle.std.proofs.lemmas.List.{map-append}
-use Rattle.toml.specs.Data.{Data, string, array}
-use Rattle.toml.specs.View.{items_of}
-use Rattle.pair_set.specs.Pairs.{Pairs, AllPairs}
-use Rattle.first_fault.specs.Reading.{◌>>=◌, each}
-use Rattle.policy_reader.proofs.Portions.{IsPart}
+use Rattle.toml.specs.Data.{Data, string}
+use Rattle.first_fault.specs.Reading.{each}
 use Rattle.policy_reader.specs.Faults.{Reading}
 use Rattle.policy_reader.specs.Documents.{name_at, chosen}
-use Rattle.policy_reader.proofs.Readings.{each_push, IsNamed}
+use Rattle.policy_reader.proofs.Readings.{each_push}
 
 abbrev pub text_at : List (List ℕ) → ℕ → Data
 text_at names n = string (name_at names n)

@@ -1,5 +1,5 @@
 -- A document that a policy is written as has no dates and few levels.
-use Rattle.std.proofs.Common.{◌≡◌, ℕ, zero, suc, ◌+◌, ◌≤◌, Bool, true, false, ◌&&◌, List, [], ◌∷◌, map, length, Ordering, Less, Equal, Greater, refl, sym, ap, ◌∙◌, arith}
+use Rattle.std.proofs.Common.{◌≡◌, ℕ, zero, suc, ◌+◌, ◌≤◌, Bool, true, false, ◌&&◌, List, [], ◌∷◌, map, length, Ordering, Less, Equal, Greater, refl, arith}
 use Rattle.std.specs.Prelude.{Option, Some, None, max, codes, pos}
 use Rattle.std.specs.Ordering.{nat_cmp, match_ordering}
 use Rattle.std.specs.Cmp.Lexicographic.{slice_cmp}
@@ -7,13 +7,12 @@ use Rattle.toml.specs.Data.{Data, string, integer, array, table, Items, Members,
 use Rattle.toml.specs.View.{items_of}
 use Rattle.constraint_forms.specs.declared.rule.Rule.{Rule}
 use Rattle.constraint_forms.specs.declared.rule.Rule.TheVariants as rule
-use Rattle.rbac_state.specs.Rosters.{RosterShape, has_role}
+use Rattle.rbac_state.specs.Rosters.{has_role}
 use Rattle.user_relations.specs.Relations.{RelationShape, complement_of, known_names}
-use Rattle.workflow_schema.specs.Flows.{FlowShape}
 use Rattle.policy_book.specs.Shapes.{PolicyShape, WorkflowShape}
 use Rattle.policy_book.specs.Policies.{flow_at}
 use Rattle.policy_reader.specs.Relations.{first_declared}
-use Rattle.policy_reader.specs.Documents.{with_member, table_of, table_below, chosen, name_at, names_where, names_data, pair_data, listed_data, kind_members, relation_entry, grouped_members, rule_members, rule_data, rules_data, workflow_members, flow_entry, permit_entry, user_entry, pairs_data, permits_data, flows_data, relations_data, users_data, document_of}
+use Rattle.policy_reader.specs.Documents.{with_member, table_below, name_at, names_where, names_data, pair_data, listed_data, kind_members, relation_entry, grouped_members, rule_members, rule_data, rules_data, workflow_members, flow_entry, permit_entry, user_entry, pairs_data, permits_data, flows_data, relations_data, users_data, document_of}
 use Rattle.constraint_forms.specs.Assigned.{is_member}
 use Rattle.std.specs.FinSet as set
 

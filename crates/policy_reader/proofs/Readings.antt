@@ -1,18 +1,15 @@
 -- What a reading that succeeded tells, and readings that succeed.
-use Rattle.std.proofs.Common.{◌≡◌, ℕ, ◌<◌, Bool, true, false, nat_eq, List, [], ◌∷◌, ◌++◌, length, map, get_or, refl, sym, ap, subst, ◌∙◌}
-use Rattle.std.specs.Prelude.{Option, Some, None, Result, Ok, Err, position, slice_index_or}
+use Rattle.std.proofs.Common.{◌≡◌, ℕ, ◌<◌, Bool, true, false, nat_eq, List, [], ◌∷◌, ◌++◌, length, get_or, refl, sym, ap, ◌∙◌}
+use Rattle.std.specs.Prelude.{Option, Some, None, Result, Ok, Err}
 use Rattle.std.specs.Cmp.Lexicographic.{pointwise}
 use Rattle.std.proofs.lemmas.List.Quantifiers.{position-Some}
 use Rattle.std.specs.Cmp.Lexicographic.{bytes_decides}
-use Rattle.toml.specs.Data.{Data, string, integer, float, boolean, datetime, array, table, Items, Members, no_items, item, as_str, as_array, as_table}
+use Rattle.toml.specs.Data.{Data, string, integer, float, boolean, datetime, array, table, as_str}
 use Rattle.toml.specs.View.{items_of}
 use Rattle.wf_names.specs.Names.{is_name}
 use Rattle.wf_names.specs.Table.{place_of}
 use Rattle.first_fault.specs.Reading.{◌>>=◌, or_fault, check, each}
 use Rattle.policy_reader.specs.declared.fault.PolicyPart.{PolicyPart}
-use Rattle.policy_reader.specs.declared.fault.PolicyFault.{PolicyFault}
-use Rattle.policy_reader.specs.declared.fault.PolicyKind.TheVariants as kind
-use Rattle.policy_reader.specs.Faults.{Reading, fault, fault_about}
 use Rattle.policy_reader.specs.Parts.{items, number_in, text_in}
 use Rattle.policy_reader.specs.Documents.{name_at}
 

@@ -1,24 +1,23 @@
 -- The rules of a workflow are read from what they are written as.
-use Rattle.std.proofs.Common.{◌≡◌, ℕ, zero, suc, ◌+◌, ◌<◌, ◌≤◌, Bool, true, false, not, ◌==◌, List, [], ◌∷◌, ◌++◌, length, map, refl, sym, ap, subst, ◌∙◌, append_assoc, arith}
-use Rattle.std.specs.Prelude.{codes, Option, Some, None, Result, Ok, Err, if◌then◌else◌, nat_le}
+use Rattle.std.proofs.Common.{◌≡◌, ℕ, ◌+◌, ◌<◌, ◌≤◌, Bool, true, false, not, ◌==◌, List, [], ◌∷◌, ◌++◌, length, map, refl, sym, ap, subst, ◌∙◌, append_assoc, arith}
+use Rattle.std.specs.Prelude.{codes, Option, Some, None, Ok, Err, if◌then◌else◌, nat_le}
 use Rattle.std.specs.List.{AllByRecursion}
 use Rattle.std.proofs.lemmas.Bool.Decides.{nat_tests}
 use Rattle.std.proofs.lemmas.List.{length-append, append-nil}
-use Rattle.toml.specs.Data.{Data, string, array, table, Items, Members, get_member, as_str, as_array}
-use Rattle.toml.specs.View.{items_of}
+use Rattle.toml.specs.Data.{Data, string, Members, get_member}
 use Rattle.wf_names.specs.declared.limits.TheConstants.{STEP_LIMIT, RULE_LIMIT}
 use Rattle.user_relations.specs.Relations.{RelationShape, known_names}
-use Rattle.constraint_forms.specs.Assigned.{is_member, no_steps}
+use Rattle.constraint_forms.specs.Assigned.{no_steps}
 use Rattle.constraint_forms.specs.declared.rule.Rule.{Rule}
 use Rattle.constraint_forms.specs.declared.rule.Rule.TheVariants as rule
-use Rattle.first_fault.specs.Reading.{◌>>=◌, or_fault, check, each}
+use Rattle.first_fault.specs.Reading.{each}
 use Rattle.policy_reader.specs.declared.fault.PolicyFault.{PolicyFault}
 use Rattle.policy_reader.specs.declared.fault.PolicyPart.TheVariants.{Flows}
 use Rattle.policy_reader.specs.Faults.{Reading}
-use Rattle.policy_reader.specs.Parts.{items, value_at, array_in, table_in, at_least_one, at_most, text_in, number_in, once, no_others, known_key}
-use Rattle.policy_reader.specs.Rules.{relation_in, step_in, next_member, group_in, pair_in, group_rule, grouped_in, is_text, rule_in, next_rule, rules_in, rules_of}
-use Rattle.policy_reader.specs.Documents.{name_at, names_where, chosen, rule_members, grouped_members, rule_data, rules_data}
-use Rattle.policy_reader.proofs.Readings.{then_of, check_of, ok_same, items_back, each_push, IsNamed, number_of, number_back}
+use Rattle.policy_reader.specs.Parts.{items, value_at, array_in, table_in, at_least_one, at_most, text_in, no_others, known_key}
+use Rattle.policy_reader.specs.Rules.{relation_in, step_in, group_in, pair_in, group_rule, grouped_in, is_text, rule_in, next_rule, rules_in, rules_of}
+use Rattle.policy_reader.specs.Documents.{name_at, rule_members, grouped_members, rule_data, rules_data}
+use Rattle.policy_reader.proofs.Readings.{then_of, check_of, ok_same, items_back, IsNamed, number_of, number_back}
 use Rattle.policy_reader.proofs.RulesAgain.{IsGroup, HasSome, group_all, some_of, none_is, group_again, map_length}
 
 module _ (f : ℕ) (relations : List RelationShape) (steps : List (List ℕ)) where

@@ -1,16 +1,15 @@
 -- The users and their roles are read from what they are written as.
-use Rattle.std.proofs.Common.{◌≡◌, ℕ, zero, suc, ◌+◌, ◌<◌, ◌≤◌, Bool, true, false, not, List, [], ◌∷◌, ◌++◌, length, map, take, get_or, refl, sym, ap, subst, ◌∙◌, append_assoc, ◌⊎◌, inl, inr, arith}
-use Rattle.std.specs.Prelude.{codes, Option, Some, None, Result, Ok, Err}
+use Rattle.std.proofs.Common.{◌≡◌, ℕ, zero, suc, ◌+◌, ◌<◌, ◌≤◌, true, false, List, [], ◌∷◌, ◌++◌, length, map, take, refl, sym, ap, subst, ◌∙◌, append_assoc, inl, inr, arith}
+use Rattle.std.specs.Prelude.{codes, Some, Ok}
 use Rattle.std.specs.FinSet as set
 use Rattle.std.specs.List.{AllByRecursion}
 use Rattle.std.proofs.lemmas.List.{append-nil, length-append, take_more}
-use Rattle.toml.specs.Data.{Data, string, array, table, Items, Members, get_member, as_str, as_array, as_table}
-use Rattle.toml.specs.View.{items_of}
+use Rattle.toml.specs.Data.{Data, Members, get_member, as_table}
 use Rattle.wf_names.specs.Names.{is_name}
-use Rattle.pair_set.specs.Pairs.{Pairs, pair_cmp, AllPairs}
+use Rattle.pair_set.specs.Pairs.{Pairs, AllPairs}
 use Rattle.pair_set.specs.PairLaws.{all_insert, all_empty}
 use Rattle.rbac_state.specs.Rosters.{RosterShape, has_role}
-use Rattle.first_fault.specs.Reading.{◌>>=◌, or_fault, check, each}
+use Rattle.first_fault.specs.Reading.{◌>>=◌, each}
 use Rattle.policy_reader.specs.declared.fault.PolicyPart.TheVariants.{Users}
 use Rattle.policy_reader.proofs.Portions.{IsPart}
 use Rattle.policy_reader.specs.Faults.{Reading}
@@ -20,9 +19,8 @@ use Rattle.policy_reader.specs.Documents.{name_at, names_where, chosen, user_ent
 use Rattle.wf_names.specs.declared.limits.TheConstants.{USER_LIMIT}
 use Rattle.policy_reader.proofs.Tabled.{tabled_in_order}
 use Rattle.policy_reader.proofs.Sorted.{keys, Ascend}
-use Rattle.policy_reader.proofs.Readings.{then_of, check_of, fault_of_none, ok_same, items_back, each_push, IsNamed, number_of, number_back, text_back}
-use Rattle.policy_reader.proofs.PairsAgain.{not_false}
-use Rattle.policy_reader.proofs.Portions.{Before, part_none, part_free, part_same, part_whole, next_put, next_skip, row_begins, row_ends}
+use Rattle.policy_reader.proofs.Readings.{then_of, check_of, fault_of_none, ok_same, items_back, each_push, IsNamed, number_of, number_back}
+use Rattle.policy_reader.proofs.Portions.{Before, part_none, part_free, part_whole, next_put, next_skip, row_begins, row_ends}
 use Rattle.policy_reader.proofs.Picked.{text_at, IsNext, reached, below}
 
 -- ---- what was read

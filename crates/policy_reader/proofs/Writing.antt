@@ -1,12 +1,12 @@
 -- Values and tables as they are built.
-use Rattle.std.proofs.Common.{◌≡◌, ℕ, suc, ◌+◌, ◌<◌, Bool, true, false, List, [], ◌∷◌, ◌++◌, length, map, take, get_or, ◌≤◌, append_assoc, ◌⊎◌, inl, inr, ◌||◌, ◌==◌, String, Global, Ordering, Less, Equal, Greater, string_bytes, refl, sym, ap, subst, ◌∙◌, arith}
-use Rattle.std.specs.Prelude.{slice_get, slice_index_or, Option, Some, None, option_map, zero, if◌then◌else◌}
+use Rattle.std.proofs.Common.{◌≡◌, ℕ, suc, ◌+◌, ◌<◌, Bool, true, false, List, [], ◌∷◌, ◌++◌, length, map, take, get_or, append_assoc, ◌||◌, ◌==◌, String, Global, Ordering, Less, Equal, Greater, string_bytes, refl, sym, ap, ◌∙◌, arith}
+use Rattle.std.specs.Prelude.{slice_get, Option, Some, None, option_map, zero, if◌then◌else◌}
 use Rattle.std.specs.List.{AllByRecursion, All}
 use Rattle.std.proofs.lemmas.List.Elements.{All-from_recursion}
 use Rattle.std.proofs.lemmas.Option.{get_or_from_slice_get, slice_get_within}
 use Rattle.wf_names.specs.declared.limits.TheConstants.{RELATION_LIMIT}
 use Rattle.pair_set.specs.Pairs.{Pairs, AllPairs}
-use Rattle.user_relations.specs.Relations.{RelationShape, RelationKind, listed, complement, kind_of, has_list, is_listed, complemented, complement_of, known_names, listed_pairs, pairs_of}
+use Rattle.user_relations.specs.Relations.{RelationShape, RelationKind, listed, complement, kind_of, has_list, is_listed, complemented, complement_of, listed_pairs, pairs_of}
 use Rattle.pair_set.specs.PairLaws.{all_empty}
 use Rattle.policy_book.specs.Facts.{AreOfUsers, IsSoundRule}
 use Rattle.std.proofs.lemmas.Bool.Decides.{nat_tests}

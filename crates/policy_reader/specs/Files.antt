@@ -1,7 +1,7 @@
 -- The policy that a file is.
-use Rattle.std.specs.Prelude.{codes, ℕ, ℤ, pos, negsuc, Bool, true, false, ◌==◌, List, [], ◌∷◌, length, Option, None, Some, if◌then◌else◌, Result, Ok, Err}
+use Rattle.std.specs.Prelude.{codes, ℕ, ℤ, pos, negsuc, Bool, false, ◌==◌, List, [], ◌∷◌, length, if◌then◌else◌, Ok, Err}
 use Rattle.std.specs.Str.Lossy.{utf8_valid_len}
-use Rattle.toml.specs.Data.{Data, Members, as_integer}
+use Rattle.toml.specs.Data.{Members, as_integer}
 use Rattle.toml.specs.Parse.{parse_document}
 use Rattle.policy_book.specs.Shapes.{PolicyShape}
 use Rattle.first_fault.specs.Reading.{◌>>=◌, or_fault, check}

@@ -1,15 +1,15 @@
 -- The workflows of a policy file. Their faults carry the workflow's number.
-use Rattle.std.specs.Prelude.{codes, ℕ, zero, suc, Bool, true, false, not, List, [], ◌∷◌, ◌++◌, length, Option, None, Some, Result, Ok, Err, slice_index_or}
+use Rattle.std.specs.Prelude.{codes, ℕ, zero, suc, Bool, true, false, List, [], ◌∷◌, ◌++◌, length, Option, None, Some, Ok, Err, slice_index_or}
 use Rattle.std.specs.FinSet as set
 use Rattle.toml.specs.Data.{Data, Members, get_member}
 use Rattle.wf_names.specs.declared.limits.TheConstants.{STEP_LIMIT, FLOW_LIMIT}
 use Rattle.pair_set.specs.Pairs.{Pairs}
 use Rattle.workflow_schema.specs.Flows.{FlowShape, is_before}
 use Rattle.policy_book.specs.Shapes.{PolicyShape, WorkflowShape}
-use Rattle.first_fault.specs.Reading.{◌>>=◌, or_fault, check, each}
+use Rattle.first_fault.specs.Reading.{◌>>=◌, each}
 use Rattle.policy_reader.specs.declared.fault.PolicyPart.TheVariants.{Flows}
 use Rattle.policy_reader.specs.declared.fault.PolicyKind.TheVariants as kind
-use Rattle.policy_reader.specs.Faults.{Reading, fault, fault_about}
+use Rattle.policy_reader.specs.Faults.{Reading, fault_about}
 use Rattle.policy_reader.specs.Parts.{items, entries, value_at, text_in, array_in, table_in, at_most, at_least_one, name_in, number_in, once, next_name, next_pair, no_others}
 use Rattle.policy_reader.specs.Rules.{rules_of}
 

@@ -1,9 +1,9 @@
 -- What the readings of all tables have in common. Each takes the table and the number that its faults carry.
-use Rattle.std.specs.Prelude.{ℕ, ◌&&◌, ◌==◌, Bool, true, false, not, nat_le, nat_eq, List, [], ◌∷◌, ◌++◌, length, Option, None, Some, is_some, option_map, option_and_then, Result, Ok, Err}
+use Rattle.std.specs.Prelude.{ℕ, ◌==◌, Bool, not, nat_le, nat_eq, List, [], ◌∷◌, ◌++◌, Option, None, Some, is_some, option_and_then, Ok}
 use Rattle.std.specs.List.{list_any}
 use Rattle.std.specs.Cmp.Lexicographic.{pointwise}
 use Rattle.std.specs.FinSet as set
-use Rattle.toml.specs.Data.{Data, string, array, Items, no_items, item, Members, no_members, member, get_member, as_str, as_array, as_table}
+use Rattle.toml.specs.Data.{Data, string, Items, no_items, item, Members, no_members, member, get_member, as_str, as_array, as_table}
 use Rattle.wf_names.specs.Names.{is_name}
 use Rattle.wf_names.specs.Table.{place_of}
 use Rattle.pair_set.specs.Pairs.{Pairs}

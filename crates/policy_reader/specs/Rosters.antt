@@ -1,5 +1,5 @@
 -- The roles and the users of a policy file.
-use Rattle.std.specs.Prelude.{codes, ℕ, List, [], ◌∷◌, ◌++◌, length, Bool, Result, Ok, Err}
+use Rattle.std.specs.Prelude.{codes, ℕ, List, [], ◌∷◌, ◌++◌, length, Bool, Ok}
 use Rattle.std.specs.FinSet as set
 use Rattle.toml.specs.Data.{Data, Members}
 use Rattle.wf_names.specs.declared.limits.TheConstants.{ROLE_LIMIT, USER_LIMIT}

@@ -1,17 +1,16 @@
 -- The rules of a workflow in a policy file. Their faults carry the workflow's number.
-use Rattle.std.specs.Prelude.{codes, ℕ, ◌+◌, Bool, true, false, not, nat_eq, List, [], ◌∷◌, ◌++◌, length, slice_set, Option, None, Some, option_map, if◌then◌else◌, Result, Ok, Err}
+use Rattle.std.specs.Prelude.{codes, ℕ, Bool, true, false, nat_eq, List, [], ◌∷◌, ◌++◌, length, slice_set, None, Some, if◌then◌else◌, Ok, Err}
 use Rattle.std.specs.Cmp.Lexicographic.{pointwise}
 use Rattle.toml.specs.Data.{Data, string, Members, get_member}
 use Rattle.wf_names.specs.declared.limits.TheConstants.{RULE_LIMIT}
-use Rattle.wf_names.specs.Table.{place_of}
 use Rattle.user_relations.specs.Relations.{RelationShape, known_names}
 use Rattle.constraint_forms.specs.Assigned.{is_member, no_steps}
 use Rattle.constraint_forms.specs.declared.rule.Rule.{Rule}
 use Rattle.constraint_forms.specs.declared.rule.Rule.TheVariants as rule
-use Rattle.first_fault.specs.Reading.{◌>>=◌, or_fault, check, each}
+use Rattle.first_fault.specs.Reading.{◌>>=◌, each}
 use Rattle.policy_reader.specs.declared.fault.PolicyPart.TheVariants.{Flows}
 use Rattle.policy_reader.specs.declared.fault.PolicyKind.TheVariants as kind
-use Rattle.policy_reader.specs.Faults.{Reading, fault, fault_about}
+use Rattle.policy_reader.specs.Faults.{Reading, fault}
 use Rattle.policy_reader.specs.Parts.{items, value_at, text_in, array_in, table_in, at_most, at_least_one, number_in, once, no_others}
 
 -- the relation that a value names: `same`, `other` or a declared one

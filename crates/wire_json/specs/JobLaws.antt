@@ -1,6 +1,6 @@
 -- Laws of the cutting.
 use Rattle.std.proofs.Common.{refl, ap, subst, sym, ◌∙◌, arith}
-use Rattle.std.specs.Prelude.{◌≡◌, ◌≢◌, ℕ, ◌+◌, ◌*◌, ◌==◌, ◌<◌, ◌≤◌, nat_lt, nat_le, Bool, true, false, List, [], ◌∷◌, ◌++◌, length, take, drop, get_or, Option, None, Some, is_some, if◌then◌else◌}
+use Rattle.std.specs.Prelude.{◌≡◌, ◌≢◌, ℕ, ◌+◌, ◌*◌, ◌==◌, ◌<◌, ◌≤◌, nat_lt, nat_le, Bool, true, false, List, [], ◌∷◌, ◌++◌, length, take, drop, get_or, Some, is_some, if◌then◌else◌}
 use Rattle.std.proofs.lemmas.Grind.{common_steps}
 use Rattle.std.proofs.lemmas.List.{length-append, append_assoc, append-nil, drop_more, take-append-le}
 use Rattle.std.proofs.Math.Seq.{take-append_seam}
@@ -8,7 +8,7 @@ use Rattle.wf_names.specs.declared.limits.TheConstants.{LINE_LIMIT, SESSION_LINE
 use Rattle.wf_talk.specs.declared.job.Job.{Job}
 use Rattle.wire_json.specs.declared.cutter.Why.{Why}
 use Rattle.wire_json.specs.declared.cutter.Why.TheVariants as why
-use Rattle.wire_json.specs.Jobs.{Cut, start, without_cr, job_of, end_batch, end_full_batch, next_line, with_job, end_line, step, cut_all, flush, jobs_of_input, last_or, UpToAnEnd}
+use Rattle.wire_json.specs.Jobs.{Cut, start, without_cr, job_of, end_batch, end_full_batch, next_line, end_line, step, cut_all, flush, jobs_of_input, last_or, UpToAnEnd}
 
 -- what every cutting meets
 pub record IsSound (c : Cut) : Type 0 where

@@ -1,5 +1,5 @@
 -- The jobs of the input: the bytes are cut into lines, lines into jobs and batches.
-use Rattle.std.specs.Prelude.{◌≡◌, ℕ, ◌+◌, ◌-◌, ◌*◌, ◌==◌, ◌<◌, ◌≤◌, nat_lt, nat_le, Bool, List, [], ◌∷◌, ◌++◌, length, take, slice_index_or, Option, None, Some, is_some, if◌then◌else◌}
+use Rattle.std.specs.Prelude.{◌≡◌, ℕ, ◌+◌, ◌-◌, ◌==◌, nat_lt, nat_le, Bool, List, [], ◌∷◌, ◌++◌, length, take, slice_index_or, None, Some, is_some, if◌then◌else◌}
 use Rattle.wf_names.specs.declared.limits.TheConstants.{LINE_LIMIT, SESSION_LINE_LIMIT, BATCH_LINE_LIMIT}
 use Rattle.wf_talk.specs.declared.job.Job.{Job}
 use Rattle.wire_json.specs.declared.cutter.Cutter.{Cutter}

@@ -1,4 +1,3 @@
-use Rattle.std.proofs.Common.{refl}
 use Rattle.policy_reader.proofs.Sets.{len_insert}
 use Rattle.policy_reader.proofs.parts.next_pair.Goals as goal
 

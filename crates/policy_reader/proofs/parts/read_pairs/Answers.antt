@@ -1,4 +1,4 @@
-use Rattle.std.proofs.Common.{ap, refl, arith, List, ℕ}
+use Rattle.std.proofs.Common.{refl, arith}
 use Rattle.std.specs.FinSet as set
 use Rattle.pair_set.specs.Pairs.{pair_cmp}
 use Rattle.pair_set.specs.PairLaws.{all_empty}

@@ -1,6 +1,5 @@
-use Rattle.std.proofs.Common.{◌≡◌, ◌∙◌, subst, List, ℕ}
+use Rattle.std.proofs.Common.{subst, List, ℕ}
 use Rattle.std.specs.Prelude.{IsPermutation}
-use Rattle.std.specs.FinSet as set
 use Rattle.policy_reader.proofs.PairLists.{put_permuted, if_ok}
 use Rattle.policy_reader.proofs.parts.set_of.Goals as goal
 

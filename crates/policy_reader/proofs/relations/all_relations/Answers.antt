@@ -1,8 +1,7 @@
-use Rattle.std.proofs.Common.{◌∙◌, sym, ap, subst, length, map, arith, List, [], ◌+◌, refl}
+use Rattle.std.proofs.Common.{◌∙◌, ap, length, map, arith, [], ◌+◌, refl}
 use Rattle.std.specs.Prelude.{string_bytes}
 use Rattle.toml.specs.View.{view, table_view, members_view}
 use Rattle.wf_names.specs.declared.limits.TheConstants.{RELATION_LIMIT}
-use Rattle.user_relations.specs.Relations.{RelationShape}
 use Rattle.policy_reader.specs.Parts.{entries}
 use Rattle.policy_reader.specs.Relations.{next_relation, first_declared}
 use Rattle.policy_reader.specs.Drafts.{completed, is_marked}

@@ -1,4 +1,4 @@
-use Rattle.std.proofs.Common.{◌≡◌, ◌∙◌, ◌∷◌, sym, ap, drop, ◌+◌}
+use Rattle.std.proofs.Common.{◌∙◌, ◌∷◌, sym, ap, drop, ◌+◌}
 use Rattle.std.proofs.lemmas.List.{drop_more}
 use Rattle.policy_reader.proofs.Drafts.{complete_step}
 use Rattle.policy_reader.proofs.relations.complete.Goals as goal

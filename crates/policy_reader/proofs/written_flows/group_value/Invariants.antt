@@ -1,6 +1,6 @@
-use Rattle.std.proofs.Common.{◌≡◌, map, take, length}
+use Rattle.std.proofs.Common.{◌≡◌, map}
 use Rattle.toml.specs.Data.{string}
-use Rattle.toml.specs.View.{view, table_view}
+use Rattle.toml.specs.View.{view}
 use Rattle.constraint_forms.specs.Assigned.{is_member}
 use Rattle.policy_reader.specs.Documents.{name_at, chosen}
 use Rattle.policy_reader.proofs.written_flows.group_value.Given as goal

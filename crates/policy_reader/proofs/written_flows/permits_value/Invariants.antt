@@ -1,6 +1,5 @@
-use Rattle.std.proofs.Common.{◌≡◌, map, take, length}
-use Rattle.toml.specs.Data.{string}
-use Rattle.toml.specs.View.{view, table_view}
+use Rattle.std.proofs.Common.{◌≡◌}
+use Rattle.toml.specs.View.{table_view}
 use Rattle.policy_reader.specs.Documents.{table_below, permit_entry}
 use Rattle.policy_reader.proofs.written_flows.permits_value.Given as goal
 

@@ -1,6 +1,6 @@
-use Rattle.std.proofs.Common.{◌≡◌, map, take, length}
+use Rattle.std.proofs.Common.{◌≡◌, map}
 use Rattle.toml.specs.Data.{string}
-use Rattle.toml.specs.View.{view, table_view}
+use Rattle.toml.specs.View.{view}
 use Rattle.std.specs.FinSet as set
 use Rattle.policy_reader.specs.Documents.{name_at, chosen}
 use Rattle.policy_reader.proofs.written_flows.permitted_value.Given as goal

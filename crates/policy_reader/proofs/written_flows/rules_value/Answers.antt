@@ -1,4 +1,4 @@
-use Rattle.std.proofs.Common.{length, sym, ap, ◌∙◌, ◌++◌, ◌∷◌, []}
+use Rattle.std.proofs.Common.{sym, ap, ◌∙◌, ◌++◌, ◌∷◌, []}
 use Rattle.policy_reader.specs.Documents.{rule_data}
 use Rattle.policy_reader.proofs.Writing.{map_take_got}
 use Rattle.policy_reader.proofs.written_flows.rules_value.Goals as goal

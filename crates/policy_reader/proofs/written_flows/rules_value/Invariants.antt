@@ -1,6 +1,5 @@
-use Rattle.std.proofs.Common.{◌≡◌, map, take, length}
-use Rattle.toml.specs.Data.{string}
-use Rattle.toml.specs.View.{view, table_view}
+use Rattle.std.proofs.Common.{◌≡◌, map, take}
+use Rattle.toml.specs.View.{view}
 use Rattle.policy_reader.specs.Documents.{rule_data}
 use Rattle.policy_reader.proofs.written_flows.rules_value.Given as goal
 

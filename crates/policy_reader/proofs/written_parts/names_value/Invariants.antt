@@ -1,6 +1,6 @@
-use Rattle.std.proofs.Common.{◌≡◌, map, take, length}
+use Rattle.std.proofs.Common.{◌≡◌, map, take}
 use Rattle.toml.specs.Data.{string}
-use Rattle.toml.specs.View.{view, table_view}
+use Rattle.toml.specs.View.{view}
 use Rattle.policy_reader.proofs.written_parts.names_value.Given as goal
 
 abbrev pub invariant-names : goal.invariant-names

@@ -1,6 +1,6 @@
-use Rattle.std.proofs.Common.{◌≡◌, map, take, length}
+use Rattle.std.proofs.Common.{◌≡◌, map}
 use Rattle.toml.specs.Data.{string}
-use Rattle.toml.specs.View.{view, table_view}
+use Rattle.toml.specs.View.{view}
 use Rattle.rbac_state.specs.Rosters.{has_role}
 use Rattle.policy_reader.specs.Documents.{name_at, chosen}
 use Rattle.policy_reader.proofs.written_rosters.held_value.Given as goal
