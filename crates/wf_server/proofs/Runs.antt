@@ -1,6 +1,5 @@
 -- How the steps of a run compose.
-use Rattle.std.proofs.Common.{◌≡◌, ℕ, List, [], Option, Err, refl, sym}
-use Rattle.wf_outside.specs.Outside.{with_bytes}
+use Rattle.std.proofs.Common.{ℕ, List, [], Option, Err, refl, sym}
 use Rattle.wf_outside.proofs.OutsideLaws.{nothing_put}
 use Rattle.wf_server.specs.declared.fault.RunFault.{RunFault}
 use Rattle.wf_server.specs.declared.fault.RunFault.TheVariants.{Nothing, Found, Usage, Policy, Read, Write, Load, NoMemory, FileTooLong, LineTooLong, TooManyLines, BadInput}

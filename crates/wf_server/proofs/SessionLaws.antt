@@ -21,7 +21,8 @@ use Rattle.wf_server.specs.declared.reader.Paused.{Paused}
 use Rattle.wf_server.specs.declared.reader.Paused.TheVariants as paused
 use Rattle.wf_server.specs.Endings.{is_before_input}
 use Rattle.wf_server.specs.Reading.{pending, HasRead, IsCutUp, ReadsTo}
-use Rattle.wf_server.specs.Sessions.{Told, AllServed, PartlyServed, ServedAs, Serves, Served, HasAnswered, HasAnsweredPart, BatchEnds, ending_of, nothing_told}
+use Rattle.wf_server.specs.Batches.{HasAnswered, HasAnsweredPart, BatchEnds, ending_of}
+use Rattle.wf_server.specs.Sessions.{Told, AllServed, PartlyServed, ServedAs, Serves, Served, nothing_told}
 
 -- what a session tells after these entries
 abbrev told_of : Reader → List Entry → Told

@@ -20,7 +20,7 @@ use Rattle.wf_board.specs.HistoryLaws.{after_more, legal_more}
 use Rattle.wire_json.specs.Entries.{entry_text, transcript_text}
 use Rattle.wf_server.specs.declared.turn.Turn.{Turn}
 use Rattle.wf_server.specs.declared.turn.Turn.TheVariants.{Done, Failed, NoMemory}
-use Rattle.wf_server.specs.Sessions.{LeadsTo, HasAnsweredOne, HasAnswered, HasAnsweredPart, TurnsTo}
+use Rattle.wf_server.specs.Batches.{LeadsTo, HasAnsweredOne, HasAnswered, HasAnsweredPart, TurnsTo}
 
 -- the rest behind a place
 pub rest_after : {A : Type 0} (xs : List A) (n : ℕ) → take (length xs - n) (drop n xs) ≡ drop n xs

@@ -1,6 +1,6 @@
 -- What each command answers: how its run ends, faults of the outside and want of memory aside, and
 -- the text that it writes.
-use Rattle.std.specs.Prelude.{◌≡◌, ℕ, zero, suc, List, [], ◌∷◌, ◌++◌, length, IsTrue, Result, Ok, Err, MatchOption, MatchResult, MatchBool, nat_lt, codes, decimal, slice_index_or}
+use Rattle.std.specs.Prelude.{◌≡◌, ℕ, List, [], ◌++◌, length, Ok, Err, MatchOption, MatchResult, MatchBool, nat_lt, codes, decimal, slice_index_or}
 use Rattle.wf_names.specs.declared.limits.TheConstants.{POLICY_FILE_LIMIT, LINE_LIMIT}
 use Rattle.constraint_forms.specs.Assigned.{no_users, no_steps}
 use Rattle.policy_book.specs.Shapes.{PolicyShape}

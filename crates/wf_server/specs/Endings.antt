@@ -10,7 +10,7 @@ use Rattle.wf_server.specs.declared.fault.RunFault.TheVariants.{Nothing, Found, 
 use Rattle.wf_server.specs.declared.answer.Answer.{Answer}
 use Rattle.wf_server.specs.Inputs.{plan_of_input}
 use Rattle.wf_server.specs.Answers.{Judges}
-use Rattle.wf_server.specs.declared.fault.InputFault.TheVariants.{NoFlow, Syntax, Length, NoUser}
+use Rattle.wf_server.specs.declared.fault.InputFault.TheVariants.{NoFlow}
 
 -- what the sink holds after a run whose answers are those of Run: all of its answer; after a write fault a part of it;
 -- and where reading, loading or memory failed, nothing more than before

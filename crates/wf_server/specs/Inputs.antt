@@ -1,5 +1,5 @@
 -- The input of `plan`: one JSON array of the users' names in the order of the steps.
-use Rattle.std.specs.Prelude.{◌≡◌, ℕ, ◌<◌, ◌==◌, ◌&&◌, Bool, true, List, [], ◌∷◌, ◌++◌, length, Option, None, Some, is_some, option_and_then, Result, Ok, Err, if◌then◌else◌}
+use Rattle.std.specs.Prelude.{◌≡◌, ℕ, ◌<◌, ◌==◌, Bool, List, [], ◌∷◌, ◌++◌, length, Option, None, Some, is_some, option_and_then, Result, Ok, if◌then◌else◌}
 use Rattle.std.specs.List.{list_all}
 use Rattle.std.specs.Str.Lossy.{utf8_valid_len}
 use Rattle.serde_json.specs.Data.{Data, Items, no_items, item}
@@ -10,7 +10,6 @@ use Rattle.constraint_forms.specs.Assigned.{planned}
 use Rattle.wf_names.specs.Names.{is_name}
 use Rattle.wf_names.specs.Table.{place_of}
 use Rattle.policy_book.specs.Shapes.{PolicyShape}
-use Rattle.policy_book.specs.Policies.{flow_at}
 use Rattle.wf_server.specs.declared.fault.InputFault.{InputFault}
 use Rattle.wf_server.specs.declared.fault.InputFault.TheVariants.{NoFlow, Syntax, Length, NoUser}
 use Rattle.wf_server.specs.declared.input.InputError.{InputError}

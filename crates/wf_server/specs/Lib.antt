@@ -7,5 +7,6 @@ pub mod Asked
 pub mod Statuses
 pub mod Reading
 pub mod Sessions
+pub mod Batches
 pub mod Reports
 pub mod Serving

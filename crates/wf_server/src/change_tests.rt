@@ -1,9 +1,10 @@
-//! Each change of a policy once, with ample memory.
+//! Each change of a policy once, and room on a board, with ample memory.
 ghost use Rattle.std.specs.Prelude.{◌<◌, length, IsTrue};
 ghost use Rattle.policy_book.specs.Policies.{flow_at};
 
 use policy_book::{Policy, RelationFault, RosterFault};
 use std::test::Fail;
+use wf_board::Board;
 use wf_names::{FlowId, Name, RelId, RoleId, StepId, UserId};
 
 const TRIO: &str = r#"
@@ -71,6 +72,15 @@ fn workflows_change(rt: HostRuntime) -> Result<(), Fail> {
     let copy = p.copy()?;
     assert!(rt; is_trio(&copy) && permitted && forbidden);
     assert!(rt; copy.retired(TRIO_FLOW) && !copy.authorised(TRIO_FLOW, FIRST, KIM));
+    Ok(())
+}
+
+#[test]
+fn a_board_makes_room(rt: HostRuntime) -> Result<(), Fail> {
+    let p = policy_reader::read(rt.alloc(), TRIO.as_bytes())?;
+    let mut board = Board::new(rt.alloc(), p)?;
+    board.reserve(2)?;
+    assert!(rt; board.cases().spare() >= 2);
     Ok(())
 }
 

@@ -9,7 +9,8 @@ ghost use Rattle.wire_json.specs.Jobs.{start};
 ghost use Rattle.wire_json.specs.JobLaws.{place};
 ghost use Rattle.wf_server.specs.Statuses.{status_of};
 ghost use Rattle.wf_server.specs.Reading.{pending, IsReady, IsBetween, HasRead};
-ghost use Rattle.wf_server.specs.Sessions.{BatchEnds, HasAnswered, Serves, Served, ending_of};
+ghost use Rattle.wf_server.specs.Batches.{BatchEnds, HasAnswered, ending_of};
+ghost use Rattle.wf_server.specs.Sessions.{Serves, Served};
 ghost use Rattle.wf_server.specs.Reports.{told_by};
 
 use crate::RunFault;

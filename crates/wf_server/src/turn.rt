@@ -8,7 +8,7 @@ ghost use Rattle.wf_board.specs.Boards.{state_on};
 ghost use Rattle.wf_board.specs.States.{State};
 ghost use Rattle.wf_board.specs.Histories.{IsFront, job_of_entry};
 ghost use Rattle.wire_json.specs.Entries.{entry_text, transcript_text};
-ghost use Rattle.wf_server.specs.Sessions.{LeadsTo, HasAnswered, HasAnsweredOne, TurnsTo};
+ghost use Rattle.wf_server.specs.Batches.{LeadsTo, HasAnswered, HasAnsweredOne, TurnsTo};
 
 use policy_book::Policy;
 use std::alloc::Global;

@@ -1,4 +1,4 @@
-use Rattle.std.proofs.Common.{◌≡◌, ap}
+use Rattle.std.proofs.Common.{ap}
 use Rattle.serde_json.specs.View.{view}
 use Rattle.first_fault.specs.Reading.{or_fault}
 use Rattle.wf_server.specs.declared.fault.InputFault.TheVariants.{Syntax}

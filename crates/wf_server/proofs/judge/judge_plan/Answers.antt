@@ -1,5 +1,5 @@
-use Rattle.std.proofs.Common.{◌≡◌, ℕ, List, Bool, Option, Ok, Err, sym, refl, subst, ◌∙◌}
-use Rattle.constraint_forms.specs.Assigned.{no_steps, no_users}
+use Rattle.std.proofs.Common.{◌≡◌, ℕ, List, Bool, Option, Err, sym, refl, subst}
+use Rattle.constraint_forms.specs.Assigned.{no_steps}
 use Rattle.policy_book.specs.Plans.{IsValidPlan}
 use Rattle.policy_book.specs.Policies.{problem_of}
 use Rattle.certificate_check.specs.Faults.{plan_verdict}

@@ -1,6 +1,6 @@
 use Rattle.std.proofs.Common.{sym, subst}
 use Rattle.wf_board.specs.Boards.{state_on}
-use Rattle.wf_server.specs.Sessions.{BatchEnds}
+use Rattle.wf_server.specs.Batches.{BatchEnds}
 use Rattle.wf_server.proofs.SessionLaws.{done_ends, memory_serves, own_answered, write_serves}
 use Rattle.wf_server.proofs.session.serve_batch.Goals as goal
 

@@ -2,7 +2,7 @@ use Rattle.std.proofs.Common.{◌≤◌, ◌-◌}
 use Rattle.wire_json.specs.JobLaws.{place, last_place}
 use Rattle.wf_board.specs.Boards.{state_on}
 use Rattle.wf_server.specs.Reading.{pending, IsBetween, HasRead}
-use Rattle.wf_server.specs.Sessions.{HasAnswered}
+use Rattle.wf_server.specs.Batches.{HasAnswered}
 use Rattle.wf_server.proofs.session.serve_batches.Given as goal
 
 abbrev pub invariant-serving : goal.invariant-serving

@@ -2,7 +2,7 @@ use Rattle.std.proofs.Common.{◌≡◌, ◌≤◌, ◌+◌, ◌++◌, length, t
 use Rattle.wf_board.specs.Boards.{state_on}
 use Rattle.wf_board.specs.States.{State}
 use Rattle.wf_board.specs.Histories.{job_of_entry}
-use Rattle.wf_server.specs.Sessions.{LeadsTo}
+use Rattle.wf_server.specs.Batches.{LeadsTo}
 use Rattle.wf_server.proofs.turn.answer_jobs.Given as goal
 
 abbrev pub invariant-answering : goal.invariant-answering

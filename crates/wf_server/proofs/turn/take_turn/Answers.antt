@@ -2,7 +2,7 @@ use Rattle.std.proofs.Common.{◌++◌, ◌∙◌, ap, sym, subst, length, map, 
 use Rattle.wf_board.specs.Boards.{state_on}
 use Rattle.wf_board.specs.States.{opening_state}
 use Rattle.wf_board.specs.Histories.{job_of_entry}
-use Rattle.wf_server.specs.Sessions.{LeadsTo}
+use Rattle.wf_server.specs.Batches.{LeadsTo}
 use Rattle.wf_server.proofs.TurnLaws.{front_filled, text_on, turn_ends}
 use Rattle.wf_server.proofs.turn.take_turn.Goals as goal
 
