@@ -1,0 +1,94 @@
+//! Where the search branches next.
+
+use crate::bits::bit;
+use crate::problem::{Over, Problem};
+use crate::rows::count;
+use crate::state::State;
+use crate::work::Work;
+
+/// What a node of the search branches over.
+#[derive(Clone, Copy, PartialEq, Eq)]
+pub(crate) enum Choice {
+    /// The blocks that an open step may join.
+    Step(u8),
+    /// The users who may stand for a block.
+    Block(u8),
+    /// Nothing: each step stands in a block, and users may be given.
+    Nothing,
+}
+
+// A share: how many branches there are for a weight.
+#[derive(Clone, Copy)]
+struct Share {
+    branches: u32,
+    weight: u32,
+}
+
+/// The open step or the block with the fewest branches for the weight of what is to be decided there.
+pub(crate) fn choose(problem: &Problem, state: &State, work: &Work) -> Choice {
+    let mut choice = Choice::Nothing;
+    let mut least = Share {
+        branches: 1,
+        weight: 0,
+    };
+    for s in 0..problem.steps {
+        if state.is_open(s) {
+            let share = share_of_step(problem, state, work, s);
+            if choice == Choice::Nothing || is_less(share, least) {
+                choice = Choice::Step(s);
+                least = share;
+            }
+        }
+    }
+    for b in 0..state.blocks {
+        let share = share_of_block(problem, state, work, b);
+        if share.branches > 1
+            && share.weight > 0
+            && (choice == Choice::Nothing || is_less(share, least))
+        {
+            choice = Choice::Block(b);
+            least = share;
+        }
+    }
+    choice
+}
+
+fn is_less(a: Share, b: Share) -> bool {
+    (a.branches as u64).saturating_mul(b.weight as u64)
+        < (b.branches as u64).saturating_mul(a.weight as u64)
+}
+
+// The options of an open step, and the weights of the rules that it has with other open steps.
+fn share_of_step(problem: &Problem, state: &State, work: &Work, s: u8) -> Share {
+    let mut weight = work.steps.at(s);
+    for (k, law) in problem.laws.as_slice().iter().enumerate() {
+        if law.scope & bit(s) != 0 && law.scope & state.open & !bit(s) != 0 {
+            weight = weight.saturating_add(work.rule(k));
+        }
+    }
+    Share {
+        branches: state.options.at(s).count_ones(),
+        weight,
+    }
+}
+
+// The users of a block, and the weights of its rules over declared relations.
+fn share_of_block(problem: &Problem, state: &State, work: &Work, b: u8) -> Share {
+    let mut weight = 0u32;
+    for (k, law) in problem.laws.as_slice().iter().enumerate() {
+        if law.scope & state.members.at(b) != 0 && is_declared(law.over) {
+            weight = weight.saturating_add(work.rule(k));
+        }
+    }
+    Share {
+        branches: count(state.block(b)),
+        weight,
+    }
+}
+
+fn is_declared(over: Over) -> bool {
+    match over {
+        Over::Declared(_) => true,
+        Over::Same | Over::Other => false,
+    }
+}

@@ -1,0 +1,201 @@
+//! What the rules leave, once blocks have changed.
+
+use crate::bits::{bit, has_bit, pop};
+use crate::links::{
+    add_ahead, keep_block, keep_options, keep_step, make_other, make_related, make_same,
+};
+use crate::matching::can_match;
+use crate::problem::{Law, Over, Problem, Relation};
+use crate::rows::{clear, count, has_user, is_empty, join, only_user, take_user};
+use crate::state::State;
+use crate::work::Work;
+
+/// How often blocks are looked at again after one step of the search, at most.
+const PASSES: u32 = 4_096;
+
+/// Follows the change of some blocks to what the rules leave. Tells whether everything can still be met.
+pub(crate) fn settle(problem: &Problem, state: &mut State, work: &mut Work, changed: u32) -> bool {
+    let mut todo = changed;
+    for _ in 0..PASSES {
+        let Some(b) = pop(&mut todo) else { break };
+        if !settle_block(problem, state, work, b, &mut todo) {
+            return false;
+        }
+    }
+    state.refresh(problem, work) && has_users_enough(state)
+}
+
+// Whether the blocks can have different users; looked at where one has fewer than there are blocks.
+fn has_users_enough(state: &State) -> bool {
+    for b in 0..state.blocks {
+        if count(state.block(b)) < state.blocks as u32 {
+            return can_match(state);
+        }
+    }
+    true
+}
+
+fn settle_block(
+    problem: &Problem,
+    state: &mut State,
+    work: &mut Work,
+    b: u8,
+    todo: &mut u32,
+) -> bool {
+    if is_empty(state.block(b)) {
+        return false;
+    }
+    if let Some(user) = only_user(state.block(b)) {
+        if !leave_others(state, b, user, todo) {
+            return false;
+        }
+    }
+    for (k, law) in problem.laws.as_slice().iter().enumerate() {
+        if law.scope & state.members.at(b) != 0 && !follow(problem, state, work, law, todo) {
+            work.blame(k);
+            return false;
+        }
+    }
+    true
+}
+
+// The one user of a block leaves all others. Tells whether each keeps somebody.
+fn leave_others(state: &mut State, b: u8, user: u16, todo: &mut u32) -> bool {
+    for c in 0..state.blocks {
+        if c != b && has_user(state.block(c), user) {
+            take_user(state.block_mut(c), user);
+            *todo |= bit(c);
+            if is_empty(state.block(c)) {
+                return false;
+            }
+        }
+    }
+    true
+}
+
+// What one rule leaves.
+fn follow(
+    problem: &Problem,
+    state: &mut State,
+    work: &mut Work,
+    law: &Law,
+    todo: &mut u32,
+) -> bool {
+    if !law.some {
+        return follow_each(problem, state, work, law, todo);
+    }
+    match law.over {
+        Over::Same => follow_some_plain(state, law, true),
+        Over::Other => follow_some_plain(state, law, false),
+        Over::Declared(at) => match problem.relations.get(at as usize) {
+            Some(relation) => follow_some(problem, relation, state, work, law, todo),
+            None => true,
+        },
+    }
+}
+
+// Each member of the group is to be related to the step.
+fn follow_each(
+    problem: &Problem,
+    state: &mut State,
+    work: &mut Work,
+    law: &Law,
+    todo: &mut u32,
+) -> bool {
+    let mut group = law.group;
+    for _ in 0..32u8 {
+        let Some(x) = pop(&mut group) else { break };
+        let met = match law.over {
+            Over::Same => make_same(state, x, law.step),
+            Over::Other => make_other(state, x, law.step),
+            Over::Declared(at) => match problem.relations.get(at as usize) {
+                Some(relation) => {
+                    make_related(problem, relation, state, work, x, law.step, todo)
+                }
+                None => true,
+            },
+        };
+        if !met {
+            return false;
+        }
+    }
+    true
+}
+
+// Some member of the group is to have the step's user, or another one: looked at where at most one step is open.
+fn follow_some_plain(state: &mut State, law: &Law, same: bool) -> bool {
+    let mut open = law.scope & state.open;
+    let Some(t) = pop(&mut open) else {
+        return some_member(state, law, law.group, same);
+    };
+    if open != 0 {
+        return true;
+    }
+    if t == law.step {
+        return follow_some_step(state, law, same);
+    }
+    if some_member(state, law, law.group & !bit(t), same) {
+        return true;
+    }
+    let home = bit(state.home(law.step));
+    keep_options(state, t, if same { home } else { !home })
+}
+
+// The same where the step itself is open.
+fn follow_some_step(state: &mut State, law: &Law, same: bool) -> bool {
+    let homes = homes_of(state, law.group & !bit(law.step));
+    if same {
+        return has_bit(law.group, law.step) || keep_options(state, law.step, homes);
+    }
+    homes & homes.wrapping_sub(1) != 0 || keep_options(state, law.step, !homes)
+}
+
+// The blocks of some steps that are not open.
+fn homes_of(state: &State, steps: u32) -> u32 {
+    let mut left = steps;
+    let mut homes = 0;
+    for _ in 0..32u8 {
+        let Some(x) = pop(&mut left) else { break };
+        homes |= bit(state.home(x));
+    }
+    homes
+}
+
+// Whether some of the steps, none of them open, has the user of the law's step, or another one.
+fn some_member(state: &State, law: &Law, steps: u32, same: bool) -> bool {
+    let home = bit(state.home(law.step));
+    let homes = homes_of(state, steps);
+    if same {
+        homes & home != 0
+    } else {
+        homes & !home != 0
+    }
+}
+
+// Some member of the group is to be related to the step: looked at where no other step is open.
+fn follow_some(
+    problem: &Problem,
+    relation: &Relation,
+    state: &mut State,
+    work: &mut Work,
+    law: &Law,
+    todo: &mut u32,
+) -> bool {
+    let mut group = law.group & !bit(law.step);
+    if group & state.open != 0 {
+        return true;
+    }
+    clear(work.spare.row_mut(0));
+    if has_bit(law.group, law.step) {
+        join(work.spare.row_mut(0), relation.own.row(0));
+    }
+    for _ in 0..32u8 {
+        let Some(x) = pop(&mut group) else { break };
+        add_ahead(problem, relation, state, work, x);
+    }
+    if state.is_open(law.step) {
+        keep_step(state, work, law.step)
+    } else {
+        keep_block(state, work, state.home(law.step), todo)
+    }
+}

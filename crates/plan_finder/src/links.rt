@@ -1,0 +1,124 @@
+//! What a rule between two steps leaves to their blocks.
+
+use crate::bits::bit;
+use crate::problem::{Problem, Relation};
+use crate::rows::{clear, is_empty, meet, unite};
+use crate::state::State;
+use crate::work::Work;
+
+/// The steps are to have one user. Tells whether they still can.
+pub(crate) fn make_same(state: &mut State, x: u8, s: u8) -> bool {
+    if x == s {
+        return true;
+    }
+    match (state.is_open(x), state.is_open(s)) {
+        (true, true) => true,
+        (true, false) => keep_options(state, x, bit(state.home(s))),
+        (false, true) => keep_options(state, s, bit(state.home(x))),
+        (false, false) => state.home(x) == state.home(s),
+    }
+}
+
+/// The steps are to have two users. Tells whether they still can.
+pub(crate) fn make_other(state: &mut State, x: u8, s: u8) -> bool {
+    if x == s {
+        return false;
+    }
+    match (state.is_open(x), state.is_open(s)) {
+        (true, true) => true,
+        (true, false) => keep_options(state, x, !bit(state.home(s))),
+        (false, true) => keep_options(state, s, !bit(state.home(x))),
+        (false, false) => state.home(x) != state.home(s),
+    }
+}
+
+/// Keeps of the options of an open step those in a set, and tells whether one is left.
+pub(crate) fn keep_options(state: &mut State, s: u8, set: u32) -> bool {
+    let left = state.options.at(s) & set;
+    state.options.set(s, left);
+    left != 0
+}
+
+/// The user of the first step is to be related to that of the second. Tells whether that can still be;
+/// blocks that lose users go to `todo`.
+pub(crate) fn make_related(
+    problem: &Problem,
+    relation: &Relation,
+    state: &mut State,
+    work: &mut Work,
+    x: u8,
+    s: u8,
+    todo: &mut u32,
+) -> bool {
+    match (state.is_open(x), state.is_open(s)) {
+        (true, true) => true,
+        (true, false) => {
+            reach_back(problem, relation, state, work, s);
+            keep_step(state, work, x)
+        }
+        (false, true) => {
+            reach_ahead(problem, relation, state, work, x);
+            keep_step(state, work, s)
+        }
+        (false, false) if state.home(x) == state.home(s) => {
+            keep_own(relation, state, state.home(x), todo)
+        }
+        (false, false) => {
+            reach_ahead(problem, relation, state, work, x);
+            if !keep_block(state, work, state.home(s), todo) {
+                return false;
+            }
+            reach_back(problem, relation, state, work, s);
+            keep_block(state, work, state.home(x), todo)
+        }
+    }
+}
+
+// Into the spare row go those to whom some user of a step's block is related.
+fn reach_ahead(problem: &Problem, relation: &Relation, state: &State, work: &mut Work, x: u8) {
+    clear(work.spare.row_mut(0));
+    add_ahead(problem, relation, state, work, x);
+}
+
+/// To the spare row come those to whom some user of a step's block is related.
+pub(crate) fn add_ahead(
+    problem: &Problem,
+    relation: &Relation,
+    state: &State,
+    work: &mut Work,
+    x: u8,
+) {
+    let from = state.block(state.home(x));
+    let _ = work.spend((crate::rows::count(from) as usize).saturating_mul(problem.width));
+    unite(work.spare.row_mut(0), from, &relation.ahead);
+}
+
+// Into the spare row go those who are related to some user of a step's block.
+fn reach_back(problem: &Problem, relation: &Relation, state: &State, work: &mut Work, s: u8) {
+    let from = state.block(state.home(s));
+    let _ = work.spend((crate::rows::count(from) as usize).saturating_mul(problem.width));
+    clear(work.spare.row_mut(0));
+    unite(work.spare.row_mut(0), from, &relation.back);
+}
+
+/// An open step keeps the users of the spare row. Tells whether one is left.
+pub(crate) fn keep_step(state: &mut State, work: &Work, s: u8) -> bool {
+    let _ = meet(state.step_mut(s), work.spare.row(0));
+    !is_empty(state.step(s))
+}
+
+/// A block keeps the users of the spare row. Tells whether one is left.
+pub(crate) fn keep_block(state: &mut State, work: &Work, b: u8, todo: &mut u32) -> bool {
+    if meet(state.block_mut(b), work.spare.row(0)) {
+        *todo |= bit(b);
+    }
+    !is_empty(state.block(b))
+}
+
+// A block keeps the users who are related to themselves. Tells whether one is left.
+fn keep_own(relation: &Relation, state: &mut State, b: u8, todo: &mut u32) -> bool {
+    if meet(state.block_mut(b), relation.own.row(0)) {
+        *todo |= bit(b);
+    }
+    !is_empty(state.block(b))
+}

@@ -1,0 +1,263 @@
+//! What is asked: the steps of a workflow, who may have each, and its rules over rows of bits.
+ghost use Rattle.std.specs.Prelude.{◌<◌, length};
+
+use crate::bits::bit;
+use crate::rows::{Rows, add_user, has_user, join, turn};
+use constraint_forms::{Rule, Rules, StepSet};
+use policy_book::Policy;
+use std::alloc::{AllocError, Global};
+use wf_names::{FlowId, RelId, RoleId, STEP_LIMIT, StepId, UserId};
+
+/// Over what a law is.
+#[derive(Clone, Copy, PartialEq, Eq)]
+pub(crate) enum Over {
+    /// One user.
+    Same,
+    /// Two users.
+    Other,
+    /// A declared relation, by its place among those of the problem.
+    Declared(u8),
+}
+
+/// A rule: some member of the group, or each, is related to the step.
+#[derive(Clone, Copy)]
+pub(crate) struct Law {
+    pub(crate) some: bool,
+    pub(crate) over: Over,
+    pub(crate) group: u32,
+    pub(crate) step: u8,
+    /// The group and the step.
+    pub(crate) scope: u32,
+}
+
+/// A declared relation: for each user those to whom they are related, and those who are related to
+/// them; and the users who are related to themselves.
+#[derive(Drop)]
+pub(crate) struct Relation {
+    rho: RelId,
+    pub(crate) ahead: Rows,
+    pub(crate) back: Rows,
+    pub(crate) own: Rows,
+}
+
+/// A workflow's steps and rules over the users of its policy.
+#[derive(Drop)]
+pub(crate) struct Problem {
+    pub(crate) steps: u8,
+    pub(crate) width: usize,
+    pub(crate) laws: Vec<Law>,
+    pub(crate) relations: Vec<Relation>,
+    /// The users who are authorised for each step.
+    pub(crate) allowed: Rows,
+}
+
+impl Problem {
+    /// The problem of a workflow.
+    pub(crate) fn new(alloc: Global, p: &Policy, f: FlowId) -> Result<Problem, AllocError>
+        requires { f < length p.now.flows }
+    {
+        let users = p.roster().users().len();
+        let width = (users as usize).saturating_add(63) / 64;
+        let mut relations = Vec::new(alloc);
+        let laws = read_laws(alloc, p, p.rules(f), width, &mut relations)?;
+        Ok(Problem {
+            steps: (p.flow(f).steps().len() & 0xff) as u8,
+            width,
+            laws,
+            relations,
+            allowed: read_allowed(alloc, p, f, width)?,
+        })
+    }
+}
+
+// The laws that the rules are, with the relations that they are over.
+fn read_laws(
+    alloc: Global,
+    p: &Policy,
+    rules: &Rules,
+    width: usize,
+    relations: &mut Vec<Relation>,
+) -> Result<Vec<Law>, AllocError> {
+    let mut laws = Vec::new(alloc);
+    for k in 0..rules.len() {
+        if let Some(rule) = rules.get(k) {
+            let law = read_law(alloc, p, rule, width, relations)?;
+            laws.push(law)?;
+        }
+    }
+    Ok(laws)
+}
+
+fn read_law(
+    alloc: Global,
+    p: &Policy,
+    rule: Rule,
+    width: usize,
+    relations: &mut Vec<Relation>,
+) -> Result<Law, AllocError> {
+    match rule {
+        Rule::Pair { rho, first, second } => {
+            let over = read_over(alloc, p, rho, width, relations)?;
+            Ok(make_law(false, over, bit(first.0), second.0))
+        }
+        Rule::SomeOf { rho, group, step } => {
+            let over = read_over(alloc, p, rho, width, relations)?;
+            Ok(make_law(true, over, bits_of(&group), step.0))
+        }
+        Rule::AllOf { rho, group, step } => {
+            let over = read_over(alloc, p, rho, width, relations)?;
+            Ok(make_law(false, over, bits_of(&group), step.0))
+        }
+    }
+}
+
+fn make_law(some: bool, over: Over, group: u32, step: u8) -> Law {
+    Law {
+        some,
+        over,
+        group,
+        step,
+        scope: group | bit(step),
+    }
+}
+
+fn bits_of(steps: &StepSet) -> u32 {
+    let mut bits = 0;
+    for s in 0..STEP_LIMIT {
+        let step = (s & 0xff) as u8;
+        if steps.has(StepId(step)) {
+            bits |= bit(step);
+        }
+    }
+    bits
+}
+
+// What a relation is over; its rows are made where no law before was over it.
+fn read_over(
+    alloc: Global,
+    p: &Policy,
+    rho: RelId,
+    width: usize,
+    relations: &mut Vec<Relation>,
+) -> Result<Over, AllocError> {
+    if rho == RelId::SAME {
+        return Ok(Over::Same);
+    }
+    if rho == RelId::OTHER {
+        return Ok(Over::Other);
+    }
+    for (at, known) in relations.as_slice().iter().enumerate() {
+        if known.rho == rho {
+            return Ok(Over::Declared((at & 0xff) as u8));
+        }
+    }
+    let place = relations.len();
+    let relation = read_relation(alloc, p, rho, width)?;
+    relations.push(relation)?;
+    Ok(Over::Declared((place & 0xff) as u8))
+}
+
+fn read_relation(
+    alloc: Global,
+    p: &Policy,
+    rho: RelId,
+    width: usize,
+) -> Result<Relation, AllocError> {
+    let users = p.roster().users().len();
+    let mut relation = Relation {
+        rho,
+        ahead: Rows::new(alloc, users as usize, width)?,
+        back: Rows::new(alloc, users as usize, width)?,
+        own: Rows::new(alloc, 1, width)?,
+    };
+    match p.relations().complement_of(rho) {
+        Some(listed) => {
+            add_pairs(p, listed, &mut relation)?;
+            let everyone = read_everyone(alloc, users, width)?;
+            turn_rows(&mut relation, &everyone, users);
+        }
+        None => add_pairs(p, rho, &mut relation)?,
+    }
+    add_own(&mut relation, users);
+    Ok(relation)
+}
+
+fn read_everyone(alloc: Global, users: u16, width: usize) -> Result<Rows, AllocError> {
+    let mut everyone = Rows::new(alloc, 1, width)?;
+    for u in 0..users {
+        add_user(everyone.row_mut(0), u);
+    }
+    Ok(everyone)
+}
+
+fn add_pairs(p: &Policy, listed: RelId, relation: &mut Relation) -> Result<(), AllocError> {
+    let pairs = p.relations().pairs(listed)?;
+    for (u, v) in pairs.as_slice().iter() {
+        add_user(relation.ahead.row_mut(*u as usize), *v);
+        add_user(relation.back.row_mut(*v as usize), *u);
+    }
+    Ok(())
+}
+
+fn turn_rows(relation: &mut Relation, everyone: &Rows, users: u16) {
+    for u in 0..users {
+        turn(relation.ahead.row_mut(u as usize), everyone.row(0));
+        turn(relation.back.row_mut(u as usize), everyone.row(0));
+    }
+}
+
+fn add_own(relation: &mut Relation, users: u16) {
+    for u in 0..users {
+        if has_user(relation.ahead.row(u as usize), u) {
+            add_user(relation.own.row_mut(0), u);
+        }
+    }
+}
+
+// The users who are authorised for each step: of each role that is permitted for one, its holders.
+fn read_allowed(alloc: Global, p: &Policy, f: FlowId, width: usize) -> Result<Rows, AllocError>
+    requires { f < length p.now.flows }
+{
+    let mut allowed = Rows::new(alloc, STEP_LIMIT, width)?;
+    let mut holders = Rows::new(alloc, p.roster().roles().len() as usize, width)?;
+    for r in 0..p.roster().roles().len() {
+        let role = RoleId((r & 0xff) as u8);
+        if is_permitted(p, f, role) {
+            add_holders(p, role, holders.row_mut(r as usize));
+            add_to_steps(p, f, role, holders.row(r as usize), &mut allowed);
+        }
+    }
+    Ok(allowed)
+}
+
+fn is_permitted(p: &Policy, f: FlowId, role: RoleId) -> bool
+    requires { f < length p.now.flows }
+{
+    let flow = p.flow(f);
+    for s in 0..STEP_LIMIT {
+        if flow.permits(role, StepId((s & 0xff) as u8)) {
+            return true;
+        }
+    }
+    false
+}
+
+fn add_holders(p: &Policy, role: RoleId, holders: &mut [u64]) {
+    let roster = p.roster();
+    for u in 0..roster.users().len() {
+        if roster.has(UserId(u), role) {
+            add_user(holders, u);
+        }
+    }
+}
+
+fn add_to_steps(p: &Policy, f: FlowId, role: RoleId, holders: &[u64], allowed: &mut Rows)
+    requires { f < length p.now.flows }
+{
+    let flow = p.flow(f);
+    for s in 0..STEP_LIMIT {
+        if flow.permits(role, StepId((s & 0xff) as u8)) {
+            join(allowed.row_mut(s), holders);
+        }
+    }
+}

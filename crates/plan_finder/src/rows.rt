@@ -1,0 +1,223 @@
+//! Sets of users as rows of bits.
+
+use std::alloc::{AllocError, Global};
+
+/// Rows of one width, one behind the other.
+#[derive(Drop)]
+pub(crate) struct Rows {
+    words: Vec<u64>,
+    width: usize,
+}
+
+impl Rows {
+    /// So many empty rows of so many words.
+    pub(crate) fn new(alloc: Global, count: usize, width: usize) -> Result<Rows, AllocError> {
+        Ok(Rows {
+            words: vec![in alloc; 0u64; count.saturating_mul(width)]?,
+            width,
+        })
+    }
+
+    /// A row; an empty one where there is none.
+    pub(crate) fn row(&self, at: usize) -> &[u64] {
+        let from = at.saturating_mul(self.width);
+        let to = from.saturating_add(self.width);
+        match self.words.get(from..to) {
+            Some(row) => row,
+            None => &[],
+        }
+    }
+
+    /// A row to be changed; an empty one where there is none.
+    pub(crate) fn row_mut(&mut self, at: usize) -> &mut [u64] {
+        let from = at.saturating_mul(self.width);
+        let to = from.saturating_add(self.width);
+        if from <= to && to <= self.words.len() {
+            &mut self.words[from..to]
+        } else {
+            &mut []
+        }
+    }
+
+    /// All rows, one behind the other.
+    pub(crate) fn all(&self) -> &[u64] {
+        &self.words
+    }
+
+    /// All rows to be changed, one behind the other.
+    pub(crate) fn all_mut(&mut self) -> &mut [u64] {
+        &mut self.words
+    }
+}
+
+/// Takes all users out.
+pub(crate) fn clear(row: &mut [u64]) {
+    for word in row.iter_mut() {
+        *word = 0;
+    }
+}
+
+/// Makes a row the same as another.
+pub(crate) fn put(row: &mut [u64], other: &[u64]) {
+    for (word, own) in row.iter_mut().zip(other.iter()) {
+        *word = *own;
+    }
+}
+
+/// Keeps the users of another row alone, and tells whether somebody went.
+pub(crate) fn meet(row: &mut [u64], other: &[u64]) -> bool {
+    let mut changed = false;
+    for (word, mask) in row.iter_mut().zip(other.iter()) {
+        let left = *word & *mask;
+        if left != *word {
+            changed = true;
+            *word = left;
+        }
+    }
+    changed
+}
+
+/// Puts the users of another row in.
+pub(crate) fn join(row: &mut [u64], other: &[u64]) {
+    for (word, more) in row.iter_mut().zip(other.iter()) {
+        *word |= *more;
+    }
+}
+
+/// Takes the users of another row out.
+pub(crate) fn strike(row: &mut [u64], other: &[u64]) {
+    for (word, less) in row.iter_mut().zip(other.iter()) {
+        *word &= !*less;
+    }
+}
+
+/// Makes a row hold just those who are not in it, of those who are in another.
+pub(crate) fn turn(row: &mut [u64], all: &[u64]) {
+    for (word, known) in row.iter_mut().zip(all.iter()) {
+        *word = *known & !*word;
+    }
+}
+
+/// Whether two rows have a user in common.
+pub(crate) fn meets(row: &[u64], other: &[u64]) -> bool {
+    for (word, mask) in row.iter().zip(other.iter()) {
+        if *word & *mask != 0 {
+            return true;
+        }
+    }
+    false
+}
+
+/// Whether a row has a user who is not in another.
+pub(crate) fn exceeds(row: &[u64], other: &[u64]) -> bool {
+    for (word, mask) in row.iter().zip(other.iter()) {
+        if *word & !*mask != 0 {
+            return true;
+        }
+    }
+    false
+}
+
+/// Whether a row has nobody.
+pub(crate) fn is_empty(row: &[u64]) -> bool {
+    for word in row.iter() {
+        if *word != 0 {
+            return false;
+        }
+    }
+    true
+}
+
+/// How many users a row has.
+pub(crate) fn count(row: &[u64]) -> u32 {
+    let mut users = 0u32;
+    for word in row.iter() {
+        users = users.saturating_add(word.count_ones());
+    }
+    users
+}
+
+/// How many users two rows have in common.
+pub(crate) fn count_common(row: &[u64], other: &[u64]) -> u32 {
+    let mut users = 0u32;
+    for (word, mask) in row.iter().zip(other.iter()) {
+        users = users.saturating_add((*word & *mask).count_ones());
+    }
+    users
+}
+
+/// Whether a row has a user.
+pub(crate) fn has_user(row: &[u64], user: u16) -> bool {
+    match row.get((user >> 6) as usize) {
+        Some(word) => *word & (1u64 << (user & 63)) != 0,
+        None => false,
+    }
+}
+
+/// Puts a user in.
+pub(crate) fn add_user(row: &mut [u64], user: u16) {
+    let at = (user >> 6) as usize;
+    if at < row.len() {
+        row[at] |= 1u64 << (user & 63);
+    }
+}
+
+/// Takes a user out.
+pub(crate) fn take_user(row: &mut [u64], user: u16) {
+    let at = (user >> 6) as usize;
+    if at < row.len() {
+        row[at] &= !(1u64 << (user & 63));
+    }
+}
+
+/// The user at a place among those of a row, in ascending order.
+pub(crate) fn nth_user(row: &[u64], place: u32) -> Option<u16> {
+    let mut skip = place;
+    for (at, word) in row.iter().enumerate() {
+        let ones = word.count_ones();
+        if skip < ones {
+            return Some(user_at(at, nth_one(*word, skip)));
+        }
+        skip = skip.saturating_sub(ones);
+    }
+    None
+}
+
+/// The one user of a row, if there is just one.
+pub(crate) fn only_user(row: &[u64]) -> Option<u16> {
+    if count(row) == 1 {
+        nth_user(row, 0)
+    } else {
+        None
+    }
+}
+
+/// Unites the rows of the users of a row: into the first one goes, of all rows, each whose number is
+/// a user of the second.
+pub(crate) fn unite(into: &mut [u64], from: &[u64], rows: &Rows) {
+    for (at, word) in from.iter().enumerate() {
+        let mut left = *word;
+        for _ in 0..64u8 {
+            if left == 0 {
+                break;
+            }
+            let user = user_at(at, left.trailing_zeros());
+            left &= left.wrapping_sub(1);
+            join(into, rows.row(user as usize));
+        }
+    }
+}
+
+// The number of the user whom a bit of a word stands for.
+fn user_at(at: usize, place: u32) -> u16 {
+    (at.wrapping_mul(64).wrapping_add((place & 63) as usize) & 0xffff) as u16
+}
+
+// The place of a one of a word, behind so many others.
+fn nth_one(word: u64, skip: u32) -> u32 {
+    let mut left = word;
+    for _ in 0..skip {
+        left &= left.wrapping_sub(1);
+    }
+    left.trailing_zeros()
+}

@@ -1,0 +1,171 @@
+//! The runs of a search, each bounded by counted work.
+ghost use Rattle.std.specs.Prelude.{◌<◌, length};
+
+use crate::bits::{NEW, bit};
+use crate::branch::Node;
+use crate::choice::{Choice, choose};
+use crate::laws::settle;
+use crate::matching::matched;
+use crate::problem::Problem;
+use crate::rows::{add_user, clear, has_user, is_empty, put};
+use crate::state::State;
+use crate::work::Work;
+use constraint_forms::{Assign, Plan, StepSet};
+use policy_book::Policy;
+use std::alloc::{AllocError, Global};
+use wf_names::{FlowId, STEP_LIMIT, StepId, UserId};
+
+/// The work of the first run; each later one has half as much again.
+const FIRST_WORK: u64 = 1_000_000;
+
+/// Most nodes of a run, whatever work they take.
+const NODE_LIMIT: u32 = 1_000_000;
+
+// How a run ended.
+#[derive(Clone, Copy)]
+enum Ending {
+    Found(Plan),
+    // There is nothing to be found.
+    Exhausted,
+    // The work is used up.
+    Stopped,
+}
+
+/// Looks for a plan of a workflow that extends an assignment, where the finished steps need no
+/// authorised user any more, in at most so many runs. The plan is to be checked; where none is found
+/// there may be one all the same.
+pub fn find(
+    alloc: Global,
+    p: &Policy,
+    f: FlowId,
+    a: &Assign,
+    done: &StepSet,
+    runs: u8,
+) -> Result<Option<Plan>, AllocError>
+    requires { f < length p.now.flows }
+{
+    let problem = Problem::new(alloc, p, f)?;
+    let mut work = Work::new(alloc, problem.width)?;
+    let mut root = State::new(alloc, problem.width)?;
+    let mut now = State::new(alloc, problem.width)?;
+    let mut nodes = new_nodes(alloc, problem.width)?;
+    work.begin(0, FIRST_WORK);
+    if !start(&problem, &mut root, &mut work, a, done) {
+        return Ok(None);
+    }
+    let mut limit = FIRST_WORK;
+    for run in 0..runs {
+        work.begin(run, limit);
+        now.become_same(&root);
+        match run_once(&problem, nodes.as_mut_slice(), &mut now, &mut work, run) {
+            Ending::Found(plan) => return Ok(Some(plan)),
+            Ending::Exhausted => return Ok(None),
+            Ending::Stopped => {}
+        }
+        limit = limit.saturating_add(limit / 2);
+    }
+    Ok(None)
+}
+
+// A node for each depth that a search can reach: each branch closes a step or fixes a block.
+fn new_nodes(alloc: Global, width: usize) -> Result<Vec<Node>, AllocError> {
+    let mut nodes = Vec::new(alloc);
+    for _ in 0..STEP_LIMIT.saturating_mul(2) {
+        let node = Node::new(alloc, width)?;
+        nodes.push(node)?;
+    }
+    Ok(nodes)
+}
+
+// Where every run starts: a block for each user who has a step already. Tells whether everything can still be met.
+fn start(problem: &Problem, root: &mut State, work: &mut Work, a: &Assign, done: &StepSet) -> bool {
+    for s in 0..problem.steps {
+        if !open_step(problem, root, s, a.at(StepId(s)), done.has(StepId(s))) {
+            return false;
+        }
+    }
+    let blocks = root.all_blocks();
+    for s in 0..problem.steps {
+        root.options.set(s, blocks | NEW);
+    }
+    settle(problem, root, work, blocks)
+}
+
+// Opens a step for those who are authorised, or puts it into the block of the user who has it. Tells whether somebody can have it.
+fn open_step(
+    problem: &Problem,
+    root: &mut State,
+    s: u8,
+    holder: Option<UserId>,
+    finished: bool,
+) -> bool {
+    let allowed = problem.allowed.row(s as usize);
+    root.open |= bit(s);
+    put(root.step_mut(s), allowed);
+    match holder {
+        Some(user) if finished || has_user(allowed, user.0) => {
+            seat(root, s, user.0);
+            true
+        }
+        Some(_) => false,
+        None => !is_empty(allowed),
+    }
+}
+
+// Puts a step into the block of its user.
+fn seat(root: &mut State, s: u8, user: u16) {
+    let row = root.step_mut(s);
+    clear(row);
+    add_user(row, user);
+    let b = match root.block_of_user(user) {
+        Some(b) => b,
+        None => root.open_for(user),
+    };
+    root.place(s, b);
+}
+
+// One run, from the state that it starts in.
+fn run_once(
+    problem: &Problem,
+    nodes: &mut [Node],
+    now: &mut State,
+    work: &mut Work,
+    run: u8,
+) -> Ending {
+    let mut depth = 0;
+    let mut met = true;
+    let cost = problem
+        .width
+        .saturating_mul(problem.steps as usize)
+        .saturating_mul(3);
+    for _ in 0..NODE_LIMIT {
+        if !work.spend(cost.saturating_add(200)) {
+            return Ending::Stopped;
+        }
+        if met {
+            let choice = choose(problem, now, work);
+            if choice == Choice::Nothing {
+                if let Some(plan) = matched(now, problem.steps) {
+                    return Ending::Found(plan);
+                }
+            } else if depth < nodes.len() {
+                nodes[depth].become_node(now, choice);
+                depth += 1;
+            }
+        }
+        let Some(top) = depth.checked_sub(1) else {
+            return Ending::Exhausted;
+        };
+        if top >= nodes.len() {
+            return Ending::Stopped;
+        }
+        match nodes[top].take_branch(problem, now, work, run) {
+            Some(can) => met = can,
+            None => {
+                met = false;
+                depth = top;
+            }
+        }
+    }
+    Ending::Stopped
+}
