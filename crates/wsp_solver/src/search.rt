@@ -8,6 +8,7 @@ ghost use Rattle.policy_book.specs.Policies.{problem_of};
 ghost use Rattle.policy_book.specs.Refuting.{is_free, refutes};
 ghost use Rattle.wsp_solver.specs.Searches.{Decides, IsPlanOf, NoLeafRefutes};
 
+use crate::found::found;
 use certificate_check::check_tree;
 use policy_book::{Assign, Plan, Policy, StepSet};
 use refutation_tree::{Branch, Branches, Kid, Tree};
@@ -24,8 +25,27 @@ pub enum Outcome {
 }
 
 /// Decides whether an assignment with these finished steps can be completed.
-#[cycle(search)]
 pub fn solve(
+    alloc: Global,
+    p: &Policy,
+    f: FlowId,
+    a: &Assign,
+    done: &StepSet,
+) -> Result<Outcome, AllocError>
+    requires flow { f < length p.now.flows }
+    requires within { IsWithin (problem_of p.now f) a.now }
+    requires assigned { AreAssigned done.now a.now }
+    ensures { IfOk result (Decides (problem_of p.now f) a.now done.now) }
+{
+    match found(alloc, p, f, a, done)? {
+        Some(plan) => Ok(Outcome::Plan(plan)),
+        None => decide(alloc, p, f, a, done),
+    }
+}
+
+/// Tries everything, one free step after the other.
+#[cycle(search)]
+fn decide(
     alloc: Global,
     p: &Policy,
     f: FlowId,
@@ -69,7 +89,7 @@ fn try_users(
         if !is_candidate(p, f, s, user) {
             continue;
         }
-        match solve(alloc, p, f, &a.with(s, user), done)? {
+        match decide(alloc, p, f, &a.with(s, user), done)? {
             Outcome::Plan(plan) => return Ok(Outcome::Plan(plan)),
             Outcome::Refuted(tree) => branches.push(Branch {
                 user,

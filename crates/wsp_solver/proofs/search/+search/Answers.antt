@@ -12,8 +12,8 @@ use Rattle.wsp_solver.specs.Searches.{AreOfUsersBelow, Decides, free_count}
 use Rattle.wsp_solver.proofs.Searching.{valid_full, valid_without, users_skip, users_push, users_end, refute_push, count_less}
 use Rattle.wsp_solver.proofs.search.+search.Goals as goal
 
-pub solve-returns-in-None : goal.solve-returns-in-None
-solve-returns-in-None t c =
+pub decide-returns-in-None : goal.decide-returns-in-None
+decide-returns-in-None t c =
     valid_full (problem_of c.args.p.now c.args.f) c.args.a.now c.args.done.now c.plan_of.result c.in_default.ensures.0 c.requires.within c.in_default.ensures.1 c.plan_of.ensures
 
 -- the number of users, as the loop has it
@@ -34,8 +34,8 @@ try_users-users-preserved-then-not-is_candidate t c =
     let known = users_known _ _ _ c.len-u-end.ensures.count (c.users-2.ensures.names ∙ ap (λ r. r.users) c.roster.ensures.roster) in
     (users_skip (p.authorised c.args.s) c.users.u p.users (kids_of c.users.branches) (omega (arith, known, c.users-test.true)) (sym c.if-not-is_candidate.ensures) c.users.invariant.0, c.users.invariant.1)
 
-pub try_users-solve-requires : goal.try_users-solve-requires
-try_users-solve-requires t c =
+pub try_users-decide-requires : goal.try_users-decide-requires
+try_users-decide-requires t c =
     let p = problem_of c.args.p.now c.args.f in
     let a = c.args.a.now in
     let s = c.args.s in

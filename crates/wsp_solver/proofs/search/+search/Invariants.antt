@@ -5,8 +5,8 @@ use Rattle.policy_book.specs.Refuting.{all_refute}
 use Rattle.wsp_solver.specs.Searches.{AreOfUsersBelow, free_count}
 use Rattle.wsp_solver.proofs.search.+search.Given as goal
 
-abbrev pub decreases-solve : goal.decreases-solve
-decreases-solve l = 2 * free_count l.a.now (problem_of l.p.now l.f).steps + 1
+abbrev pub decreases-decide : goal.decreases-decide
+decreases-decide l = 2 * free_count l.a.now (problem_of l.p.now l.f).steps + 1
 
 abbrev pub decreases-try_users : goal.decreases-try_users
 decreases-try_users l = 2 * free_count l.a.now (problem_of l.p.now l.f).steps
