@@ -5,9 +5,11 @@ use Rattle.std.proofs.lemmas.Bool.Decides.{nat_tests}
 use Rattle.std.proofs.lemmas.List.{drop-drop, length-drop}
 use Rattle.constraint_forms.specs.declared.rule.Rule.{Rule}
 use Rattle.constraint_forms.specs.Assigned.{user_at}
-use Rattle.refutation_tree.specs.Shapes.{Kids, no_kids, tree_kid, kid_onto, branch_onto, kids_of_items, kids_from, kid_count, shape_of, nodes_of_kids}
+use Rattle.refutation_tree.specs.Shapes.{Kids, no_kids, tree_kid, kids_from, kid_count, nodes_of_kids}
+use Rattle.refutation_tree.specs.Views.{kid_onto, branch_onto, kids_of_items, shape_of}
 use Rattle.refutation_tree.specs.declared.tree.Branch.{Branch}
-use Rattle.refutation_tree.specs.declared.tree.Kid.{Kid, Tree as Tree_kid}
+use Rattle.refutation_tree.specs.declared.tree.Kid.{Kid}
+use Rattle.refutation_tree.specs.declared.tree.Kid.TheVariants.{Tree as Tree_kid}
 use Rattle.refutation_tree.proofs.ShapeLaws.{kids_of_items-drop, kids_from-items, kid_count-items, nodes-drop}
 use Rattle.policy_book.specs.Plans.{Problem, IsWithin}
 use Rattle.policy_book.specs.Refuting.{refutes, all_refute, have_users, candidates, passing, mentions, any_mentions, is_free}

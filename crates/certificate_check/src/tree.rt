@@ -2,7 +2,8 @@
 ghost use Rattle.std.specs.Prelude.{◌≡◌, ◌<◌, ◌&&◌, nat_lt, ℕ, length, slice_get, IsTrue, [], drop};
 ghost use Rattle.wf_names.specs.declared.limits.TheConstants.{STEP_LIMIT};
 ghost use Rattle.constraint_forms.specs.Assigned.{user_at};
-ghost use Rattle.refutation_tree.specs.Shapes.{branch_onto, kids_of_items, shape_of, no_kids, Kids};
+ghost use Rattle.refutation_tree.specs.Shapes.{no_kids, Kids};
+ghost use Rattle.refutation_tree.specs.Views.{branch_onto, kids_of_items, shape_of};
 ghost use Rattle.policy_book.specs.Plans.{IsWithin};
 ghost use Rattle.policy_book.specs.Policies.{problem_of};
 ghost use Rattle.certificate_check.specs.Walks.{begins_with};
@@ -25,13 +26,14 @@ pub fn check_tree(p: &Policy, f: FlowId, a: &Assign, done: &StepSet, tree: &Tree
         Tree::Holder(s) => is_misheld(p, f, a, done, *s),
         Tree::Rule(k) => is_broken(p, f, a, *k),
         Tree::Step(s, branches) => {
+            let branches = branches.as_slice();
             if !is_free(p, f, a, *s) {
                 return false;
             }
-            if !have_users(p, f, *s, &branches.items) {
+            if !have_users(p, f, *s, branches) {
                 return false;
             }
-            all_refute(p, f, a, done, *s, &branches.items)
+            all_refute(p, f, a, done, *s, branches)
         }
     }
 }
@@ -150,7 +152,10 @@ pub fn mentions(tree: &Tree, rules: &Rules, s: StepId) -> bool
     match tree {
         Tree::Holder(t) => s == *t,
         Tree::Rule(k) => names_step(rules, *k, s),
-        Tree::Step(_, branches) => any_mentions(&branches.items, rules, s),
+        Tree::Step(_, branches) => {
+            let branches = branches.as_slice();
+            any_mentions(branches, rules, s)
+        }
     }
 }
 

@@ -1,23 +1,11 @@
--- Trees as code keeps them and as pure data.
+-- Branches as the list that they are kept in, and as pure data.
 use Rattle.std.proofs.Common.{◌≡◌, refl, sym, ap, ◌∙◌, ℕ, zero, suc, ◌+◌, ◌<◌, List, [], ◌∷◌, ◌++◌, length, drop, get_or, min, arith}
 use Rattle.std.proofs.lemmas.List.{drop_more}
-use Rattle.refutation_tree.specs.Shapes.{Kids, no_kids, tree_kid, branch_onto, joined, kid_count, kid_onto, kids_from, kids_of, kids_of_items, kids_of_row, nodes_of_kids}
+use Rattle.refutation_tree.specs.Shapes.{Kids, no_kids, tree_kid, joined, kid_count, kids_from, nodes_of_kids}
+use Rattle.refutation_tree.specs.Views.{branch_onto, kid_onto, kids_of_items}
 use Rattle.refutation_tree.specs.declared.tree.Branch.{Branch}
-use Rattle.refutation_tree.specs.declared.tree.Kid.{Kid, Tree as Tree_kid}
-use Rattle.refutation_tree.specs.declared.tree.Branches.{Branches, Branches', Row_of-Branch, end_of-Branch, more_of-Branch, items-the_row-Branch, items_shown-the_row-Branch-0, out-Branches, roll-Branches, out-roll-Branches, outs-Branches'}
-
-row_kept : {n : _} (row : Row_of-Branch n) → kids_of_row row ≡ kids_of_items (items-the_row-Branch n row)
-row_kept end_of-Branch = refl
-row_kept (more_of-Branch u kid rest) = ap (kid_onto kid u) (row_kept rest)
-
--- branches by the list that they are kept in
-pub kids_of-out : (b : Branches) → kids_of b ≡ kids_of_items (out-Branches b).items.items
-kids_of-out (Branches' inside row) =
-    row_kept row ∙ ap kids_of_items (sym (items_shown-the_row-Branch-0 inside row)) ∙ sym (ap (λ x. kids_of_items x.items.items) (outs-Branches' inside row))
-
--- branches made of the list that they are kept in
-pub kids_of-roll : (x : _) → kids_of (roll-Branches x) ≡ kids_of_items x.items.items
-kids_of-roll x = kids_of-out (roll-Branches x) ∙ ap (λ y. kids_of_items y.items.items) (out-roll-Branches x)
+use Rattle.refutation_tree.specs.declared.tree.Kid.{Kid}
+use Rattle.refutation_tree.specs.declared.tree.Kid.TheVariants.{Tree as Tree_kid}
 
 pub kid_onto-joined : (kid : Kid) (u : ℕ) (kids rest : Kids) → joined (kid_onto kid u kids) rest ≡ kid_onto kid u (joined kids rest)
 kid_onto-joined (Tree_kid t) u kids rest = refl

@@ -1,1 +1,4 @@
 pub mod Shapes
+pub mod Views
+pub mod Codes
+pub mod Falls

@@ -15,7 +15,7 @@ fn a_copy_has_the_same_branches(rt: HostRuntime) -> Result<(), Fail> {
         user: UserId(7),
         kid: Kid::Tree(Tree::Holder(StepId(1))),
     })?;
-    let copy = Tree::Step(StepId(3), branches).copy(rt.alloc())?;
+    let copy = Tree::Step(StepId(3), branches).copy()?;
     let seen = match &copy {
         Tree::Step(step, branches) => Some((
             *step,

@@ -1,15 +1,17 @@
 //! Trees whose leaves name what is broken and whose nodes try each user of a step.
 ghost use Rattle.std.specs.Prelude.{◌≡◌, ◌≤◌, ◌+◌, IfOk, OnOk, OnErr, MatchOption};
-ghost use Rattle.refutation_tree.specs.Shapes.{Kids, no_kids, branch_onto, capped, joined, kid_count, kids_from, kids_of, kids_of_items, nodes_of, nodes_of_kids, shape_of};
+ghost use Rattle.refutation_tree.specs.Shapes.{no_kids, capped, joined, kid_count, kids_from, nodes_of, nodes_of_kids};
+ghost use Rattle.refutation_tree.specs.Views.{branch_onto, kids_of_items, shape_of};
 
 use std::alloc::{AllocError, Global};
+use std::marker::Model;
 use wf_names::{StepId, UserId};
 
 /// A tree that shows why an assignment of users to steps cannot be completed.
 #[cycle(tree)]
 #[derive(Drop)]
 pub enum Tree {
-    /// The step is assigned to a user who is not authorised for it.
+    /// The step is assigned and not finished, and its user is not authorised for it.
     Holder(StepId),
     /// The rule with this number is falsified.
     Rule(u8),
@@ -33,23 +35,42 @@ pub enum Kid {
     Tree(Tree),
 }
 
-/// The branches of a node, in the order in which they were added.
+/// The branches of a node, in the order in which they were added. Contracts see pure data.
 #[cycle(tree)]
 #[derive(Drop)]
 pub struct Branches {
-    pub items: Vec<Branch>,
+    items: Vec<Branch>,
+}
+
+impl Model for Branches {
+    ghost use Rattle.refutation_tree.specs.Shapes.{Kids, size_of_kids};
+    ghost use Rattle.refutation_tree.specs.Codes.{kids_code};
+
+    ghost Value = { Kids };
+
+    ghost coded = { kids_code };
+
+    ghost use Rattle.refutation_tree.specs.Views.{kids_of_items};
+
+    ghost view = { λ b. kids_of_items b.items.items };
+
+    ghost size = { size_of_kids };
+
+    ghost use Rattle.refutation_tree.specs.Falls.{falls};
+
+    ghost size_decreases = { λ b h. falls b.items.items };
 }
 
 impl Tree {
     /// A tree with the same leaves and nodes.
     #[cycle(copy)]
-    pub fn copy(&self, alloc: Global) -> Result<Tree, AllocError>
-        ensures { IfOk result (λ t. shape_of t ≡ shape_of self.now) }
+    pub fn copy(&self) -> Result<Tree, AllocError>
+        ensures { IfOk result (λ t. t ≡ self.now) }
     {
         match self {
             Tree::Holder(s) => Ok(Tree::Holder(*s)),
             Tree::Rule(k) => Ok(Tree::Rule(*k)),
-            Tree::Step(s, branches) => Ok(Tree::Step(*s, branches.copy(alloc)?)),
+            Tree::Step(s, branches) => Ok(Tree::Step(*s, branches.copy()?)),
         }
     }
 
@@ -66,16 +87,24 @@ impl Tree {
     }
 }
 
+impl Clone for Tree {
+    ghost is_clone = { λ x y. y ≡ x };
+
+    fn clone(&self) -> Result<Tree, AllocError> {
+        self.copy()
+    }
+}
+
 impl Branch {
     /// A branch with the same user and an equal tree.
     #[cycle(copy)]
-    pub fn copy(&self, alloc: Global) -> Result<Branch, AllocError>
-        ensures { IfOk result (λ b. (rest : Kids) → branch_onto b rest ≡ branch_onto self.now rest) }
+    pub fn copy(&self) -> Result<Branch, AllocError>
+        ensures { IfOk result (λ b. b ≡ self.now) }
     {
         match &self.kid {
             Kid::Tree(tree) => Ok(Branch {
                 user: self.user,
-                kid: Kid::Tree(tree.copy(alloc)?),
+                kid: Kid::Tree(tree.copy()?),
             }),
         }
     }
@@ -93,7 +122,7 @@ impl Branch {
 impl Branches {
     /// No branches.
     pub fn new(alloc: Global) -> Branches
-        ensures { kids_of result ≡ no_kids }
+        ensures { result ≡ no_kids }
     {
         Branches {
             items: Vec::new(alloc),
@@ -102,22 +131,29 @@ impl Branches {
 
     /// How many branches there are.
     pub fn len(&self) -> usize
-        ensures { result ≡ kid_count (kids_of self.now) }
+        ensures { result ≡ kid_count self.now }
     {
         self.items.len()
     }
 
     /// The branch at a place, if there is one.
     pub fn get(&self, i: usize) -> Option<&Branch>
-        ensures { MatchOption result (kid_count (kids_of self.now) ≤ i) (λ b. kids_from i (kids_of self.now) ≡ branch_onto b.now (kids_from (i + 1) (kids_of self.now))) }
+        ensures { MatchOption result (kid_count self.now ≤ i) (λ b. kids_from i self.now ≡ branch_onto b.now (kids_from (i + 1) self.now)) }
     {
         self.items.get(i)
     }
 
+    /// The branches, in order.
+    pub fn as_slice(&self) -> &[Branch]
+        ensures { self.now ≡ kids_of_items result.now }
+    {
+        &self.items
+    }
+
     /// Adds a branch after the others.
     pub fn push(&mut self, branch: Branch) -> Result<(), AllocError>
-        ensures ok { OnOk result (kids_of self.new ≡ joined (kids_of self.old) (branch_onto branch no_kids)) }
-        ensures err { OnErr result (kids_of self.new ≡ kids_of self.old) }
+        ensures ok { OnOk result (self.new ≡ joined self.old (branch_onto branch no_kids)) }
+        ensures err { OnErr result (self.new ≡ self.old) }
     {
         self.items.push(branch)?;
         Ok(())
@@ -125,19 +161,19 @@ impl Branches {
 
     /// Branches with the same users and equal trees.
     #[cycle(copy)]
-    pub fn copy(&self, alloc: Global) -> Result<Branches, AllocError>
-        ensures { IfOk result (λ b. kids_of b ≡ kids_of self.now) }
+    pub fn copy(&self) -> Result<Branches, AllocError>
+        ensures { IfOk result (λ b. b ≡ self.now) }
     {
-        let mut copies = Branches::new(alloc);
+        let mut copies = Branches::new(*self.items.allocator());
         'branches: for branch in &self.items {
-            copies.push(branch.copy(alloc)?)?;
+            copies.push(branch.copy()?)?;
         }
         Ok(copies)
     }
 
     #[cycle(nodes)]
     fn nodes(&self) -> u64
-        ensures { result ≡ capped (nodes_of_kids (kids_of self.now)) }
+        ensures { result ≡ capped (nodes_of_kids self.now) }
     {
         let mut count: u64 = 0;
         'branches: for branch in &self.items {

@@ -2,7 +2,7 @@
 ghost use Rattle.std.specs.Prelude.{◌≡◌, ◌++◌, ◌∷◌, [], false, string_bytes, IfOk};
 ghost use Rattle.serde_json.specs.View.{view};
 ghost use Rattle.serde_json.specs.Written.{compact_text, has_float};
-ghost use Rattle.refutation_tree.specs.Shapes.{shape_of};
+ghost use Rattle.refutation_tree.specs.Views.{shape_of};
 ghost use Rattle.wire_json.specs.Entries.{named};
 ghost use Rattle.wire_json.specs.Findings.{plan_found, plan_line, tree_found, tree_line};
 

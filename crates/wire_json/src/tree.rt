@@ -2,7 +2,8 @@
 ghost use Rattle.std.specs.Prelude.{◌≡◌, ◌∷◌, IfOk};
 ghost use Rattle.serde_json.specs.Data.{array};
 ghost use Rattle.serde_json.specs.View.{view, items_of};
-ghost use Rattle.refutation_tree.specs.Shapes.{Kids, branch_onto, holder, kids_of_items, shape_of};
+ghost use Rattle.refutation_tree.specs.Shapes.{Kids, holder};
+ghost use Rattle.refutation_tree.specs.Views.{branch_onto, kids_of_items, shape_of};
 ghost use Rattle.wire_json.specs.Trees.{branches_data, node_data, tree_data};
 
 use crate::entry::{step_value, user_value};
@@ -22,7 +23,8 @@ pub fn tree_value(alloc: Global, p: &Policy, f: FlowId, t: &Tree) -> Result<Valu
         Tree::Holder(s) => holder_value(alloc, p, f, *s),
         Tree::Rule(k) => json!(in alloc; {"rule": (*k)}),
         Tree::Step(s, branches) => {
-            let users = branches_value(alloc, p, f, &branches.items)?;
+            let branches = branches.as_slice();
+            let users = branches_value(alloc, p, f, branches)?;
             node_value(alloc, p, f, *s, users)
         }
     }

@@ -1,7 +1,8 @@
 -- What a search answers, and how far it has come.
 use Rattle.std.specs.Prelude.{◌≡◌, ℕ, zero, suc, ◌+◌, ◌-◌, ◌<◌, Bool, false, List, Option, Some, is_some, if◌then◌else◌, IsTrue, length}
 use Rattle.constraint_forms.specs.Assigned.{user_at, planned}
-use Rattle.refutation_tree.specs.Shapes.{Kids, holder, rule, joined, shape_of}
+use Rattle.refutation_tree.specs.Shapes.{Kids, holder, rule, joined}
+use Rattle.refutation_tree.specs.Views.{shape_of}
 use Rattle.policy_book.specs.Plans.{Problem, IsValidPlan}
 use Rattle.policy_book.specs.Refuting.{refutes, have_users, passing}
 use Rattle.wsp_solver.specs.declared.search.Outcome.{Outcome}

@@ -2,7 +2,8 @@
 ghost use Rattle.std.specs.Prelude.{◌≡◌, ◌<◌, ◌≤◌, ℕ, length, is_some, Some, true, false, IfOk, IsTrue, MatchOption};
 ghost use Rattle.wf_names.specs.declared.limits.TheConstants.{STEP_LIMIT};
 ghost use Rattle.constraint_forms.specs.Assigned.{user_at};
-ghost use Rattle.refutation_tree.specs.Shapes.{holder, rule, shape_of};
+ghost use Rattle.refutation_tree.specs.Shapes.{holder, rule};
+ghost use Rattle.refutation_tree.specs.Views.{shape_of};
 ghost use Rattle.policy_book.specs.Plans.{AreAssigned, IsWellFormed, IsWithin};
 ghost use Rattle.policy_book.specs.Policies.{problem_of};
 ghost use Rattle.policy_book.specs.Refuting.{is_free, refutes};

@@ -1,11 +1,12 @@
-use Rattle.std.proofs.Common.{Option, ◌≡◌, ◌+◌, ◌&&◌, ℕ, [], drop, Bool, true, false, List, sym, ap, ◌∙◌, arith}
+use Rattle.std.proofs.Common.{Option, ◌≡◌, ◌+◌, ◌&&◌, ℕ, [], drop, Bool, true, false, List, refl, sym, ap, ◌∙◌, arith}
 use denote.Param.Weighed.{at_most}
-use Rattle.refutation_tree.proofs.tree.Branch.TheLaws.{the_size}
-use Rattle.refutation_tree.specs.Shapes.{kids_of_items, shape_of, kids_of}
+use Rattle.refutation_tree.specs.declared.tree.Branches.TheDeep.{size-Branch}
+use Rattle.refutation_tree.specs.Views.{kids_of_items, shape_of}
 use Rattle.refutation_tree.specs.declared.tree.Branch.{Branch}
-use Rattle.refutation_tree.specs.declared.tree.Branches.{Branches, out-Branches}
-use Rattle.refutation_tree.specs.declared.tree.Tree.{Tree, Step}
-use Rattle.refutation_tree.proofs.ShapeLaws.{kids_of-out}
+use Rattle.refutation_tree.specs.declared.tree.Tree.{Tree}
+use Rattle.refutation_tree.specs.declared.tree.Tree.TheVariants.{Step}
+use Rattle.refutation_tree.specs.Shapes.{Kids}
+use Rattle.refutation_tree.proofs.Depths.{branches_below}
 use Rattle.policy_book.specs.Plans.{Problem}
 use Rattle.policy_book.specs.Policies.{problem_of}
 use Rattle.policy_book.specs.Refuting.{all_refute, candidates, have_users, is_free, refutes}
@@ -15,7 +16,7 @@ use Rattle.certificate_check.proofs.tree.+check.Goals as goal
 pub all_refute-branch_refutes-requires : goal.all_refute-branch_refutes-requires
 all_refute-branch_refutes-requires t c =
     let known = branch_user (problem_of c.args.p.now c.args.f) c.args.s c.args.branches.now c.requires.users c.branches.branch-index c.branches-test.true c.branch-item.result c.branch-item.is in
-    (omega (arith, c.decreases, at_most the_size c.args.branches.now c.branches.branch-index c.branch-item.result c.branches-test.true, ap the_size c.branch-item.is), (c.requires.flow, (c.requires.within, (c.requires.room, (c.requires.free, known)))))
+    (omega (arith, c.decreases, at_most (λ b. size-Branch b) c.args.branches.now c.branches.branch-index c.branch-item.result c.branches-test.true, ap (λ b. size-Branch b) c.branch-item.is), (c.requires.flow, (c.requires.within, (c.requires.room, (c.requires.free, known)))))
 
 pub all_refute-returns-then-not-branch_refutes : goal.all_refute-returns-then-not-branch_refutes
 all_refute-returns-then-not-branch_refutes t c =
@@ -30,21 +31,23 @@ all_refute-branches-preserved t c =
     ap (λ b. b && rest) c.if-not-branch_refutes.ensures ∙ sym (refutes_at p c.args.a.now c.args.done.now c.args.s c.args.branches.now c.branches.branch-index c.branch-item.result c.branches-test.true c.branch-item.is) ∙ c.branches.invariant
 
 -- a node refutes by three tests
-node_refutes : (p : Problem) (assigned : List (Option ℕ)) (done : List Bool) (tree : Tree) (s : ℕ) (branches : Branches) (bs : List Branch) → tree ≡ Step s branches → bs ≡ (out-Branches branches).items.items → is_free p assigned s ≡ true → (users : Bool) → users ≡ have_users (candidates p s) (kids_of_items bs) →
+node_refutes : (p : Problem) (assigned : List (Option ℕ)) (done : List Bool) (tree : Tree) (s : ℕ) (kids : Kids) (bs : List Branch) → tree ≡ Step s kids → kids ≡ kids_of_items bs → is_free p assigned s ≡ true → (users : Bool) → users ≡ have_users (candidates p s) (kids_of_items bs) →
     (users && all_refute p assigned done s [] (kids_of_items bs)) ≡ refutes p assigned done (shape_of tree)
-node_refutes p assigned done tree s branches bs is items free users known =
+node_refutes p assigned done tree s kids bs is items free users known =
     ap (λ u. u && all_refute p assigned done s [] (kids_of_items bs)) known
-    ∙ ap (λ k. have_users (candidates p s) k && all_refute p assigned done s [] k) (ap kids_of_items items ∙ sym (kids_of-out branches))
-    ∙ ap (λ b. b && (have_users (candidates p s) (kids_of branches) && all_refute p assigned done s [] (kids_of branches))) (sym free)
+    ∙ ap (λ k. have_users (candidates p s) k && all_refute p assigned done s [] k) (sym items)
+    ∙ ap (λ b. b && (have_users (candidates p s) kids && all_refute p assigned done s [] kids)) (sym free)
     ∙ ap (λ t. refutes p assigned done (shape_of t)) (sym is)
 
 pub check_tree-returns-then-not-have_users : goal.check_tree-returns-then-not-have_users
 check_tree-returns-then-not-have_users t c =
-    node_refutes (problem_of c.args.p.now c.args.f) c.args.a.now c.args.done.now c.args.tree.now c.in-Step.s c.in-Step.branches c.deref.result.now c.in-Step.is c.deref.ensures.value (sym c.if-not-is_free.ensures.free) false c.if-not-have_users.ensures
+    node_refutes (problem_of c.args.p.now c.args.f) c.args.a.now c.args.done.now c.args.tree.now c.in-Step.s c.in-Step.branches c.as_slice-branches.result.now c.in-Step.is c.as_slice-branches.ensures (sym c.if-not-is_free.ensures.free) false c.if-not-have_users.ensures
 
 pub check_tree-returns-else-not-have_users : goal.check_tree-returns-else-not-have_users
 check_tree-returns-else-not-have_users t c =
-    let same : c.deref-in-Step.result.now ≡ c.deref.result.now = c.deref-in-Step.ensures.value ∙ sym c.deref.ensures.value in
-    let p = problem_of c.args.p.now c.args.f in
-    c.all_refute.ensures ∙ ap (λ bs. all_refute p c.args.a.now c.args.done.now c.in-Step.s [] (kids_of_items bs)) same
-    ∙ node_refutes p c.args.a.now c.args.done.now c.args.tree.now c.in-Step.s c.in-Step.branches c.deref.result.now c.in-Step.is c.deref.ensures.value (sym c.if-not-is_free.ensures.free) true c.if-not-have_users.ensures
+    c.all_refute.ensures
+    ∙ node_refutes (problem_of c.args.p.now c.args.f) c.args.a.now c.args.done.now c.args.tree.now c.in-Step.s c.in-Step.branches c.as_slice-branches.result.now c.in-Step.is c.as_slice-branches.ensures (sym c.if-not-is_free.ensures.free) true c.if-not-have_users.ensures
+
+pub check_tree-all_refute-requires : goal.check_tree-all_refute-requires
+check_tree-all_refute-requires t c =
+    (omega (arith, c.decreases, branches_below c.args.tree.now c.in-Step.s c.in-Step.branches c.as_slice-branches.result.now c.in-Step.is c.as_slice-branches.ensures), (c.requires.flow, (c.requires.within, (c.if-not-is_free.ensures.within refl, (sym c.if-not-is_free.ensures.free, sym c.if-not-have_users.ensures)))))

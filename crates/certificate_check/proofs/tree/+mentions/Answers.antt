@@ -1,6 +1,6 @@
-use Rattle.std.proofs.Common.{◌+◌, ◌||◌, drop, sym, ap, ◌∙◌}
-use Rattle.refutation_tree.specs.Shapes.{kids_of_items, shape_of}
-use Rattle.refutation_tree.proofs.ShapeLaws.{kids_of-out}
+use Rattle.std.proofs.Common.{◌+◌, ◌||◌, drop, sym, ap, ◌∙◌, arith}
+use Rattle.refutation_tree.proofs.Depths.{branches_below}
+use Rattle.refutation_tree.specs.Views.{kids_of_items, shape_of}
 use Rattle.policy_book.specs.Refuting.{any_mentions, mentions}
 use Rattle.certificate_check.proofs.Trees.{mentions_at}
 use Rattle.certificate_check.proofs.tree.+mentions.Goals as goal
@@ -17,4 +17,8 @@ any_mentions-branches-preserved t c =
 
 pub mentions-returns-in-Step : goal.mentions-returns-in-Step
 mentions-returns-in-Step t c =
-    c.any_mentions.ensures ∙ ap (any_mentions c.args.rules.now c.args.s) (ap kids_of_items c.deref.ensures.value ∙ sym (kids_of-out c.in-Step.branches)) ∙ ap (λ tree. mentions c.args.rules.now c.args.s (shape_of tree)) (sym c.in-Step.is)
+    c.any_mentions.ensures ∙ ap (any_mentions c.args.rules.now c.args.s) (sym c.as_slice-branches.ensures) ∙ ap (λ tree. mentions c.args.rules.now c.args.s (shape_of tree)) (sym c.in-Step.is)
+
+pub mentions-any_mentions-requires : goal.mentions-any_mentions-requires
+mentions-any_mentions-requires t c =
+    omega (arith, c.decreases, branches_below c.args.tree.now _ c.in-Step.branches c.as_slice-branches.result.now c.in-Step.is c.as_slice-branches.ensures)

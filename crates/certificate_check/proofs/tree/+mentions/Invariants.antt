@@ -1,5 +1,5 @@
 use Rattle.std.proofs.Common.{◌≡◌, drop}
-use Rattle.refutation_tree.specs.Shapes.{kids_of_items}
+use Rattle.refutation_tree.specs.Views.{kids_of_items}
 use Rattle.policy_book.specs.Refuting.{any_mentions}
 use Rattle.certificate_check.proofs.tree.+mentions.Given as goal
 

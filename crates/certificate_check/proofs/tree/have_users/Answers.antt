@@ -1,5 +1,5 @@
 use Rattle.std.proofs.Common.{zero, if◌then◌else◌, ◌≡◌, ◌+◌, ◌-◌, ℕ, length, ◌∷◌, drop, true, List, refl, sym, ap, ◌∙◌, arith}
-use Rattle.refutation_tree.specs.Shapes.{kids_of_items}
+use Rattle.refutation_tree.specs.Views.{kids_of_items}
 use Rattle.policy_book.specs.Policies.{problem_of}
 use Rattle.policy_book.specs.Refuting.{have_users, passing}
 use Rattle.certificate_check.proofs.Trees.{passing_at, users_next, none_next}

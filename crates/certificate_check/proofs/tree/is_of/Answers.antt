@@ -1,6 +1,8 @@
 use Rattle.std.proofs.Common.{◌≡◌, ◌+◌, nat_eq, ℕ, drop, refl, sym, ap, ◌∙◌}
-use Rattle.refutation_tree.specs.Shapes.{kids_of_items, Kids, kid_onto}
-use Rattle.refutation_tree.specs.declared.tree.Kid.{Kid, Tree as Tree_kid}
+use Rattle.refutation_tree.specs.Shapes.{Kids}
+use Rattle.refutation_tree.specs.Views.{kids_of_items, kid_onto}
+use Rattle.refutation_tree.specs.declared.tree.Kid.{Kid}
+use Rattle.refutation_tree.specs.declared.tree.Kid.TheVariants.{Tree as Tree_kid}
 use Rattle.refutation_tree.proofs.ShapeLaws.{kids_of_items-drop}
 use Rattle.certificate_check.specs.Walks.{begins_with}
 use Rattle.certificate_check.proofs.tree.is_of.Goals as goal

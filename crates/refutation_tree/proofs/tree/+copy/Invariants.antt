@@ -1,6 +1,7 @@
 use Rattle.std.proofs.Common.{◌≡◌, drop}
-use Rattle.refutation_tree.specs.Shapes.{joined, kids_of, kids_of_items}
+use Rattle.refutation_tree.specs.Shapes.{joined}
+use Rattle.refutation_tree.specs.Views.{kids_of_items}
 use Rattle.refutation_tree.proofs.tree.+copy.Given as goal
 
 abbrev pub invariant-Branches::copy-branches : goal.invariant-Branches::copy-branches
-invariant-Branches::copy-branches l = joined (kids_of l.copies) (kids_of_items (drop l.branch-index l.branch-items)) ≡ kids_of_items l.branch-items
+invariant-Branches::copy-branches l = joined l.copies (kids_of_items (drop l.branch-index l.branch-items)) ≡ kids_of_items l.branch-items

@@ -1,6 +1,6 @@
 use Rattle.std.proofs.Common.{ap, ◌∙◌}
 use Rattle.serde_json.specs.Written.{has_float}
-use Rattle.refutation_tree.specs.Shapes.{shape_of}
+use Rattle.refutation_tree.specs.Views.{shape_of}
 use Rattle.wire_json.proofs.Floats.{tree_without_float}
 use Rattle.wire_json.proofs.finding.write_tree.Goals as goal
 

@@ -1,7 +1,7 @@
 use Rattle.std.proofs.Common.{◌≡◌, ◌<◌, ℕ, length, is_some, None, true, not, ◌+◌, ◌&&◌, nat_lt, List, [], Option, sym, ap, subst, ◌∙◌, arith}
 use Rattle.std.proofs.lemmas.Bool.{and_from, ltb-true}
 use Rattle.constraint_forms.specs.Assigned.{user_at}
-use Rattle.refutation_tree.specs.Shapes.{kids_of, shape_of}
+use Rattle.refutation_tree.specs.Views.{shape_of}
 use Rattle.policy_book.specs.Plans.{Problem, AreAssigned, IsWithin, IsValidPlan}
 use Rattle.policy_book.specs.Policies.{problem_of}
 use Rattle.policy_book.specs.Refuting.{all_refute, candidates, have_users, is_free, refutes}
@@ -32,7 +32,7 @@ pub try_users-users-preserved-then-not-is_candidate :
 try_users-users-preserved-then-not-is_candidate t c =
     let p = problem_of c.args.p.now c.args.f in
     let known = users_known _ _ _ c.len-u-end.ensures.count (c.users-2.ensures.names ∙ ap (λ r. r.users) c.roster.ensures.roster) in
-    (users_skip (p.authorised c.args.s) c.users.u p.users (kids_of c.users.branches) (omega (arith, known, c.users-test.true)) (sym c.if-not-is_candidate.ensures) c.users.invariant.0, c.users.invariant.1)
+    (users_skip (p.authorised c.args.s) c.users.u p.users c.users.branches (omega (arith, known, c.users-test.true)) (sym c.if-not-is_candidate.ensures) c.users.invariant.0, c.users.invariant.1)
 
 pub try_users-decide-requires : goal.try_users-decide-requires
 try_users-decide-requires t c =
@@ -67,7 +67,7 @@ try_users-users-preserved t c =
     let a = c.args.a.now in
     let s = c.args.s in
     let u = c.users.u in
-    let front = kids_of c.users.branches in
+    let front = c.users.branches in
     let tree = shape_of c.in-Refuted.tree in
     let known = users_known _ _ _ c.len-u-end.ensures.count (c.users-2.ensures.names ∙ ap (λ r. r.users) c.roster.ensures.roster) in
     let found = subst (Decides p c.with.result done) c.in-Refuted.is c.in_ok-plan.ensures in
@@ -80,7 +80,7 @@ try_users-users-preserved t c =
 pub try_users-returns : goal.try_users-returns
 try_users-returns t c =
     let p = problem_of c.args.p.now c.args.f in
-    let front = kids_of c.users.branches in
+    let front = c.users.branches in
     let known = users_known _ _ _ c.len-u-end.ensures.count (c.users-2.ensures.names ∙ ap (λ r. r.users) c.roster.ensures.roster) in
     let users = users_end (p.authorised c.args.s) c.users.u p.users front (omega (arith, known, c.users-test.false)) c.users.invariant.0 in
     and_from (is_free p c.args.a.now c.args.s) (have_users (candidates p c.args.s) front && all_refute p c.args.a.now c.args.done.now c.args.s [] front) c.requires.free

@@ -1,6 +1,7 @@
 use Rattle.std.proofs.Common.{Bor, Option, None, Some, MatchOption, IfSome, is_some, ltb, get_or, arith, ◌≡◌, ◌≤◌, ◌+◌, MatchOption, ℕ, ◌<◌, length, List, sym, ap, ◌∙◌}
-use Rattle.refutation_tree.specs.Shapes.{Kids, branch_onto, kid_count, kids_from, kids_of, kids_of_items}
-use Rattle.refutation_tree.proofs.ShapeLaws.{kids_of-out, kid_count-items, kids_from-items, kids_of_items-drop}
+use Rattle.refutation_tree.specs.Shapes.{Kids, kid_count, kids_from}
+use Rattle.refutation_tree.specs.Views.{branch_onto, kids_of_items}
+use Rattle.refutation_tree.proofs.ShapeLaws.{kid_count-items, kids_from-items, kids_of_items-drop}
 use Rattle.std.proofs.lemmas.Bool.Decides.{nat_tests}
 use Rattle.refutation_tree.specs.declared.tree.Branch.{Branch}
 use Rattle.refutation_tree.proofs.tree.Branches.get.Goals as goal
@@ -15,4 +16,4 @@ found kids bs are i (Some b) within here =
 
 pub returns : goal.returns
 returns c =
-    found (kids_of c.args.self.now) c.deref.result.now (kids_of-out c.args.self.now ∙ ap kids_of_items (sym c.deref.ensures.value)) c.args.i c.get.result c.get.ensures.lookup.0 c.get.ensures.lookup.1
+    found c.args.self.now c.deref.result.now (sym c.self.view_is ∙ ap kids_of_items (sym c.deref.ensures.value)) c.args.i c.get.result c.get.ensures.lookup.0 c.get.ensures.lookup.1
