@@ -1,12 +1,12 @@
 -- How the cells of a case change.
-use Rattle.std.proofs.Common.{◌≡◌, ℕ, zero, suc, ◌+◌, ◌<◌, ◌≤◌, true, List, [], ◌∷◌, ◌++◌, length, map, take, drop, replicate, slice_index_or, slice_set, get_or, refl, sym, ap, subst, ◌∙◌, arith}
+use Rattle.std.proofs.Common.{◌≡◌, ℕ, zero, suc, ◌+◌, ◌<◌, ◌≤◌, true, List, [], ◌∷◌, ◌++◌, length, map, take, drop, slice_index_or, slice_set, get_or, refl, sym, ap, subst, ◌∙◌, arith}
 use Rattle.std.proofs.Math.Seq.{take-set-lt}
-use Rattle.std.proofs.lemmas.List.{drop-replicate, get_or_default, get_or-take, length-replicate}
+use Rattle.std.proofs.lemmas.List.{get_or_default, get_or-take}
 use Rattle.wf_names.specs.declared.limits.TheConstants.{STEP_LIMIT}
 use Rattle.wf_names.specs.declared.states.StepState.{StepState}
 use Rattle.wf_names.specs.declared.states.StepState.TheVariants.{Free}
 use Rattle.wf_names.specs.States.{is_held}
-use Rattle.case_record.specs.Cells.{AreKept, length-kept}
+use Rattle.wf_names.specs.Padded.{IsPadded, length-taken}
 use Rattle.case_record.specs.Cases.{as_finished}
 
 -- a step that is held is one of the case's
@@ -15,17 +15,9 @@ held_within [] s h = cc
 held_within (x ∷ xs) zero h = omega arith
 held_within (x ∷ xs) (suc s) h = omega (arith, held_within xs s h)
 
--- the cells where every step is free
-pub free_kept : (steps : ℕ) → steps ≤ STEP_LIMIT → AreKept (replicate STEP_LIMIT Free) steps
-free_kept steps h = record {
-  fits = h;
-  whole = length-replicate STEP_LIMIT Free;
-  blank = drop-replicate steps STEP_LIMIT Free;
-}
-
 -- a change of one of the case's steps is a change of its cell
-pub kept_changed : (cells : List StepState) (steps s : ℕ) (x : StepState) → s < length (take steps cells) → AreKept cells steps → take steps (slice_set cells s x) ≡ slice_set (take steps cells) s x
-kept_changed cells steps s x h kept = take-set-lt steps cells s x (subst (λ n. s < n) (length-kept cells steps kept) h)
+pub kept_changed : (cells : List StepState) (steps s : ℕ) (x : StepState) → s < length (take steps cells) → IsPadded STEP_LIMIT Free cells steps → take steps (slice_set cells s x) ≡ slice_set (take steps cells) s x
+kept_changed cells steps s x h kept = take-set-lt steps cells s x (subst (λ n. s < n) (length-taken STEP_LIMIT Free cells steps kept) h)
 
 -- one more of a list's values written over another list
 pub next_written :
@@ -71,11 +63,11 @@ there_more f xs blank before after k x e h same there is so_far kept =
 
 -- a case's steps with one of them finished
 pub kept_finished :
-    (cells : List StepState) (steps s : ℕ) (x y : StepState) → s < length (take steps cells) → AreKept cells steps →
+    (cells : List StepState) (steps s : ℕ) (x y : StepState) → s < length (take steps cells) → IsPadded STEP_LIMIT Free cells steps →
     x ≡ get_or cells s x → y ≡ as_finished (get_or cells s x) →
     take steps (slice_set cells s y) ≡ slice_set (take steps cells) s (as_finished (slice_index_or (take steps cells) s Free))
 kept_finished cells steps s x y h kept there is =
-    let within : s < steps = subst (λ n. s < n) (length-kept cells steps kept) h in
+    let within : s < steps = subst (λ n. s < n) (length-taken STEP_LIMIT Free cells steps kept) h in
     let whole : s < length cells = omega (arith, within, kept.fits, kept.whole) in
     let read : get_or cells s x ≡ get_or (take steps cells) s Free = get_or_default cells s x Free whole ∙ sym (get_or-take steps cells s Free within) in
     kept_changed cells steps s y h kept ∙ (λ i. slice_set (take steps cells) s ((is ∙ ap as_finished read) i))

@@ -8,9 +8,11 @@ use Rattle.wf_names.specs.declared.states.StepState.{StepState}
 use Rattle.wf_names.specs.declared.states.StepState.TheVariants.{Free, Held, Finished}
 use Rattle.wf_names.specs.States.{is_held, is_finished, user_of}
 use Rattle.constraint_forms.specs.Assigned.{is_member, no_steps, no_users, user_at}
-use Rattle.case_record.specs.Cells.{all_steps, all_steps-take}
+use Rattle.wf_names.specs.Padded.{padded, padded-take}
+use Rattle.wf_names.proofs.PaddedLists.{all_blank}
+use Rattle.case_record.specs.Cells.{all_steps}
 use Rattle.case_record.specs.Cases.{CaseShape, as_finished, assigned_of, finished_case, finished_of, fresh_case, state_at, with_state}
-use Rattle.case_record.proofs.Changes.{free_kept, held_within}
+use Rattle.case_record.proofs.Changes.{held_within}
 
 blank_at : {X : Type 0} (n k : ℕ) (d : X) → get_or (replicate n d) k d ≡ d
 blank_at zero k d = refl
@@ -23,11 +25,11 @@ filled_at (x ∷ xs) n zero d = refl
 filled_at (x ∷ xs) n (suc k) d = filled_at xs n k d
 
 all_steps-at : (states : List StepState) (s : ℕ) → slice_index_or (all_steps states) s Free ≡ slice_index_or states s Free
-unfolding all_steps
+unfolding padded
 all_steps-at states s = filled_at states _ s Free
 
 all_steps-set : (states : List StepState) (s : ℕ) (x : StepState) → s < length states → all_steps (slice_set states s x) ≡ slice_set (all_steps states) s x
-unfolding all_steps
+unfolding padded
 all_steps-set states s x h =
     (λ i. slice_set states s x ++ replicate (STEP_LIMIT - length-set states s x i) Free) ∙ sym (set-append_left states _ s x h)
 
@@ -97,7 +99,7 @@ finished_of-finish c s held =
 
 all_steps-free : (n : ℕ) → n ≤ STEP_LIMIT → all_steps (replicate n Free) ≡ replicate STEP_LIMIT Free
 all_steps-free n h =
-    ap all_steps (sym (take-replicate n STEP_LIMIT Free h)) ∙ all_steps-take (replicate STEP_LIMIT Free) n (free_kept n h)
+    ap all_steps (sym (take-replicate n STEP_LIMIT Free h)) ∙ padded-take STEP_LIMIT Free (replicate STEP_LIMIT Free) n (all_blank STEP_LIMIT Free n h)
 
 map_blank : {X Y : Type 0} (f : X → Y) (n : ℕ) (x : X) → map f (replicate n x) ≡ replicate n (f x)
 map_blank f zero x = refl

@@ -32,17 +32,20 @@ pub struct Case {
 impl Model for Case {
     ghost use Rattle.std.specs.Prelude.{take, length};
     ghost use Rattle.case_record.specs.Cases.{CaseShape};
-    ghost use Rattle.case_record.specs.Cells.{AreKept, all_steps, all_steps-take, length-kept};
+    ghost use Rattle.wf_names.specs.declared.limits.TheConstants.{STEP_LIMIT};
+    ghost use Rattle.wf_names.specs.declared.states.StepState.TheVariants.{Free};
+    ghost use Rattle.wf_names.specs.Padded.{IsPadded, padded-take, length-taken};
+    ghost use Rattle.case_record.specs.Cells.{all_steps};
 
     ghost Value = { CaseShape };
 
     ghost view = { λ c. record { flow = c.flow; states = take c.steps c.cells; phase = c.phase } };
 
-    ghost invariant = { λ c. AreKept c.cells c.steps };
+    ghost invariant = { λ c. IsPadded STEP_LIMIT Free c.cells c.steps };
 
     ghost inverse = { λ v. record { flow = v.flow; cells = all_steps v.states; steps = length v.states; phase = v.phase } };
 
-    ghost inverse_ok = { λ c h i. record { flow = c.flow; cells = all_steps-take c.cells c.steps h i; steps = length-kept c.cells c.steps h i; phase = c.phase } };
+    ghost inverse_ok = { λ c h i. record { flow = c.flow; cells = padded-take STEP_LIMIT Free c.cells c.steps h i; steps = length-taken STEP_LIMIT Free c.cells c.steps h i; phase = c.phase } };
 }
 
 impl Case {

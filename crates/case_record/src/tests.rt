@@ -1,9 +1,10 @@
 //! What no clause shows: the calls of a case, one after the other, and a workflow's order in them.
-ghost use Rattle.std.specs.Prelude.{◌≡◌, length, IfOk};
+ghost use Rattle.std.specs.Prelude.{◌≡◌, length, IfOk, OnOk};
 
 use crate::Case;
 use constraint_forms::{Assign, StepSet};
 use std::alloc::Global;
+use std::process::Abort;
 use std::test::Fail;
 use wf_names::{FlowId, Name, NameTable, Phase, StepId, StepState, UserId};
 use workflow_schema::{Flow, FlowFault};
@@ -21,30 +22,22 @@ const BOB: UserId = UserId(1);
 #[test]
 fn steps_are_ready_in_their_order(rt: HostRuntime) -> Result<(), Fail> {
     let flow = chain(rt.alloc())?;
-    let mut case = Case::fresh(FlowId(4), 3);
-    let fresh = (
-        case.ready(&flow, FIRST),
-        case.ready(&flow, THIRD),
-        case.first_missing(&flow, THIRD),
-    );
-    case.hold(FIRST, ANN);
-    let held = case.ready(&flow, FIRST);
-    case.finish(FIRST);
-    let finished = (
-        case.ready(&flow, SECOND),
-        case.ready(&flow, THIRD),
-        case.first_missing(&flow, THIRD),
-        case.first_missing(&flow, SECOND),
-    );
-    assert_eq!(rt;
-        (fresh, held, finished),
-        (
-            (true, false, Some(FIRST)),
-            false,
-            (true, false, Some(SECOND), None)
-        )
-    );
+    go_along(&rt, &flow);
     Ok(())
+}
+
+fn go_along(rt: &impl Abort, flow: &Flow)
+    requires { length flow.now.steps ≡ 3 }
+{
+    let mut case = Case::fresh(FlowId(4), 3);
+    assert!(rt; case.ready(flow, FIRST) && !case.ready(flow, THIRD));
+    assert!(rt; case.first_missing(flow, THIRD) == Some(FIRST));
+    case.hold(FIRST, ANN);
+    assert!(rt; !case.ready(flow, FIRST));
+    case.finish(FIRST);
+    assert!(rt; case.ready(flow, SECOND) && !case.ready(flow, THIRD));
+    assert!(rt; case.first_missing(flow, THIRD) == Some(SECOND));
+    assert!(rt; case.first_missing(flow, SECOND).is_none());
 }
 
 #[test]
@@ -54,18 +47,17 @@ fn a_case_is_done_with_its_last_step(rt: HostRuntime) {
     case.release(FIRST);
     case.hold(FIRST, ANN);
     case.hold(SECOND, BOB);
-    let first = (case.finish(FIRST), case.phase(), case.state(SECOND));
-    let part = (case.assigned(), case.finished());
-    let last = (case.finish(SECOND), case.phase(), case.flow(), case.steps());
-    assert_eq!(rt; first, (false, Phase::Live, StepState::Held(BOB)));
-    assert_eq!(rt;
-        part,
-        (
-            Assign::empty().with(FIRST, ANN).with(SECOND, BOB),
-            StepSet::empty().with(FIRST)
-        )
-    );
-    assert_eq!(rt; last, (true, Phase::Done, FlowId(4), 2));
+    assert!(rt; !case.finish(FIRST));
+    assert!(rt; case.phase() == Phase::Live && case.state(SECOND) == StepState::Held(BOB));
+    assert!(rt; is_half_done(&case));
+    assert!(rt; case.finish(SECOND));
+    assert!(rt; (case.phase(), case.flow(), case.steps()) == (Phase::Done, FlowId(4), 2));
+}
+
+// The first step is finished, the second one is held.
+fn is_half_done(case: &Case) -> bool {
+    let users = Assign::empty().with(FIRST, ANN).with(SECOND, BOB);
+    case.assigned() == users && case.finished() == StepSet::empty().with(FIRST)
 }
 
 #[test]
@@ -73,23 +65,15 @@ fn a_withdrawn_case_keeps_its_steps(rt: HostRuntime) {
     let mut case = Case::fresh(FlowId(0), 1);
     case.hold(FIRST, ANN);
     case.withdraw();
-    assert_eq!(rt;
-        (case.phase(), case.state(FIRST), case.state(SECOND)),
-        (Phase::Withdrawn, StepState::Held(ANN), StepState::Free)
-    );
+    assert!(rt; case.phase() == Phase::Withdrawn);
+    assert!(rt; case.state(FIRST) == StepState::Held(ANN) && case.state(SECOND) == StepState::Free);
 }
 
 // Three steps, one after the other.
 fn chain(alloc: Global) -> Result<Flow, Fail>
     ensures { IfOk result (λ f. length f.steps ≡ 3) }
 {
-    let mut names = NameTable::new(alloc, 3)?;
-    for text in ["prepare", "approve", "pay"] {
-        names.add(Name::read(text).ok_or("not a name")?)?;
-    }
-    if names.len() != 3 {
-        Err::<(), &str>("not three names")?;
-    }
+    let names = three_names(alloc)?;
     Ok(chained(alloc, names)?)
 }
 
@@ -98,4 +82,24 @@ fn chained(alloc: Global, names: NameTable) -> Result<Flow, FlowFault>
     ensures { IfOk result (λ f. length f.steps ≡ 3) }
 {
     Flow::build(alloc, names, &[(FIRST, SECOND), (SECOND, THIRD)], &[])
+}
+
+fn three_names(alloc: Global) -> Result<NameTable, Fail>
+    ensures { IfOk result (λ names. length names.names ≡ 3) }
+{
+    let mut names = NameTable::new(alloc, 3)?;
+    add_three(&mut names)?;
+    Ok(names)
+}
+
+fn add_three(names: &mut NameTable) -> Result<(), Fail>
+    ensures { OnOk result (length names.new.names ≡ 3) }
+{
+    for text in ["prepare", "approve", "pay"] {
+        names.add(Name::read(text).ok_or("not a name")?)?;
+    }
+    if names.len() != 3 {
+        Err::<(), &str>("not three names")?;
+    }
+    Ok(())
 }

@@ -122,8 +122,8 @@ fn is_obeyed(p: &Policy, f: FlowId, plan: &Plan, k: usize) -> bool
     requires whole { length plan.now ≡ (problem_of p.now f).steps }
     ensures { result ≡ is_obeyed (problem_of p.now f) plan.now (slice_get (problem_of p.now f).rules k) }
 {
-    match p.rules(f).get(k) {
-        Some(rule) => satisfied(&rule, p, plan),
+    match p.rules(f).as_slice().get(k) {
+        Some(rule) => satisfied(rule, p, plan),
         None => true,
     }
 }

@@ -100,8 +100,8 @@ fn is_broken(p: &Policy, f: FlowId, a: &Assign, k: u8) -> bool
     requires flow { f < length p.now.flows }
     ensures { result ≡ is_broken (problem_of p.now f) a.now (slice_get (problem_of p.now f).rules k) }
 {
-    match p.rules(f).get(k as usize) {
-        Some(rule) => falsified(&rule, p, a),
+    match p.rules(f).as_slice().get(k as usize) {
+        Some(rule) => falsified(rule, p, a),
         None => false,
     }
 }
@@ -183,7 +183,7 @@ fn branch_mentions(branch: &Branch, rules: &Rules, s: StepId) -> bool
 fn names_step(rules: &Rules, k: u8, s: StepId) -> bool
     ensures { result ≡ is_rule_naming s (slice_get rules.now k) }
 {
-    match rules.get(k as usize) {
+    match rules.as_slice().get(k as usize) {
         Some(rule) => rule.names(s),
         None => false,
     }

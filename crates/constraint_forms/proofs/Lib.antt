@@ -1,3 +1,3 @@
 pub mod Bits
-pub mod Kept
+pub mod SamePlans
 pub mod RuleLaws

@@ -14,17 +14,18 @@ pub struct Plan {
 
 impl Model for Plan {
     ghost use Rattle.std.specs.Prelude.{ℕ, List, length, take};
-    ghost use Rattle.constraint_forms.specs.Plans.{padded, IsKept, padded-take, length-taken};
+    ghost use Rattle.wf_names.specs.declared.limits.TheConstants.{STEP_LIMIT};
+    ghost use Rattle.wf_names.specs.Padded.{padded, IsPadded, padded-take, length-taken};
 
     ghost Value = { List ℕ };
 
     ghost view = { λ p. take p.len p.users };
 
-    ghost invariant = { λ p. IsKept p.users p.len };
+    ghost invariant = { λ p. IsPadded STEP_LIMIT 0 p.users p.len };
 
-    ghost inverse = { λ users. record { users = padded users; len = length users } };
+    ghost inverse = { λ users. record { users = padded STEP_LIMIT 0 users; len = length users } };
 
-    ghost inverse_ok = { λ p h i. record { users = padded-take p.users p.len h i; len = length-taken p.users p.len h i } };
+    ghost inverse_ok = { λ p h i. record { users = padded-take STEP_LIMIT 0 p.users p.len h i; len = length-taken STEP_LIMIT 0 p.users p.len h i } };
 }
 
 impl Plan {

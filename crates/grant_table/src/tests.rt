@@ -5,6 +5,8 @@ ghost use Rattle.grant_table.specs.Tables.{case_at, HasFreeStep, HasHeldStep};
 
 use crate::Cases;
 use constraint_forms::Plan;
+use std::alloc::{AllocError, Global};
+use std::process::Abort;
 use std::test::Fail;
 use wf_names::{CASE_LIMIT, CaseId, FlowId, OPEN_CASE_LIMIT, Phase, StepId, StepState, UserId};
 
@@ -20,135 +22,108 @@ const CYD: UserId = UserId(2);
 
 #[test]
 fn cases_keep_their_numbers_and_plans(rt: HostRuntime) -> Result<(), Fail> {
-    let mut table = Cases::new(rt.alloc())?;
-    table.reserve(3)?;
-    let plan = Plan::of(&[ANN, BOB]);
-    let opened = (
-        opened(&mut table, plan),
-        opened(&mut table, plan),
-        opened(&mut table, plan),
-    );
-    assert_eq!(rt; opened, (Some(CaseId(0)), Some(CaseId(1)), Some(CaseId(2))));
-
-    let other = Plan::of(&[ANN, CYD]);
-    let held = (
-        held(&mut table, CaseId(1), FIRST, ANN, other),
-        held(&mut table, CaseId(2), SECOND, BOB, plan),
-    );
-    let finished = finished(&mut table, CaseId(1), FIRST);
-    assert_eq!(rt; (held, finished), ((true, true), Some(false)));
-    assert_eq!(rt;
-        (
-            seen(&table, CaseId(0)),
-            seen(&table, CaseId(1)),
-            seen(&table, CaseId(2))
-        ),
-        (
-            Some((Phase::Live, StepState::Free, StepState::Free, Some(plan))),
-            Some((
-                Phase::Live,
-                StepState::Finished(ANN),
-                StepState::Free,
-                Some(other)
-            )),
-            Some((
-                Phase::Live,
-                StepState::Free,
-                StepState::Held(BOB),
-                Some(plan)
-            ))
-        )
-    );
+    let mut table = table_with_room(rt.alloc(), 3)?;
+    open_three(&rt, &mut table);
+    work_on_two(&rt, &mut table);
+    keep_apart(&rt, &table);
     Ok(())
+}
+
+fn open_three(rt: &impl Abort, table: &mut Cases) {
+    for number in 0..3 {
+        assert!(rt; opened(table, Plan::of(&[ANN, BOB])) == Some(CaseId(number)));
+    }
+}
+
+fn work_on_two(rt: &impl Abort, table: &mut Cases) {
+    assert!(rt; held(table, CaseId(1), FIRST, ANN, Plan::of(&[ANN, CYD])));
+    assert!(rt; held(table, CaseId(2), SECOND, BOB, Plan::of(&[ANN, BOB])));
+    assert!(rt; finished(table, CaseId(1), FIRST) == Some(false));
+}
+
+fn keep_apart(rt: &impl Abort, table: &Cases) {
+    let plan = Some(Plan::of(&[ANN, BOB]));
+    let other = Some(Plan::of(&[ANN, CYD]));
+    let (free, done, held) = (
+        StepState::Free,
+        StepState::Finished(ANN),
+        StepState::Held(BOB),
+    );
+    assert!(rt; seen(table, CaseId(0)) == Some((Phase::Live, free, free, plan)));
+    assert!(rt; seen(table, CaseId(1)) == Some((Phase::Live, done, free, other)));
+    assert!(rt; seen(table, CaseId(2)) == Some((Phase::Live, free, held, plan)));
 }
 
 #[test]
 fn a_table_counts_its_open_cases(rt: HostRuntime) -> Result<(), Fail> {
-    let mut table = Cases::new(rt.alloc())?;
-    table.reserve(3)?;
-    let plan = Plan::of(&[ANN, BOB]);
-    for _ in 0..3 {
-        opened(&mut table, plan);
-    }
-    held(&mut table, CaseId(0), FIRST, ANN, plan);
-    held(&mut table, CaseId(0), SECOND, BOB, plan);
-    finished(&mut table, CaseId(0), FIRST);
-    let done = finished(&mut table, CaseId(0), SECOND);
-    assert_eq!(rt;
-        (
-            done,
-            table.live(),
-            table.ever(),
-            table.next_live(0),
-            table.next_live(3)
-        ),
-        (Some(true), 2, 3, Some(CaseId(1)), None)
-    );
-
-    let copies = (
-        table.copy()?,
-        table.copy_one(rt.alloc(), CaseId(0))?,
-        table.copy_open(rt.alloc())?,
-    );
-    assert_eq!(rt;
-        (
-            copies.0.live(),
-            copies.1.live(),
-            copies.2.live(),
-            copies.1.ever()
-        ),
-        (2, 0, 2, 3)
-    );
-    assert_eq!(rt;
-        (
-            seen(&copies.1, CaseId(0)),
-            seen(&copies.1, CaseId(1)),
-            seen(&copies.2, CaseId(0))
-        ),
-        (
-            Some((
-                Phase::Done,
-                StepState::Finished(ANN),
-                StepState::Finished(BOB),
-                None
-            )),
-            None,
-            None
-        )
-    );
+    let mut table = table_with_room(rt.alloc(), 3)?;
+    open_three(&rt, &mut table);
+    finish_the_first(&rt, &mut table);
+    assert!(rt; (table.live(), table.ever()) == (2, 3));
+    assert!(rt; table.next_live(0) == Some(CaseId(1)) && table.next_live(3).is_none());
+    assert!(rt; copies_all(&table)? && copies_one(rt.alloc(), &table)? && copies_open(rt.alloc(), &table)?);
     Ok(())
+}
+
+fn finish_the_first(rt: &impl Abort, table: &mut Cases) {
+    let plan = Plan::of(&[ANN, BOB]);
+    assert!(rt; held(table, CaseId(0), FIRST, ANN, plan));
+    assert!(rt; held(table, CaseId(0), SECOND, BOB, plan));
+    assert!(rt; finished(table, CaseId(0), FIRST) == Some(false));
+    assert!(rt; finished(table, CaseId(0), SECOND) == Some(true));
+}
+
+fn copies_all(table: &Cases) -> Result<bool, AllocError> {
+    Ok(table.copy()?.live() == 2)
+}
+
+// The copy of the done case has it, and none of the others.
+fn copies_one(alloc: Global, table: &Cases) -> Result<bool, AllocError> {
+    let copy = table.copy_one(alloc, CaseId(0))?;
+    Ok(has_the_done_case(&copy) && seen(&copy, CaseId(1)).is_none())
+}
+
+fn has_the_done_case(copy: &Cases) -> bool {
+    let (ann, bob) = (StepState::Finished(ANN), StepState::Finished(BOB));
+    (copy.live(), copy.ever()) == (0, 3)
+        && seen(copy, CaseId(0)) == Some((Phase::Done, ann, bob, None))
+}
+
+fn copies_open(alloc: Global, table: &Cases) -> Result<bool, AllocError> {
+    let copy = table.copy_open(alloc)?;
+    Ok(copy.live() == 2 && seen(&copy, CaseId(0)).is_none())
 }
 
 #[test]
 fn steps_are_given_back_and_cases_withdrawn(rt: HostRuntime) -> Result<(), Fail> {
-    let mut table = Cases::new(rt.alloc())?;
-    table.reserve(2)?;
-    let (plan, other) = (Plan::of(&[ANN, BOB]), Plan::of(&[CYD, BOB]));
-    opened(&mut table, plan);
-    opened(&mut table, plan);
-    held(&mut table, CaseId(0), FIRST, ANN, plan);
-    if holds(&table, CaseId(0), FIRST) {
+    let mut table = table_with_room(rt.alloc(), 3)?;
+    open_three(&rt, &mut table);
+    give_back_and_withdraw(&mut table);
+    let other = Some(Plan::of(&[CYD, BOB]));
+    let free = StepState::Free;
+    assert!(rt; seen(&table, CaseId(0)) == Some((Phase::Live, free, free, other)));
+    assert!(rt; seen(&table, CaseId(1)) == Some((Phase::Withdrawn, free, free, None)));
+    assert!(rt; table.live() == 2);
+    Ok(())
+}
+
+fn give_back_and_withdraw(table: &mut Cases) {
+    held(table, CaseId(0), FIRST, ANN, Plan::of(&[ANN, BOB]));
+    if holds(table, CaseId(0), FIRST) {
         table.give_back(CaseId(0), FIRST);
     }
-    if is_open(&table, CaseId(0)) {
-        table.keep_plan(CaseId(0), other);
+    if is_open(table, CaseId(0)) {
+        table.keep_plan(CaseId(0), Plan::of(&[CYD, BOB]));
     }
-    if is_open(&table, CaseId(1)) {
+    if is_open(table, CaseId(1)) {
         table.withdraw(CaseId(1));
     }
-    assert_eq!(rt;
-        (
-            seen(&table, CaseId(0)),
-            seen(&table, CaseId(1)),
-            table.live()
-        ),
-        (
-            Some((Phase::Live, StepState::Free, StepState::Free, Some(other))),
-            Some((Phase::Withdrawn, StepState::Free, StepState::Free, None)),
-            1
-        )
-    );
-    Ok(())
+}
+
+fn table_with_room(alloc: Global, room: u16) -> Result<Cases, AllocError> {
+    let mut table = Cases::new(alloc)?;
+    table.reserve(room)?;
+    Ok(table)
 }
 
 type Seen = (Phase, StepState, StepState, Option<Plan>);

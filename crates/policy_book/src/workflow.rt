@@ -31,7 +31,7 @@ impl Workflow {
     {
         Ok(Workflow {
             flow: self.flow.copy()?,
-            rules: self.rules.copy(alloc)?,
+            rules: self.rules.copy()?,
             retired: self.retired,
         })
     }

@@ -229,7 +229,7 @@ fn push_rule(rules: &mut Rules, rule: Rule) -> Result<(), ReadFault>
     ensures ok { OnOk result (rules.new ≡ rules.old ++ rule ∷ []) }
     ensures memory { IfErr result (λ e. e ≡ NoMemory) }
 {
-    match rules.push(rule) {
+    match rules.add(&rule) {
         Ok(()) => Ok(()),
         Err(_) => Err(ReadFault::NoMemory),
     }

@@ -234,10 +234,7 @@ fn rules_value(
 {
     let mut values = Vec::new(alloc);
     'rules: for k in 0..rules.len() {
-        match rules.get(k) {
-            Some(rule) => push_rule(alloc, &mut values, relations, steps, &rule)?,
-            None => unreachable!(),
-        }
+        push_rule(alloc, &mut values, relations, steps, rules.get(k))?;
     }
     Ok(Value::Array(values))
 }

@@ -1,2 +1,3 @@
+pub mod PaddedLists
 pub mod NameForms
 pub mod Places

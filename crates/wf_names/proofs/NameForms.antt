@@ -1,15 +1,15 @@
 -- What a name's form says of its bytes.
 use Prim.Native.Nat.{zero, suc}
-use Rattle.std.proofs.Common.{◌≡◌, ℕ, ap, ◌++◌, drop, replicate, sym, subst, ◌∙◌, length-append, length-drop, ◌<◌, ◌≤◌, true, List, [], ◌∷◌, length, IsTrue, arith}
+use Rattle.std.proofs.Common.{◌≡◌, ℕ, ◌++◌, drop, replicate, sym, subst, ◌<◌, ◌≤◌, true, List, [], ◌∷◌, length, IsTrue, arith}
 use Rattle.std.specs.Prelude.{IsUtf8}
 use Rattle.std.specs.Str.{IsAscii}
 use Rattle.std.specs.List.{list_all}
-use Rattle.std.proofs.Math.Seq.{drop-append_seam, take-append_seam}
-use Rattle.std.proofs.lemmas.List.{drop-replicate, length-replicate}
+use Rattle.std.proofs.Math.Seq.{take-append_seam}
 use Rattle.std.proofs.Math.Bool.{and-eq-true_iff}
 use Rattle.std.proofs.lemmas.Str.{IsUtf8-from_ascii}
 use Rattle.std.proofs.lemmas.Bool.Decides.{nat_tests}
 use Rattle.wf_names.specs.declared.limits.TheConstants.{NAME_LIMIT}
+use Rattle.wf_names.proofs.PaddedLists.{put_first}
 use Rattle.wf_names.specs.Names.{IsStored, is_name, is_name_byte, is_letter}
 
 letter_below : (b : ℕ) → is_letter b ≡ true → b < 128
@@ -35,12 +35,7 @@ name_length bs h = grind (arith, nat_tests)
 
 -- the cells of a name: its bytes, and zeros behind them
 pub cells_stored : (bs cells : List ℕ) → cells ≡ replicate NAME_LIMIT 0 → IsTrue (is_name bs) → IsStored (bs ++ drop (length bs) cells) (length bs)
-cells_stored bs cells e h =
-    let short : length bs ≤ NAME_LIMIT = name_length bs h in
-    let all : length cells ≡ NAME_LIMIT = ap length e ∙ length-replicate {A = ℕ} NAME_LIMIT 0 in
-    record {
-      fits = short;
-      whole = length-append bs (drop (length bs) cells) ∙ omega (arith, length-drop (length bs) cells);
-      blank = drop-append_seam bs (drop (length bs) cells) ∙ ap (drop (length bs)) e ∙ drop-replicate {X = ℕ} (length bs) NAME_LIMIT 0;
-      form = subst (λ (t : List ℕ). IsTrue (is_name t)) (sym (take-append_seam bs (drop (length bs) cells))) h;
-    }
+cells_stored bs cells e h = record {
+  cells = put_first NAME_LIMIT 0 bs cells e (name_length bs h);
+  form = subst (λ (t : List ℕ). IsTrue (is_name t)) (sym (take-append_seam bs (drop (length bs) cells))) h;
+}

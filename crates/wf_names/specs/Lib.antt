@@ -1,4 +1,4 @@
+pub mod Padded
 pub mod Names
-pub mod NameLaws
 pub mod Table
 pub mod States

@@ -1,6 +1,7 @@
 -- The form of a name, and how one is kept.
-use Rattle.std.specs.Prelude.{◌≡◌, ℕ, ◌-◌, ◌≤◌, Bool, false, ◌&&◌, ◌||◌, ◌==◌, nat_le, List, [], ◌∷◌, ◌++◌, length, take, drop, replicate, IsTrue}
+use Rattle.std.specs.Prelude.{ℕ, Bool, false, ◌&&◌, ◌||◌, ◌==◌, nat_le, List, [], ◌∷◌, length, take, IsTrue}
 use Rattle.std.specs.List.{list_all}
+use Rattle.wf_names.specs.Padded.{IsPadded}
 use Rattle.wf_names.specs.declared.limits.TheConstants.{NAME_LIMIT}
 
 -- a lower-case letter
@@ -20,13 +21,7 @@ starts_with_letter (b ∷ bs) = is_letter b
 unfoldable pub is_name : List ℕ → Bool
 is_name bs = starts_with_letter bs && list_all is_name_byte bs && nat_le (length bs) NAME_LIMIT
 
--- the bytes of a name, filled up with zeros
-unfoldable pub padded : List ℕ → List ℕ
-padded bytes = bytes ++ replicate (NAME_LIMIT - length bytes) 0
-
 -- the first len bytes are a name, and the others are zero
 pub record IsStored (bytes : List ℕ) (len : ℕ) : Type 0 where
-  pub fits : len ≤ NAME_LIMIT
-  pub whole : length bytes ≡ NAME_LIMIT
-  pub blank : drop len bytes ≡ replicate (NAME_LIMIT - len) 0
+  pub cells : IsPadded NAME_LIMIT 0 bytes len
   pub form : IsTrue (is_name (take len bytes))

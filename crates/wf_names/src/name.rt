@@ -22,8 +22,9 @@ pub struct Name {
 
 impl Model for Name {
     ghost use Rattle.std.specs.Prelude.{List, ℕ, length, take};
-    ghost use Rattle.wf_names.specs.Names.{padded, IsStored};
-    ghost use Rattle.wf_names.specs.NameLaws.{padded-take, length-taken};
+    ghost use Rattle.wf_names.specs.declared.limits.TheConstants.{NAME_LIMIT};
+    ghost use Rattle.wf_names.specs.Names.{IsStored};
+    ghost use Rattle.wf_names.specs.Padded.{padded, padded-take, length-taken};
 
     ghost Value = { List ℕ };
 
@@ -31,9 +32,9 @@ impl Model for Name {
 
     ghost invariant = { λ n. IsStored n.bytes n.len };
 
-    ghost inverse = { λ v. record { bytes = padded v; len = length v } };
+    ghost inverse = { λ v. record { bytes = padded NAME_LIMIT 0 v; len = length v } };
 
-    ghost inverse_ok = { λ n h i. record { bytes = padded-take n.bytes n.len h i; len = length-taken n.bytes n.len h i } };
+    ghost inverse_ok = { λ n h i. record { bytes = padded-take NAME_LIMIT 0 n.bytes n.len h.cells i; len = length-taken NAME_LIMIT 0 n.bytes n.len h.cells i } };
 }
 
 impl Name {

@@ -46,7 +46,7 @@ pub(crate) fn take_turn<K: Sink>(
 {
     let done = journal.len();
     let left = jobs_after(jobs, done);
-    match journal.reserve(left.len()) {
+    match journal.reserve(left.len() as u32) {
         Ok(()) => {}
         Err(_) => return Turn::NoMemory,
     }
@@ -100,7 +100,7 @@ fn answer_job(board: &mut Board, journal: &mut Journal, job: &Job)
         ask: job.ask,
         reply,
     };
-    journal.push(entry).unwrap();
+    journal.add(&entry).unwrap();
 }
 
 // Writes the lines of entries, one after the other.

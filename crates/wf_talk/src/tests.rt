@@ -1,57 +1,80 @@
 //! What no clause shows: that the lists take what they are given while there is memory.
 
 use crate::{Ask, Bad, Ends, Entry, Job, Jobs, Journal, Line, Reply, Request, UserNames};
+use std::alloc::AllocError;
 use std::test::Fail;
 use wf_names::{CaseId, Name};
 
 #[test]
 fn a_journal_with_room_takes_its_entries(rt: HostRuntime) -> Result<(), Fail> {
     let mut journal = Journal::new(rt.alloc());
+    write_two(&mut journal)?;
+    assert!(rt; copies_the_entries(&journal)?);
+    Ok(())
+}
+
+fn write_two(journal: &mut Journal) -> Result<(), AllocError> {
     journal.reserve(2)?;
     for at in 0..2 {
-        journal.push(Entry {
+        let entry = Entry {
             at,
             lane: 0,
             line: 7 + at,
             ask: Ask::Bad(Bad::Syntax),
             reply: Reply::Finished { done: at == 1 },
-        })?;
+        };
+        journal.add(&entry)?;
     }
-    let copy = journal.copy()?;
-    let last = match copy.as_slice() {
-        [_, last] => Some((last.at, last.line, last.reply)),
-        _ => None,
-    };
-    assert_eq!(rt; last, Some((1, 8, Reply::Finished { done: true })));
     Ok(())
 }
 
+fn copies_the_entries(journal: &Journal) -> Result<bool, AllocError> {
+    let copy = journal.copy()?;
+    Ok(match copy.as_slice() {
+        [_, last] => last.at == 1 && last.line == 8 && last.reply == Reply::Finished { done: true },
+        _ => false,
+    })
+}
+
 #[test]
-fn lists_keep_what_they_take(rt: HostRuntime) -> Result<(), Fail> {
-    let claim = Request::Claim {
+fn jobs_keep_what_they_take(rt: HostRuntime) -> Result<(), Fail> {
+    let mut jobs = Jobs::new(rt.alloc());
+    add_a_claim(&mut jobs)?;
+    assert!(rt; copies_the_claim(&jobs)?);
+    Ok(())
+}
+
+fn add_a_claim(jobs: &mut Jobs) -> Result<(), Fail> {
+    jobs.add(&Job {
+        lane: 0,
+        line: 5,
+        ask: Ask::Request(claim()?),
+    })?;
+    Ok(())
+}
+
+fn claim() -> Result<Request, Fail> {
+    Ok(Request::Claim {
         case: CaseId(3),
         step: read("prepare")?,
         user: read("ann")?,
-    };
-    let mut jobs = Jobs::new(rt.alloc());
-    jobs.push(Job {
-        lane: 0,
-        line: 5,
-        ask: Ask::Request(claim),
-    })?;
+    })
+}
+
+fn copies_the_claim(jobs: &Jobs) -> Result<bool, Fail> {
+    let copy = jobs.copy()?;
+    let claim = claim()?;
+    Ok(matches!(copy.as_slice(), [job] if job.line == 5 && job.ask == Ask::Request(claim)))
+}
+
+#[test]
+fn ends_and_lines_keep_what_they_take(rt: HostRuntime) -> Result<(), Fail> {
     let mut ends = Ends::new(rt.alloc());
     ends.push(1)?;
     let mut line = Line::new(rt.alloc());
     line.push(b'a')?;
-    let same = matches!(jobs.copy()?.as_slice(), [job] if job.ask == Ask::Request(claim));
-    assert_eq!(rt;
-        (
-            same,
-            ends.copy()?.as_slice() == [1].as_slice(),
-            line.copy()?.len()
-        ),
-        (true, true, 1)
-    );
+    assert!(rt; ends.copy()?.as_slice() == [1].as_slice());
+    assert!(rt; line.copy()?.as_bytes() == b"a".as_slice());
     Ok(())
 }
 
@@ -59,10 +82,8 @@ fn lists_keep_what_they_take(rt: HostRuntime) -> Result<(), Fail> {
 fn plans_of_requests_are_told_apart(rt: HostRuntime) -> Result<(), Fail> {
     let (ann, cyd) = (read("ann")?, read("cyd")?);
     let plan = UserNames::of(&[ann, cyd]);
-    let same = plan == UserNames::of(&[ann, cyd]);
-    let shorter = plan == UserNames::of(&[ann]);
-    let other = plan == UserNames::of(&[cyd, ann]);
-    assert_eq!(rt; (plan.len(), same, shorter, other), (2, true, false, false));
+    assert!(rt; plan.len() == 2 && plan == UserNames::of(&[ann, cyd]));
+    assert!(rt; plan != UserNames::of(&[ann]) && plan != UserNames::of(&[cyd, ann]));
     Ok(())
 }
 

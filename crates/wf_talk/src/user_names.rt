@@ -17,17 +17,19 @@ pub struct UserNames {
 
 impl Model for UserNames {
     ghost use Rattle.std.specs.Prelude.{ℕ, List, length, take};
-    ghost use Rattle.wf_talk.specs.UserNames.{padded, IsKept, padded-take, length-taken};
+    ghost use Rattle.wf_names.specs.declared.limits.TheConstants.{STEP_LIMIT};
+    ghost use Rattle.wf_talk.specs.UserNames.{filler};
+    ghost use Rattle.wf_names.specs.Padded.{padded, IsPadded, padded-take, length-taken};
 
     ghost Value = { List (List ℕ) };
 
     ghost view = { λ n. take n.len n.names };
 
-    ghost invariant = { λ n. IsKept n.names n.len };
+    ghost invariant = { λ n. IsPadded STEP_LIMIT filler n.names n.len };
 
-    ghost inverse = { λ names. record { names = padded names; len = length names } };
+    ghost inverse = { λ names. record { names = padded STEP_LIMIT filler names; len = length names } };
 
-    ghost inverse_ok = { λ n h i. record { names = padded-take n.names n.len h i; len = length-taken n.names n.len h i } };
+    ghost inverse_ok = { λ n h i. record { names = padded-take STEP_LIMIT filler n.names n.len h i; len = length-taken STEP_LIMIT filler n.names n.len h i } };
 }
 
 impl UserNames {

@@ -188,7 +188,7 @@ fn end_job_line(cut: &mut Cutter, ask: Ask) -> Result<(), AllocError>
     ensures unchanged { OnErr result (cut.new ≡ cut.old) }
 {
     let count = cut.jobs.len();
-    cut.jobs.push(Job {
+    cut.jobs.add(&Job {
         lane: 0,
         line: cut.number,
         ask,
@@ -253,7 +253,7 @@ fn add_job(cut: &mut Cutter, ask: Ask) -> Result<(), AllocError>
     ensures added { OnOk result (cut.new ≡ record cut.old { jobs = cut.old.jobs ++ record { lane = 0; line = cut.old.number; ask = ask } ∷ [] }) }
     ensures unchanged { OnErr result (cut.new ≡ cut.old) }
 {
-    cut.jobs.push(Job {
+    cut.jobs.add(&Job {
         lane: 0,
         line: cut.number,
         ask,

@@ -21,7 +21,7 @@ pub fn write_entry(alloc: Global, p: &Policy, e: &Entry) -> Result<Line, AllocEr
     let value = entry_value(alloc, p, e)?;
     let mut text = value.to_string(alloc)?;
     text.push('\n')?;
-    Ok(Line::from_bytes(text.into_bytes()))
+    Ok(Line::from_vec(text.into_bytes()))
 }
 
 fn entry_value(alloc: Global, p: &Policy, e: &Entry) -> Result<Value, AllocError>

@@ -7,7 +7,7 @@ use Rattle.wf_names.specs.declared.limits.TheConstants.{ROLE_LIMIT, STEP_LIMIT}
 use Rattle.workflow_schema.specs.Tables.{table_has, leads}
 use Rattle.workflow_schema.specs.Flows.{Precedes, is_before, is_count, IsLeastCycle}
 use Rattle.workflow_schema.specs.Stored.{IsStored}
-use Rattle.workflow_schema.proofs.Booleans.{or_cases, and_both, and_from, eq_back, lt_back, lt_back_no, lt_yes, le_yes}
+use Rattle.basics.proofs.Booleans.{or_cases, and_both, and_from, eq_back, lt_back, lt_back_no, lt_yes, le_yes}
 use Rattle.workflow_schema.proofs.Chains.{before_is_chain, chain_is_before}
 use Rattle.workflow_schema.proofs.PairLists.{contains-one_more}
 use Rattle.workflow_schema.proofs.Permits.{pairs_of-has}

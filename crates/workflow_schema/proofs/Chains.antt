@@ -6,7 +6,7 @@ use Rattle.pair_set.specs.Pairs.{Pairs}
 use Rattle.wf_names.specs.declared.limits.TheConstants.{STEP_LIMIT}
 use Rattle.workflow_schema.specs.Tables.{leads}
 use Rattle.workflow_schema.specs.Flows.{Precedes, next, through, is_before}
-use Rattle.workflow_schema.proofs.Booleans.{or_cases, or_left, or_right, and_both, and_from}
+use Rattle.basics.proofs.Booleans.{or_cases, or_left, or_right, and_both, and_from}
 
 pub leads_pair : (near : ℕ → ℕ → Bool) (n a b : ℕ) → near a b ≡ true → leads n near a b ≡ true
 unfolding leads

@@ -7,7 +7,7 @@ use Rattle.wf_names.specs.declared.limits.TheConstants.{ROLE_LIMIT, STEP_LIMIT}
 use Rattle.workflow_schema.specs.Tables.{table_has}
 use Rattle.workflow_schema.specs.Flows.{FlowShape, Precedes, is_before, is_count, IsFlow}
 use Rattle.workflow_schema.specs.Stored.{IsStored}
-use Rattle.workflow_schema.proofs.Booleans.{or_cases, and_both, eq_back, le_back}
+use Rattle.basics.proofs.Booleans.{or_cases, and_both, eq_back, le_back}
 use Rattle.workflow_schema.proofs.Chains.{before_is_chain, chain_is_before}
 use Rattle.workflow_schema.proofs.Permits.{pairs_of-has}
 

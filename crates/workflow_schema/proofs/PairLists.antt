@@ -11,7 +11,7 @@ use Rattle.workflow_schema.proofs.Words.{is_set-zero}
 use Rattle.pair_set.specs.Pairs.{Pairs, pair_cmp}
 use Rattle.pair_set.specs.PairLaws.{pair_cmp_total}
 use Rattle.workflow_schema.specs.Flows.{has_twice}
-use Rattle.workflow_schema.proofs.Booleans.{or_left, or_right}
+use Rattle.basics.proofs.Booleans.{or_left, or_right}
 
 -- the set of the pairs from a place on
 abbrev pub set_from : List (ℕ × ℕ) → ℕ → Pairs

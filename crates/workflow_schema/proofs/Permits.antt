@@ -8,7 +8,7 @@ use Rattle.pair_set.specs.Pairs.{Pairs, pair_cmp}
 use Rattle.pair_set.specs.PairLaws.{pair_cmp_total, pair_cmp-IsAntisymmetric}
 use Rattle.workflow_schema.specs.declared.table.TheConstants.{WORD_BITS}
 use Rattle.workflow_schema.specs.Tables.{is_set, table_has, row_pairs, table_pairs, pairs_of}
-use Rattle.workflow_schema.proofs.Booleans.{or-false, and-false, and_swap, eq_same, eq_other, lt_yes, lt_no}
+use Rattle.basics.proofs.Booleans.{or-false, and-false, and_swap, eq_same, eq_other, lt_yes, lt_no}
 use Rattle.workflow_schema.proofs.Words.{is_set-zero, is_set-cut}
 use Rattle.workflow_schema.proofs.PairLists.{eq_pair, contains-one_more}
 

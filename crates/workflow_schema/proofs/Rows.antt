@@ -4,7 +4,7 @@ use Rattle.std.proofs.Math.Nat.{le_trans}
 use Rattle.std.proofs.lemmas.List.{get_or_past}
 use Rattle.std.proofs.lemmas.Bool.{cases_eq}
 use Rattle.workflow_schema.specs.Tables.{is_set, table_has, leads}
-use Rattle.workflow_schema.proofs.Booleans.{or-false, eq_same, eq_other, lt_yes, lt_no, lt_back, lt_back_no}
+use Rattle.basics.proofs.Booleans.{or-false, eq_same, eq_other, lt_yes, lt_no, lt_back, lt_back_no}
 use Rattle.workflow_schema.proofs.Words.{is_set-zero}
 
 pub table_past : (rows : List ℕ) (a b : ℕ) → length rows ≤ a → table_has rows a b ≡ false

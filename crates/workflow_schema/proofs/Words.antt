@@ -5,7 +5,7 @@ use Rattle.std.proofs.lemmas.Nat.Bits.{bit_at-lt, bit_at_or, bit_at-zero, shr_an
 use Rattle.std.proofs.lemmas.Bool.{cases_eq}
 use Rattle.workflow_schema.specs.declared.table.TheConstants.{WORD_BITS}
 use Rattle.workflow_schema.specs.Tables.{is_set}
-use Rattle.workflow_schema.proofs.Booleans.{and_or, and_same, and-false, twice_and, eq_same, eq_other, lt_yes, lt_no, lt_back}
+use Rattle.basics.proofs.Booleans.{and_or, and_same, and-false, twice_and, eq_same, eq_other, lt_yes, lt_no, lt_back}
 use mir.Val.{bits}
 
 or_test : (x y : ℕ) → x < 2 → y < 2 → nat_eq (max x y) 1 ≡ (nat_eq x 1 || nat_eq y 1)

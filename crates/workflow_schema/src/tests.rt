@@ -1,11 +1,23 @@
 //! The closure beside a plain program over all graphs of four steps, and each call once.
-ghost use Rattle.std.specs.Prelude.{◌≡◌, ◌<◌, length, IfOk};
+ghost use Rattle.std.specs.Prelude.{◌≡◌, ◌<◌, length, IfOk, OnOk};
 ghost use Rattle.std.specs.List.{All};
+ghost use Rattle.wf_names.specs.declared.limits.TheConstants.{ROLE_LIMIT};
 
 use crate::{Flow, FlowFault};
 use std::alloc::{AllocError, Global};
+use std::process::Abort;
 use std::test::Fail;
 use wf_names::{Name, NameTable, RoleId, StepId};
+
+const A: StepId = StepId(0);
+
+const B: StepId = StepId(1);
+
+const C: StepId = StepId(2);
+
+const BOSS: RoleId = RoleId(0);
+
+const CLERK: RoleId = RoleId(63);
 
 // The edges from a step to itself.
 const LOOPS: u16 = 0x8421;
@@ -13,33 +25,56 @@ const LOOPS: u16 = 0x8421;
 #[test]
 fn closures_are_those_of_a_plain_program(rt: HostRuntime) -> Result<(), Fail> {
     let names = four_names(rt.alloc())?;
-    assert_eq!(rt; names.len(), 4);
+    // There are 543 acyclic graphs of four numbered nodes.
+    assert!(rt; compared(rt.alloc(), &names)? == (0, 543));
+    Ok(())
+}
+
+// In how many graphs the two differ, and how many are acyclic.
+fn compared(alloc: Global, names: &NameTable) -> Result<(u32, u32), AllocError>
+    requires { length names.now.names ≡ 4 }
+{
     let (mut wrong, mut acyclic) = (0u32, 0u32);
     for graph in 0..=u16::MAX {
         if graph & LOOPS != 0 {
             continue;
         }
-        let (walks, cycle) = told_of(rt.alloc(), &names, graph)?;
-        let plain = closed(graph);
-        if cycle != least_cycle(plain) || cycle.is_none() && walks != plain {
+        let (walks, cycle) = told_of(alloc, names, graph)?;
+        if !is_told_rightly(graph, walks, cycle) {
             wrong = wrong.wrapping_add(1);
         }
         if cycle.is_none() {
             acyclic = acyclic.wrapping_add(1);
         }
     }
-    // There are 543 acyclic graphs of four numbered nodes.
-    assert_eq!(rt; (wrong, acyclic), (0, 543));
-    Ok(())
+    Ok((wrong, acyclic))
 }
 
-fn four_names(alloc: Global) -> Result<NameTable, Fail> {
+// Whether the walks or the cycle of a graph are those that the plain program finds.
+fn is_told_rightly(graph: u16, walks: u16, cycle: Option<u8>) -> bool {
+    let plain = closed(graph);
+    cycle == least_cycle(plain) && (cycle.is_some() || walks == plain)
+}
+
+fn four_names(alloc: Global) -> Result<NameTable, Fail>
+    ensures { IfOk result (λ names. length names.names ≡ 4) }
+{
     let mut names = NameTable::new(alloc, 4)?;
+    add_four(&mut names)?;
+    Ok(names)
+}
+
+fn add_four(names: &mut NameTable) -> Result<(), Fail>
+    ensures { OnOk result (length names.new.names ≡ 4) }
+{
     for text in ["a", "b", "c", "d"] {
         let name = Name::read(text).ok_or("not a name")?;
         names.add(name).ok().ok_or("not added")?;
     }
-    Ok(names)
+    if names.len() != 4 {
+        Err::<(), &str>("not four names")?;
+    }
+    Ok(())
 }
 
 // The walks that a graph's workflow tells, or its cycle.
@@ -47,7 +82,18 @@ fn told_of(alloc: Global, names: &NameTable, graph: u16) -> Result<(u16, Option<
     requires { length names.now.names ≡ 4 }
 {
     let order = pairs_of(alloc, graph)?;
-    match Flow::build(alloc, names.copy()?, &order, &[]) {
+    told_of_order(alloc, names, &order)
+}
+
+fn told_of_order(
+    alloc: Global,
+    names: &NameTable,
+    order: &[(StepId, StepId)],
+) -> Result<(u16, Option<u8>), AllocError>
+    requires names { length names.now.names ≡ 4 }
+    requires order { All (λ p. (p.0 < 4) × (p.1 < 4)) order.now }
+{
+    match Flow::build(alloc, names.copy()?, order, &[]) {
         Ok(flow) => Ok((told_before(&flow), None)),
         Err(fault) => Ok((0, Some(step_of(fault)))),
     }
@@ -129,78 +175,69 @@ fn least_cycle(walks: u16) -> Option<u8> {
 
 #[test]
 fn a_workflow_answers_its_calls(rt: HostRuntime) -> Result<(), Fail> {
-    let names = four_names(rt.alloc())?;
-    assert_eq!(rt; names.len(), 4);
-    let (a, b, c) = (StepId(0), StepId(1), StepId(2));
-    let (boss, clerk) = (RoleId(0), RoleId(63));
-    let made = Flow::build(rt.alloc(), names.copy()?, &[(a, b), (b, c)], &[(clerk, a)]);
-    let mut flow = made.ok().ok_or("refused")?;
-    let len = flow.steps().len();
-    assert_eq!(rt; len, 4);
-    let changes = [
-        flow.permit(clerk, a),
-        flow.permit(boss, a),
-        flow.forbid(clerk, a),
-        flow.forbid(clerk, a),
-    ];
-    let copy = flow.copy()?;
-    let permitted = (
-        copy.permits(boss, a),
-        copy.permits(clerk, a),
-        copy.permits(boss, b),
-    );
-    let order = (
-        copy.ordered(a, b),
-        copy.ordered(a, c),
-        copy.before(a, c),
-        copy.before(c, a),
-    );
-    assert_eq!(rt;
-        (changes, permitted, order),
-        (
-            [false, true, true, false],
-            (true, false, false),
-            (true, false, true, false)
-        )
-    );
+    let mut flow = chain(rt.alloc())?;
+    change_permissions(&rt, &mut flow);
+    assert!(rt; copies_rightly(&flow)?);
     Ok(())
+}
+
+// Steps a, b, c in this order, and d beside them; the clerk may do a.
+fn chain(alloc: Global) -> Result<Flow, Fail>
+    ensures { IfOk result (λ f. length f.steps ≡ 4) }
+{
+    let names = four_names(alloc)?;
+    let made = Flow::build(alloc, names, &[(A, B), (B, C)], &[(CLERK, A)]);
+    Ok(made.ok().ok_or("refused")?)
+}
+
+fn change_permissions(rt: &impl Abort, flow: &mut Flow)
+    requires { length flow.old.steps ≡ 4 }
+{
+    assert!(rt; !flow.permit(CLERK, A));
+    assert!(rt; flow.permit(BOSS, A));
+    assert!(rt; flow.forbid(CLERK, A));
+    assert!(rt; !flow.forbid(CLERK, A));
+}
+
+fn copies_rightly(flow: &Flow) -> Result<bool, AllocError> {
+    let copy = flow.copy()?;
+    Ok(permits_rightly(&copy) && is_ordered_rightly(&copy))
+}
+
+fn permits_rightly(flow: &Flow) -> bool {
+    flow.permits(BOSS, A) && !flow.permits(CLERK, A) && !flow.permits(BOSS, B)
+}
+
+fn is_ordered_rightly(flow: &Flow) -> bool {
+    flow.ordered(A, B) && !flow.ordered(A, C) && flow.before(A, C) && !flow.before(C, A)
 }
 
 #[test]
 fn faulty_lists_are_refused(rt: HostRuntime) -> Result<(), Fail> {
     let names = four_names(rt.alloc())?;
-    assert_eq!(rt; names.len(), 4);
-    let (a, b) = (StepId(0), StepId(1));
-    let role = RoleId(1);
-    let none = NameTable::new(rt.alloc(), 4)?;
-    let faults = (
-        Flow::build(rt.alloc(), none, &[], &[]).err(),
-        Flow::build(rt.alloc(), names.copy()?, &[(a, b), (b, a), (a, b)], &[]).err(),
-        Flow::build(
-            rt.alloc(),
-            names.copy()?,
-            &[(a, a)],
-            &[(role, b), (role, b)],
-        )
-        .err(),
-    );
-    assert_eq!(rt;
-        faults,
-        (
-            Some(FlowFault::TooMany),
-            Some(FlowFault::Twice),
-            Some(FlowFault::Twice),
-        )
-    );
+    let twice = fault_of(rt.alloc(), &names, &[(A, B), (B, A), (A, B)], &[])?;
+    let twice_permitted = fault_of(rt.alloc(), &names, &[(A, A)], &[(BOSS, B), (BOSS, B)])?;
+    let cycle = fault_of(rt.alloc(), &names, &[(C, B), (B, C)], &[])?;
+    assert!(rt; twice == Some(FlowFault::Twice) && twice_permitted == Some(FlowFault::Twice));
+    assert!(rt; cycle == Some(FlowFault::Cycle(B)));
     Ok(())
 }
 
 #[test]
-fn the_least_step_of_a_cycle_is_named(rt: HostRuntime) -> Result<(), Fail> {
-    let names = four_names(rt.alloc())?;
-    assert_eq!(rt; names.len(), 4);
-    let order = [(StepId(2), StepId(1)), (StepId(1), StepId(2))];
-    let fault = Flow::build(rt.alloc(), names, &order, &[]).err();
-    assert_eq!(rt; fault, Some(FlowFault::Cycle(StepId(1))));
+fn no_steps_are_too_few(rt: HostRuntime) -> Result<(), Fail> {
+    let none = NameTable::new(rt.alloc(), 4)?;
+    assert!(rt; fault_of(rt.alloc(), &none, &[], &[])? == Some(FlowFault::TooMany));
     Ok(())
+}
+
+fn fault_of(
+    alloc: Global,
+    names: &NameTable,
+    order: &[(StepId, StepId)],
+    permits: &[(RoleId, StepId)],
+) -> Result<Option<FlowFault>, AllocError>
+    requires order { All (λ p. (p.0 < length names.now.names) × (p.1 < length names.now.names)) order.now }
+    requires permits { All (λ p. (p.0 < ROLE_LIMIT) × (p.1 < length names.now.names)) permits.now }
+{
+    Ok(Flow::build(alloc, names.copy()?, order, permits).err())
 }

@@ -1,6 +1,6 @@
 use Rattle.std.proofs.Common.{◌-◌, ◌||◌, nat_eq, refl, sym, ◌∙◌, arith}
 use Rattle.wf_names.specs.declared.limits.TheConstants.{STEP_LIMIT}
-use Rattle.workflow_schema.proofs.Booleans.{and_swap}
+use Rattle.basics.proofs.Booleans.{and_swap}
 use Rattle.workflow_schema.proofs.PairLists.{flags_start, twice_start, found_twice, not_twice, with_pair}
 use Rattle.workflow_schema.proofs.lists.permit_table.Goals as goal
 

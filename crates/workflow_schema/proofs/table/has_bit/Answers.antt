@@ -1,6 +1,6 @@
 use Rattle.std.proofs.Common.{sym, ◌∙◌}
 use Rattle.workflow_schema.specs.declared.table.TheConstants.{WORD_BITS}
-use Rattle.workflow_schema.proofs.Booleans.{lt_no}
+use Rattle.basics.proofs.Booleans.{lt_no}
 use Rattle.workflow_schema.proofs.Words.{is_set-tested, is_set-past}
 use Rattle.workflow_schema.proofs.table.has_bit.Goals as goal
 

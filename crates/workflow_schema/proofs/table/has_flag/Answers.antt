@@ -1,5 +1,5 @@
 use Rattle.std.proofs.Common.{sym, ◌∙◌, length}
-use Rattle.workflow_schema.proofs.Booleans.{lt_no}
+use Rattle.basics.proofs.Booleans.{lt_no}
 use Rattle.workflow_schema.proofs.Rows.{table_past}
 use Rattle.workflow_schema.proofs.table.has_flag.Goals as goal
 

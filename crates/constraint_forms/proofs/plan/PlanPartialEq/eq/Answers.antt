@@ -1,6 +1,6 @@
 use Rattle.std.specs.Prelude.{nat_eq}
 use Rattle.std.specs.Cmp.Lexicographic.{pointwise}
-use Rattle.constraint_forms.proofs.Kept.{same_plans}
+use Rattle.constraint_forms.proofs.SamePlans.{same_plans}
 use Rattle.constraint_forms.proofs.plan.PlanPartialEq.eq.Goals as goal
 
 pub returns : goal.returns

@@ -3,7 +3,7 @@ use Rattle.pair_set.specs.Pairs.{Pairs}
 use Rattle.pair_set.specs.PairLaws.{pair_cmp_total, pair_cmp-IsAntisymmetric, insert_held}
 use Rattle.workflow_schema.specs.Tables.{pairs_of}
 use Rattle.workflow_schema.specs.Flows.{FlowShape}
-use Rattle.workflow_schema.proofs.Booleans.{not_false}
+use Rattle.basics.proofs.Booleans.{not_false}
 use Rattle.workflow_schema.proofs.Permits.{pairs_of-has, pairs_of-with}
 use Rattle.workflow_schema.proofs.Kept.{keeps_permitted}
 use Rattle.workflow_schema.proofs.flow.Flow.permit.Goals as goal

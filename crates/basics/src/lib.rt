@@ -1,0 +1,11 @@
+//! What several crates share and none owns: lists that contracts see as lists. Beside them,
+//! proofs/ has facts of Booleans and numbers.
+#![tactic(auto)]
+
+mod list;
+mod log;
+#[cfg(test)]
+mod tests;
+
+pub use list::List;
+pub use log::Log;

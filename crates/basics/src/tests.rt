@@ -1,0 +1,36 @@
+//! What no clause shows: that the lists take what they are given while there is memory.
+
+use crate::{List, Log};
+use std::test::Fail;
+
+#[test]
+fn a_list_keeps_what_it_takes(rt: HostRuntime) -> Result<(), Fail> {
+    let mut list = List::new(rt.alloc());
+    list.push(3)?;
+    list.add(&5)?;
+    list.push(8)?;
+    list.truncate(2);
+    let copy = list.copy()?;
+    assert!(rt; copy.as_slice() == [3u32, 5].as_slice());
+    assert!(rt; (copy.len(), *copy.get(1)) == (2, 5));
+    Ok(())
+}
+
+#[test]
+fn a_log_with_room_takes_its_entries(rt: HostRuntime) -> Result<(), Fail> {
+    let mut log = Log::new(rt.alloc());
+    log.reserve(2)?;
+    log.push(3)?;
+    log.add(&5)?;
+    let copy = log.copy()?;
+    assert!(rt; copy.as_slice() == [3u32, 5].as_slice());
+    assert!(rt; (copy.len(), *copy.get(1)) == (2, 5));
+    Ok(())
+}
+
+#[test]
+fn a_list_of_given_values_has_them(rt: HostRuntime) -> Result<(), Fail> {
+    let list = List::from_vec(vec![in rt.alloc(); 7u8, 9]?);
+    assert!(rt; list.as_bytes() == [7, 9].as_slice());
+    Ok(())
+}

@@ -1,0 +1,65 @@
+//! Runs each row of a file over a source, a sink and a shelf in memory, and says which do not hold.
+#![tactic(auto)]
+
+mod outside;
+mod row;
+
+use crate::outside::{shelf_of, sink_of, source_of};
+use crate::row::{Row, Rows};
+use std::alloc::{AllocError, Global};
+use std::fs;
+use wf_outside::{MemShelf, MemSink, MemSource};
+use wf_server::{Report, run_alone};
+
+fn main(rt: HostRuntime) -> anyhow::Result<()> {
+    let text = fs::read_to_string(&rt, "rows.toml")?;
+    let rows = toml::from_str::<Rows>(rt.alloc(), text.as_str())?;
+    let mut holding = 0u32;
+    for row in &rows.row {
+        if holds(rt.alloc(), &rows, row)? {
+            holding = holding.saturating_add(1);
+        } else {
+            println!(rt; "does not hold: {}", row.name.as_str())?;
+        }
+    }
+    println!(rt; "{holding} rows hold")?;
+    Ok(())
+}
+
+// Whether a row's command ends as the row says.
+fn holds(alloc: Global, rows: &Rows, row: &Row) -> Result<bool, AllocError> {
+    let mut shelf = shelf_of(alloc, rows, row)?;
+    let mut source = source_of(alloc, row)?;
+    holds_over(alloc, row, &mut shelf, &mut source)
+}
+
+fn holds_over(
+    alloc: Global,
+    row: &Row,
+    shelf: &mut MemShelf,
+    source: &mut MemSource,
+) -> Result<bool, AllocError> {
+    let mut sink = sink_of(alloc, row)?;
+    let ended = ends_rightly(alloc, row, shelf, source, &mut sink)?;
+    Ok(ended && sink.bytes() == row.output.as_bytes())
+}
+
+// Whether the status is the row's, and the text of the fault where the row has one.
+fn ends_rightly(
+    alloc: Global,
+    row: &Row,
+    shelf: &mut MemShelf,
+    source: &mut MemSource,
+    sink: &mut MemSink,
+) -> Result<bool, AllocError> {
+    let report = run_alone(alloc, &row.words, shelf, source, sink);
+    Ok(report.status == row.status && tells(alloc, &report, row)?)
+}
+
+fn tells(alloc: Global, report: &Report, row: &Row) -> Result<bool, AllocError> {
+    if row.fault.is_empty() {
+        return Ok(true);
+    }
+    let text = format!(in alloc; "{}", report.fault)?;
+    Ok(text.as_str() == row.fault.as_str())
+}

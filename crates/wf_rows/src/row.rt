@@ -1,0 +1,48 @@
+//! What a row says.
+use serde::Deserialize;
+
+/// The file of rows: policies by name, and the rows over them.
+#[derive(Drop, Deserialize)]
+pub struct Rows {
+    pub policy: Vec<File>,
+    pub row: Vec<Row>,
+}
+
+/// A policy file.
+#[derive(Drop, Deserialize)]
+pub struct File {
+    pub name: String,
+    pub text: String,
+}
+
+/// A command with its input, and what must come of it. The row's own policy stands under the name
+/// `here`: the texts that `after` names, and then its own.
+#[derive(Drop, Deserialize)]
+pub struct Row {
+    pub name: String,
+    pub words: Vec<String>,
+    #[serde(default)]
+    pub after: Vec<String>,
+    #[serde(default)]
+    pub here: String,
+    #[serde(default)]
+    pub input: String,
+    pub status: u8,
+    #[serde(default)]
+    pub output: String,
+    #[serde(default)]
+    pub fault: String,
+    #[serde(default)]
+    pub outside: Option<Outside>,
+}
+
+/// How many bytes the source gives and the sink takes at once, how many the sink takes in all, and
+/// the numbers, from 0, of the calls that fail.
+#[derive(Drop, Deserialize)]
+pub struct Outside {
+    pub piece: usize,
+    pub failing_takes: Vec<u64>,
+    pub most: usize,
+    pub room: usize,
+    pub failing_puts: Vec<u64>,
+}

@@ -1,0 +1,15 @@
+//! The lists of what is asked and answered.
+use crate::{Entry, Job};
+use basics::{List, Log};
+
+/// Jobs in the order of their lines.
+pub type Jobs = List<Job>;
+
+/// For each batch that has a job, the count of jobs up to its end.
+pub type Ends = List<u32>;
+
+/// The bytes of a line.
+pub type Line = List<u8>;
+
+/// The journal: what was asked and answered, in order.
+pub type Journal = Log<Entry>;
