@@ -79,11 +79,9 @@ fn read_laws(
     relations: &mut Vec<Relation>,
 ) -> Result<Vec<Law>, AllocError> {
     let mut laws = Vec::new(alloc);
-    for k in 0..rules.len() {
-        if let Some(rule) = rules.get(k) {
-            let law = read_law(alloc, p, rule, width, relations)?;
-            laws.push(law)?;
-        }
+    for rule in rules.as_slice().iter() {
+        let law = read_law(alloc, p, *rule, width, relations)?;
+        laws.push(law)?;
     }
     Ok(laws)
 }
