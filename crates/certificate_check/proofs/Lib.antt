@@ -1,4 +1,5 @@
 pub mod Assigned
+pub mod Dropped
 pub mod Failing
 pub mod Refuted
 pub mod Trees

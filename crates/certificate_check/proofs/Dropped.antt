@@ -1,0 +1,85 @@
+-- A tree that does not mention an assigned step refutes without it too.
+use Rattle.std.proofs.Common.{◌≡◌, ◌≢◌, refl, sym, ap, ◌∙◌, ℕ, ◌<◌, ◌≤◌, Bool, true, false, not, arith, ◌&&◌, ◌||◌, ◌==◌, List, [], ◌∷◌, length, Option, None, Some, is_some, slice_get, slice_set, eqb, leb, nat_lt, ◌⊎◌, inl, inr}
+use Rattle.std.proofs.lemmas.Bool.{false≢true, and_from}
+use Rattle.std.proofs.lemmas.Bool.Decides.{eqb_tells, leb_tells, nat_tests}
+use Rattle.std.proofs.lemmas.List.{length-set}
+use Rattle.constraint_forms.specs.declared.rule.Rule.{Rule}
+use Rattle.constraint_forms.specs.Assigned.{user_at}
+use Rattle.constraint_forms.specs.Rules.{names}
+use Rattle.constraint_forms.proofs.RuleLaws.{falsified_by_named}
+use Rattle.refutation_tree.specs.Shapes.{Shape, Kids, holder, rule, node, no_kids, tree_kid}
+use Rattle.policy_book.specs.Plans.{Problem}
+use Rattle.policy_book.specs.Refuting.{refutes, all_refute, have_users, candidates, is_misheld, is_broken, is_free, is_rule_naming, mentions, any_mentions}
+use Rattle.certificate_check.specs.Laws.{UnmentionedStepDrops}
+use Rattle.certificate_check.proofs.Assigned.{and_parts, not_some, none_not_some, given_other, given_same, given_past}
+
+-- two assignments are the same but that the first gives a step to a user, and the second to nobody
+record IsWithout (a b : List (Option ℕ)) (s u : ℕ) : Type 0 where
+  long : length a ≡ length b
+  here : user_at a s ≡ Some u
+  gone : user_at b s ≡ None
+  others : (t : ℕ) → t ≢ s → user_at a t ≡ user_at b t
+
+-- what is given to another step in both makes no difference
+without_given : (a b : List (Option ℕ)) (s u t v : ℕ) → IsWithout a b s u → t ≢ s → IsWithout (slice_set a t (Some v)) (slice_set b t (Some v)) s u
+without_given a b s u t v w apart = record {
+  long = length-set a t (Some v) ∙ w.long ∙ sym (length-set b t (Some v));
+  here = given_other a t v s (λ same. apart (sym same)) ∙ w.here;
+  gone = given_other b t v s (λ same. apart (sym same)) ∙ w.gone;
+  others = λ x far. at x far (eqb_tells x t);
+}
+  where
+    within : (x : ℕ) → x ≢ s → x ≡ t → ((leb (length a) t ≡ true) × (length a ≤ t)) ⊎ ((leb (length a) t ≡ false) × (t < length a)) → user_at (slice_set a t (Some v)) x ≡ user_at (slice_set b t (Some v)) x
+    within x far same (inl past) = given_past a t v x past.1 ∙ w.others x far ∙ sym (given_past b t v x (omega (arith, past.1, w.long)))
+    within x far same (inr below) =
+        ap (user_at (slice_set a t (Some v))) same ∙ given_same a t v below.1 ∙ sym (given_same b t v (omega (arith, below.1, w.long))) ∙ sym (ap (user_at (slice_set b t (Some v))) same)
+
+    at : (x : ℕ) → x ≢ s → ((eqb x t ≡ true) × (x ≡ t)) ⊎ ((eqb x t ≡ false) × (x ≢ t)) → user_at (slice_set a t (Some v)) x ≡ user_at (slice_set b t (Some v)) x
+    at x far (inl same) = within x far same.1 (leb_tells (length a) t)
+    at x far (inr other) = given_other a t v x other.1 ∙ w.others x far ∙ sym (given_other b t v x other.1)
+
+or_parts : (b c : Bool) → (b || c) ≡ false → (b ≡ false) × (c ≡ false)
+or_parts true c h = absurd (false≢true (sym h))
+or_parts false c h = (refl, h)
+
+-- a rule that does not name the step is falsified by both or by none
+broken_without : (p : Problem) (a b : List (Option ℕ)) (s u : ℕ) → IsWithout a b s u → (o : Option Rule) → is_rule_naming s o ≡ false → is_broken p b o ≡ is_broken p a o
+broken_without p a b s u w None h = refl
+broken_without p a b s u w (Some r) h =
+    falsified_by_named p.related r (user_at b) (user_at a) (λ t named. sym (w.others t (λ same. false≢true (sym h ∙ ap (names r) (sym same) ∙ named))))
+
+mutual
+  dropped : (p : Problem) (a b : List (Option ℕ)) (finished : List Bool) (s u : ℕ) → IsWithout a b s u → (tree : Shape) → mentions p.rules s tree ≡ false → refutes p a finished tree ≡ true → refutes p b finished tree ≡ true
+  dropped p a b finished s u w (holder k) silent h =
+      let apart : k ≢ s = λ same. false≢true (sym silent ∙ here k same) in
+      ap (λ o. nat_lt k p.steps && is_misheld p finished k o) (sym (w.others k apart)) ∙ h
+    where
+      here : (k : ℕ) → k ≡ s → (s == k) ≡ true
+      here k same = grind (arith, nat_tests)
+  dropped p a b finished s u w (rule k) silent h = broken_without p a b s u w (slice_get p.rules k) silent ∙ h
+  dropped p a b finished s u w (node k kids) silent h =
+      let both = and_parts (is_free p a k) (have_users (candidates p k) kids && all_refute p a finished k [] kids) h in
+      let rest = and_parts (have_users (candidates p k) kids) (all_refute p a finished k [] kids) both.1 in
+      let step = and_parts (nat_lt k p.steps) (not (is_some (user_at a k))) both.0 in
+      let apart : k ≢ s = λ same. none_not_some u (sym (not_some (user_at a k) step.1) ∙ ap (user_at a) same ∙ w.here) in
+      let free : is_free p b k ≡ true = ap (λ o. nat_lt k p.steps && not (is_some o)) (sym (w.others k apart)) ∙ both.0 in
+      and_from (is_free p b k) (have_users (candidates p k) kids && all_refute p b finished k [] kids) free
+      (and_from (have_users (candidates p k) kids) (all_refute p b finished k [] kids) rest.0 (kids_dropped p a b finished s u w k apart [] kids silent rest.1))
+
+  kids_dropped : (p : Problem) (a b : List (Option ℕ)) (finished : List Bool) (s u : ℕ) → IsWithout a b s u → (k : ℕ) → k ≢ s → (earlier : List ℕ) (kids : Kids) → any_mentions p.rules s kids ≡ false → all_refute p a finished k earlier kids ≡ true → all_refute p b finished k earlier kids ≡ true
+  kids_dropped p a b finished s u w k apart earlier no_kids silent h = refl
+  kids_dropped p a b finished s u w k apart earlier (tree_kid v t kids) silent h =
+      let quiet = or_parts (mentions p.rules s t) (any_mentions p.rules s kids) silent in
+      let both = and_parts (refutes p (slice_set a k (Some v)) finished t) (all_refute p a finished k (v ∷ earlier) kids) h in
+      and_from (refutes p (slice_set b k (Some v)) finished t) (all_refute p b finished k (v ∷ earlier) kids)
+      (dropped p (slice_set a k (Some v)) (slice_set b k (Some v)) finished s u (without_given a b s u k v w apart) t quiet.0 both.0)
+      (kids_dropped p a b finished s u w k apart (v ∷ earlier) kids quiet.1 both.1)
+
+pub unmentioned_step_drops : UnmentionedStepDrops
+unmentioned_step_drops p assigned finished s u tree below free silent h =
+    dropped p (slice_set assigned s (Some u)) assigned finished s u (record {
+      long = length-set assigned s (Some u);
+      here = given_same assigned s u below;
+      gone = free;
+      others = λ t apart. given_other assigned s u t apart;
+    }) tree silent h
