@@ -5,6 +5,7 @@
 //! counted work, so that the same question has the same answer on every machine.
 #![tactic(auto)]
 
+mod advice;
 mod bits;
 mod branch;
 mod choice;
@@ -17,4 +18,4 @@ mod runs;
 mod state;
 mod work;
 
-pub use runs::find;
+pub use runs::Finder;

@@ -1,6 +1,7 @@
 //! The runs of a search, each bounded by counted work.
 ghost use Rattle.std.specs.Prelude.{◌<◌, length};
 
+use crate::advice::advised;
 use crate::bits::{NEW, bit};
 use crate::branch::Node;
 use crate::choice::{Choice, choose};
@@ -31,40 +32,86 @@ enum Ending {
     Stopped,
 }
 
-/// Looks for a plan of a workflow that extends an assignment, where the finished steps need no
-/// authorised user any more, in at most so many runs. The plan is to be checked; where none is found
-/// there may be one all the same.
-pub fn find(
-    alloc: Global,
-    p: &Policy,
-    f: FlowId,
+/// What is asked of a workflow, and what was learned about its rules so far.
+#[derive(Drop)]
+pub struct Finder {
+    problem: Problem,
+    work: Work,
+}
+
+impl Finder {
+    /// A finder for a workflow, which has learned nothing yet.
+    pub fn new(alloc: Global, p: &Policy, f: FlowId) -> Result<Finder, AllocError>
+        requires { f < length p.now.flows }
+    {
+        let problem = Problem::new(alloc, p, f)?;
+        let work = Work::new(alloc, problem.width)?;
+        Ok(Finder { problem, work })
+    }
+
+    /// Looks for a plan that extends an assignment, where the finished steps need no authorised
+    /// user any more, in at most so many runs. The plan is to be checked; where none is found there
+    /// may be one all the same.
+    pub fn find(
+        &mut self,
+        alloc: Global,
+        a: &Assign,
+        done: &StepSet,
+        runs: u8,
+    ) -> Result<Option<Plan>, AllocError> {
+        let mut space = Space::new(alloc, self.problem.width)?;
+        Ok(search(&self.problem, &mut self.work, &mut space, a, done, runs))
+    }
+
+    /// A step that is not assigned, which is a good one to try next; it may be another one all the same.
+    pub fn next_step(&mut self, a: &Assign) -> Option<StepId> {
+        advised(&self.problem, &mut self.work, a)
+    }
+}
+
+// Where a search stands.
+#[derive(Drop)]
+struct Space {
+    root: State,
+    now: State,
+    nodes: Vec<Node>,
+}
+
+impl Space {
+    fn new(alloc: Global, width: usize) -> Result<Space, AllocError> {
+        Ok(Space {
+            root: State::new(alloc, width)?,
+            now: State::new(alloc, width)?,
+            nodes: new_nodes(alloc, width)?,
+        })
+    }
+}
+
+fn search(
+    problem: &Problem,
+    work: &mut Work,
+    space: &mut Space,
     a: &Assign,
     done: &StepSet,
     runs: u8,
-) -> Result<Option<Plan>, AllocError>
-    requires { f < length p.now.flows }
-{
-    let problem = Problem::new(alloc, p, f)?;
-    let mut work = Work::new(alloc, problem.width)?;
-    let mut root = State::new(alloc, problem.width)?;
-    let mut now = State::new(alloc, problem.width)?;
-    let mut nodes = new_nodes(alloc, problem.width)?;
+) -> Option<Plan> {
     work.begin(0, FIRST_WORK);
-    if !start(&problem, &mut root, &mut work, a, done) {
-        return Ok(None);
+    if !start(problem, &mut space.root, work, a, done) {
+        return None;
     }
     let mut limit = FIRST_WORK;
     for run in 0..runs {
         work.begin(run, limit);
-        now.become_same(&root);
-        match run_once(&problem, nodes.as_mut_slice(), &mut now, &mut work, run) {
-            Ending::Found(plan) => return Ok(Some(plan)),
-            Ending::Exhausted => return Ok(None),
+        space.now.become_same(&space.root);
+        let nodes = space.nodes.as_mut_slice();
+        match run_once(problem, nodes, &mut space.now, work, run) {
+            Ending::Found(plan) => return Some(plan),
+            Ending::Exhausted => return None,
             Ending::Stopped => {}
         }
         limit = limit.saturating_add(limit / 2);
     }
-    Ok(None)
+    None
 }
 
 // A node for each depth that a search can reach: each branch closes a step or fixes a block.

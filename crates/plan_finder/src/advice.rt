@@ -1,0 +1,248 @@
+//! Which step of a case to try next.
+
+use crate::bits::{bit, has_bit, pop};
+use crate::problem::{Law, Over, Problem, Relation};
+use crate::rows::{add_user, clear, count, has_user, is_empty, join, meet, put, take_user};
+use crate::work::Work;
+use constraint_forms::Assign;
+use wf_names::StepId;
+
+/// The step that is not assigned and has the fewest candidates for the weight of its rules; one that has none comes first.
+pub(crate) fn advised(problem: &Problem, work: &mut Work, a: &Assign) -> Option<StepId> {
+    let open = open_steps(problem, a);
+    let mut best = None;
+    let mut least = (1u32, 0u32);
+    for s in 0..problem.steps {
+        if !has_bit(open, s) {
+            continue;
+        }
+        let candidates = count_candidates(problem, work, a, s);
+        if candidates == 0 {
+            return Some(StepId(s));
+        }
+        let weight = weight_of(problem, work, open, s);
+        if best.is_none() || is_less((candidates, weight), least) {
+            best = Some(StepId(s));
+            least = (candidates, weight);
+        }
+    }
+    best
+}
+
+fn is_less(a: (u32, u32), b: (u32, u32)) -> bool {
+    (a.0 as u64).saturating_mul(b.1 as u64) < (b.0 as u64).saturating_mul(a.1 as u64)
+}
+
+fn open_steps(problem: &Problem, a: &Assign) -> u32 {
+    let mut open = 0;
+    for s in 0..problem.steps {
+        if a.at(StepId(s)).is_none() {
+            open |= bit(s);
+        }
+    }
+    open
+}
+
+// The weights of the rules that a step has with other open steps.
+fn weight_of(problem: &Problem, work: &Work, open: u32, s: u8) -> u32 {
+    let mut weight = 1u32;
+    for (k, law) in problem.laws.as_slice().iter().enumerate() {
+        if has_bit(law.scope, s) && law.scope & open & !bit(s) != 0 {
+            weight = weight.saturating_add(work.rule(k));
+        }
+    }
+    weight
+}
+
+// How many authorised users a step may be given to without falsifying a rule. The rule that leaves nobody is blamed.
+fn count_candidates(problem: &Problem, work: &mut Work, a: &Assign, s: u8) -> u32 {
+    put(work.spare.row_mut(0), problem.allowed.row(s as usize));
+    for (k, law) in problem.laws.as_slice().iter().enumerate() {
+        if has_bit(law.scope, s) {
+            restrict(problem, work, law, a, s);
+            if is_empty(work.spare.row(0)) {
+                work.blame(k);
+                return 0;
+            }
+        }
+    }
+    count(work.spare.row(0))
+}
+
+// Keeps in the spare row those whom a rule admits for a step.
+fn restrict(problem: &Problem, work: &mut Work, law: &Law, a: &Assign, s: u8) {
+    if law.some {
+        restrict_some(problem, work, law, a, s);
+    } else if law.step == s {
+        restrict_last(problem, work, law, a);
+    } else if let Some(v) = holder(a, law.step) {
+        keep_back(problem, work, law.over, v);
+    }
+}
+
+fn holder(a: &Assign, s: u8) -> Option<u16> {
+    match a.at(StepId(s)) {
+        Some(user) => Some(user.0),
+        None => None,
+    }
+}
+
+fn relation_at(problem: &Problem, at: u8) -> Option<&Relation> {
+    problem.relations.get(at as usize)
+}
+
+// Each member of the group that is assigned is to be related to the user of the rule's step.
+fn restrict_last(problem: &Problem, work: &mut Work, law: &Law, a: &Assign) {
+    let mut group = law.group;
+    for _ in 0..32u8 {
+        let Some(x) = pop(&mut group) else { break };
+        if x == law.step {
+            keep_own(problem, work, law.over);
+        } else if let Some(u) = holder(a, x) {
+            keep_ahead(problem, work, law.over, u);
+        }
+    }
+}
+
+// Those who are related to themselves stay.
+fn keep_own(problem: &Problem, work: &mut Work, over: Over) {
+    match over {
+        Over::Same => {}
+        Over::Other => clear(work.spare.row_mut(0)),
+        Over::Declared(at) => {
+            if let Some(relation) = relation_at(problem, at) {
+                let _ = meet(work.spare.row_mut(0), relation.own.row(0));
+            }
+        }
+    }
+}
+
+// Those to whom a user is related stay.
+fn keep_ahead(problem: &Problem, work: &mut Work, over: Over, u: u16) {
+    match over {
+        Over::Same => keep_only(work, u),
+        Over::Other => take_user(work.spare.row_mut(0), u),
+        Over::Declared(at) => {
+            if let Some(relation) = relation_at(problem, at) {
+                let _ = meet(work.spare.row_mut(0), relation.ahead.row(u as usize));
+            }
+        }
+    }
+}
+
+// Those who are related to a user stay.
+fn keep_back(problem: &Problem, work: &mut Work, over: Over, v: u16) {
+    match over {
+        Over::Same => keep_only(work, v),
+        Over::Other => take_user(work.spare.row_mut(0), v),
+        Over::Declared(at) => {
+            if let Some(relation) = relation_at(problem, at) {
+                let _ = meet(work.spare.row_mut(0), relation.back.row(v as usize));
+            }
+        }
+    }
+}
+
+fn keep_only(work: &mut Work, u: u16) {
+    let stays = has_user(work.spare.row(0), u);
+    clear(work.spare.row_mut(0));
+    if stays {
+        add_user(work.spare.row_mut(0), u);
+    }
+}
+
+// Some member of the group is to be related to the user of the rule's step: looked at where all its other steps are assigned.
+fn restrict_some(problem: &Problem, work: &mut Work, law: &Law, a: &Assign, s: u8) {
+    if !are_assigned(a, law.scope & !bit(s)) {
+        return;
+    }
+    if law.step == s {
+        restrict_some_last(problem, work, law, a);
+        return;
+    }
+    let Some(v) = holder(a, law.step) else { return };
+    if !some_related(problem, law, a, s, v) {
+        keep_back(problem, work, law.over, v);
+    }
+}
+
+fn are_assigned(a: &Assign, steps: u32) -> bool {
+    let mut left = steps;
+    for _ in 0..32u8 {
+        let Some(x) = pop(&mut left) else { break };
+        if holder(a, x).is_none() {
+            return false;
+        }
+    }
+    true
+}
+
+// Whether some member of the group other than a step has a user who is related to another user.
+fn some_related(problem: &Problem, law: &Law, a: &Assign, s: u8, v: u16) -> bool {
+    let mut group = law.group & !bit(s);
+    for _ in 0..32u8 {
+        let Some(x) = pop(&mut group) else { break };
+        if let Some(u) = holder(a, x) {
+            if are_related(problem, law.over, u, v) {
+                return true;
+            }
+        }
+    }
+    false
+}
+
+fn are_related(problem: &Problem, over: Over, u: u16, v: u16) -> bool {
+    match over {
+        Over::Same => u == v,
+        Over::Other => u != v,
+        Over::Declared(at) => match relation_at(problem, at) {
+            Some(relation) => has_user(relation.ahead.row(u as usize), v),
+            None => true,
+        },
+    }
+}
+
+// Those stay to whom some user of the group is related, or who are related to themselves where the step is in the group.
+fn restrict_some_last(problem: &Problem, work: &mut Work, law: &Law, a: &Assign) {
+    clear(work.taken.row_mut(0));
+    let mut group = law.group;
+    for _ in 0..32u8 {
+        let Some(x) = pop(&mut group) else { break };
+        if x == law.step {
+            add_own(problem, work, law.over);
+        } else if let Some(u) = holder(a, x) {
+            add_ahead(problem, work, law.over, u);
+        }
+    }
+    let _ = meet(work.spare.row_mut(0), work.taken.row(0));
+}
+
+fn add_own(problem: &Problem, work: &mut Work, over: Over) {
+    match over {
+        Over::Same => join(work.taken.row_mut(0), work.spare.row(0)),
+        Over::Other => {}
+        Over::Declared(at) => {
+            if let Some(relation) = relation_at(problem, at) {
+                join(work.taken.row_mut(0), relation.own.row(0));
+            }
+        }
+    }
+}
+
+fn add_ahead(problem: &Problem, work: &mut Work, over: Over, u: u16) {
+    match over {
+        Over::Same => add_user(work.taken.row_mut(0), u),
+        Over::Other => {
+            let known = has_user(work.taken.row(0), u);
+            join(work.taken.row_mut(0), work.spare.row(0));
+            if !known {
+                take_user(work.taken.row_mut(0), u);
+            }
+        }
+        Over::Declared(at) => {
+            if let Some(relation) = relation_at(problem, at) {
+                join(work.taken.row_mut(0), relation.ahead.row(u as usize));
+            }
+        }
+    }
+}
