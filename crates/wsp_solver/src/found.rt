@@ -5,7 +5,7 @@ ghost use Rattle.policy_book.specs.Plans.{IsWithin, IsValidPlan};
 ghost use Rattle.policy_book.specs.Policies.{problem_of};
 
 use certificate_check::check_plan;
-use plan_finder::find;
+use plan_finder::Finder;
 use policy_book::{Assign, Plan, Policy, StepSet};
 use std::alloc::{AllocError, Global};
 use wf_names::{FlowId, StepId};
@@ -20,12 +20,13 @@ pub(crate) fn found(
     f: FlowId,
     a: &Assign,
     done: &StepSet,
+    finder: &mut Finder,
 ) -> Result<Option<Plan>, AllocError>
     requires flow { f < length p.now.flows }
     requires within { IsWithin (problem_of p.now f) a.now }
     ensures { IfOk result (λ found. IfSome found (IsValidPlan (problem_of p.now f) a.now done.now)) }
 {
-    match find(alloc, p, f, a, done, RUNS)? {
+    match finder.find(alloc, a, done, RUNS)? {
         Some(plan) => Ok(checked(p, f, a, done, plan)),
         None => Ok(None),
     }

@@ -2,6 +2,9 @@
 #![tactic(auto)]
 
 mod found;
+mod leaf;
+mod next;
 mod search;
+mod steps;
 
 pub use search::{Outcome, solve};

@@ -1,20 +1,20 @@
 //! The search over the users of the steps that are not assigned yet.
-ghost use Rattle.std.specs.Prelude.{◌≡◌, ◌<◌, ◌≤◌, ℕ, length, is_some, Some, true, false, IfOk, IsTrue, MatchOption};
+ghost use Rattle.std.specs.Prelude.{◌≡◌, ◌<◌, ◌≤◌, length, IfOk, IsTrue};
 ghost use Rattle.wf_names.specs.declared.limits.TheConstants.{STEP_LIMIT};
-ghost use Rattle.constraint_forms.specs.Assigned.{user_at};
-ghost use Rattle.refutation_tree.specs.Shapes.{holder, rule};
-ghost use Rattle.refutation_tree.specs.Views.{shape_of};
-ghost use Rattle.policy_book.specs.Plans.{AreAssigned, IsWellFormed, IsWithin};
+ghost use Rattle.policy_book.specs.Plans.{AreAssigned, IsWithin};
 ghost use Rattle.policy_book.specs.Policies.{problem_of};
-ghost use Rattle.policy_book.specs.Refuting.{is_free, refutes};
-ghost use Rattle.wsp_solver.specs.Searches.{Decides, IsPlanOf, NoLeafRefutes};
+ghost use Rattle.policy_book.specs.Refuting.{is_free};
+ghost use Rattle.wsp_solver.specs.Searches.{Decides, HasSearched};
 
 use crate::found::found;
-use certificate_check::check_tree;
+use crate::leaf::{Refutation, refuting_leaf};
+use crate::next::{next_step, plan_of};
+use crate::steps::united;
+use plan_finder::Finder;
 use policy_book::{Assign, Plan, Policy, StepSet};
 use refutation_tree::{Branch, Branches, Kid, Tree};
 use std::alloc::{AllocError, Global};
-use wf_names::{FlowId, STEP_LIMIT, StepId, UserId};
+use wf_names::{FlowId, StepId, UserId};
 
 /// What a search found.
 #[derive(Drop)]
@@ -23,6 +23,13 @@ pub enum Outcome {
     Plan(Plan),
     /// A tree that refutes, so that there is no valid plan.
     Refuted(Tree),
+}
+
+// The same, with the steps that the tree mentions.
+#[derive(Drop)]
+pub(crate) enum Searched {
+    Plan(Plan),
+    Refuted(Refutation),
 }
 
 /// Decides whether an assignment with these finished steps can be completed.
@@ -38,13 +45,17 @@ pub fn solve(
     requires assigned { AreAssigned done.now a.now }
     ensures { IfOk result (Decides (problem_of p.now f) a.now done.now) }
 {
-    match found(alloc, p, f, a, done)? {
-        Some(plan) => Ok(Outcome::Plan(plan)),
-        None => decide(alloc, p, f, a, done),
+    let mut finder = Finder::new(alloc, p, f)?;
+    if let Some(plan) = found(alloc, p, f, a, done, &mut finder)? {
+        return Ok(Outcome::Plan(plan));
+    }
+    match decide(alloc, p, f, a, done, &mut finder)? {
+        Searched::Plan(plan) => Ok(Outcome::Plan(plan)),
+        Searched::Refuted(refutation) => Ok(Outcome::Refuted(refutation.tree)),
     }
 }
 
-/// Tries everything, one free step after the other.
+// Tries everything, one free step after the other.
 #[cycle(search)]
 fn decide(
     alloc: Global,
@@ -52,22 +63,24 @@ fn decide(
     f: FlowId,
     a: &Assign,
     done: &StepSet,
-) -> Result<Outcome, AllocError>
+    finder: &mut Finder,
+) -> Result<Searched, AllocError>
     requires flow { f < length p.now.flows }
     requires within { IsWithin (problem_of p.now f) a.now }
     requires assigned { AreAssigned done.now a.now }
-    ensures { IfOk result (Decides (problem_of p.now f) a.now done.now) }
+    ensures { IfOk result (HasSearched (problem_of p.now f) a.now done.now) }
 {
     if let Some(leaf) = refuting_leaf(p, f, a, done) {
-        return Ok(Outcome::Refuted(leaf));
+        return Ok(Searched::Refuted(leaf));
     }
-    match next_step(p, f, a) {
-        Some(s) => try_users(alloc, p, f, a, done, s),
-        None => Ok(Outcome::Plan(plan_of(p, f, a))),
+    match next_step(p, f, a, finder) {
+        Some(s) => try_users(alloc, p, f, a, done, s, finder),
+        None => Ok(Searched::Plan(plan_of(p, f, a))),
     }
 }
 
-/// Gives a free step to its candidates, one after the other, until one of them leads to a plan.
+// Gives a free step to each user who is authorised for it, one after the other, until one of them leads to a plan. A tree
+// that does not mention the step refutes without it, so that nobody else needs to be tried.
 #[cycle(search)]
 fn try_users(
     alloc: Global,
@@ -76,88 +89,40 @@ fn try_users(
     a: &Assign,
     done: &StepSet,
     s: StepId,
-) -> Result<Outcome, AllocError>
+    finder: &mut Finder,
+) -> Result<Searched, AllocError>
     requires flow { f < length p.now.flows }
     requires within { IsWithin (problem_of p.now f) a.now }
     requires assigned { AreAssigned done.now a.now }
     requires room { s < STEP_LIMIT }
     requires free { IsTrue (is_free (problem_of p.now f) a.now s) }
-    ensures { IfOk result (Decides (problem_of p.now f) a.now done.now) }
+    ensures { IfOk result (HasSearched (problem_of p.now f) a.now done.now) }
 {
     let mut branches = Branches::new(alloc);
+    let mut steps = StepSet::empty();
     'users: for u in 0..p.roster().users().len() {
         let user = UserId(u);
         if !is_candidate(p, f, s, user) {
             continue;
         }
-        match decide(alloc, p, f, &a.with(s, user), done)? {
-            Outcome::Plan(plan) => return Ok(Outcome::Plan(plan)),
-            Outcome::Refuted(tree) => branches.push(Branch {
-                user,
-                kid: Kid::Tree(tree),
-            })?,
+        match decide(alloc, p, f, &a.with(s, user), done, finder)? {
+            Searched::Plan(plan) => return Ok(Searched::Plan(plan)),
+            Searched::Refuted(kid) => {
+                if !kid.steps.has(s) {
+                    return Ok(Searched::Refuted(kid));
+                }
+                steps = united(&steps, &kid.steps);
+                branches.push(Branch {
+                    user,
+                    kid: Kid::Tree(kid.tree),
+                })?;
+            }
         }
     }
-    Ok(Outcome::Refuted(Tree::Step(s, branches)))
-}
-
-/// A leaf that refutes an assignment, if there is one.
-fn refuting_leaf(p: &Policy, f: FlowId, a: &Assign, done: &StepSet) -> Option<Tree>
-    requires flow { f < length p.now.flows }
-    requires within { IsWithin (problem_of p.now f) a.now }
-    ensures { MatchOption result (IsWellFormed (problem_of p.now f) × NoLeafRefutes (problem_of p.now f) a.now done.now) (λ leaf. IsTrue (refutes (problem_of p.now f) a.now done.now (shape_of leaf))) }
-{
-    if let Some(s) = first_misheld(p, f, a, done) {
-        return Some(Tree::Holder(s));
-    }
-    match first_falsified(p, f, a, done) {
-        Some(k) => Some(Tree::Rule(k)),
-        None => None,
-    }
-}
-
-/// The least step that is held by a user who is not authorised for it.
-fn first_misheld(p: &Policy, f: FlowId, a: &Assign, done: &StepSet) -> Option<StepId>
-    requires flow { f < length p.now.flows }
-    requires within { IsWithin (problem_of p.now f) a.now }
-    ensures { MatchOption result ((s : ℕ) → refutes (problem_of p.now f) a.now done.now (holder s) ≡ false) (λ s. IsTrue (refutes (problem_of p.now f) a.now done.now (holder s))) }
-{
-    'steps: for s in 0..p.flow(f).steps().len() {
-        let step = StepId(s as u8);
-        if check_tree(p, f, a, done, &Tree::Holder(step)) {
-            return Some(step);
-        }
-    }
-    None
-}
-
-/// The least rule that is falsified.
-fn first_falsified(p: &Policy, f: FlowId, a: &Assign, done: &StepSet) -> Option<u8>
-    requires flow { f < length p.now.flows }
-    requires within { IsWithin (problem_of p.now f) a.now }
-    ensures formed { IsWellFormed (problem_of p.now f) }
-    ensures falsified { MatchOption result ((k : ℕ) → refutes (problem_of p.now f) a.now done.now (rule k) ≡ false) (λ k. IsTrue (refutes (problem_of p.now f) a.now done.now (rule k))) }
-{
-    'rules: for k in 0..p.rules(f).len() {
-        if check_tree(p, f, a, done, &Tree::Rule(k as u8)) {
-            return Some(k as u8);
-        }
-    }
-    None
-}
-
-/// The least step that is not assigned.
-fn next_step(p: &Policy, f: FlowId, a: &Assign) -> Option<StepId>
-    requires flow { f < length p.now.flows }
-    ensures { MatchOption result ((s : ℕ) → s < (problem_of p.now f).steps → is_some (user_at a.now s) ≡ true) (λ s. (s < STEP_LIMIT) × IsTrue (is_free (problem_of p.now f) a.now s)) }
-{
-    'steps: for s in 0..p.flow(f).steps().len() {
-        let step = StepId(s as u8);
-        if a.at(step).is_none() {
-            return Some(step);
-        }
-    }
-    None
+    Ok(Searched::Refuted(Refutation {
+        tree: Tree::Step(s, branches),
+        steps,
+    }))
 }
 
 /// Whether a user is tried for a step.
@@ -168,35 +133,4 @@ fn is_candidate(p: &Policy, f: FlowId, s: StepId, u: UserId) -> bool
     ensures { result ≡ (problem_of p.now f).authorised s u }
 {
     p.authorised(f, s, u)
-}
-
-/// The plan that an assignment of every step is.
-fn plan_of(p: &Policy, f: FlowId, a: &Assign) -> Plan
-    requires flow { f < length p.now.flows }
-    requires full { (s : ℕ) → s < (problem_of p.now f).steps → is_some (user_at a.now s) ≡ true }
-    ensures { IsPlanOf (problem_of p.now f).steps a.now result }
-{
-    let steps = p.flow(f).steps().len() as usize;
-    let mut users = no_users();
-    'steps: for s in 0..steps {
-        users[s] = holder_of(a, StepId(s as u8));
-    }
-    Plan::of(&users[..steps])
-}
-
-/// The user of a step that is assigned.
-fn holder_of(a: &Assign, s: StepId) -> UserId
-    requires { is_some (user_at a.now s) ≡ true }
-    ensures { user_at a.now s ≡ Some result }
-{
-    match a.at(s) {
-        Some(u) => u,
-        None => unreachable!(),
-    }
-}
-
-fn no_users() -> [UserId; STEP_LIMIT]
-    ensures { length result ≡ STEP_LIMIT }
-{
-    [UserId(0); STEP_LIMIT]
 }

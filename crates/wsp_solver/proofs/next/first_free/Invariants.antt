@@ -1,6 +1,6 @@
 use Rattle.std.proofs.Common.{◌≡◌, ◌<◌, ℕ, is_some, true}
 use Rattle.constraint_forms.specs.Assigned.{user_at}
-use Rattle.wsp_solver.proofs.search.next_step.Given as goal
+use Rattle.wsp_solver.proofs.next.first_free.Given as goal
 
 abbrev pub invariant-steps : goal.invariant-steps
 invariant-steps l = (t : ℕ) → t < l.s → is_some (user_at l.a t) ≡ true

@@ -1,0 +1,105 @@
+//! Leaves that refute.
+ghost use Rattle.std.specs.Prelude.{◌≡◌, ◌<◌, ◌≤◌, ℕ, List, length, slice_get, Some, false, IsTrue, MatchOption};
+ghost use Rattle.wf_names.specs.declared.limits.TheConstants.{STEP_LIMIT};
+ghost use Rattle.constraint_forms.specs.declared.rule.Rule.{Rule as AnyRule};
+ghost use Rattle.refutation_tree.specs.Shapes.{holder, rule};
+ghost use Rattle.refutation_tree.specs.Views.{shape_of};
+ghost use Rattle.policy_book.specs.Plans.{IsWellFormed, IsWithin};
+ghost use Rattle.policy_book.specs.Policies.{problem_of};
+ghost use Rattle.policy_book.specs.Refuting.{refutes};
+ghost use Rattle.wsp_solver.specs.Searches.{HasMentioned, IsRefutation, NoLeafRefutes};
+
+use crate::steps::steps_named;
+use certificate_check::check_tree;
+use policy_book::{Assign, Policy, StepSet};
+use refutation_tree::Tree;
+use wf_names::{FlowId, STEP_LIMIT, StepId};
+
+/// A tree that refutes, and the steps that it mentions, and maybe more.
+#[derive(Drop)]
+pub(crate) struct Refutation {
+    pub(crate) tree: Tree,
+    pub(crate) steps: StepSet,
+}
+
+/// A leaf that refutes an assignment, if there is one.
+pub(crate) fn refuting_leaf(p: &Policy, f: FlowId, a: &Assign, done: &StepSet) -> Option<Refutation>
+    requires flow { f < length p.now.flows }
+    requires within { IsWithin (problem_of p.now f) a.now }
+    ensures { MatchOption result (IsWellFormed (problem_of p.now f) × NoLeafRefutes (problem_of p.now f) a.now done.now) (IsRefutation (problem_of p.now f) a.now done.now) }
+{
+    if let Some(s) = first_misheld(p, f, a, done) {
+        return Some(held_wrongly(s));
+    }
+    match first_falsified(p, f, a, done) {
+        Some(k) => Some(falsified_rule(p, f, k)),
+        None => None,
+    }
+}
+
+// The leaf of a step with a wrong holder.
+#[tactic(auto, using(crate::proofs::Members::holder_mentioned))]
+fn held_wrongly(s: StepId) -> Refutation
+    requires { s < STEP_LIMIT }
+    ensures tree { shape_of result.tree ≡ holder s }
+    ensures steps { (rules : List AnyRule) → HasMentioned rules (holder s) result.steps }
+{
+    Refutation {
+        tree: Tree::Holder(s),
+        steps: StepSet::empty().with(s),
+    }
+}
+
+// The leaf of a rule.
+fn falsified_rule(p: &Policy, f: FlowId, k: u8) -> Refutation
+    requires { f < length p.now.flows }
+    ensures tree { shape_of result.tree ≡ rule k }
+    ensures steps { HasMentioned (problem_of p.now f).rules (rule k) result.steps }
+{
+    Refutation {
+        tree: Tree::Rule(k),
+        steps: steps_of_rule(p, f, k),
+    }
+}
+
+// The steps that a rule names; none where there is no such rule.
+fn steps_of_rule(p: &Policy, f: FlowId, k: u8) -> StepSet
+    requires { f < length p.now.flows }
+    ensures { HasMentioned (problem_of p.now f).rules (rule k) result }
+{
+    prove!(p.flow(f).steps().len() as usize <= STEP_LIMIT);
+    match p.rules(f).as_slice().get(k as usize) {
+        Some(rule) => steps_named(rule),
+        None => StepSet::empty(),
+    }
+}
+
+/// The least step that is held by a user who is not authorised for it.
+fn first_misheld(p: &Policy, f: FlowId, a: &Assign, done: &StepSet) -> Option<StepId>
+    requires flow { f < length p.now.flows }
+    requires within { IsWithin (problem_of p.now f) a.now }
+    ensures { MatchOption result ((s : ℕ) → refutes (problem_of p.now f) a.now done.now (holder s) ≡ false) (λ s. (s < STEP_LIMIT) × IsTrue (refutes (problem_of p.now f) a.now done.now (holder s))) }
+{
+    'steps: for s in 0..p.flow(f).steps().len() {
+        let step = StepId(s as u8);
+        if check_tree(p, f, a, done, &Tree::Holder(step)) {
+            return Some(step);
+        }
+    }
+    None
+}
+
+/// The least rule that is falsified.
+fn first_falsified(p: &Policy, f: FlowId, a: &Assign, done: &StepSet) -> Option<u8>
+    requires flow { f < length p.now.flows }
+    requires within { IsWithin (problem_of p.now f) a.now }
+    ensures formed { IsWellFormed (problem_of p.now f) }
+    ensures falsified { MatchOption result ((k : ℕ) → refutes (problem_of p.now f) a.now done.now (rule k) ≡ false) (λ k. IsTrue (refutes (problem_of p.now f) a.now done.now (rule k))) }
+{
+    'rules: for k in 0..p.rules(f).len() {
+        if check_tree(p, f, a, done, &Tree::Rule(k as u8)) {
+            return Some(k as u8);
+        }
+    }
+    None
+}

@@ -1,0 +1,75 @@
+//! Which step to try next, and the plan where none is left.
+ghost use Rattle.std.specs.Prelude.{◌≡◌, ◌<◌, ◌≤◌, ℕ, length, is_some, Some, true, IsTrue, MatchOption};
+ghost use Rattle.wf_names.specs.declared.limits.TheConstants.{STEP_LIMIT};
+ghost use Rattle.constraint_forms.specs.Assigned.{user_at};
+ghost use Rattle.policy_book.specs.Policies.{problem_of};
+ghost use Rattle.policy_book.specs.Refuting.{is_free};
+ghost use Rattle.wsp_solver.specs.Searches.{IsPlanOf};
+
+use plan_finder::Finder;
+use policy_book::{Assign, Plan, Policy};
+use wf_names::{FlowId, STEP_LIMIT, StepId, UserId};
+
+/// A step that is not assigned: the one that the finder advises, or else the least.
+pub(crate) fn next_step(p: &Policy, f: FlowId, a: &Assign, finder: &mut Finder) -> Option<StepId>
+    requires flow { f < length p.now.flows }
+    ensures { MatchOption result ((s : ℕ) → s < (problem_of p.now f).steps → is_some (user_at a.now s) ≡ true) (λ s. (s < STEP_LIMIT) × IsTrue (is_free (problem_of p.now f) a.now s)) }
+{
+    match finder.next_step(a) {
+        Some(s) if is_free(p, f, a, s) => Some(s),
+        _ => first_free(p, f, a),
+    }
+}
+
+fn is_free(p: &Policy, f: FlowId, a: &Assign, s: StepId) -> bool
+    requires flow { f < length p.now.flows }
+    ensures within { IsTrue result → s < STEP_LIMIT }
+    ensures free { result ≡ is_free (problem_of p.now f) a.now s }
+{
+    (s.0 as u16) < p.flow(f).steps().len() && a.at(s).is_none()
+}
+
+// The least step that is not assigned.
+fn first_free(p: &Policy, f: FlowId, a: &Assign) -> Option<StepId>
+    requires flow { f < length p.now.flows }
+    ensures { MatchOption result ((s : ℕ) → s < (problem_of p.now f).steps → is_some (user_at a.now s) ≡ true) (λ s. (s < STEP_LIMIT) × IsTrue (is_free (problem_of p.now f) a.now s)) }
+{
+    'steps: for s in 0..p.flow(f).steps().len() {
+        let step = StepId(s as u8);
+        if a.at(step).is_none() {
+            return Some(step);
+        }
+    }
+    None
+}
+
+/// The plan that an assignment of every step is.
+pub(crate) fn plan_of(p: &Policy, f: FlowId, a: &Assign) -> Plan
+    requires flow { f < length p.now.flows }
+    requires full { (s : ℕ) → s < (problem_of p.now f).steps → is_some (user_at a.now s) ≡ true }
+    ensures { IsPlanOf (problem_of p.now f).steps a.now result }
+{
+    let steps = p.flow(f).steps().len() as usize;
+    let mut users = no_users();
+    'steps: for s in 0..steps {
+        users[s] = holder_of(a, StepId(s as u8));
+    }
+    Plan::of(&users[..steps])
+}
+
+// The user of a step that is assigned.
+fn holder_of(a: &Assign, s: StepId) -> UserId
+    requires { is_some (user_at a.now s) ≡ true }
+    ensures { user_at a.now s ≡ Some result }
+{
+    match a.at(s) {
+        Some(u) => u,
+        None => unreachable!(),
+    }
+}
+
+fn no_users() -> [UserId; STEP_LIMIT]
+    ensures { length result ≡ STEP_LIMIT }
+{
+    [UserId(0); STEP_LIMIT]
+}
