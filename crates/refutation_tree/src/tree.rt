@@ -9,7 +9,7 @@ use wf_names::{StepId, UserId};
 #[cycle(tree)]
 #[derive(Drop)]
 pub enum Tree {
-    /// The step is assigned to a user who is not authorised for it.
+    /// The step is not finished, and is assigned to a user who is not authorised for it.
     Holder(StepId),
     /// The rule with this number is falsified.
     Rule(u8),

@@ -5,7 +5,7 @@ ghost use Rattle.constraint_forms.specs.Assigned.{user_at};
 ghost use Rattle.refutation_tree.specs.Shapes.{holder, rule, shape_of};
 ghost use Rattle.policy_book.specs.Plans.{AreAssigned, IsWellFormed, IsWithin};
 ghost use Rattle.policy_book.specs.Policies.{problem_of};
-ghost use Rattle.policy_book.specs.Refuting.{is_free, refutes};
+ghost use Rattle.policy_book.specs.Refuting.{is_unassigned, refutes};
 ghost use Rattle.wsp_solver.specs.Searches.{Decides, IsPlanOf, NoLeafRefutes};
 
 use certificate_check::check_tree;
@@ -46,7 +46,7 @@ pub fn solve(
     }
 }
 
-/// Gives a free step to its candidates, one after the other, until one of them leads to a plan.
+/// Gives a free step to its authorised users, one after the other, until one of them leads to a plan.
 #[cycle(search)]
 fn try_users(
     alloc: Global,
@@ -60,13 +60,13 @@ fn try_users(
     requires within { IsWithin (problem_of p.now f) a.now }
     requires assigned { AreAssigned done.now a.now }
     requires room { s < STEP_LIMIT }
-    requires free { IsTrue (is_free (problem_of p.now f) a.now s) }
+    requires free { IsTrue (is_unassigned (problem_of p.now f) a.now s) }
     ensures { IfOk result (Decides (problem_of p.now f) a.now done.now) }
 {
     let mut branches = Branches::new(alloc);
     'users: for u in 0..p.roster().users().len() {
         let user = UserId(u);
-        if !is_candidate(p, f, s, user) {
+        if !is_authorised_user(p, f, s, user) {
             continue;
         }
         match solve(alloc, p, f, &a.with(s, user), done)? {
@@ -95,7 +95,7 @@ fn refuting_leaf(p: &Policy, f: FlowId, a: &Assign, done: &StepSet) -> Option<Tr
     }
 }
 
-/// The least step that is held by a user who is not authorised for it.
+/// A step that is not finished and is held by a user who is not authorised for it.
 fn first_misheld(p: &Policy, f: FlowId, a: &Assign, done: &StepSet) -> Option<StepId>
     requires flow { f < length p.now.flows }
     requires within { IsWithin (problem_of p.now f) a.now }
@@ -110,7 +110,7 @@ fn first_misheld(p: &Policy, f: FlowId, a: &Assign, done: &StepSet) -> Option<St
     None
 }
 
-/// The least rule that is falsified.
+/// A rule that is falsified.
 fn first_falsified(p: &Policy, f: FlowId, a: &Assign, done: &StepSet) -> Option<u8>
     requires flow { f < length p.now.flows }
     requires within { IsWithin (problem_of p.now f) a.now }
@@ -125,10 +125,10 @@ fn first_falsified(p: &Policy, f: FlowId, a: &Assign, done: &StepSet) -> Option<
     None
 }
 
-/// The least step that is not assigned.
+/// A step that is not assigned.
 fn next_step(p: &Policy, f: FlowId, a: &Assign) -> Option<StepId>
     requires flow { f < length p.now.flows }
-    ensures { MatchOption result ((s : ℕ) → s < (problem_of p.now f).steps → is_some (user_at a.now s) ≡ true) (λ s. (s < STEP_LIMIT) × IsTrue (is_free (problem_of p.now f) a.now s)) }
+    ensures { MatchOption result ((s : ℕ) → s < (problem_of p.now f).steps → is_some (user_at a.now s) ≡ true) (λ s. (s < STEP_LIMIT) × IsTrue (is_unassigned (problem_of p.now f) a.now s)) }
 {
     'steps: for s in 0..p.flow(f).steps().len() {
         let step = StepId(s as u8);
@@ -139,8 +139,8 @@ fn next_step(p: &Policy, f: FlowId, a: &Assign) -> Option<StepId>
     None
 }
 
-/// Whether a user is tried for a step.
-fn is_candidate(p: &Policy, f: FlowId, s: StepId, u: UserId) -> bool
+/// Whether a user is authorised for a step.
+fn is_authorised_user(p: &Policy, f: FlowId, s: StepId, u: UserId) -> bool
     requires flow { f < length p.now.flows }
     requires step { s < (problem_of p.now f).steps }
     requires user { u < (problem_of p.now f).users }
