@@ -90,3 +90,27 @@ le_yes m n h = grind arith
 pub not_false : (a : Bool) → not a ≡ false → a ≡ true
 not_false true h = refl
 not_false false h = absurd (cc)
+
+pub second_false : (a b : Bool) → (a && b) ≡ false → a ≡ true → b ≡ false
+second_false true b h e = h
+second_false false b h e = cc
+
+pub differ : (b : Bool) → b ≡ true → b ≡ false → ⊥
+differ b h k = cc
+
+pub bool_cases : (b : Bool) → (b ≡ true) ⊎ (b ≡ false)
+bool_cases true = inl refl
+bool_cases false = inr refl
+
+pub eq_is : (m n : ℕ) → m ≡ n → nat_eq m n ≡ true
+eq_is m n h = grind arith
+
+pub eq_below : (m n : ℕ) → m < n → nat_eq m n ≡ false
+eq_below m n h = grind arith
+
+pub eq_above : (m n : ℕ) → n < m → nat_eq m n ≡ false
+eq_above m n h = grind arith
+
+pub not_yes : (a : Bool) → not a ≡ true → a ≡ false
+not_yes true h = absurd (cc)
+not_yes false h = refl

@@ -40,6 +40,3 @@ one_more P t below here r h = elim (cases_eq r t) [
   | inl e ↦ subst P (sym e) here
   | inr differ ↦ below r (omega (arith, h, differ))
 ]
-
-pub differ : (b : Bool) → b ≡ true → b ≡ false → ⊥
-differ b h k = cc

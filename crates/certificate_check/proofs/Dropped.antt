@@ -1,5 +1,5 @@
 -- A tree that does not mention an assigned step refutes without it too.
-use Rattle.std.proofs.Common.{◌≡◌, ◌≢◌, refl, sym, ap, ◌∙◌, ℕ, ◌<◌, ◌≤◌, Bool, true, false, not, arith, ◌&&◌, ◌||◌, ◌==◌, List, [], ◌∷◌, length, Option, None, Some, is_some, slice_get, slice_set, eqb, leb, nat_lt, ◌⊎◌, inl, inr}
+use Rattle.std.proofs.Common.{◌≡◌, ◌≢◌, refl, sym, ap, ◌∙◌, ℕ, ◌<◌, ◌≤◌, Bool, true, false, not, arith, ◌&&◌, ◌==◌, List, [], ◌∷◌, length, Option, None, Some, is_some, slice_get, slice_set, eqb, leb, nat_lt, ◌⊎◌, inl, inr}
 use Rattle.std.proofs.lemmas.Bool.{false≢true, and_from}
 use Rattle.std.proofs.lemmas.Bool.Decides.{eqb_tells, leb_tells, nat_tests}
 use Rattle.std.proofs.lemmas.List.{length-set}
@@ -9,9 +9,10 @@ use Rattle.constraint_forms.specs.Rules.{names}
 use Rattle.constraint_forms.proofs.RuleLaws.{falsified_by_named}
 use Rattle.refutation_tree.specs.Shapes.{Shape, Kids, holder, rule, node, no_kids, tree_kid}
 use Rattle.policy_book.specs.Plans.{Problem}
-use Rattle.policy_book.specs.Refuting.{refutes, all_refute, have_users, candidates, is_misheld, is_broken, is_free, is_rule_naming, mentions, any_mentions}
+use Rattle.policy_book.specs.Refuting.{refutes, all_refute, have_users, authorised_users, is_misheld, is_broken, is_unassigned, is_rule_naming, mentions, any_mentions}
 use Rattle.certificate_check.specs.Laws.{UnmentionedStepDrops}
-use Rattle.certificate_check.proofs.Assigned.{and_parts, not_some, none_not_some, given_other, given_same, given_past}
+use Rattle.basics.proofs.Booleans.{and_both, or_false}
+use Rattle.certificate_check.proofs.Assigned.{not_some, none_not_some, given_other, given_same, given_past}
 
 -- two assignments are the same but that the first gives a step to a user, and the second to nobody
 record IsWithout (a b : List (Option ℕ)) (s u : ℕ) : Type 0 where
@@ -38,10 +39,6 @@ without_given a b s u t v w apart = record {
     at x far (inl same) = within x far same.1 (leb_tells (length a) t)
     at x far (inr other) = given_other a t v x other.1 ∙ w.others x far ∙ sym (given_other b t v x other.1)
 
-or_parts : (b c : Bool) → (b || c) ≡ false → (b ≡ false) × (c ≡ false)
-or_parts true c h = absurd (false≢true (sym h))
-or_parts false c h = (refl, h)
-
 -- a rule that does not name the step is falsified by both or by none
 broken_without : (p : Problem) (a b : List (Option ℕ)) (s u : ℕ) → IsWithout a b s u → (o : Option Rule) → is_rule_naming s o ≡ false → is_broken p b o ≡ is_broken p a o
 broken_without p a b s u w None h = refl
@@ -58,19 +55,19 @@ mutual
       here k same = grind (arith, nat_tests)
   dropped p a b finished s u w (rule k) silent h = broken_without p a b s u w (slice_get p.rules k) silent ∙ h
   dropped p a b finished s u w (node k kids) silent h =
-      let both = and_parts (is_free p a k) (have_users (candidates p k) kids && all_refute p a finished k [] kids) h in
-      let rest = and_parts (have_users (candidates p k) kids) (all_refute p a finished k [] kids) both.1 in
-      let step = and_parts (nat_lt k p.steps) (not (is_some (user_at a k))) both.0 in
+      let both = and_both (is_unassigned p a k) (have_users (authorised_users p k) kids && all_refute p a finished k [] kids) h in
+      let rest = and_both (have_users (authorised_users p k) kids) (all_refute p a finished k [] kids) both.1 in
+      let step = and_both (nat_lt k p.steps) (not (is_some (user_at a k))) both.0 in
       let apart : k ≢ s = λ same. none_not_some u (sym (not_some (user_at a k) step.1) ∙ ap (user_at a) same ∙ w.here) in
-      let free : is_free p b k ≡ true = ap (λ o. nat_lt k p.steps && not (is_some o)) (sym (w.others k apart)) ∙ both.0 in
-      and_from (is_free p b k) (have_users (candidates p k) kids && all_refute p b finished k [] kids) free
-      (and_from (have_users (candidates p k) kids) (all_refute p b finished k [] kids) rest.0 (kids_dropped p a b finished s u w k apart [] kids silent rest.1))
+      let free : is_unassigned p b k ≡ true = ap (λ o. nat_lt k p.steps && not (is_some o)) (sym (w.others k apart)) ∙ both.0 in
+      and_from (is_unassigned p b k) (have_users (authorised_users p k) kids && all_refute p b finished k [] kids) free
+      (and_from (have_users (authorised_users p k) kids) (all_refute p b finished k [] kids) rest.0 (kids_dropped p a b finished s u w k apart [] kids silent rest.1))
 
   kids_dropped : (p : Problem) (a b : List (Option ℕ)) (finished : List Bool) (s u : ℕ) → IsWithout a b s u → (k : ℕ) → k ≢ s → (earlier : List ℕ) (kids : Kids) → any_mentions p.rules s kids ≡ false → all_refute p a finished k earlier kids ≡ true → all_refute p b finished k earlier kids ≡ true
   kids_dropped p a b finished s u w k apart earlier no_kids silent h = refl
   kids_dropped p a b finished s u w k apart earlier (tree_kid v t kids) silent h =
-      let quiet = or_parts (mentions p.rules s t) (any_mentions p.rules s kids) silent in
-      let both = and_parts (refutes p (slice_set a k (Some v)) finished t) (all_refute p a finished k (v ∷ earlier) kids) h in
+      let quiet = or_false (mentions p.rules s t) (any_mentions p.rules s kids) silent in
+      let both = and_both (refutes p (slice_set a k (Some v)) finished t) (all_refute p a finished k (v ∷ earlier) kids) h in
       and_from (refutes p (slice_set b k (Some v)) finished t) (all_refute p b finished k (v ∷ earlier) kids)
       (dropped p (slice_set a k (Some v)) (slice_set b k (Some v)) finished s u (without_given a b s u k v w apart) t quiet.0 both.0)
       (kids_dropped p a b finished s u w k apart (v ∷ earlier) kids quiet.1 both.1)

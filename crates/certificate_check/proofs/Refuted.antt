@@ -7,9 +7,10 @@ use Rattle.constraint_forms.specs.Assigned.{user_at, planned, is_member}
 use Rattle.constraint_forms.proofs.RuleLaws.{totals_decide, stays_falsified}
 use Rattle.refutation_tree.specs.Shapes.{Shape, Kids, holder, rule, node, no_kids, tree_kid}
 use Rattle.policy_book.specs.Plans.{Problem, IsValidPlan, AreAssigned}
-use Rattle.policy_book.specs.Refuting.{refutes, all_refute, have_users, candidates, passing, is_misheld, is_broken, is_free}
+use Rattle.policy_book.specs.Refuting.{refutes, all_refute, have_users, authorised_users, passing, is_misheld, is_broken, is_unassigned}
 use Rattle.certificate_check.specs.Laws.{RefutesSoundly}
-use Rattle.certificate_check.proofs.Assigned.{and_parts, not_true, not_some, none_not_some, same_some, given, given_other, either}
+use Rattle.basics.proofs.Booleans.{and_both, not_yes}
+use Rattle.certificate_check.proofs.Assigned.{not_some, none_not_some, same_some, given, given_other, either}
 
 -- a user is in a list
 abbrev pub has : List ℕ → ℕ → Bool
@@ -40,8 +41,8 @@ passing-has test x passes k (suc n) low high = at (eqb_tells k x) (test k) refl 
 misheld_found : (p : Problem) (finished : List Bool) (s : ℕ) (o : Option ℕ) → is_misheld p finished s o ≡ true → (u : ℕ) × (o ≡ Some u) × (is_member finished s ≡ false) × (p.authorised s u ≡ false)
 misheld_found p finished s None h = absurd (false≢true h)
 misheld_found p finished s (Some u) h =
-    let both = and_parts _ _ h in
-    (u, refl, not_true _ both.0, not_true _ both.1)
+    let both = and_both _ _ h in
+    (u, refl, not_yes _ both.0, not_yes _ both.1)
 
 -- no valid plan keeps a step with a user who is not authorised for it
 misheld_excludes : (p : Problem) (assigned : List (Option ℕ)) (finished : List Bool) (s : ℕ) → s < p.steps → is_misheld p finished s (user_at assigned s) ≡ true → (plan : List ℕ) → IsValidPlan p assigned finished plan → ⊥
@@ -87,26 +88,26 @@ assigned_given assigned finished s u all free t is =
 mutual
   refuted : (p : Problem) (assigned : List (Option ℕ)) (finished : List Bool) (tree : Shape) → AreAssigned finished assigned → refutes p assigned finished tree ≡ true → (plan : List ℕ) → IsValidPlan p assigned finished plan → ⊥
   refuted p assigned finished (holder s) all h plan valid =
-      let both = and_parts _ _ h in
+      let both = and_both _ _ h in
       misheld_excludes p assigned finished s (ltb-true _ _ both.0) both.1 plan valid
   refuted p assigned finished (rule k) all h plan valid = broken_excludes p assigned finished k (slice_get p.rules k) refl h plan valid
   refuted p assigned finished (node s kids) all h plan valid =
-      let both = and_parts (is_free p assigned s) (have_users (candidates p s) kids && all_refute p assigned finished s [] kids) h in
-      let rest = and_parts (have_users (candidates p s) kids) (all_refute p assigned finished s [] kids) both.1 in
-      let step = and_parts (nat_lt s p.steps) (not (is_some (user_at assigned s))) both.0 in
+      let both = and_both (is_unassigned p assigned s) (have_users (authorised_users p s) kids && all_refute p assigned finished s [] kids) h in
+      let rest = and_both (have_users (authorised_users p s) kids) (all_refute p assigned finished s [] kids) both.1 in
+      let step = and_both (nat_lt s p.steps) (not (is_some (user_at assigned s))) both.0 in
       let below : s < p.steps = ltb-true s p.steps step.0 in
       let free : user_at assigned s ≡ None = not_some (user_at assigned s) step.1 in
       let unfinished = free_open assigned finished s all free (is_member finished s) refl in
       let may = valid.allowed s below unfinished in
       let there = passing-has (p.authorised s) (planned plan s) may 0 p.users (omega arith) (omega (arith, valid.known s below)) in
-      kids_refuted p assigned finished s [] (candidates p s) kids all free rest.0 rest.1 plan valid there
+      kids_refuted p assigned finished s [] (authorised_users p s) kids all free rest.0 rest.1 plan valid there
 
   kids_refuted : (p : Problem) (assigned : List (Option ℕ)) (finished : List Bool) (s : ℕ) (earlier us : List ℕ) (kids : Kids) → AreAssigned finished assigned → user_at assigned s ≡ None → have_users us kids ≡ true → all_refute p assigned finished s earlier kids ≡ true → (plan : List ℕ) → IsValidPlan p assigned finished plan → has us (planned plan s) ≡ true → ⊥
   kids_refuted p assigned finished s earlier [] kids all free users each plan valid there = false≢true there
   kids_refuted p assigned finished s earlier (u ∷ us) no_kids all free users each plan valid there = false≢true users
   kids_refuted p assigned finished s earlier (u ∷ us) (tree_kid v t kids) all free users each plan valid there =
-      let same = and_parts (u == v) (have_users us kids) users in
-      let both = and_parts (refutes p (slice_set assigned s (Some v)) finished t) (all_refute p assigned finished s (v ∷ earlier) kids) each in
+      let same = and_both (u == v) (have_users us kids) users in
+      let both = and_both (refutes p (slice_set assigned s (Some v)) finished t) (all_refute p assigned finished s (v ∷ earlier) kids) each in
       either (has_parts u (planned plan s) us there)
       (λ here. refuted p (slice_set assigned s (Some v)) finished t (assigned_given assigned finished s v all free) both.0 plan
       (subst (λ w. IsValidPlan p (slice_set assigned s (Some w)) finished plan) (sym here ∙ eqb-true u v same.0) (valid_given p assigned finished plan s valid)))

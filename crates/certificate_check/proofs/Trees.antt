@@ -12,9 +12,10 @@ use Rattle.refutation_tree.specs.declared.tree.Kid.{Kid}
 use Rattle.refutation_tree.specs.declared.tree.Kid.TheVariants.{Tree as Tree_kid}
 use Rattle.refutation_tree.proofs.ShapeLaws.{kids_of_items-drop, kids_from-items, kid_count-items, nodes-drop}
 use Rattle.policy_book.specs.Plans.{Problem, IsWithin}
-use Rattle.policy_book.specs.Refuting.{refutes, all_refute, have_users, candidates, passing, mentions, any_mentions, is_free}
+use Rattle.policy_book.specs.Refuting.{refutes, all_refute, have_users, authorised_users, passing, mentions, any_mentions, is_unassigned}
 use Rattle.certificate_check.specs.Walks.{begins_with}
-use Rattle.certificate_check.proofs.Assigned.{given, and_parts, either}
+use Rattle.basics.proofs.Booleans.{and_both}
+use Rattle.certificate_check.proofs.Assigned.{given, either}
 
 -- ---- mentions
 
@@ -86,7 +87,7 @@ passing_below test k (suc n) most few kids h = at (test k) kids h (λ rest e. pa
     at : (b : Bool) (left : Kids) → have_users (if b then k ∷ passing test (k + 1) n else passing test (k + 1) n) left ≡ true → ((rest : Kids) → have_users (passing test (k + 1) n) rest ≡ true → UsersBelow most rest) → UsersBelow most left
     at true no_kids e later = absurd (false≢true e)
     at true (tree_kid v t rest) e later =
-        let both = and_parts (k == v) (have_users (passing test (k + 1) n) rest) e in
+        let both = and_both (k == v) (have_users (passing test (k + 1) n) rest) e in
         (omega (arith, few, eqb-true k v both.0), later rest both.1)
     at false left e later = later left e
 
@@ -99,7 +100,7 @@ user_below n (x ∷ bs) zero below b is h = subst (λ (y : Branch). y.user < n) 
 user_below n (x ∷ bs) (suc i) below b is h = user_below n bs i (omega arith) b is (onto_below n x.kid x.user (kids_of_items bs) h).1
 
 -- the user of each branch is a user of the policy
-pub branch_user : (p : Problem) (s : ℕ) (bs : List Branch) → have_users (candidates p s) (kids_of_items bs) ≡ true → (i : ℕ) → i < length bs → (b : Branch) → b ≡ get_or bs i b → b.user < p.users
+pub branch_user : (p : Problem) (s : ℕ) (bs : List Branch) → have_users (authorised_users p s) (kids_of_items bs) ≡ true → (i : ℕ) → i < length bs → (b : Branch) → b ≡ get_or bs i b → b.user < p.users
 branch_user p s bs users i below b is = user_below p.users bs i below b is (passing_below (p.authorised s) 0 p.users p.users (omega arith) (kids_of_items bs) users)
 
 -- ---- nodes
@@ -117,9 +118,9 @@ nodes_within bs i b below is = omega (arith, nodes-drop bs i b below is, nodes_l
 
 -- ---- what is assigned
 
-pub within_given : (p : Problem) (a : List (Option ℕ)) (s u : ℕ) → IsWithin p a → is_free p a s ≡ true → u < p.users → IsWithin p (slice_set a s (Some u))
+pub within_given : (p : Problem) (a : List (Option ℕ)) (s u : ℕ) → IsWithin p a → is_unassigned p a s ≡ true → u < p.users → IsWithin p (slice_set a s (Some u))
 within_given p a s u within free below =
-    let step : s < p.steps = ltb-true s p.steps (and_parts (nat_lt s p.steps) (not (is_some (user_at a s))) free).0 in
+    let step : s < p.steps = ltb-true s p.steps (and_both (nat_lt s p.steps) (not (is_some (user_at a s))) free).0 in
     record {
       steps = λ t w h. either (given a s u t w h) (λ here. omega (arith, here.0, step)) (within.steps t w);
       users = λ t w h. either (given a s u t w h) (λ here. omega (arith, here.1, below)) (within.users t w);

@@ -1,4 +1,4 @@
--- What the walk over a node's branches looks at.
+-- Inside: what the walk over a node's branches looks at.
 use Rattle.std.specs.Prelude.{ℕ, Bool, false, ◌==◌}
 use Rattle.refutation_tree.specs.Shapes.{Kids, no_kids, tree_kid}
 

@@ -7,7 +7,7 @@ ghost use Rattle.refutation_tree.specs.Views.{branch_onto, kids_of_items, shape_
 ghost use Rattle.policy_book.specs.Plans.{IsWithin};
 ghost use Rattle.policy_book.specs.Policies.{problem_of};
 ghost use Rattle.certificate_check.specs.Walks.{begins_with};
-ghost use Rattle.policy_book.specs.Refuting.{all_refute, any_mentions, candidates, have_users, is_broken, is_free, is_misheld, is_rule_naming, mentions, refutes};
+ghost use Rattle.policy_book.specs.Refuting.{all_refute, any_mentions, authorised_users, have_users, is_broken, is_unassigned, is_misheld, is_rule_naming, mentions, refutes};
 
 use constraint_forms::falsified;
 use policy_book::{Assign, Policy, Rules, StepSet};
@@ -27,7 +27,7 @@ pub fn check_tree(p: &Policy, f: FlowId, a: &Assign, done: &StepSet, tree: &Tree
         Tree::Rule(k) => is_broken(p, f, a, *k),
         Tree::Step(s, branches) => {
             let branches = branches.as_slice();
-            if !is_free(p, f, a, *s) {
+            if !is_unassigned(p, f, a, *s) {
                 return false;
             }
             if !have_users(p, f, *s, branches) {
@@ -51,8 +51,8 @@ fn all_refute(
     requires flow { f < length p.now.flows }
     requires within { IsWithin (problem_of p.now f) a.now }
     requires room { s < STEP_LIMIT }
-    requires free { IsTrue (is_free (problem_of p.now f) a.now s) }
-    requires users { IsTrue (have_users (candidates (problem_of p.now f) s) (kids_of_items branches.now)) }
+    requires free { IsTrue (is_unassigned (problem_of p.now f) a.now s) }
+    requires users { IsTrue (have_users (authorised_users (problem_of p.now f) s) (kids_of_items branches.now)) }
     ensures { result ≡ all_refute (problem_of p.now f) a.now done.now s [] (kids_of_items branches.now) }
 {
     'branches: for branch in branches {
@@ -76,7 +76,7 @@ fn branch_refutes(
     requires flow { f < length p.now.flows }
     requires within { IsWithin (problem_of p.now f) a.now }
     requires room { s < STEP_LIMIT }
-    requires free { IsTrue (is_free (problem_of p.now f) a.now s) }
+    requires free { IsTrue (is_unassigned (problem_of p.now f) a.now s) }
     requires user { branch.now.user < (problem_of p.now f).users }
     ensures { result ≡ all_refute (problem_of p.now f) a.now done.now s [] (branch_onto branch.now no_kids) }
 {
@@ -106,10 +106,10 @@ fn is_broken(p: &Policy, f: FlowId, a: &Assign, k: u8) -> bool
     }
 }
 
-fn is_free(p: &Policy, f: FlowId, a: &Assign, s: StepId) -> bool
+fn is_unassigned(p: &Policy, f: FlowId, a: &Assign, s: StepId) -> bool
     requires flow { f < length p.now.flows }
     ensures within { IsTrue result → s < STEP_LIMIT }
-    ensures free { result ≡ is_free (problem_of p.now f) a.now s }
+    ensures free { result ≡ is_unassigned (problem_of p.now f) a.now s }
 {
     (s.0 as u16) < p.flow(f).steps().len() && a.at(s).is_none()
 }
@@ -118,7 +118,7 @@ fn is_free(p: &Policy, f: FlowId, a: &Assign, s: StepId) -> bool
 fn have_users(p: &Policy, f: FlowId, s: StepId, branches: &[Branch]) -> bool
     requires flow { f < length p.now.flows }
     requires step { s < (problem_of p.now f).steps }
-    ensures { result ≡ have_users (candidates (problem_of p.now f) s) (kids_of_items branches.now) }
+    ensures { result ≡ have_users (authorised_users (problem_of p.now f) s) (kids_of_items branches.now) }
 {
     let mut next = 0;
     'users: for u in 0..p.roster().users().len() {

@@ -1,3 +1,4 @@
 pub mod Bits
 pub mod SamePlans
 pub mod RuleLaws
+pub mod Exchanges

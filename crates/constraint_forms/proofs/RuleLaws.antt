@@ -3,7 +3,7 @@ use Rattle.std.proofs.Common.{◌≡◌, ℕ, zero, suc, ◌+◌, Bool, true, fa
 use Rattle.std.specs.Bool.{IsTrue}
 use Rattle.constraint_forms.specs.declared.rule.Rule.TheVariants.{Pair, SomeOf, AllOf}
 use Rattle.constraint_forms.specs.Assigned.{is_member}
-use Rattle.constraint_forms.specs.Rules.{any_from, all_from, are_unrelated, names, Relating}
+use Rattle.constraint_forms.specs.Rules.{any_from, all_from, are_unrelated, names, reads, Relating}
 use Rattle.constraint_forms.specs.Laws.{TotalsDecide, StaysFalsified, FalsifiedByNamed, SatisfiedByNamed, SeesRelatedness}
 
 -- ---- what a rule names
@@ -164,8 +164,8 @@ satisfied_by_named related (AllOf rho group step) f g h =
     all-same _ _ group (λ x t j. related rho (h x (member-named rho group step x t) j) (h step (step-named rho group step) j))
 
 pub sees_relatedness : SeesRelatedness
-sees_relatedness related (Pair rho first second) f g h = h.relate_same first second (first-named rho first second) (second-named rho first second)
+sees_relatedness related (Pair rho first second) f g h = h.relate_same rho first second (same_number rho) (first-named rho first second) (second-named rho first second)
 sees_relatedness related (SomeOf rho group step) f g h =
-    any-same _ _ group (λ x t. h.relate_same x step (member-named rho group step x t) (step-named rho group step))
+    any-same _ _ group (λ x t. h.relate_same rho x step (same_number rho) (member-named rho group step x t) (step-named rho group step))
 sees_relatedness related (AllOf rho group step) f g h =
-    all-same _ _ group (λ x t. h.relate_same x step (member-named rho group step x t) (step-named rho group step))
+    all-same _ _ group (λ x t. h.relate_same rho x step (same_number rho) (member-named rho group step x t) (step-named rho group step))

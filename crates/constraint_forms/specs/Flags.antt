@@ -1,4 +1,4 @@
--- A word of bits as a list of flags, the flag of bit 0 first.
+-- Inside: a word of bits as a list of flags, the flag of bit 0 first.
 use Rattle.std.specs.Prelude.{◌≡◌, ℕ, ◌+◌, ◌*◌, ◌/◌, ◌%◌, ◌^◌, ◌<◌, Bool, cond, ◌==◌, List, [], ◌∷◌}
 use Rattle.std.proofs.Common.{zero, suc, refl, arith}
 

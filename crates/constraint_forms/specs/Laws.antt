@@ -1,7 +1,7 @@
 -- What is true of every rule, whatever its form.
-use Rattle.std.specs.Prelude.{◌≡◌, ℕ, Bool, not, ◌==◌, cond, Option, Some, IsTrue}
+use Rattle.std.specs.Prelude.{◌≡◌, ℕ, ◌<◌, Bool, not, ◌==◌, cond, Option, Some, IsTrue}
 use Rattle.constraint_forms.specs.declared.rule.Rule.{Rule}
-use Rattle.constraint_forms.specs.Rules.{Relating, is_satisfied, is_falsified, names, relation_of}
+use Rattle.constraint_forms.specs.Rules.{Relating, is_satisfied, is_falsified, names, reads}
 
 -- a total assignment satisfies a rule exactly where it does not falsify it
 abbrev pub TotalsDecide : Type 0
@@ -35,10 +35,14 @@ SatisfiedByNamed =
     (related : Relating) (rule : Rule) (f g : ℕ → ℕ) →
     AgreeOnNamed rule f g → is_satisfied related rule f ≡ is_satisfied related rule g
 
--- total assignments that relate the same steps of a rule, and give the same of its steps to one user
+-- total assignments under which each relation that a rule reads relates the same of its steps, and
+-- which give the same of its steps to one user
 pub record AreAlike (related : Relating) (rule : Rule) (f g : ℕ → ℕ) : Type 0 where
-  pub relate_same : (s t : ℕ) → IsTrue (names rule s) → IsTrue (names rule t) → related (relation_of rule) (f s) (f t) ≡ related (relation_of rule) (g s) (g t)
-  pub join_same : (s t : ℕ) → IsTrue (names rule s) → IsTrue (names rule t) → (f s == f t) ≡ (g s == g t)
+  pub relate_same :
+      (rho s t : ℕ) → IsTrue (reads rule rho) → IsTrue (names rule s) → IsTrue (names rule t) →
+      related rho (f s) (f t) ≡ related rho (g s) (g t)
+  pub join_same :
+      (s t : ℕ) → IsTrue (names rule s) → IsTrue (names rule t) → (f s == f t) ≡ (g s == g t)
 
 -- of users a rule sees only who is related, and who is one user
 abbrev pub SeesRelatedness : Type 0
@@ -50,16 +54,22 @@ SeesRelatedness =
 abbrev pub exchanged : ℕ → ℕ → ℕ → ℕ
 exchanged u v w = cond (w == u) v (cond (w == v) u w)
 
--- a relation treats u and v alike: towards every other user, and between themselves
-pub record AreInterchangeable (holds : ℕ → ℕ → Bool) (u v : ℕ) : Type 0 where
-  pub towards : (w : ℕ) → (w ≡ u → ⊥) → (w ≡ v → ⊥) → holds u w ≡ holds v w
-  pub «from» : (w : ℕ) → (w ≡ u → ⊥) → (w ≡ v → ⊥) → holds w u ≡ holds w v
+-- a relation treats u and v alike: towards every other of so many users, and between themselves
+pub record AreInterchangeable (users : ℕ) (holds : ℕ → ℕ → Bool) (u v : ℕ) : Type 0 where
+  pub towards : (w : ℕ) → w < users → (w ≡ u → ⊥) → (w ≡ v → ⊥) → holds u w ≡ holds v w
+  pub «from» : (w : ℕ) → w < users → (w ≡ u → ⊥) → (w ≡ v → ⊥) → holds w u ≡ holds w v
   pub own : holds u u ≡ holds v v
   pub mutually : holds u v ≡ holds v u
 
--- exchanging two users whom a rule's relation treats alike does not matter to the rule
+-- each relation that a rule reads treats u and v alike
+abbrev pub AreTwinsFor : ℕ → Relating → Rule → ℕ → ℕ → Type 0
+AreTwinsFor users related rule u v =
+    (rho : ℕ) → IsTrue (reads rule rho) → AreInterchangeable users (related rho) u v
+
+-- where a rule's steps are given to users of the policy, exchanging two of them whom each relation
+-- that the rule reads treats alike does not matter to the rule
 abbrev pub ExchangeDoesNotMatter : Type 0
 ExchangeDoesNotMatter =
-    (related : Relating) (rule : Rule) (f : ℕ → ℕ) (u v : ℕ) →
-    AreInterchangeable (related (relation_of rule)) u v →
+    (users : ℕ) (related : Relating) (rule : Rule) (f : ℕ → ℕ) (u v : ℕ) →
+    ((s : ℕ) → IsTrue (names rule s) → f s < users) → AreTwinsFor users related rule u v →
     is_satisfied related rule (λ s. exchanged u v (f s)) ≡ is_satisfied related rule f

@@ -49,14 +49,12 @@ relation_of (Pair rho first second) = rho
 relation_of (SomeOf rho group step) = rho
 relation_of (AllOf rho group step) = rho
 
--- a rule is over a relation
+-- a rule reads a relation: who is related by it may matter to the rule
 abbrev pub reads : Rule → ℕ → Bool
-reads r rho = rho == relation_of r
+reads (Pair rho first second) r = r == rho
+reads (SomeOf rho group step) r = r == rho
+reads (AllOf rho group step) r = r == rho
 
 -- a rule names only steps of a workflow with n steps
 abbrev pub IsRuleOf : ℕ → Rule → Type 0
 IsRuleOf n r = (s : ℕ) → IsTrue (names r s) → s < n
-
--- a rule is over one of the relations 0 to n - 1
-abbrev pub IsRelationBelow : ℕ → Rule → Type 0
-IsRelationBelow n r = relation_of r < n

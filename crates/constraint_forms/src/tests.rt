@@ -76,11 +76,8 @@ fn duo_falsifies_a_pair_once_both_steps_are_assigned(rt: HostRuntime) {
     ];
     for (row, breaks_other, breaks_same) in rows {
         let a = assigned(row);
-        let got = (
-            falsified(&other, &Mentors, &a),
-            falsified(&same, &Mentors, &a),
-        );
-        assert_eq!(rt; got, (breaks_other, breaks_same), "{row}");
+        assert!(rt; falsified(&other, &Mentors, &a) == breaks_other, "{row}");
+        assert!(rt; falsified(&same, &Mentors, &a) == breaks_same, "{row}");
     }
 }
 
@@ -104,108 +101,77 @@ fn trio_mentor_falsifies_some_once_all_are_assigned(rt: HostRuntime) {
     ];
     for (row, breaks_some, breaks_all) in rows {
         let a = assigned(row);
-        let got = (
-            falsified(&some, &Mentors, &a),
-            falsified(&all, &Mentors, &a),
-        );
-        assert_eq!(rt; got, (breaks_some, breaks_all), "{row}");
+        assert!(rt; falsified(&some, &Mentors, &a) == breaks_some, "{row}");
+        assert!(rt; falsified(&all, &Mentors, &a) == breaks_all, "{row}");
     }
 }
 
 #[test]
 fn trio_plans_satisfy_or_not(rt: HostRuntime) {
-    let group = StepSet::empty().with(A).with(B);
-    let some = Rule::SomeOf {
-        rho: LISTED,
-        group,
-        step: C,
-    };
-    let all = Rule::AllOf {
-        rho: LISTED,
-        group,
-        step: C,
-    };
-    let clear = Rule::Pair {
-        rho: CLEAR,
-        first: A,
-        second: B,
-    };
-    let (kim_max_lee, max_max_lee, kim_kim_lee, kim_kim_kim) = (
-        Plan::of(&[KIM, MAX, LEE]),
-        Plan::of(&[MAX, MAX, LEE]),
-        Plan::of(&[KIM, KIM, LEE]),
-        Plan::of(&[KIM, KIM, KIM]),
-    );
-    assert_eq!(rt;
-        (
-            satisfied(&some, &Mentors, &kim_max_lee),
-            satisfied(&some, &Mentors, &max_max_lee),
-            satisfied(&all, &Mentors, &kim_max_lee),
-            satisfied(&all, &Mentors, &kim_kim_lee),
-            satisfied(&clear, &NoConflict, &kim_kim_kim),
-            falsified(
-                &clear,
-                &NoConflict,
-                &Assign::empty().with(A, KIM).with(B, KIM)
-            ),
-        ),
-        (true, false, false, true, true, false)
-    );
+    let (rho, group, step) = (LISTED, StepSet::empty().with(A).with(B), C);
+    let some = Rule::SomeOf { rho, group, step };
+    let all = Rule::AllOf { rho, group, step };
+    assert!(rt; satisfied(&some, &Mentors, &Plan::of(&[KIM, MAX, LEE])));
+    assert!(rt; !satisfied(&some, &Mentors, &Plan::of(&[MAX, MAX, LEE])));
+    assert!(rt; !satisfied(&all, &Mentors, &Plan::of(&[KIM, MAX, LEE])));
+    assert!(rt; satisfied(&all, &Mentors, &Plan::of(&[KIM, KIM, LEE])));
+}
+
+#[test]
+fn a_clear_pair_is_satisfied_by_one_user(rt: HostRuntime) {
+    let (rho, first, second) = (CLEAR, A, B);
+    let clear = Rule::Pair { rho, first, second };
+    let given = Assign::empty().with(A, KIM).with(B, KIM);
+    assert!(rt; satisfied(&clear, &NoConflict, &Plan::of(&[KIM, KIM, KIM])));
+    assert!(rt; !falsified(&clear, &NoConflict, &given));
 }
 
 #[test]
 fn rules_are_listed_with_their_steps(rt: HostRuntime) -> Result<(), Fail> {
-    let pair = Rule::Pair {
+    let mut rules = Rules::new(rt.alloc());
+    rules.push(pair())?;
+    rules.push(some())?;
+    assert!(rt; copies_both(&rules)?);
+    assert!(rt; names_of(&pair()) == [true, false, true]);
+    assert!(rt; names_of(&some()) == [false, true, true]);
+    assert!(rt; pair().reads(RelId::OTHER) && !pair().reads(LISTED) && some().reads(LISTED));
+    Ok(())
+}
+
+// A pair over the first and the last step.
+fn pair() -> Rule {
+    Rule::Pair {
         rho: RelId::OTHER,
         first: A,
         second: C,
-    };
-    let some = Rule::SomeOf {
+    }
+}
+
+// A rule over the second and the last step.
+fn some() -> Rule {
+    Rule::SomeOf {
         rho: LISTED,
         group: StepSet::empty().with(B),
         step: C,
-    };
-    let mut rules = Rules::new(rt.alloc());
-    rules.push(pair)?;
-    rules.push(some)?;
+    }
+}
+
+fn copies_both(rules: &Rules) -> Result<bool, Fail> {
     let copy = rules.copy()?;
-    assert_eq!(rt; (copy.len(), *copy.get(0), *copy.get(1)), (2, pair, some));
-    assert_eq!(rt;
-        [
-            (pair.names(A), pair.names(B), pair.names(C)),
-            (some.names(A), some.names(B), some.names(C)),
-            (
-                pair.reads(RelId::OTHER),
-                pair.reads(LISTED),
-                some.reads(LISTED)
-            ),
-        ],
-        [
-            (true, false, true),
-            (false, true, true),
-            (true, false, true)
-        ]
-    );
-    Ok(())
+    Ok(matches!(copy.as_slice(), [first, second] if *first == pair() && *second == some()))
+}
+
+fn names_of(rule: &Rule) -> [bool; 3] {
+    [rule.names(A), rule.names(B), rule.names(C)]
 }
 
 #[test]
 fn cells_hold_what_is_put_in(rt: HostRuntime) {
     let group = StepSet::empty().with(B);
+    assert!(rt; !group.has(A) && group.has(B) && group.limit() == 16);
     let assign = Assign::empty().with(A, KIM).with(C, MAX).without(A);
+    assert!(rt; assign.at(A).is_none() && assign.at(C) == Some(MAX));
     let plan = Plan::of(&[MAX, LEE]);
-    assert_eq!(rt;
-        (
-            group.has(A),
-            group.has(B),
-            group.limit(),
-            assign.at(A),
-            assign.at(C)
-        ),
-        (false, true, 16, None, Some(MAX))
-    );
-    assert_eq!(rt;
-        (plan.len(), plan.at(A), plan.at(B), plan == Plan::of(&[MAX])),
-        (2, MAX, LEE, false)
-    );
+    assert!(rt; plan.len() == 2 && plan.at(A) == MAX && plan.at(B) == LEE);
+    assert!(rt; plan != Plan::of(&[MAX]));
 }

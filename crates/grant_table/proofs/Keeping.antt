@@ -1,7 +1,8 @@
 -- What a table keeps where one row changes, and where one is added.
 use Rattle.std.proofs.Common.{◌≡◌, ℕ, ◌+◌, ◌<◌, ◌≤◌, Bool, true, false, cond, ◌⊎◌, inl, inr, nat_eq, List, [], ◌∷◌, ◌++◌, Option, None, Some, is_some, IsSomeAnd, slice_set, if◌then◌else◌, refl, sym, ap, subst, ◌∙◌, arith}
 use Rattle.std.specs.Option.{option_map}
-use Rattle.std.proofs.lemmas.List.Sums.{sum_by-cons}
+use Rattle.basics.proofs.Booleans.{eq_back, eq_is}
+use Rattle.grant_table.proofs.Counts.{counted}
 use Rattle.wf_names.specs.declared.limits.TheConstants.{OPEN_CASE_LIMIT, CASE_LIMIT}
 use Rattle.std.specs.List.{list_all}
 use Rattle.wf_names.specs.States.{is_done, is_finished, is_live}
@@ -10,7 +11,7 @@ use Rattle.wf_names.specs.declared.states.Phase.TheVariants.{Live, Done, Withdra
 use Rattle.case_record.specs.Cases.{CaseShape, as_finished, is_open, state_at}
 use Rattle.grant_table.specs.declared.rows.Row.{Row}
 use Rattle.grant_table.specs.Tables.{CasesShape, case_at, case_in, change_row, finished_row, is_open_case, ones, open_count, plan_of, plan_while, row_at, with_row}
-use Rattle.grant_table.specs.Kept.{AreBelow, ArePlanned, AscendFrom, IsKept}
+use Rattle.grant_table.specs.Kept.{AreNumberedBelow, ArePlanned, AscendFrom, IsSoundTable}
 
 abbrev or_else : Row → Option Row → Row
 or_else d None = d
@@ -24,16 +25,10 @@ row_is n x rest r false e h = inr (e, h)
 row_case : (n : ℕ) (x : Row) (xs : List Row) (r : Row) → row_at n (x ∷ xs) ≡ Some r → ((nat_eq x.number n ≡ true) × (x ≡ r)) ⊎ ((nat_eq x.number n ≡ false) × (row_at n xs ≡ Some r))
 row_case n x xs r h = row_is n x (row_at n xs) r (nat_eq x.number n) refl h
 
-equal_is : (a n : ℕ) → nat_eq a n ≡ true → a ≡ n
-equal_is a n h = grind arith
-
-is_equal : (a n : ℕ) → a ≡ n → nat_eq a n ≡ true
-is_equal a n h = grind arith
-
 pub row_number : (n : ℕ) (rows : List Row) (r : Row) → row_at n rows ≡ Some r → r.number ≡ n
 row_number n [] r h = cc
 row_number n (x ∷ xs) r h = elim (row_case n x xs r h) [
-  | inl hit ↦ ap (λ y. y.number) (sym hit.1) ∙ equal_is x.number n hit.0
+  | inl hit ↦ ap (λ y. y.number) (sym hit.1) ∙ eq_back x.number n hit.0
   | inr miss ↦ row_number n xs r miss.1
 ]
 
@@ -41,16 +36,16 @@ ascend_changed : (low n : ℕ) (rows : List Row) (r new : Row) → AscendFrom lo
 ascend_changed low n [] r new order h same = tt
 ascend_changed low n (x ∷ xs) r new order h same = elim (row_case n x xs r h) [
   | inl hit ↦
-      let e : x.number ≡ new.number = equal_is x.number n hit.0 ∙ sym same in
+      let e : x.number ≡ new.number = eq_back x.number n hit.0 ∙ sym same in
       rw hit.0 (subst (λ m. low ≤ m) e order.0, subst (λ m. AscendFrom (m + 1) xs) e order.1)
   | inr miss ↦ rw miss.0 (order.0, ascend_changed (x.number + 1) n xs r new order.1 miss.1 same)
 ]
 
-below_changed : (high n : ℕ) (rows : List Row) (r new : Row) → AreBelow high rows → row_at n rows ≡ Some r → new.number ≡ n → AreBelow high (change_row n (λ _. new) rows)
+below_changed : (high n : ℕ) (rows : List Row) (r new : Row) → AreNumberedBelow high rows → row_at n rows ≡ Some r → new.number ≡ n → AreNumberedBelow high (change_row n (λ _. new) rows)
 below_changed high n [] r new below h same = tt
 below_changed high n (x ∷ xs) r new below h same = elim (row_case n x xs r h) [
   | inl hit ↦
-      let e : x.number ≡ new.number = equal_is x.number n hit.0 ∙ sym same in
+      let e : x.number ≡ new.number = eq_back x.number n hit.0 ∙ sym same in
       rw hit.0 (subst (λ m. m < high) e below.0, below.1)
   | inr miss ↦ rw miss.0 (below.0, below_changed high n xs r new below.1 miss.1 same)
 ]
@@ -69,9 +64,6 @@ planned_at n (x ∷ xs) r planned h = elim (row_case n x xs r h) [
   | inl hit ↦ subst (λ (y : Row). is_some y.plan ≡ is_open y.case) hit.1 planned.0
   | inr miss ↦ planned_at n xs r planned.1 miss.1
 ]
-
-counted : (r : Row) (rows : List Row) → open_count (r ∷ rows) ≡ ones r + open_count rows
-counted r rows = sum_by-cons ones r rows
 
 -- how many cases are open after a change
 pub count_changed : (n : ℕ) (rows : List Row) (r new : Row) → row_at n rows ≡ Some r → open_count (change_row n (λ _. new) rows) + ones r ≡ open_count rows + ones new
@@ -95,18 +87,18 @@ const_changed n (x ∷ xs) r f h = elim (row_case n x xs r h) [
 pub row_changed : (n : ℕ) (rows : List Row) (r new : Row) → row_at n rows ≡ Some r → new.number ≡ n → row_at n (change_row n (λ _. new) rows) ≡ Some new
 row_changed n [] r new h same = cc
 row_changed n (x ∷ xs) r new h same = elim (row_case n x xs r h) [
-  | inl hit ↦ rw (hit.0, is_equal new.number n same) refl
+  | inl hit ↦ rw (hit.0, eq_is new.number n same) refl
   | inr miss ↦ rw (miss.0, miss.0) (row_changed n xs r new miss.1 same)
 ]
 
 -- a table with a row put in the place of the one with its number is kept
 pub kept_put :
-    (ever live live' : ℕ) (rows : List Row) (new : Row) (ended : Bool) → IsKept rows ever live →
+    (ever live live' : ℕ) (rows : List Row) (new : Row) (ended : Bool) → IsSoundTable rows ever live →
     IsSomeAnd (row_at new.number rows) (λ r. ones r ≡ ones new + cond ended 1 0) → is_some new.plan ≡ is_open new.case →
-    live' + cond ended 1 0 ≡ live → IsKept (change_row new.number (λ _. new) rows) ever live'
+    live' + cond ended 1 0 ≡ live → IsSoundTable (change_row new.number (λ _. new) rows) ever live'
 kept_put ever live live' rows new ended kept there planned left = kept_at (row_at new.number rows) refl there
   where
-    kept_at : (o : Option Row) → row_at new.number rows ≡ o → IsSomeAnd o (λ r. ones r ≡ ones new + cond ended 1 0) → IsKept (change_row new.number (λ _. new) rows) ever live'
+    kept_at : (o : Option Row) → row_at new.number rows ≡ o → IsSomeAnd o (λ r. ones r ≡ ones new + cond ended 1 0) → IsSoundTable (change_row new.number (λ _. new) rows) ever live'
     kept_at None h counts = absurd counts
     kept_at (Some r) h counts = record {
       ascend = ascend_changed 0 new.number rows r new kept.ascend h refl;
@@ -118,7 +110,7 @@ kept_put ever live live' rows new ended kept there planned left = kept_at (row_a
     }
 
 -- an open case ends only where there is one
-pub counts_one : (ever live : ℕ) (rows : List Row) (new : Row) (ended : Bool) → IsKept rows ever live →
+pub counts_one : (ever live : ℕ) (rows : List Row) (new : Row) (ended : Bool) → IsSoundTable rows ever live →
     IsSomeAnd (row_at new.number rows) (λ r. ones r ≡ ones new + cond ended 1 0) → cond ended 1 0 ≤ live
 counts_one ever live rows new ended kept there = counts_at (row_at new.number rows) refl there
   where
@@ -142,11 +134,11 @@ there_again P n rows r new h same holds =
 pub known : (P : CaseShape → Type 0) (n : ℕ) (rows : List Row) (r : Row) → row_at n rows ≡ Some r → IsSomeAnd (case_in n rows) P → P r.case
 known P n rows r h there = subst (λ o. IsSomeAnd (option_map (λ (y : Row). y.case) o) P) h there
 
-ascend_added : (low : ℕ) (rows : List Row) (new : Row) → AscendFrom low rows → AreBelow new.number rows → low ≤ new.number → AscendFrom low (rows ++ new ∷ [])
+ascend_added : (low : ℕ) (rows : List Row) (new : Row) → AscendFrom low rows → AreNumberedBelow new.number rows → low ≤ new.number → AscendFrom low (rows ++ new ∷ [])
 ascend_added low [] new order below h = (h, tt)
 ascend_added low (r ∷ rs) new order below h = (order.0, ascend_added (r.number + 1) rs new order.1 below.1 (omega (arith, below.0)))
 
-below_added : (rows : List Row) (new : Row) → AreBelow new.number rows → AreBelow (new.number + 1) (rows ++ new ∷ [])
+below_added : (rows : List Row) (new : Row) → AreNumberedBelow new.number rows → AreNumberedBelow (new.number + 1) (rows ++ new ∷ [])
 below_added [] new below = (omega arith, tt)
 below_added (r ∷ rs) new below = (omega (arith, below.0), below_added rs new below.1)
 
@@ -160,14 +152,14 @@ count_added (r ∷ rs) new = omega (arith, count_added rs new, counted r rs, cou
 
 -- a table with an open case added is kept
 pub kept_added :
-    (ever live : ℕ) (rows : List Row) (new : Row) → IsKept rows ever live → new.number ≡ ever → is_open new.case ≡ true → is_some new.plan ≡ true →
-    live < OPEN_CASE_LIMIT → ever < CASE_LIMIT → IsKept (rows ++ new ∷ []) (ever + 1) (live + 1)
+    (ever live : ℕ) (rows : List Row) (new : Row) → IsSoundTable rows ever live → new.number ≡ ever → is_open new.case ≡ true → is_some new.plan ≡ true →
+    live < OPEN_CASE_LIMIT → ever < CASE_LIMIT → IsSoundTable (rows ++ new ∷ []) (ever + 1) (live + 1)
 kept_added ever live rows new kept same open_case plan few limit =
-    let below : AreBelow new.number rows = subst (λ m. AreBelow m rows) (sym same) kept.below in
+    let below : AreNumberedBelow new.number rows = subst (λ m. AreNumberedBelow m rows) (sym same) kept.below in
     let one : ◌≡◌ {A = ℕ} (ones new) 1 = ap (λ b. cond b 1 0) open_case in
     record {
       ascend = ascend_added 0 rows new kept.ascend below (omega arith);
-      below = subst (λ m. AreBelow (m + 1) (rows ++ new ∷ [])) same (below_added rows new below);
+      below = subst (λ m. AreNumberedBelow (m + 1) (rows ++ new ∷ [])) same (below_added rows new below);
       planned = planned_added rows new kept.planned (plan ∙ sym open_case);
       counted = omega (arith, count_added rows new, kept.counted, one);
       few = omega (arith, few);

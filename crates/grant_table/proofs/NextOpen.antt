@@ -5,7 +5,8 @@ use Rattle.case_record.specs.Cases.{is_open}
 use Rattle.grant_table.specs.declared.rows.Row.{Row}
 use Rattle.grant_table.specs.Tables.{CasesShape, IsNextOpen, case_in, is_open_case, next_open}
 use Rattle.grant_table.specs.Kept.{AscendFrom}
-use Rattle.grant_table.proofs.Places.{bool_cases, none_below}
+use Rattle.basics.proofs.Booleans.{and_both, bool_cases, differ, eq_above, eq_back, eq_is, le_back, le_yes, second_false}
+use Rattle.grant_table.proofs.Places.{none_below}
 
 -- whether the case with a number is open
 abbrev open_in : ℕ → List Row → Bool
@@ -22,47 +23,20 @@ open_here n r rs h = rw h refl
 open_there : (n : ℕ) (r : Row) (rs : List Row) → nat_eq r.number n ≡ false → open_in n (r ∷ rs) ≡ open_in n rs
 open_there n r rs h = rw h refl
 
-equal : (a n : ℕ) → a ≡ n → nat_eq a n ≡ true
-equal a n h = grind arith
-
-unequal : (a n : ℕ) → n < a → nat_eq a n ≡ false
-unequal a n h = grind arith
-
-same_number : (a n : ℕ) → nat_eq a n ≡ true → a ≡ n
-same_number a n h = grind arith
-
-is_from : (a n : ℕ) → nat_le n a ≡ true → n ≤ a
-is_from a n h = grind arith
-
-from_is : (a n : ℕ) → n ≤ a → nat_le n a ≡ true
-from_is a n h = grind arith
-
-both_true : (a b : Bool) → (a && b) ≡ true → (a ≡ true) × (b ≡ true)
-both_true true true h = (refl, refl)
-both_true true false h = cc
-both_true false b h = cc
-
-second_false : (a b : Bool) → (a && b) ≡ false → a ≡ true → b ≡ false
-second_false true b h e = h
-second_false false b h e = cc
-
 none_open : (low n : ℕ) (rows : List Row) → AscendFrom low rows → n < low → open_in n rows ≡ false
 none_open low n rows order h = ap (λ o. is_open_case (option_map (λ (r : Row). r.case) o)) (none_below low n rows order h)
 
 -- a row that the search passes over is not open, or below
 passed : (low m : ℕ) (r : Row) (rs : List Row) → (nat_le low r.number && is_open r.case) ≡ false → low ≤ m → open_in m rs ≡ false → open_in m (r ∷ rs) ≡ false
 passed low m r rs test h rest = elim (bool_cases (nat_eq r.number m)) [
-  | inl hit ↦ open_here m r rs hit ∙ second_false _ _ test (from_is r.number low (omega (arith, same_number r.number m hit, h)))
+  | inl hit ↦ open_here m r rs hit ∙ second_false _ _ test (le_yes low r.number (omega (arith, eq_back r.number m hit, h)))
   | inr miss ↦ open_there m r rs miss ∙ rest
 ]
-
-differ : (b : Bool) → b ≡ true → b ≡ false → ⊥
-differ b h k = cc
 
 -- an open case of the rest is not the first
 beyond : (n : ℕ) (r : Row) (rs : List Row) → AscendFrom (r.number + 1) rs → open_in n rs ≡ true → open_in n (r ∷ rs) ≡ true
 beyond n r rs order h = elim (bool_cases (nat_eq r.number n)) [
-  | inl hit ↦ absurd (differ _ h (none_open (r.number + 1) n rs order (omega (arith, same_number r.number n hit))))
+  | inl hit ↦ absurd (differ _ h (none_open (r.number + 1) n rs order (omega (arith, eq_back r.number n hit))))
   | inr miss ↦ open_there n r rs miss ∙ h
 ]
 
@@ -80,11 +54,11 @@ means : (b low : ℕ) (rows : List Row) → AscendFrom b rows → MatchOption (n
 means b low [] order = λ m above. refl
 means b low (r ∷ rs) order = elim (bool_cases (nat_le low r.number && is_open r.case)) [
   | inl hit ↦
-      let parts = both_true _ _ hit in
+      let parts = and_both _ _ hit in
       let least : IsLeast (r ∷ rs) low r.number = record {
-        known = is_from r.number low parts.0;
-        open_case = open_here r.number r rs (equal r.number r.number refl) ∙ parts.1;
-        least = λ m above below. open_there m r rs (unequal r.number m below) ∙ none_open (r.number + 1) m rs order.1 (omega (arith, below));
+        known = le_back low r.number parts.0;
+        open_case = open_here r.number r rs (eq_is r.number r.number refl) ∙ parts.1;
+        least = λ m above below. open_there m r rs (eq_above r.number m below) ∙ none_open (r.number + 1) m rs order.1 (omega (arith, below));
       } in
       rw hit least
   | inr miss ↦ rw miss (longer low r rs (next_open low rs) order.1 miss (means (r.number + 1) low rs order.1))

@@ -1,14 +1,12 @@
 -- What a part of a table keeps.
 use Rattle.std.proofs.Common.{◌≡◌, ℕ, zero, suc, ◌+◌, ◌<◌, ◌≤◌, Bool, true, cond, inl, inr, nat_eq, List, [], ◌∷◌, length, get_or, slice_get, Some, refl, sym, ap, subst, ◌∙◌, arith}
 use Rattle.std.specs.List.{filter}
-use Rattle.std.proofs.lemmas.List.Sums.{sum_by-cons}
 use Rattle.grant_table.specs.declared.rows.Row.{Row}
 use Rattle.grant_table.specs.Tables.{is_open_row, ones, only, open_count, open_rows, row_at}
-use Rattle.grant_table.specs.Kept.{AreBelow, ArePlanned, AscendFrom, IsKept, rows_of}
-use Rattle.grant_table.proofs.Places.{bool_cases, ascend_from_less, not_equal_above}
-
-counted : (r : Row) (rows : List Row) → open_count (r ∷ rows) ≡ ones r + open_count rows
-counted r rows = sum_by-cons ones r rows
+use Rattle.grant_table.specs.Kept.{AreNumberedBelow, ArePlanned, AscendFrom, IsSoundTable, rows_of}
+use Rattle.basics.proofs.Booleans.{bool_cases, eq_above, eq_back}
+use Rattle.grant_table.proofs.Counts.{counted}
+use Rattle.grant_table.proofs.Places.{ascend_from_less}
 
 ascend_filter : (p : Row → Bool) (low : ℕ) (rows : List Row) → AscendFrom low rows → AscendFrom low (filter p rows)
 ascend_filter p low [] order = tt
@@ -17,7 +15,7 @@ ascend_filter p low (r ∷ rs) order = elim (bool_cases (p r)) [
   | inr miss ↦ rw miss (ascend_from_less (r.number + 1) low (filter p rs) (omega (arith, order.0)) (ascend_filter p (r.number + 1) rs order.1))
 ]
 
-below_filter : (p : Row → Bool) (high : ℕ) (rows : List Row) → AreBelow high rows → AreBelow high (filter p rows)
+below_filter : (p : Row → Bool) (high : ℕ) (rows : List Row) → AreNumberedBelow high rows → AreNumberedBelow high (filter p rows)
 below_filter p high [] below = tt
 below_filter p high (r ∷ rs) below = elim (bool_cases (p r)) [
   | inl hit ↦ rw hit (below.0, below_filter p high rs below.1)
@@ -39,7 +37,7 @@ count_filter p (r ∷ rs) = elim (bool_cases (p r)) [
 ]
 
 -- a table of some of the rows is kept
-pub kept_filter : (p : Row → Bool) (ever live : ℕ) (rows : List Row) → IsKept rows ever live → IsKept (filter p rows) ever (open_count (filter p rows))
+pub kept_filter : (p : Row → Bool) (ever live : ℕ) (rows : List Row) → IsSoundTable rows ever live → IsSoundTable (filter p rows) ever (open_count (filter p rows))
 kept_filter p ever live rows kept = record {
   ascend = ascend_filter p 0 rows kept.ascend;
   below = below_filter p ever rows kept.below;
@@ -63,21 +61,18 @@ count_open (r ∷ rs) = elim (bool_cases (is_open_row r)) [
       ap open_count e ∙ count_open rs ∙ same
 ]
 
-pub kept_open : (ever live : ℕ) (rows : List Row) → IsKept rows ever live → IsKept (open_rows rows) ever live
-kept_open ever live rows kept = subst (IsKept (open_rows rows) ever) (count_open rows ∙ kept.counted) (kept_filter is_open_row ever live rows kept)
+pub kept_open : (ever live : ℕ) (rows : List Row) → IsSoundTable rows ever live → IsSoundTable (open_rows rows) ever live
+kept_open ever live rows kept = subst (IsSoundTable (open_rows rows) ever) (count_open rows ∙ kept.counted) (kept_filter is_open_row ever live rows kept)
 
 none_only : (low n : ℕ) (rows : List Row) → AscendFrom low rows → n < low → only n rows ≡ []
 none_only low n [] order h = refl
-none_only low n (r ∷ rs) order h = rw (not_equal_above r.number n (omega (arith, order.0, h))) (none_only (r.number + 1) n rs order.1 (omega (arith, order.0, h)))
-
-same_number : (a n : ℕ) → nat_eq a n ≡ true → a ≡ n
-same_number a n h = grind arith
+none_only low n (r ∷ rs) order h = rw (eq_above r.number n (omega (arith, order.0, h))) (none_only (r.number + 1) n rs order.1 (omega (arith, order.0, h)))
 
 -- the rows with a number are the row with it, if there is one
 pub only_is : (low n : ℕ) (rows : List Row) → AscendFrom low rows → only n rows ≡ rows_of (row_at n rows)
 only_is low n [] order = refl
 only_is low n (r ∷ rs) order = elim (bool_cases (nat_eq r.number n)) [
-  | inl hit ↦ rw hit (ap (λ xs. r ∷ xs) (none_only (r.number + 1) n rs order.1 (omega (arith, same_number r.number n hit))))
+  | inl hit ↦ rw hit (ap (λ xs. r ∷ xs) (none_only (r.number + 1) n rs order.1 (omega (arith, eq_back r.number n hit))))
   | inr miss ↦ rw miss (only_is (r.number + 1) n rs order.1)
 ]
 

@@ -7,10 +7,7 @@ use Rattle.wf_names.specs.States.{is_live}
 use Rattle.grant_table.specs.declared.rows.Row.{Row}
 use Rattle.grant_table.specs.Tables.{row_at, change_row, next_open}
 use Rattle.grant_table.specs.Kept.{AscendFrom, IsPlace}
-
-pub bool_cases : (b : Bool) → (b ≡ true) ⊎ (b ≡ false)
-bool_cases true = inl refl
-bool_cases false = inr refl
+use Rattle.basics.proofs.Booleans.{bool_cases, eq_above, eq_below, eq_is, lt_back, lt_back_no}
 
 -- the place at which a test turns is the length of the front part that passes
 pub prefix_is : {X : Type 0} (p : X → Bool) (xs : List X) (i : ℕ) → i ≤ length xs → AllWithin (λ y. p y ≡ true) xs 0 i → AllWithin (λ y. p y ≡ false) xs i (length xs) → i ≡ prefix_len p xs
@@ -33,21 +30,6 @@ partitioned low n (r ∷ rs) order zero (suc j) d up h later = grind (arith, low
 partitioned low n (r ∷ rs) order (suc i) zero d up h later = absurd (omega arith)
 partitioned low n (r ∷ rs) order (suc i) (suc j) d up h later = partitioned (r.number + 1) n rs order.1 i j d (omega arith) (omega arith) later
 
-not_equal : (a n : ℕ) → a < n → nat_eq a n ≡ false
-not_equal a n h = grind arith
-
-pub not_equal_above : (a n : ℕ) → n < a → nat_eq a n ≡ false
-not_equal_above a n h = grind arith
-
-equal : (a n : ℕ) → a ≡ n → nat_eq a n ≡ true
-equal a n h = grind arith
-
-below_is : (a n : ℕ) → nat_lt a n ≡ true → a < n
-below_is a n h = grind arith
-
-not_below_is : (a n : ℕ) → nat_lt a n ≡ false → n ≤ a
-not_below_is a n h = grind arith
-
 next_prefix : (i m : ℕ) (b : Bool) → suc i ≡ cond b (1 + m) 0 → (b ≡ true) × (i ≡ m)
 next_prefix i m true e = (refl, omega arith)
 next_prefix i m false e = absurd (omega arith)
@@ -58,25 +40,25 @@ no_prefix m false e = refl
 
 pub place_found : (n : ℕ) (rows : List Row) (i : ℕ) (d : Row) → i ≡ prefix_len (λ (r : Row). nat_lt r.number n) rows → i < length rows → (slice_index_or rows i d).number ≡ n → IsPlace n rows i
 place_found n [] i d e h is = absurd (omega arith)
-place_found n (r ∷ rs) zero d e h is = equal _ _ is
+place_found n (r ∷ rs) zero d e h is = eq_is _ _ is
 place_found n (r ∷ rs) (suc i) d e h is =
     let next = next_prefix i _ _ e in
-    (not_equal _ _ (below_is _ _ next.0), place_found n rs i d next.1 (omega arith) is)
+    (eq_below _ _ (lt_back _ _ next.0), place_found n rs i d next.1 (omega arith) is)
 
 pub none_below : (low n : ℕ) (rows : List Row) → AscendFrom low rows → n < low → row_at n rows ≡ None
 none_below low n [] order h = refl
-none_below low n (r ∷ rs) order h = rw (not_equal_above r.number n (omega (arith, order.0, h))) (none_below (r.number + 1) n rs order.1 (omega (arith, order.0, h)))
+none_below low n (r ∷ rs) order h = rw (eq_above r.number n (omega (arith, order.0, h))) (none_below (r.number + 1) n rs order.1 (omega (arith, order.0, h)))
 
 pub place_missing : (low n : ℕ) (rows : List Row) (i : ℕ) → AscendFrom low rows → i ≡ prefix_len (λ (r : Row). nat_lt r.number n) rows → (i < length rows → (d : Row) → (slice_index_or rows i d).number ≡ n → ⊥) → row_at n rows ≡ None
 place_missing low n [] i order e differ = refl
 place_missing low n (r ∷ rs) zero order e differ =
-    let above : n ≤ r.number = not_below_is _ _ (no_prefix _ _ e) in
+    let above : n ≤ r.number = lt_back_no _ _ (no_prefix _ _ e) in
     let other : r.number ≡ n → ⊥ = differ (omega arith) r in
     let past : n < r.number = omega (arith, above, other) in
-    rw (not_equal_above r.number n past) (none_below (r.number + 1) n rs order.1 (omega (arith, past)))
+    rw (eq_above r.number n past) (none_below (r.number + 1) n rs order.1 (omega (arith, past)))
 place_missing low n (r ∷ rs) (suc i) order e differ =
     let next = next_prefix i _ _ e in
-    rw (not_equal _ _ (below_is _ _ next.0)) (place_missing (r.number + 1) n rs i order.1 next.1 (λ h d. differ (omega (arith, h)) d))
+    rw (eq_below _ _ (lt_back _ _ next.0)) (place_missing (r.number + 1) n rs i order.1 next.1 (λ h d. differ (omega (arith, h)) d))
 
 pub found_get : (n : ℕ) (rows : List Row) (i : ℕ) → IsPlace n rows i → row_at n rows ≡ slice_get rows i
 found_get n [] i h = absurd h
@@ -101,7 +83,7 @@ ascend_from_less low less (r ∷ rs) h order = (omega (arith, h, order.0), order
 pub later_ascend : (low n : ℕ) (rows : List Row) (i : ℕ) → AscendFrom low rows → i ≡ prefix_len (λ (r : Row). nat_lt r.number n) rows → AscendFrom n (drop i rows)
 later_ascend low n [] zero order e = tt
 later_ascend low n [] (suc i) order e = tt
-later_ascend low n (r ∷ rs) zero order e = (not_below_is _ _ (no_prefix _ _ e), order.1)
+later_ascend low n (r ∷ rs) zero order e = (lt_back_no _ _ (no_prefix _ _ e), order.1)
 later_ascend low n (r ∷ rs) (suc i) order e = later_ascend (r.number + 1) n rs i order.1 (next_prefix i _ _ e).1
 
 not_from : (a n : ℕ) → a < n → nat_le n a ≡ false
@@ -116,7 +98,7 @@ later_next n [] (suc i) e = refl
 later_next n (r ∷ rs) zero e = refl
 later_next n (r ∷ rs) (suc i) e =
     let next = next_prefix i _ _ e in
-    rw (not_from r.number n (below_is _ _ next.0)) (later_next n rs i next.1)
+    rw (not_from r.number n (lt_back _ _ next.0)) (later_next n rs i next.1)
 
 taken_off : (rows : List Row) (i : ℕ) (row : Row) → i < length rows → row ≡ get_or rows i row → drop i rows ≡ row ∷ drop (i + 1) rows
 taken_off rows i row h is =

@@ -1,4 +1,4 @@
--- How a table of cases is kept.
+-- Inside: how a table of cases is kept.
 use Rattle.std.specs.Prelude.{◌≡◌, ℕ, zero, suc, ◌+◌, ◌<◌, ◌≤◌, true, false, nat_eq, List, [], ◌∷◌, length, slice_get, Option, None, Some, is_some}
 use Rattle.wf_names.specs.declared.limits.TheConstants.{OPEN_CASE_LIMIT, CASE_LIMIT}
 use Rattle.case_record.specs.Cases.{is_open}
@@ -11,9 +11,9 @@ AscendFrom low [] = Unit {0}
 AscendFrom low (r ∷ rs) = (low ≤ r.number) × AscendFrom (r.number + 1) rs
 
 -- the numbers of the rows are below high
-abbrev pub AreBelow : ℕ → List Row → Type 0
-AreBelow high [] = Unit {0}
-AreBelow high (r ∷ rs) = (r.number < high) × AreBelow high rs
+abbrev pub AreNumberedBelow : ℕ → List Row → Type 0
+AreNumberedBelow high [] = Unit {0}
+AreNumberedBelow high (r ∷ rs) = (r.number < high) × AreNumberedBelow high rs
 
 -- a plan is kept exactly for the open cases
 abbrev pub ArePlanned : List Row → Type 0
@@ -22,9 +22,9 @@ ArePlanned (r ∷ rs) = (is_some r.plan ≡ is_open r.case) × ArePlanned rs
 
 -- what every table keeps: ascending numbers below the count of cases ever opened, a plan for each
 -- open case and no other, the number of open cases, and both limits
-pub record IsKept (rows : List Row) (ever live : ℕ) : Type 0 where
+pub record IsSoundTable (rows : List Row) (ever live : ℕ) : Type 0 where
   pub ascend : AscendFrom 0 rows
-  pub below : AreBelow ever rows
+  pub below : AreNumberedBelow ever rows
   pub planned : ArePlanned rows
   pub counted : open_count rows ≡ live
   pub few : live ≤ OPEN_CASE_LIMIT

@@ -3,7 +3,7 @@ ghost use Rattle.std.specs.Prelude.{◌≡◌, ℕ, ◌+◌, ◌-◌, ◌<◌, �
 ghost use Rattle.wf_names.specs.declared.limits.TheConstants.{CASE_LIMIT, OPEN_CASE_LIMIT, STEP_LIMIT};
 ghost use Rattle.wf_names.specs.States.{is_done};
 ghost use Rattle.case_record.specs.Cases.{is_open};
-ghost use Rattle.grant_table.specs.Kept.{IsKept};
+ghost use Rattle.grant_table.specs.Kept.{IsSoundTable};
 ghost use Rattle.grant_table.specs.Tables.{case_at, finished_row, freed_row, held_row, is_open_case, next_open, only, open_count, open_rows, ones, plan_at, row_at, replanned_row, with_case, with_row, withdrawn_row, IsNextOpen, HasFreeStep, HasHeldStep};
 
 use crate::changes::{finished, freed, held, replanned, withdrawn};
@@ -30,13 +30,13 @@ impl Model for Cases {
     ghost use Rattle.std.specs.Prelude.{◌-◌};
     ghost use Rattle.std.specs.Vec.{vec_capacity, vec_len};
     ghost use Rattle.grant_table.specs.Tables.{CasesShape};
-    ghost use Rattle.grant_table.specs.Kept.{IsKept};
+    ghost use Rattle.grant_table.specs.Kept.{IsSoundTable};
 
     ghost Value = { CasesShape };
 
     ghost view = { λ t. record { rows = t.rows.items; ever = t.ever; spare = vec_capacity t.rows - vec_len t.rows } };
 
-    ghost invariant = { λ t. IsKept t.rows.items t.ever t.live };
+    ghost invariant = { λ t. IsSoundTable t.rows.items t.ever t.live };
 }
 
 impl Cases {
@@ -148,7 +148,7 @@ impl Cases {
     /// How many cases are open.
     pub fn live(&self) -> u16
         ensures count { result ≡ open_count self.now.rows }
-        ensures kept { IsKept self.now.rows self.now.ever result }
+        ensures kept { IsSoundTable self.now.rows self.now.ever result }
     {
         self.live
     }

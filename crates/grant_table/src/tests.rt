@@ -42,16 +42,22 @@ fn work_on_two(rt: &impl Abort, table: &mut Cases) {
 }
 
 fn keep_apart(rt: &impl Abort, table: &Cases) {
-    let plan = Some(Plan::of(&[ANN, BOB]));
-    let other = Some(Plan::of(&[ANN, CYD]));
-    let (free, done, held) = (
-        StepState::Free,
-        StepState::Finished(ANN),
-        StepState::Held(BOB),
-    );
-    assert!(rt; seen(table, CaseId(0)) == Some((Phase::Live, free, free, plan)));
-    assert!(rt; seen(table, CaseId(1)) == Some((Phase::Live, done, free, other)));
-    assert!(rt; seen(table, CaseId(2)) == Some((Phase::Live, free, held, plan)));
+    let (plan, other) = (Plan::of(&[ANN, BOB]), Plan::of(&[ANN, CYD]));
+    let (done, held) = (StepState::Finished(ANN), StepState::Held(BOB));
+    assert!(rt; is_live_with(table, CaseId(0), StepState::Free, StepState::Free, &plan));
+    assert!(rt; is_live_with(table, CaseId(1), done, StepState::Free, &other));
+    assert!(rt; is_live_with(table, CaseId(2), StepState::Free, held, &plan));
+}
+
+// Whether a case is open with these steps and this plan.
+fn is_live_with(
+    table: &Cases,
+    c: CaseId,
+    first: StepState,
+    second: StepState,
+    plan: &Plan,
+) -> bool {
+    seen(table, c) == Some((Phase::Live, first, second, Some(*plan)))
 }
 
 #[test]
@@ -61,7 +67,9 @@ fn a_table_counts_its_open_cases(rt: HostRuntime) -> Result<(), Fail> {
     finish_the_first(&rt, &mut table);
     assert!(rt; (table.live(), table.ever()) == (2, 3));
     assert!(rt; table.next_live(0) == Some(CaseId(1)) && table.next_live(3).is_none());
-    assert!(rt; copies_all(&table)? && copies_one(rt.alloc(), &table)? && copies_open(rt.alloc(), &table)?);
+    assert!(rt;
+        copies_all(&table)? && copies_one(rt.alloc(), &table)? && copies_open(rt.alloc(), &table)?
+    );
     Ok(())
 }
 
@@ -99,11 +107,9 @@ fn steps_are_given_back_and_cases_withdrawn(rt: HostRuntime) -> Result<(), Fail>
     let mut table = table_with_room(rt.alloc(), 3)?;
     open_three(&rt, &mut table);
     give_back_and_withdraw(&mut table);
-    let other = Some(Plan::of(&[CYD, BOB]));
-    let free = StepState::Free;
-    assert!(rt; seen(&table, CaseId(0)) == Some((Phase::Live, free, free, other)));
-    assert!(rt; seen(&table, CaseId(1)) == Some((Phase::Withdrawn, free, free, None)));
-    assert!(rt; table.live() == 2);
+    let other = Plan::of(&[CYD, BOB]);
+    assert!(rt; is_live_with(&table, CaseId(0), StepState::Free, StepState::Free, &other));
+    assert!(rt; is_withdrawn(&table, CaseId(1)) && table.live() == 2);
     Ok(())
 }
 
@@ -124,6 +130,11 @@ fn table_with_room(alloc: Global, room: u16) -> Result<Cases, AllocError> {
     let mut table = Cases::new(alloc)?;
     table.reserve(room)?;
     Ok(table)
+}
+
+// Whether a case is withdrawn, with its steps free and no plan.
+fn is_withdrawn(table: &Cases, c: CaseId) -> bool {
+    seen(table, c) == Some((Phase::Withdrawn, StepState::Free, StepState::Free, None))
 }
 
 type Seen = (Phase, StepState, StepState, Option<Plan>);
@@ -189,4 +200,13 @@ fn is_open(table: &Cases, c: CaseId) -> bool
         return false;
     };
     case.phase().is_live()
+}
+
+#[test]
+fn tables_are_shared(rt: HostRuntime) {
+    assert!(rt; is_shared::<Cases>());
+}
+
+fn is_shared<T: Send + Sync>() -> bool {
+    true
 }

@@ -17,8 +17,8 @@ is_broken p assigned None = false
 is_broken p assigned (Some r) = is_falsified p.related r (user_at assigned)
 
 -- a step of the workflow that is not assigned
-abbrev pub is_free : Problem → List (Option ℕ) → ℕ → Bool
-is_free p assigned s = nat_lt s p.steps && not (is_some (user_at assigned s))
+abbrev pub is_unassigned : Problem → List (Option ℕ) → ℕ → Bool
+is_unassigned p assigned s = nat_lt s p.steps && not (is_some (user_at assigned s))
 
 -- of the n numbers from k on those that pass, ascending
 abbrev pub passing : (ℕ → Bool) → ℕ → ℕ → List ℕ
@@ -26,8 +26,8 @@ passing test k zero = []
 passing test k (suc n) = if test k then k ∷ passing test (k + 1) n else passing test (k + 1) n
 
 -- the users who are authorised for a step, ascending
-abbrev pub candidates : Problem → ℕ → List ℕ
-candidates p s = passing (p.authorised s) 0 p.users
+abbrev pub authorised_users : Problem → ℕ → List ℕ
+authorised_users p s = passing (p.authorised s) 0 p.users
 
 -- branches have exactly these users, in this order
 abbrev pub have_users : List ℕ → Kids → Bool
@@ -45,7 +45,7 @@ abbrev mutual
   refutes p assigned finished (rule k) = is_broken p assigned (slice_get p.rules k)
   -- a step is free, and whichever authorised user gets it, the user's branch refutes what then is assigned
   refutes p assigned finished (node s kids) =
-      is_free p assigned s && (have_users (candidates p s) kids && all_refute p assigned finished s [] kids)
+      is_unassigned p assigned s && (have_users (authorised_users p s) kids && all_refute p assigned finished s [] kids)
 
   -- each branch of a step refutes, where earlier branches of these users have trees
   pub all_refute : Problem → List (Option ℕ) → List Bool → ℕ → List ℕ → Kids → Bool

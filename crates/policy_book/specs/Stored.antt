@@ -1,4 +1,4 @@
--- How a policy is kept.
+-- Inside: how a policy is kept.
 use Rattle.std.specs.Prelude.{◌≡◌, ℕ, List}
 use Rattle.wf_names.specs.declared.limits.TheConstants.{FLOW_LIMIT}
 use Rattle.wf_names.specs.Table.{Table}

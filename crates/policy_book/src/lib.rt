@@ -2,6 +2,8 @@
 #![tactic(auto)]
 
 mod policy;
+#[cfg(test)]
+mod tests;
 mod workflow;
 
 pub use constraint_forms::{Assign, Holds, Plan, Rule, Rules, StepSet};

@@ -194,11 +194,13 @@ impl Policy {
     pub fn copy(&self) -> Result<Policy, AllocError>
         ensures { IfOk result (λ p. p ≡ self.now) }
     {
+        let (roster, relations) = copy_people(&self.roster, &self.relations)?;
+        let (names, flows) = copy_flows(self.alloc, &self.names, &self.flows)?;
         Ok(Policy {
-            roster: self.roster.copy()?,
-            relations: self.relations.copy()?,
-            names: self.names.copy()?,
-            flows: copies(self.alloc, &self.flows)?,
+            roster,
+            relations,
+            names,
+            flows,
             admin: self.admin,
             alloc: self.alloc,
         })
@@ -281,6 +283,7 @@ impl Policy {
         requires step { s < length (flow_at self.old f).flow.steps }
         ensures permitted { self.new ≡ with_permits self.old f (set.insert (flow_at self.old f).flow.permits (r, s)) }
         ensures changed { result ≡ not (set.contains (flow_at self.old f).flow.permits (r, s)) }
+        ensures unchanged { result ≡ false → self.new ≡ self.old }
     {
         let workflow = &mut self.flows[f.0 as usize];
         workflow.flow.permit(r, s)
@@ -293,6 +296,7 @@ impl Policy {
         requires step { s < length (flow_at self.old f).flow.steps }
         ensures forbidden { self.new ≡ with_permits self.old f (set.remove (flow_at self.old f).flow.permits (r, s)) }
         ensures changed { result ≡ set.contains (flow_at self.old f).flow.permits (r, s) }
+        ensures unchanged { result ≡ false → self.new ≡ self.old }
     {
         let workflow = &mut self.flows[f.0 as usize];
         workflow.flow.forbid(r, s)
@@ -324,11 +328,20 @@ fn some_role(roster: &Roster, flow: &Flow, s: StepId, u: UserId) -> bool
 {
     'roles: for r in 0..roster.roles().len() {
         let role = RoleId(r as u8);
-        if roster.has(u, role) && flow.permits(role, s) {
+        if authorises(roster, flow, s, u, role) {
             return true;
         }
     }
     false
+}
+
+// Whether a role is held by a user and permitted for a step. The permission is one bit, so it is
+// asked first.
+#[tactic(auto, using(basics::proofs::Booleans::and_swap))]
+fn authorises(roster: &Roster, flow: &Flow, s: StepId, u: UserId, r: RoleId) -> bool
+    ensures { result ≡ (has_role roster.now u r && set.contains flow.now.permits (r, s)) }
+{
+    flow.permits(r, s) && roster.has(u, r)
 }
 
 // The number that a new workflow gets, where its name is new and there is room.
@@ -349,6 +362,24 @@ fn free_place(names: &NameTable, name: &Name) -> Result<FlowId, NameFault>
         return Err(NameFault::Full);
     }
     Ok(FlowId(count as u8))
+}
+
+fn copy_people(roster: &Roster, relations: &Relations) -> Result<(Roster, Relations), AllocError>
+    ensures { IfOk result (λ c. (c.0 ≡ roster.now) × (c.1 ≡ relations.now)) }
+{
+    let users = roster.copy()?;
+    Ok((users, relations.copy()?))
+}
+
+fn copy_flows(
+    alloc: Global,
+    names: &NameTable,
+    flows: &[Workflow],
+) -> Result<(NameTable, Vec<Workflow>), AllocError>
+    ensures { IfOk result (λ c. (c.0 ≡ names.now) × (c.1.items ≡ flows.now)) }
+{
+    let named = names.copy()?;
+    Ok((named, copies(alloc, flows)?))
 }
 
 // Copies of workflows.

@@ -38,3 +38,12 @@ fn user_at(branches: &Branches, place: usize) -> Option<UserId> {
         None => None,
     }
 }
+
+#[test]
+fn trees_are_shared(rt: HostRuntime) {
+    assert!(rt; is_shared::<Tree>());
+}
+
+fn is_shared<T: Send + Sync>() -> bool {
+    true
+}

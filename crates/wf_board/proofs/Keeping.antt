@@ -16,7 +16,7 @@ use Rattle.wf_talk.specs.declared.reply.Reply.TheVariants as reply
 use Rattle.wf_board.specs.States.{State}
 use Rattle.wf_board.specs.Answers.{claim_step, finish_step, kept_plan}
 use Rattle.wf_board.specs.Steps.{with_changed, with_opened}
-use Rattle.wf_board.specs.Kept.{IsKept, IsOfPolicy, IsPlanned, KeepsCompletable, KeepsPlans}
+use Rattle.wf_board.specs.Kept.{IsSoundState, IsOfPolicy, IsPlanned, KeepsCompletable, KeepsPlans}
 use Rattle.wf_board.specs.Named.{AreNamed}
 use Rattle.wf_board.proofs.Rows.{changed_case, each_added, each_at, each_changed, row_of_case, there_added, there_changed, there_last}
 use Rattle.wf_board.proofs.Told.{grant_tells, finish_tells, place_within}
@@ -36,7 +36,7 @@ planned_open p c (Some plan) live planned = (plan, (refl, planned))
 opened_case : (p : PolicyShape) (f : ℕ) → f < length p.flows → IsOfPolicy p (fresh_case f (length (flow_at p f).flow.steps))
 opened_case p f known = record { flow = known; steps = length-replicate (length (flow_at p f).flow.steps) Free }
 
-pub opened_keeps : (s : State) (f : ℕ) (plan : List ℕ) → IsKept s → f < length s.policy.flows → IsValidPlan (problem_of s.policy f) no_users no_steps plan → IsKept (with_opened s f plan)
+pub opened_keeps : (s : State) (f : ℕ) (plan : List ℕ) → IsSoundState s → f < length s.policy.flows → IsValidPlan (problem_of s.policy f) no_users no_steps plan → IsSoundState (with_opened s f plan)
 opened_keeps s f plan kept known valid =
     let steps = length (flow_at s.policy f).flow.steps in
     let new : Row = record { number = s.ever; case = fresh_case f steps; plan = Some plan } in
@@ -60,7 +60,7 @@ record IsRow (s : State) (n : ℕ) (c : CaseShape) : Type 0 where
   pub of_policy : IsOfPolicy s.policy c
   pub planned : IsPlanned s.policy c row.plan
 
-row_known : (s : State) (n : ℕ) (c : CaseShape) → IsKept s → case_in n s.rows ≡ Some c → IsRow s n c
+row_known : (s : State) (n : ℕ) (c : CaseShape) → IsSoundState s → case_in n s.rows ≡ Some c → IsRow s n c
 row_known s n c kept here =
     let found = row_of_case n s.rows c here in
     record {
@@ -72,17 +72,17 @@ row_known s n c kept here =
     }
 
 -- a case is of a workflow of the policy
-pub case_of_policy : (s : State) (n : ℕ) (c : CaseShape) → IsKept s → case_in n s.rows ≡ Some c → IsOfPolicy s.policy c
+pub case_of_policy : (s : State) (n : ℕ) (c : CaseShape) → IsSoundState s → case_in n s.rows ≡ Some c → IsOfPolicy s.policy c
 case_of_policy s n c kept here = (row_known s n c kept here).of_policy
 
 -- a step with a name is one of the case's
-pub step_within : (s : State) (n : ℕ) (step user : List ℕ) (c : CaseShape) (t u : ℕ) → IsKept s → AreNamed s n step user c t u → t < length c.states
+pub step_within : (s : State) (n : ℕ) (step user : List ℕ) (c : CaseShape) (t u : ℕ) → IsSoundState s → AreNamed s n step user c t u → t < length c.states
 step_within s n step user c t u kept named =
     let known = row_known s n c kept named.its_case in
     subst (λ m. t < m) (sym known.of_policy.steps) (place_within (flow_at s.policy c.flow).flow.steps step t named.its_step)
 
 -- the plan that is kept for an open case is valid
-pub kept_valid : (s : State) (n : ℕ) (c : CaseShape) → IsKept s → case_in n s.rows ≡ Some c → is_open c ≡ true →
+pub kept_valid : (s : State) (n : ℕ) (c : CaseShape) → IsSoundState s → case_in n s.rows ≡ Some c → is_open c ≡ true →
     IsValidPlan (problem_of s.policy c.flow) (assigned_of c) (finished_of c) (kept_plan s n)
 kept_valid s n c kept here live =
     let known = row_known s n c kept here in
@@ -91,7 +91,7 @@ kept_valid s n c kept here live =
     subst (IsValidPlan (problem_of s.policy c.flow) (assigned_of c) (finished_of c)) (sym is) has.1.1
 
 -- the plan that is kept for an open case has a user for each of its steps
-pub plan_whole : (s : State) (n : ℕ) (c : CaseShape) → IsKept s → case_in n s.rows ≡ Some c → is_open c ≡ true → length (kept_plan s n) ≡ length c.states
+pub plan_whole : (s : State) (n : ℕ) (c : CaseShape) → IsSoundState s → case_in n s.rows ≡ Some c → is_open c ≡ true → length (kept_plan s n) ≡ length c.states
 plan_whole s n c kept here live = (kept_valid s n c kept here live).whole ∙ sym (case_of_policy s n c kept here).steps
 
 same_row : (a b : Row) → Some a ≡ Some b → a ≡ b
@@ -105,9 +105,9 @@ of_policy_still p c d flow steps known = record {
 }
 
 -- the row of one case changes, and the others stay
-changed_keeps : (s : State) (n : ℕ) (c : CaseShape) (f : Row → Row) → IsKept s → case_in n s.rows ≡ Some c → ((r : Row) → (f r).number ≡ r.number) →
+changed_keeps : (s : State) (n : ℕ) (c : CaseShape) (f : Row → Row) → IsSoundState s → case_in n s.rows ≡ Some c → ((r : Row) → (f r).number ≡ r.number) →
     ((r : Row) → r.case ≡ c → IsOfPolicy s.policy c → IsPlanned s.policy c r.plan → IsOfPolicy s.policy (f r).case × IsPlanned s.policy (f r).case (f r).plan) →
-    IsKept (with_changed s n f)
+    IsSoundState (with_changed s n f)
 changed_keeps s n c f kept here same change = record {
   cases = each_changed (λ r. IsOfPolicy s.policy r.case) n f s.rows kept.cases (λ r there known. (both r there).0);
   plans = each_changed (λ r. IsPlanned s.policy r.case r.plan) n f s.rows kept.plans (λ r there known. (both r there).1);
@@ -120,8 +120,8 @@ changed_keeps s n c f kept here same change = record {
         let is : known.row ≡ r = same_row known.row r (sym known.there ∙ there) in
         change r (ap (λ (x : Row). x.case) (sym is) ∙ known.its_case) known.of_policy (subst (λ (x : Row). IsPlanned s.policy c x.plan) is known.planned)
 
-pub claimed_keeps : (s : State) (n : ℕ) (step user : List ℕ) (c : CaseShape) (t u : ℕ) (plan : List ℕ) → IsKept s → AreNamed s n step user c t u →
-    claim_step s n c t u (state_at c t) ≡ reply.Granted plan → IsKept (with_changed s n (held_row t u plan))
+pub claimed_keeps : (s : State) (n : ℕ) (step user : List ℕ) (c : CaseShape) (t u : ℕ) (plan : List ℕ) → IsSoundState s → AreNamed s n step user c t u →
+    claim_step s n c t u (state_at c t) ≡ reply.Granted plan → IsSoundState (with_changed s n (held_row t u plan))
 claimed_keeps s n step user c t u plan kept named granted =
     changed_keeps s n c (held_row t u plan) kept named.its_case (λ r. refl)
     (λ r is known before. subst (λ d. IsOfPolicy s.policy (with_state d t (Held u)) × IsPlanned s.policy (with_state d t (Held u)) (Some plan)) (sym is) (held_now known))
@@ -135,14 +135,14 @@ claimed_keeps s n step user c t u plan kept named granted =
         )
 
 -- a claim that is granted is of a free step of an open case
-pub grant_free : (s : State) (n : ℕ) (step user : List ℕ) (c : CaseShape) (t u : ℕ) (plan : List ℕ) → IsKept s → AreNamed s n step user c t u →
+pub grant_free : (s : State) (n : ℕ) (step user : List ℕ) (c : CaseShape) (t u : ℕ) (plan : List ℕ) → IsSoundState s → AreNamed s n step user c t u →
     claim_step s n c t u (state_at c t) ≡ reply.Granted plan → IsSomeAnd (case_in n s.rows) (λ k. HasFreeStep k t)
 grant_free s n step user c t u plan kept named granted =
     subst (λ o. IsSomeAnd o (λ k. HasFreeStep k t)) (sym named.its_case)
     record { open_case = named.open_case; step = step_within s n step user c t u kept named; free = (grant_tells s n c t u (state_at c t) plan granted).free }
 
 -- and the kept plan is valid with the user there
-pub grant_valid : (s : State) (n : ℕ) (step user : List ℕ) (c : CaseShape) (t u : ℕ) (plan : List ℕ) → IsKept s → AreNamed s n step user c t u →
+pub grant_valid : (s : State) (n : ℕ) (step user : List ℕ) (c : CaseShape) (t u : ℕ) (plan : List ℕ) → IsSoundState s → AreNamed s n step user c t u →
     claim_step s n c t u (state_at c t) ≡ reply.Granted plan →
     IsSomeAnd (case_in n s.rows) (λ k. IsValidPlan (problem_of s.policy k.flow) (slice_set (assigned_of k) t (Some u)) (finished_of k) plan)
 grant_valid s n step user c t u plan kept named granted =
@@ -158,8 +158,8 @@ finished_planned p c t o live held planned false closed = closed
 finished_planned p c t None live held planned true still = live_apart c live planned
 finished_planned p c t (Some plan) live held planned true still = valid_finished (problem_of p c.flow) c t plan held planned
 
-pub finished_keeps : (s : State) (n : ℕ) (step user : List ℕ) (c : CaseShape) (t u : ℕ) (done : Bool) → IsKept s → AreNamed s n step user c t u →
-    finish_step c t u (state_at c t) ≡ reply.Finished done → IsKept (with_changed s n (finished_row t))
+pub finished_keeps : (s : State) (n : ℕ) (step user : List ℕ) (c : CaseShape) (t u : ℕ) (done : Bool) → IsSoundState s → AreNamed s n step user c t u →
+    finish_step c t u (state_at c t) ≡ reply.Finished done → IsSoundState (with_changed s n (finished_row t))
 finished_keeps s n step user c t u done kept named finished =
     changed_keeps s n c (finished_row t) kept named.its_case (λ r. refl)
     (λ r is known before. subst (λ d. IsOfPolicy s.policy (finished_case d t) × IsPlanned s.policy (finished_case d t) (plan_while (is_open (finished_case d t)) r.plan)) (sym is) (

@@ -4,6 +4,7 @@ use Rattle.std.specs.Option.{option_map}
 use Rattle.case_record.specs.Cases.{CaseShape}
 use Rattle.grant_table.specs.declared.rows.Row.{Row}
 use Rattle.grant_table.specs.Tables.{case_in, change_row, row_at}
+use Rattle.basics.proofs.Booleans.{eq_is}
 use Rattle.wf_board.specs.Kept.{EachRow}
 
 -- a case with a number has a row
@@ -61,12 +62,9 @@ there_added m (x ∷ xs) new h = at_first (nat_eq x.number m) h (there_added m x
     at_first true found rest = refl
     at_first false found rest = rest found
 
-equal : (a n : ℕ) → a ≡ n → nat_eq a n ≡ true
-equal a n h = grind arith
-
 -- and puts one at the new number
 pub there_last : (m : ℕ) (rows : List Row) (new : Row) → new.number ≡ m → is_some (case_in m (rows ++ new ∷ [])) ≡ true
-there_last m [] new same = rw (equal new.number m same) refl
+there_last m [] new same = rw (eq_is new.number m same) refl
 there_last m (x ∷ xs) new same = at_first (nat_eq x.number m) (there_last m xs new same)
   where
     at_first : (b : Bool) → is_some (case_in m (xs ++ new ∷ [])) ≡ true → is_some (option_map (λ (r : Row). r.case) (if b then Some x else row_at m (xs ++ new ∷ []))) ≡ true

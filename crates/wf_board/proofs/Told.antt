@@ -14,7 +14,7 @@ use Rattle.policy_book.specs.Shapes.{PolicyShape}
 use Rattle.policy_book.specs.Policies.{flow_at, problem_of}
 use Rattle.policy_book.specs.Plans.{IsValidPlan}
 use Rattle.certificate_check.specs.Faults.{plan_verdict}
-use Rattle.certificate_check.proofs.Assigned.{and_parts}
+use Rattle.basics.proofs.Booleans.{and_both}
 use Rattle.certificate_check.proofs.Verdicts.{verdict_tells}
 use Rattle.case_record.specs.Cases.{CaseShape, finished_case, is_open}
 use Rattle.case_record.specs.Ready.{first_missing}
@@ -70,7 +70,7 @@ if_valid_tells p f us plan h = by_test (is_valid_plan p f us) refl h
 -- users who pass the test are a valid plan
 pub valid_users : (p : PolicyShape) (f : ℕ) (us : List ℕ) → UsersBelow (length p.roster.users) us → is_valid_plan p f us ≡ true → IsValidPlan (problem_of p f) no_users no_steps us
 valid_users p f us below test =
-    let parts = and_parts (length us == length (flow_at p f).flow.steps) (is_ok (plan_verdict (problem_of p f) no_users no_steps us)) test in
+    let parts = and_both (length us == length (flow_at p f).flow.steps) (is_ok (plan_verdict (problem_of p f) no_users no_steps us)) test in
     (verdict_tells (problem_of p f) no_users no_steps us (eqb-true (length us) (length (flow_at p f).flow.steps) parts.0) below (nobody_within (problem_of p f))).0 parts.1
 
 pub plan_named_tells : (p : PolicyShape) (f : ℕ) (names : List (List ℕ)) (plan : List ℕ) → plan_named p f names ≡ Some plan → IsValidPlan (problem_of p f) no_users no_steps plan

@@ -1,6 +1,6 @@
--- Laws of histories, for whoever adds an entry at the end.
+-- Inside: laws of histories, for whoever adds an entry at the end.
 use Rattle.std.proofs.Common.{◌≡◌, ℕ, ◌+◌, ◌-◌, ◌≤◌, nat_eq, List, [], ◌∷◌, ◌++◌, length, take, drop, map, refl, sym, ap, subst, ◌∙◌, arith}
-use Rattle.std.proofs.lemmas.List.{append-nil, length-append, length-map, take-append-le}
+use Rattle.std.proofs.lemmas.List.{length-append, length-map, take-append-le}
 use Rattle.std.proofs.Math.Seq.{take-append-add}
 use Rattle.std.proofs.lemmas.List.{drop-append-le}
 use Rattle.std.proofs.lemmas.List.Elements.{filter-append}
@@ -67,8 +67,3 @@ in_order_front entries rest jobs batch_ends same =
           subst (λ js. IsFront (lane_jobs lane (drop (batch_start batch_ends k) front)) (lane_jobs lane (batch_jobs batch_ends k js))) (sym same)
           (front_of_batch lane (batch_start batch_ends k) (batch_end batch_ends k) front rest (omega (arith, begun, len)) (omega (arith, short, len)));
     }
-
--- and so do entries that are all of the jobs
-pub in_order_part : (entries : List Entry) (jobs : List Job) (batch_ends : List ℕ) → map job_of_entry entries ≡ jobs → FillsPart entries jobs batch_ends
-in_order_part entries jobs batch_ends same =
-    in_order_front entries [] jobs batch_ends (sym same ∙ sym (append-nil (map job_of_entry entries)))

@@ -35,7 +35,7 @@ pub record IsOfPolicy (p : PolicyShape) (c : CaseShape) : Type 0 where
 
 -- what every session keeps: cases of the policy's workflows, a valid plan for each open case, and
 -- a case at each number below the next
-pub record IsKept (s : State) : Type 0 where
+pub record IsSoundState (s : State) : Type 0 where
   pub cases : EachRow (λ r. IsOfPolicy s.policy r.case) s.rows
   pub plans : KeepsPlans s
   pub numbered : (n : ℕ) → n < s.ever → is_some (case_in n s.rows) ≡ true

@@ -7,12 +7,12 @@ use Rattle.wf_talk.specs.declared.reply.Reply.{Reply}
 use Rattle.wf_board.specs.States.{State, opening_state}
 use Rattle.wf_board.specs.Steps.{IsStep, state_after_step}
 use Rattle.wf_board.specs.Histories.{IsLegal, state_after}
-use Rattle.wf_board.specs.Kept.{IsKept, KeepsCompletable, KeepsPlans}
+use Rattle.wf_board.specs.Kept.{IsSoundState, KeepsCompletable, KeepsPlans}
 
 -- under a policy every step keeps what a session keeps, a valid plan for each open case with it
 abbrev pub StepsKeepPlans : PolicyShape → Type 0
 StepsKeepPlans p =
-    (s : State) (what : Ask) (given : Reply) → s.policy ≡ p → IsKept s → IsStep s what given → IsKept (state_after_step s what given)
+    (s : State) (what : Ask) (given : Reply) → s.policy ≡ p → IsSoundState s → IsStep s what given → IsSoundState (state_after_step s what given)
 
 -- after any number of entries of a legal history each open case has a valid plan
 abbrev pub HistoriesKeepPlans : PolicyShape → Type 0

@@ -1,4 +1,4 @@
--- The case, the step and the user that a request names.
+-- Inside: the case, the step and the user that a request names.
 use Rattle.std.specs.Prelude.{◌≡◌, ℕ, true, List, Some}
 use Rattle.case_record.specs.Cases.{CaseShape, is_open}
 use Rattle.grant_table.specs.Tables.{case_in}

@@ -4,7 +4,7 @@ ghost use Rattle.wf_board.specs.Answers.{answer_to, answer_to_request, is_openin
 ghost use Rattle.wf_board.specs.States.{is_full, opening_state};
 ghost use Rattle.wf_board.specs.Steps.{IsStep, state_after_request, state_after_step};
 ghost use Rattle.wf_board.specs.Boards.{state_on};
-ghost use Rattle.wf_board.specs.Kept.{IsKept, KeepsPlans};
+ghost use Rattle.wf_board.specs.Kept.{IsSoundState, KeepsPlans};
 
 use crate::plans::plan_named;
 use crate::replies::{claim_reply, holds, named};
@@ -26,7 +26,7 @@ impl Model for Board {
     ghost use Rattle.std.specs.Coded.{codes};
     ghost use Rattle.policy_book.specs.Shapes.{policy_code};
     ghost use Rattle.wf_board.specs.Boards.{BoardShape, state_of};
-    ghost use Rattle.wf_board.specs.Kept.{IsKept};
+    ghost use Rattle.wf_board.specs.Kept.{IsSoundState};
 
     ghost Value = { BoardShape };
 
@@ -34,7 +34,7 @@ impl Model for Board {
 
     ghost view = { λ b. record { policy = b.policy; cases = b.cases } };
 
-    ghost invariant = { λ b. IsKept (state_of b.policy b.cases) };
+    ghost invariant = { λ b. IsSoundState (state_of b.policy b.cases) };
 }
 
 impl Board {
@@ -179,7 +179,7 @@ impl Board {
     /// The cases with their kept plans.
     pub fn cases(&self) -> &Cases
         ensures cases { result.now ≡ self.now.cases }
-        ensures kept { IsKept (state_on self.now) }
+        ensures kept { IsSoundState (state_on self.now) }
     {
         &self.cases
     }

@@ -5,7 +5,7 @@ ghost use Rattle.grant_table.specs.Tables.{case_in};
 ghost use Rattle.wf_talk.specs.declared.reply.Reply.{Reply};
 ghost use Rattle.wf_board.specs.Answers.{claim_step, is_held_by, kept_plan, on_names};
 ghost use Rattle.wf_board.specs.Boards.{state_of};
-ghost use Rattle.wf_board.specs.Kept.{IsKept};
+ghost use Rattle.wf_board.specs.Kept.{IsSoundState};
 ghost use Rattle.wf_board.specs.Named.{AreNamed};
 
 use case_record::Case;
@@ -23,7 +23,7 @@ pub(crate) fn named(
     step: &Name,
     user: &Name,
 ) -> Result<(Case, StepId, UserId), Denial>
-    requires kept { IsKept (state_of p.now cases.now) }
+    requires kept { IsSoundState (state_of p.now cases.now) }
     ensures named { IfOk result (λ x. AreNamed (state_of p.now cases.now) n step.now user.now x.0 x.1 x.2) }
     ensures denied { IfErr result (λ d. (next : CaseShape → ℕ → ℕ → Reply) → on_names (state_of p.now cases.now) n step.now user.now next ≡ Reply.Denied d) }
 {
@@ -51,7 +51,7 @@ pub(crate) fn claim_reply(
     t: StepId,
     u: UserId,
 ) -> Reply
-    requires kept { IsKept (state_of p.now cases.now) }
+    requires kept { IsSoundState (state_of p.now cases.now) }
     requires case { case_in n cases.now.rows ≡ Some case.now }
     requires open { is_open case.now ≡ true }
     requires step { t < length case.now.states }
@@ -74,7 +74,7 @@ pub(crate) fn claim_reply(
 
 /// The plan that is kept for an open case.
 fn kept_plan(p: &Policy, cases: &Cases, n: CaseId, case: &Case) -> Plan
-    requires kept { IsKept (state_of p.now cases.now) }
+    requires kept { IsSoundState (state_of p.now cases.now) }
     requires case { case_in n cases.now.rows ≡ Some case.now }
     requires open { is_open case.now ≡ true }
     ensures plan { result ≡ kept_plan (state_of p.now cases.now) n }

@@ -19,6 +19,8 @@ pub const RULE_LIMIT: usize = 64;
 pub const OPEN_CASE_LIMIT: u16 = 1_024;
 /// Most cases ever opened in one run.
 pub const CASE_LIMIT: u16 = 65_535;
+/// Greatest number of a case that a request may name.
+pub const CASE_NUMBER_LIMIT: u16 = 65_535;
 
 /// Most bytes in a name.
 pub const NAME_LIMIT: usize = 40;

@@ -1,6 +1,8 @@
 //! What no clause shows: which texts are names, and that a table's calls succeed while there is memory.
 
 use crate::{Name, NameFault, NameTable};
+use std::alloc::AllocError;
+use std::process::Abort;
 use std::test::Fail;
 
 #[test]
@@ -20,37 +22,30 @@ fn names_are_read_by_their_form(rt: HostRuntime) {
         ("é", false),
     ];
     for (text, is_name) in texts {
-        assert_eq!(rt; Name::read(text).is_some(), is_name, "{text}");
+        assert!(rt; Name::read(text).is_some() == is_name, "{text}");
     }
 }
 
 #[test]
 fn a_table_numbers_its_names(rt: HostRuntime) -> Result<(), Fail> {
-    let (ann, bob, cyd) = (read("ann")?, read("bob")?, read("cyd")?);
     let mut table = NameTable::new(rt.alloc(), 2)?;
-    let added = [
-        table.add(ann),
-        table.add(ann),
-        table.add(bob),
-        table.add(bob),
-        table.add(cyd),
-    ];
-    let copy = table.copy()?;
-    assert_eq!(rt;
-        added,
-        [
-            Ok(0),
-            Err(NameFault::Twice),
-            Ok(1),
-            Err(NameFault::Twice),
-            Err(NameFault::Full)
-        ]
-    );
-    assert_eq!(rt;
-        (copy.len(), copy.find(&bob), copy.find(&cyd)),
-        (2, Some(1), None)
-    );
+    add_names(&rt, &mut table)?;
+    assert!(rt; copies_both(&table, &read("bob")?, &read("cyd")?)?);
     Ok(())
+}
+
+fn add_names(rt: &impl Abort, table: &mut NameTable) -> Result<(), Fail> {
+    let (ann, bob) = (read("ann")?, read("bob")?);
+    assert!(rt; table.add(ann) == Ok(0) && table.add(ann) == Err(NameFault::Twice));
+    assert!(rt; table.add(bob) == Ok(1) && table.add(bob) == Err(NameFault::Twice));
+    assert!(rt; table.add(read("cyd")?) == Err(NameFault::Full));
+    Ok(())
+}
+
+// Whether a copy has two names, the second of them `there`, and not the other.
+fn copies_both(table: &NameTable, there: &Name, other: &Name) -> Result<bool, AllocError> {
+    let copy = table.copy()?;
+    Ok(copy.len() == 2 && copy.find(there) == Some(1) && copy.find(other).is_none())
 }
 
 fn read(text: &str) -> Result<Name, Fail> {

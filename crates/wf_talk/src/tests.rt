@@ -90,3 +90,12 @@ fn plans_of_requests_are_told_apart(rt: HostRuntime) -> Result<(), Fail> {
 fn read(text: &str) -> Result<Name, Fail> {
     Ok(Name::read(text).ok_or("not a name")?)
 }
+
+#[test]
+fn journals_are_shared(rt: HostRuntime) {
+    assert!(rt; is_shared::<Journal>());
+}
+
+fn is_shared<T: Send + Sync>() -> bool {
+    true
+}

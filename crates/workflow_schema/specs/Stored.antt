@@ -1,4 +1,4 @@
--- What the tables of a workflow keep.
+-- Inside: what the tables of a workflow keep.
 use Rattle.std.specs.Prelude.{◌≡◌, ℕ, List, length}
 use Rattle.pair_set.specs.Pairs.{Pairs}
 use Rattle.wf_names.specs.declared.limits.TheConstants.{STEP_LIMIT}

@@ -1,4 +1,4 @@
--- How orders and permissions are kept: as tables of flags, one word of bits a row.
+-- Inside: how orders and permissions are kept, as tables of flags, one word of bits a row.
 use Rattle.std.specs.Prelude.{ℕ, ◌+◌, Bool, ◌&&◌, ◌||◌, cond, nat_lt, nat_eq, List, [], ◌∷◌, ◌++◌, slice_index}
 use Rattle.std.proofs.Common.{zero, suc}
 use Rattle.std.specs.Int.{bit_at}

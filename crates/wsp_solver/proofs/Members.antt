@@ -1,11 +1,12 @@
 -- Sets of steps with one more, and what trees mention.
-use Rattle.std.proofs.Common.{◌≡◌, ◌≢◌, refl, ap, ◌∙◌, ℕ, zero, suc, ◌<◌, ◌≤◌, Bool, true, false, ◌||◌, Option, None, Some, List, [], ◌∷◌, length, slice_set, ◌⊎◌, inl, inr, eqb, arith}
+use Rattle.std.proofs.Common.{◌≡◌, ◌≢◌, refl, ap, ◌∙◌, ℕ, zero, suc, ◌<◌, ◌≤◌, Bool, true, false, Option, None, Some, List, [], ◌∷◌, length, slice_set, ◌⊎◌, inl, inr, eqb, arith}
 use Rattle.std.proofs.lemmas.Bool.{false≢true, eqb-true}
 use Rattle.std.proofs.lemmas.Bool.Decides.{eqb_tells}
 use Rattle.std.proofs.lemmas.List.{get_or-set_same, get_or-set_other}
 use Rattle.constraint_forms.specs.declared.rule.Rule.{Rule}
 use Rattle.constraint_forms.specs.Assigned.{is_member}
 use Rattle.constraint_forms.specs.Rules.{names, IsRuleOf}
+use Rattle.basics.proofs.Booleans.{or_cases, or_left, or_right}
 use Rattle.certificate_check.proofs.Assigned.{either}
 use Rattle.refutation_tree.specs.Shapes.{Shape, Kids, holder, no_kids, tree_kid, joined}
 use Rattle.policy_book.specs.Refuting.{is_rule_naming, mentions, any_mentions}
@@ -31,22 +32,11 @@ member_still set s t below h = at (eqb_tells t s)
 pub holder_mentioned : (set : List Bool) (s : ℕ) (rules : List Rule) → s < length set → HasMentioned rules (holder s) (slice_set set s true)
 holder_mentioned set s rules below t h = ap (is_member (slice_set set s true)) (eqb-true t s h) ∙ member_here set s below
 
-or_known : (b c : Bool) → (b || c) ≡ true → (b ≡ true) ⊎ (c ≡ true)
-or_known true c h = inl refl
-or_known false c h = inr h
-
-or_left : (b c : Bool) → b ≡ true → (b || c) ≡ true
-or_left b c h = ap (λ x. x || c) h
-
-or_right : (b c : Bool) → c ≡ true → (b || c) ≡ true
-or_right true c h = refl
-or_right false c h = h
-
 mentioned_at : (rules : List Rule) (s u : ℕ) (t : Shape) (set : List Bool) → HasMentioned rules t set → (kids : Kids) → (any_mentions rules s kids ≡ true → is_member set s ≡ true) → any_mentions rules s (joined kids (tree_kid u t no_kids)) ≡ true → is_member set s ≡ true
 mentioned_at rules s u t set here no_kids known h =
-    either (or_known (mentions rules s t) false h) (λ m. here s m) (λ e. absurd (false≢true e))
+    either (or_cases (mentions rules s t) false h) (λ m. here s m) (λ e. absurd (false≢true e))
 mentioned_at rules s u t set here (tree_kid v w kids) known h =
-    either (or_known (mentions rules s w) (any_mentions rules s (joined kids (tree_kid u t no_kids))) h)
+    either (or_cases (mentions rules s w) (any_mentions rules s (joined kids (tree_kid u t no_kids))) h)
     (λ m. known (or_left (mentions rules s w) (any_mentions rules s kids) m))
     (λ later. mentioned_at rules s u t set here kids (λ e. known (or_right (mentions rules s w) (any_mentions rules s kids) e)) later)
 

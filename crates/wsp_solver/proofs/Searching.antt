@@ -8,7 +8,8 @@ use Rattle.refutation_tree.specs.Shapes.{Shape, Kids, no_kids, tree_kid, joined}
 use Rattle.refutation_tree.proofs.ShapeLaws.{joined-assoc, joined-none}
 use Rattle.policy_book.specs.Plans.{Problem, IsValidPlan, IsWellFormed, IsWithin}
 use Rattle.policy_book.specs.Refuting.{refutes, all_refute, have_users, passing, is_misheld, is_broken}
-use Rattle.certificate_check.proofs.Assigned.{and_parts, none_not_some, given_other, given_same}
+use Rattle.basics.proofs.Booleans.{and_both}
+use Rattle.certificate_check.proofs.Assigned.{none_not_some, given_other, given_same}
 use Rattle.certificate_check.proofs.Trees.{passing_at}
 use Rattle.wsp_solver.specs.Searches.{AreOfUsersBelow, IsPlanOf, NoLeafRefutes, free_count}
 
@@ -72,7 +73,7 @@ users_end test u n front past so_far =
 pub refute_push : (p : Problem) (a : List (Option ℕ)) (done : List Bool) (s u : ℕ) (t : Shape) (front : Kids) (earlier : List ℕ) → all_refute p a done s earlier front ≡ true → refutes p (slice_set a s (Some u)) done t ≡ true → all_refute p a done s earlier (joined front (tree_kid u t no_kids)) ≡ true
 refute_push p a done s u t no_kids earlier so_far here = and_from (refutes p (slice_set a s (Some u)) done t) true here refl
 refute_push p a done s u t (tree_kid v w front) earlier so_far here =
-    let both = and_parts (refutes p (slice_set a s (Some v)) done w) (all_refute p a done s (v ∷ earlier) front) so_far in
+    let both = and_both (refutes p (slice_set a s (Some v)) done w) (all_refute p a done s (v ∷ earlier) front) so_far in
     and_from (refutes p (slice_set a s (Some v)) done w) (all_refute p a done s (v ∷ earlier) (joined front (tree_kid u t no_kids))) both.0 (refute_push p a done s u t front (v ∷ earlier) both.1 here)
 
 -- ---- how much is left

@@ -3,7 +3,7 @@ ghost use Rattle.std.specs.Prelude.{◌≡◌, ◌<◌, ◌≤◌, ℕ, length, 
 ghost use Rattle.wf_names.specs.declared.limits.TheConstants.{STEP_LIMIT};
 ghost use Rattle.constraint_forms.specs.Assigned.{user_at};
 ghost use Rattle.policy_book.specs.Policies.{problem_of};
-ghost use Rattle.policy_book.specs.Refuting.{is_free};
+ghost use Rattle.policy_book.specs.Refuting.{is_unassigned};
 ghost use Rattle.wsp_solver.specs.Searches.{IsPlanOf};
 
 use plan_finder::Finder;
@@ -13,18 +13,18 @@ use wf_names::{FlowId, STEP_LIMIT, StepId, UserId};
 /// A step that is not assigned: the one that the finder advises, or else the least.
 pub(crate) fn next_step(p: &Policy, f: FlowId, a: &Assign, finder: &mut Finder) -> Option<StepId>
     requires flow { f < length p.now.flows }
-    ensures { MatchOption result ((s : ℕ) → s < (problem_of p.now f).steps → is_some (user_at a.now s) ≡ true) (λ s. (s < STEP_LIMIT) × IsTrue (is_free (problem_of p.now f) a.now s)) }
+    ensures { MatchOption result ((s : ℕ) → s < (problem_of p.now f).steps → is_some (user_at a.now s) ≡ true) (λ s. (s < STEP_LIMIT) × IsTrue (is_unassigned (problem_of p.now f) a.now s)) }
 {
     match finder.next_step(a) {
-        Some(s) if is_free(p, f, a, s) => Some(s),
+        Some(s) if is_unassigned(p, f, a, s) => Some(s),
         _ => first_free(p, f, a),
     }
 }
 
-fn is_free(p: &Policy, f: FlowId, a: &Assign, s: StepId) -> bool
+fn is_unassigned(p: &Policy, f: FlowId, a: &Assign, s: StepId) -> bool
     requires flow { f < length p.now.flows }
     ensures within { IsTrue result → s < STEP_LIMIT }
-    ensures free { result ≡ is_free (problem_of p.now f) a.now s }
+    ensures free { result ≡ is_unassigned (problem_of p.now f) a.now s }
 {
     (s.0 as u16) < p.flow(f).steps().len() && a.at(s).is_none()
 }
@@ -32,7 +32,7 @@ fn is_free(p: &Policy, f: FlowId, a: &Assign, s: StepId) -> bool
 // The least step that is not assigned.
 fn first_free(p: &Policy, f: FlowId, a: &Assign) -> Option<StepId>
     requires flow { f < length p.now.flows }
-    ensures { MatchOption result ((s : ℕ) → s < (problem_of p.now f).steps → is_some (user_at a.now s) ≡ true) (λ s. (s < STEP_LIMIT) × IsTrue (is_free (problem_of p.now f) a.now s)) }
+    ensures { MatchOption result ((s : ℕ) → s < (problem_of p.now f).steps → is_some (user_at a.now s) ≡ true) (λ s. (s < STEP_LIMIT) × IsTrue (is_unassigned (problem_of p.now f) a.now s)) }
 {
     'steps: for s in 0..p.flow(f).steps().len() {
         let step = StepId(s as u8);

@@ -3,7 +3,7 @@ ghost use Rattle.std.specs.Prelude.{◌≡◌, ◌<◌, ◌≤◌, length, IfOk,
 ghost use Rattle.wf_names.specs.declared.limits.TheConstants.{STEP_LIMIT};
 ghost use Rattle.policy_book.specs.Plans.{AreAssigned, IsWithin};
 ghost use Rattle.policy_book.specs.Policies.{problem_of};
-ghost use Rattle.policy_book.specs.Refuting.{is_free};
+ghost use Rattle.policy_book.specs.Refuting.{is_unassigned};
 ghost use Rattle.wsp_solver.specs.Searches.{Decides, HasSearched};
 
 use crate::found::found;
@@ -95,14 +95,14 @@ fn try_users(
     requires within { IsWithin (problem_of p.now f) a.now }
     requires assigned { AreAssigned done.now a.now }
     requires room { s < STEP_LIMIT }
-    requires free { IsTrue (is_free (problem_of p.now f) a.now s) }
+    requires free { IsTrue (is_unassigned (problem_of p.now f) a.now s) }
     ensures { IfOk result (HasSearched (problem_of p.now f) a.now done.now) }
 {
     let mut branches = Branches::new(alloc);
     let mut steps = StepSet::empty();
     'users: for u in 0..p.roster().users().len() {
         let user = UserId(u);
-        if !is_candidate(p, f, s, user) {
+        if !is_authorised_user(p, f, s, user) {
             continue;
         }
         match decide(alloc, p, f, &a.with(s, user), done, finder)? {
@@ -125,8 +125,8 @@ fn try_users(
     }))
 }
 
-/// Whether a user is tried for a step.
-fn is_candidate(p: &Policy, f: FlowId, s: StepId, u: UserId) -> bool
+/// Whether a user is authorised for a step.
+fn is_authorised_user(p: &Policy, f: FlowId, s: StepId, u: UserId) -> bool
     requires flow { f < length p.now.flows }
     requires step { s < (problem_of p.now f).steps }
     requires user { u < (problem_of p.now f).users }

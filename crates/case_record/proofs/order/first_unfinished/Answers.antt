@@ -3,7 +3,8 @@ use Rattle.workflow_schema.specs.Flows.{Precedes}
 use Rattle.wf_names.specs.States.{is_finished}
 use Rattle.wf_names.specs.declared.states.StepState.TheVariants.{Free}
 use Rattle.case_record.specs.Cases.{state_at}
-use Rattle.case_record.proofs.Missing.{differ, passed_over, one_more}
+use Rattle.basics.proofs.Booleans.{differ}
+use Rattle.case_record.proofs.Missing.{passed_over, one_more}
 use Rattle.case_record.proofs.order.first_unfinished.Goals as goal
 use Rattle.case_record.proofs.order.first_unfinished.Goals.{else-before-via-then-before+else-not-is_finished, else-before-via-else-before}
 

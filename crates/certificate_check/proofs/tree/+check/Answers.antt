@@ -9,7 +9,7 @@ use Rattle.refutation_tree.specs.Shapes.{Kids}
 use Rattle.refutation_tree.proofs.Depths.{branches_below}
 use Rattle.policy_book.specs.Plans.{Problem}
 use Rattle.policy_book.specs.Policies.{problem_of}
-use Rattle.policy_book.specs.Refuting.{all_refute, candidates, have_users, is_free, refutes}
+use Rattle.policy_book.specs.Refuting.{all_refute, authorised_users, have_users, is_unassigned, refutes}
 use Rattle.certificate_check.proofs.Trees.{refutes_at, branch_user}
 use Rattle.certificate_check.proofs.tree.+check.Goals as goal
 
@@ -31,23 +31,23 @@ all_refute-branches-preserved t c =
     ap (λ b. b && rest) c.if-not-branch_refutes.ensures ∙ sym (refutes_at p c.args.a.now c.args.done.now c.args.s c.args.branches.now c.branches.branch-index c.branch-item.result c.branches-test.true c.branch-item.is) ∙ c.branches.invariant
 
 -- a node refutes by three tests
-node_refutes : (p : Problem) (assigned : List (Option ℕ)) (done : List Bool) (tree : Tree) (s : ℕ) (kids : Kids) (bs : List Branch) → tree ≡ Step s kids → kids ≡ kids_of_items bs → is_free p assigned s ≡ true → (users : Bool) → users ≡ have_users (candidates p s) (kids_of_items bs) →
+node_refutes : (p : Problem) (assigned : List (Option ℕ)) (done : List Bool) (tree : Tree) (s : ℕ) (kids : Kids) (bs : List Branch) → tree ≡ Step s kids → kids ≡ kids_of_items bs → is_unassigned p assigned s ≡ true → (users : Bool) → users ≡ have_users (authorised_users p s) (kids_of_items bs) →
     (users && all_refute p assigned done s [] (kids_of_items bs)) ≡ refutes p assigned done (shape_of tree)
 node_refutes p assigned done tree s kids bs is items free users known =
     ap (λ u. u && all_refute p assigned done s [] (kids_of_items bs)) known
-    ∙ ap (λ k. have_users (candidates p s) k && all_refute p assigned done s [] k) (sym items)
-    ∙ ap (λ b. b && (have_users (candidates p s) kids && all_refute p assigned done s [] kids)) (sym free)
+    ∙ ap (λ k. have_users (authorised_users p s) k && all_refute p assigned done s [] k) (sym items)
+    ∙ ap (λ b. b && (have_users (authorised_users p s) kids && all_refute p assigned done s [] kids)) (sym free)
     ∙ ap (λ t. refutes p assigned done (shape_of t)) (sym is)
 
 pub check_tree-returns-then-not-have_users : goal.check_tree-returns-then-not-have_users
 check_tree-returns-then-not-have_users t c =
-    node_refutes (problem_of c.args.p.now c.args.f) c.args.a.now c.args.done.now c.args.tree.now c.in-Step.s c.in-Step.branches c.as_slice-branches.result.now c.in-Step.is c.as_slice-branches.ensures (sym c.if-not-is_free.ensures.free) false c.if-not-have_users.ensures
+    node_refutes (problem_of c.args.p.now c.args.f) c.args.a.now c.args.done.now c.args.tree.now c.in-Step.s c.in-Step.branches c.as_slice-branches.result.now c.in-Step.is c.as_slice-branches.ensures (sym c.if-not-is_unassigned.ensures.free) false c.if-not-have_users.ensures
 
 pub check_tree-returns-else-not-have_users : goal.check_tree-returns-else-not-have_users
 check_tree-returns-else-not-have_users t c =
     c.all_refute.ensures
-    ∙ node_refutes (problem_of c.args.p.now c.args.f) c.args.a.now c.args.done.now c.args.tree.now c.in-Step.s c.in-Step.branches c.as_slice-branches.result.now c.in-Step.is c.as_slice-branches.ensures (sym c.if-not-is_free.ensures.free) true c.if-not-have_users.ensures
+    ∙ node_refutes (problem_of c.args.p.now c.args.f) c.args.a.now c.args.done.now c.args.tree.now c.in-Step.s c.in-Step.branches c.as_slice-branches.result.now c.in-Step.is c.as_slice-branches.ensures (sym c.if-not-is_unassigned.ensures.free) true c.if-not-have_users.ensures
 
 pub check_tree-all_refute-requires : goal.check_tree-all_refute-requires
 check_tree-all_refute-requires t c =
-    (omega (arith, c.decreases, branches_below c.args.tree.now c.in-Step.s c.in-Step.branches c.as_slice-branches.result.now c.in-Step.is c.as_slice-branches.ensures), (c.requires.flow, (c.requires.within, (c.if-not-is_free.ensures.within refl, (sym c.if-not-is_free.ensures.free, sym c.if-not-have_users.ensures)))))
+    (omega (arith, c.decreases, branches_below c.args.tree.now c.in-Step.s c.in-Step.branches c.as_slice-branches.result.now c.in-Step.is c.as_slice-branches.ensures), (c.requires.flow, (c.requires.within, (c.if-not-is_unassigned.ensures.within refl, (sym c.if-not-is_unassigned.ensures.free, sym c.if-not-have_users.ensures)))))

@@ -1,10 +1,10 @@
 use Rattle.std.proofs.Common.{◌≡◌, ◌≤◌, ◌-◌, drop, length}
 use Rattle.refutation_tree.specs.Views.{kids_of_items}
 use Rattle.policy_book.specs.Policies.{problem_of}
-use Rattle.policy_book.specs.Refuting.{candidates, have_users, passing}
+use Rattle.policy_book.specs.Refuting.{authorised_users, have_users, passing}
 use Rattle.certificate_check.proofs.tree.have_users.Given as goal
 
 abbrev pub invariant-users : goal.invariant-users
 invariant-users l =
     (l.next ≤ length l.branches) ×
-    (have_users (passing ((problem_of l.p l.f).authorised l.s) l.u ((problem_of l.p l.f).users - l.u)) (kids_of_items (drop l.next l.branches)) ≡ have_users (candidates (problem_of l.p l.f) l.s) (kids_of_items l.branches))
+    (have_users (passing ((problem_of l.p l.f).authorised l.s) l.u ((problem_of l.p l.f).users - l.u)) (kids_of_items (drop l.next l.branches)) ≡ have_users (authorised_users (problem_of l.p l.f) l.s) (kids_of_items l.branches))

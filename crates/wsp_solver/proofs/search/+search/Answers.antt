@@ -4,8 +4,9 @@ use Rattle.constraint_forms.specs.Assigned.{user_at, is_member}
 use Rattle.refutation_tree.specs.Views.{shape_of}
 use Rattle.policy_book.specs.Plans.{Problem, AreAssigned, IsWithin, IsValidPlan}
 use Rattle.policy_book.specs.Policies.{problem_of}
-use Rattle.policy_book.specs.Refuting.{all_refute, candidates, have_users, is_free, mentions, refutes}
-use Rattle.certificate_check.proofs.Assigned.{and_parts, not_some}
+use Rattle.policy_book.specs.Refuting.{all_refute, authorised_users, have_users, is_unassigned, mentions, refutes}
+use Rattle.basics.proofs.Booleans.{and_both}
+use Rattle.certificate_check.proofs.Assigned.{not_some}
 use Rattle.certificate_check.proofs.Refuted.{assigned_given}
 use Rattle.certificate_check.proofs.Trees.{within_given}
 use Rattle.wsp_solver.specs.Searches.{AreOfUsersBelow, HasMentioned, HasMentionedIn, HasSearched, free_count}
@@ -25,18 +26,18 @@ users_known : (n : ℕ) (names users : List (List ℕ)) → n ≡ length names �
 users_known n names users count same = count ∙ ap length same
 
 -- a free step is a step, and has no user
-step_known : (p : Problem) (a : List (Option ℕ)) (s : ℕ) → is_free p a s ≡ true → s < p.steps
-step_known p a s free = ltb-true s p.steps (and_parts (nat_lt s p.steps) (not (is_some (user_at a s))) free).0
+step_known : (p : Problem) (a : List (Option ℕ)) (s : ℕ) → is_unassigned p a s ≡ true → s < p.steps
+step_known p a s free = ltb-true s p.steps (and_both (nat_lt s p.steps) (not (is_some (user_at a s))) free).0
 
-step_open : (p : Problem) (a : List (Option ℕ)) (s : ℕ) → is_free p a s ≡ true → user_at a s ≡ None
-step_open p a s free = not_some (user_at a s) (and_parts (nat_lt s p.steps) (not (is_some (user_at a s))) free).1
+step_open : (p : Problem) (a : List (Option ℕ)) (s : ℕ) → is_unassigned p a s ≡ true → user_at a s ≡ None
+step_open p a s free = not_some (user_at a s) (and_both (nat_lt s p.steps) (not (is_some (user_at a s))) free).1
 
-pub try_users-users-preserved-then-not-is_candidate :
-    goal.try_users-users-preserved-then-not-is_candidate
-try_users-users-preserved-then-not-is_candidate t c =
+pub try_users-users-preserved-then-not-is_authorised_user :
+    goal.try_users-users-preserved-then-not-is_authorised_user
+try_users-users-preserved-then-not-is_authorised_user t c =
     let p = problem_of c.args.p.now c.args.f in
     let known = users_known _ _ _ c.len-u-end.ensures.count (c.users-2.ensures.names ∙ ap (λ r. r.users) c.roster.ensures.roster) in
-    (users_skip (p.authorised c.args.s) c.users.u p.users c.users.branches (omega (arith, known, c.users-test.true)) (sym c.if-not-is_candidate.ensures) c.users.invariant.0, c.users.invariant.1, c.users.invariant.2)
+    (users_skip (p.authorised c.args.s) c.users.u p.users c.users.branches (omega (arith, known, c.users-test.true)) (sym c.if-not-is_authorised_user.ensures) c.users.invariant.0, c.users.invariant.1, c.users.invariant.2)
 
 pub try_users-decide-requires : goal.try_users-decide-requires
 try_users-decide-requires t c =
@@ -99,7 +100,7 @@ try_users-users-preserved t c =
     let both = c.united-steps.ensures in
     let said = mentioned_push p.rules front u tree c.united-steps.result (λ x h. both.first x (c.users.invariant.2 x h)) (λ x h. both.second x (found.steps x h)) in
     let pushed = c.in_ok-push-in-Refuted.ensures.ok in (
-      subst (AreOfUsersBelow (p.authorised s) (u + 1) p.users) (sym pushed) (users_push (p.authorised s) u p.users front tree (omega (arith, known, c.users-test.true)) (sym c.if-not-is_candidate.ensures) c.users.invariant.0),
+      subst (AreOfUsersBelow (p.authorised s) (u + 1) p.users) (sym pushed) (users_push (p.authorised s) u p.users front tree (omega (arith, known, c.users-test.true)) (sym c.if-not-is_authorised_user.ensures) c.users.invariant.0),
       subst (λ k. all_refute p a done s [] k ≡ true) (sym pushed) (refute_push p a done s u tree front [] c.users.invariant.1 here),
       subst (λ k. HasMentionedIn p.rules k c.united-steps.result) (sym pushed) said,
     )
@@ -111,7 +112,7 @@ try_users-returns t c =
     let known = users_known _ _ _ c.len-u-end.ensures.count (c.users-2.ensures.names ∙ ap (λ r. r.users) c.roster.ensures.roster) in
     let users = users_end (p.authorised c.args.s) c.users.u p.users front (omega (arith, known, c.users-test.false)) c.users.invariant.0 in record {
       refutes =
-          and_from (is_free p c.args.a.now c.args.s) (have_users (candidates p c.args.s) front && all_refute p c.args.a.now c.args.done.now c.args.s [] front) c.requires.free
-          (and_from (have_users (candidates p c.args.s) front) (all_refute p c.args.a.now c.args.done.now c.args.s [] front) users c.users.invariant.1);
+          and_from (is_unassigned p c.args.a.now c.args.s) (have_users (authorised_users p c.args.s) front && all_refute p c.args.a.now c.args.done.now c.args.s [] front) c.requires.free
+          (and_from (have_users (authorised_users p c.args.s) front) (all_refute p c.args.a.now c.args.done.now c.args.s [] front) users c.users.invariant.1);
       steps = c.users.invariant.2;
     }

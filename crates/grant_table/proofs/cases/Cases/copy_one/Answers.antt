@@ -1,7 +1,7 @@
 use Rattle.std.proofs.Common.{sym, ap, subst, ◌∙◌, nat_eq}
 use Rattle.grant_table.specs.declared.rows.Row.{Row}
 use Rattle.grant_table.specs.Tables.{only, open_count, row_at}
-use Rattle.grant_table.specs.Kept.{IsKept, rows_of}
+use Rattle.grant_table.specs.Kept.{IsSoundTable, rows_of}
 use Rattle.grant_table.proofs.Parts.{kept_filter, only_is}
 use Rattle.grant_table.proofs.cases.Cases.copy_one.Goals as goal
 
@@ -14,5 +14,5 @@ invariant_of-result c =
     let live =
     c.one_live.ensures ∙ ap (λ o. open_count (rows_of o)) (c.row_of.ensures ∙ ap (row_at n) c.deref-2.ensures.value)
     ∙ ap open_count (sym (only_is 0 n rows c.self.invariant.ascend)) in
-    subst (IsKept c.in_ok-only.field-0.items ever) (sym live)
-    (subst (λ xs. IsKept xs ever (open_count (only n rows))) (sym items) (kept_filter (λ (r : Row). nat_eq r.number n) ever c.self.inside.live rows c.self.invariant))
+    subst (IsSoundTable c.in_ok-only.field-0.items ever) (sym live)
+    (subst (λ xs. IsSoundTable xs ever (open_count (only n rows))) (sym items) (kept_filter (λ (r : Row). nat_eq r.number n) ever c.self.inside.live rows c.self.invariant))

@@ -1,6 +1,6 @@
 use Rattle.std.proofs.Common.{sym, subst}
 use Rattle.wf_board.specs.Boards.{state_of}
-use Rattle.wf_board.specs.Kept.{IsKept}
+use Rattle.wf_board.specs.Kept.{IsSoundState}
 use Rattle.wf_board.proofs.Keeping.{claimed_keeps, grant_free, grant_valid, step_within}
 use Rattle.wf_board.proofs.board.Board.claim.Goals as goal
 
@@ -20,6 +20,6 @@ hold-requires-clause-valid c =
 
 pub invariant_of-self : goal.invariant_of-self
 invariant_of-self c =
-    subst (λ t. IsKept (state_of c.self.inside.policy t)) (sym c.hold.ensures)
+    subst (λ t. IsSoundState (state_of c.self.inside.policy t)) (sym c.hold.ensures)
     (claimed_keeps (state_of c.self.inside.policy c.self.inside.cases) c.args.n c.args.step.now c.args.user.now c.in-Ok.found.0 c.in-Ok.found.1 c.in-Ok.found.2 c.in-Granted.plan
     c.self.invariant c.in-Ok.ensures.named (sym c.in-Granted.ensures.answer))

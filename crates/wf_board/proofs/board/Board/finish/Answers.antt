@@ -5,7 +5,7 @@ use Rattle.grant_table.specs.Tables.{case_at}
 use Rattle.wf_talk.specs.declared.reply.Reply.TheVariants as reply
 use Rattle.wf_board.specs.Answers.{finish_step, is_held_by, on_names}
 use Rattle.wf_board.specs.Boards.{state_of, state_on}
-use Rattle.wf_board.specs.Kept.{IsKept}
+use Rattle.wf_board.specs.Kept.{IsSoundState}
 use Rattle.wf_board.proofs.Told.{finish_is, names_are}
 use Rattle.wf_board.proofs.Keeping.{done_is, finished_keeps}
 use Rattle.wf_board.proofs.board.Board.finish.Goals as goal
@@ -14,7 +14,7 @@ pub invariant_of-self : goal.invariant_of-self
 invariant_of-self c =
     let found = c.in-Ok.found in
     let held : is_held_by found.2 (state_at found.0 found.1) ≡ true = ap (is_held_by found.2) (sym c.state.ensures) ∙ sym c.holds.ensures ∙ c.if-not-holds.false in
-    subst (λ t. IsKept (state_of c.self.inside.policy t)) (sym c.finish-done.ensures.finished)
+    subst (λ t. IsSoundState (state_of c.self.inside.policy t)) (sym c.finish-done.ensures.finished)
     (finished_keeps (state_of c.self.inside.policy c.self.inside.cases) c.args.n c.args.step.now c.args.user.now found.0 found.1 found.2 (is_done (finished_case found.0 found.1).phase)
     c.self.invariant c.in-Ok.ensures.named (finish_is found.0 found.1 found.2 (state_at found.0 found.1) held))
 
