@@ -89,6 +89,14 @@ impl<T: Copy> List<T> {
         Ok(())
     }
 
+    /// Adds copies of all of these at the end, in order.
+    pub fn push_all(&mut self, items: &[T]) -> Result<(), AllocError>
+        ensures pushed { OnOk result (self.new ≡ self.old ++ items.now) }
+        ensures unchanged { OnErr result (self.new ≡ self.old) }
+    {
+        self.items.extend_from_slice(items)
+    }
+
     /// A list of the same ones.
     pub fn copy(&self) -> Result<List<T>, AllocError>
         ensures { IfOk result (λ l. l ≡ self.now) }

@@ -8,11 +8,11 @@ fn a_list_keeps_what_it_takes(rt: HostRuntime) -> Result<(), Fail> {
     let mut list = List::new(rt.alloc());
     list.push(3)?;
     list.add(&5)?;
-    list.push(8)?;
-    list.truncate(2);
+    list.push_all(&[8, 9])?;
+    list.truncate(3);
     let copy = list.copy()?;
-    assert!(rt; copy.as_slice() == [3u32, 5].as_slice());
-    assert!(rt; (copy.len(), *copy.get(1)) == (2, 5));
+    assert!(rt; copy.as_slice() == [3u32, 5, 8].as_slice());
+    assert!(rt; (copy.len(), *copy.get(1)) == (3, 5));
     Ok(())
 }
 
