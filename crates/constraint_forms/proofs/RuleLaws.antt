@@ -1,6 +1,7 @@
 -- What is true of the tests over a set's members, and of rules by their forms.
-use Rattle.std.proofs.Common.{◌≡◌, ℕ, zero, suc, ◌+◌, Bool, true, false, not, ◌&&◌, ◌||◌, ◌==◌, List, [], ◌∷◌, Option, Some, None, is_some, refl, sym, subst, arith, eq-eqb, add-zero, zero-add}
+use Rattle.std.proofs.Common.{◌≡◌, ℕ, zero, suc, ◌+◌, Bool, true, false, not, ◌&&◌, ◌||◌, ◌==◌, List, [], ◌∷◌, Option, Some, None, is_some, refl, sym, subst, arith, add-zero, zero-add}
 use Rattle.std.specs.Bool.{IsTrue}
+use Rattle.basics.proofs.Booleans.{and_same, eq_same, or_left, or_right}
 use Rattle.constraint_forms.specs.declared.rule.Rule.TheVariants.{Pair, SomeOf, AllOf}
 use Rattle.constraint_forms.specs.Assigned.{is_member}
 use Rattle.constraint_forms.specs.Rules.{any_from, all_from, are_unrelated, names, reads, Relating}
@@ -8,25 +9,14 @@ use Rattle.constraint_forms.specs.Laws.{TotalsDecide, StaysFalsified, FalsifiedB
 
 -- ---- what a rule names
 
-same_number : (n : ℕ) → IsTrue (n == n)
-same_number n = eq-eqb n n refl
-
-or_left : (a b : Bool) → IsTrue a → IsTrue (a || b)
-or_left true b h = refl
-or_left false b h = cc
-
-or_right : (a b : Bool) → IsTrue b → IsTrue (a || b)
-or_right true b h = refl
-or_right false b h = h
-
 pub first-named : (rho first second : ℕ) → IsTrue (names (Pair rho first second) first)
-first-named rho first second = or_left _ _ (same_number first)
+first-named rho first second = or_left _ _ (eq_same first)
 
 pub second-named : (rho first second : ℕ) → IsTrue (names (Pair rho first second) second)
-second-named rho first second = or_right _ _ (same_number second)
+second-named rho first second = or_right _ _ (eq_same second)
 
 pub step-named : (rho : ℕ) (group : List Bool) (step : ℕ) → IsTrue (names (SomeOf rho group step) step)
-step-named rho group step = or_left _ _ (same_number step)
+step-named rho group step = or_left _ _ (eq_same step)
 
 pub member-named : (rho : ℕ) (group : List Bool) (step s : ℕ) → IsTrue (is_member group s) → IsTrue (names (SomeOf rho group step) s)
 member-named rho group step s h = or_right _ _ h
@@ -105,10 +95,6 @@ stays_falsified related (AllOf rho group step) a b h =
 
 -- ---- what rules do not see
 
-and_same : (b p q : Bool) → (IsTrue b → p ≡ q) → (b && p) ≡ (b && q)
-and_same true p q h = h refl
-and_same false p q h = refl
-
 or_same : (b p q : Bool) → (IsTrue b → p ≡ q) → (not b || p) ≡ (not b || q)
 or_same true p q h = h refl
 or_same false p q h = refl
@@ -164,8 +150,8 @@ satisfied_by_named related (AllOf rho group step) f g h =
     all-same _ _ group (λ x t j. related rho (h x (member-named rho group step x t) j) (h step (step-named rho group step) j))
 
 pub sees_relatedness : SeesRelatedness
-sees_relatedness related (Pair rho first second) f g h = h.relate_same rho first second (same_number rho) (first-named rho first second) (second-named rho first second)
+sees_relatedness related (Pair rho first second) f g h = h.relate_same rho first second (eq_same rho) (first-named rho first second) (second-named rho first second)
 sees_relatedness related (SomeOf rho group step) f g h =
-    any-same _ _ group (λ x t. h.relate_same rho x step (same_number rho) (member-named rho group step x t) (step-named rho group step))
+    any-same _ _ group (λ x t. h.relate_same rho x step (eq_same rho) (member-named rho group step x t) (step-named rho group step))
 sees_relatedness related (AllOf rho group step) f g h =
-    all-same _ _ group (λ x t. h.relate_same rho x step (same_number rho) (member-named rho group step x t) (step-named rho group step))
+    all-same _ _ group (λ x t. h.relate_same rho x step (eq_same rho) (member-named rho group step x t) (step-named rho group step))

@@ -4,7 +4,7 @@ use Rattle.std.specs.Cmp.Lexicographic.{pointwise}
 use Rattle.serde_json.specs.Data.{Data}
 use Rattle.serde_json.specs.Find.{get, as_str, as_array, as_number, as_u64}
 use Rattle.first_fault.specs.Reading.{◌>>=◌, or_fault, check, each}
-use Rattle.wf_names.specs.declared.limits.TheConstants.{CASE_LIMIT, STEP_LIMIT}
+use Rattle.wf_names.specs.declared.limits.TheConstants.{CASE_NUMBER_LIMIT, STEP_LIMIT}
 use Rattle.wf_names.specs.Names.{is_name}
 use Rattle.wf_talk.specs.declared.request.Request.{Request}
 use Rattle.wf_talk.specs.declared.request.Request.TheVariants.{OpenWith, OpenWithTooMany, Claim, Finish}
@@ -34,7 +34,7 @@ unfoldable pub case_in : Data → Result ℕ Bad
 case_in d = do
   value ← value_at (codes "case") d
   n ← or_fault (option_and_then as_u64 (as_number value)) Syntax
-  _ ← check (nat_le n CASE_LIMIT) Syntax
+  _ ← check (nat_le n CASE_NUMBER_LIMIT) Syntax
   Ok n
 
 -- the next name of a plan

@@ -12,7 +12,7 @@ use crate::fault::{ReadFault, SYNTAX};
 use serde_json::Value;
 use std::alloc::{AllocError, Global};
 use std::str;
-use wf_names::{CASE_LIMIT, CaseId, Name, STEP_LIMIT};
+use wf_names::{CASE_NUMBER_LIMIT, CaseId, Name, STEP_LIMIT};
 use wf_talk::{Ask, Request, UserNames};
 
 /// What a line asks. A line that is not exactly of the form of a request is bad.
@@ -153,7 +153,7 @@ fn case_in(value: &Value) -> Result<CaseId, ReadFault>
     ensures { Gives bad_of (λ n. n) result (read.case_in (view value.now)) }
 {
     match value_at(value, "case")?.as_u64() {
-        Some(n) if n <= CASE_LIMIT as u64 => Ok(CaseId(n as u16)),
+        Some(n) if n <= CASE_NUMBER_LIMIT as u64 => Ok(CaseId(n as u16)),
         _ => Err(SYNTAX),
     }
 }
