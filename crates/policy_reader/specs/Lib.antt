@@ -9,4 +9,3 @@ pub mod Drafts
 pub mod Rules
 pub mod Flows
 pub mod Files
-pub mod Documents

@@ -9,7 +9,7 @@ use crate::RunFault;
 use crate::answer::Answer;
 use crate::load::{load_policy, write_answer};
 use policy_book::Policy;
-use policy_reader::print;
+use policy_printer::print;
 use std::alloc::Global;
 use wf_outside::{Shelf, Sink};
 

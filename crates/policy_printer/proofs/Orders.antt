@@ -1,0 +1,120 @@
+-- The order of a workflow, read as a set of pairs: the list of its pairs, and the least step before itself.
+use Rattle.std.proofs.Common.{◌≡◌, ℕ, zero, suc, ◌<◌, ◌≤◌, Bool, true, false, ◌||◌, List, [], ◌∷◌, Option, None, Some, refl, ap, subst, ◌∙◌, inl, inr, arith}
+use Rattle.std.proofs.lemmas.Bool.{cases_lt}
+use Rattle.std.specs.List.{list_any, All, AllByRecursion}
+use Rattle.std.proofs.lemmas.List.Elements.{All-from_recursion}
+use Rattle.std.specs.Ordering.{eq_by_cmp}
+use Rattle.std.specs.declared.cmp.Ordering.TheVariants.{Less}
+use Rattle.std.specs.FinSet as set
+use Rattle.std.proofs.lemmas.Map.Keys.{sorted_head, sorted_tail}
+use Rattle.wf_names.specs.declared.limits.TheConstants.{STEP_LIMIT}
+use Rattle.pair_set.specs.Pairs.{Pairs, pair_cmp, IsAscending}
+use Rattle.pair_set.specs.PairLaws.{pair_cmp_total, pair_cmp-IsAntisymmetric, all_insert, contains_inserted}
+use Rattle.workflow_schema.specs.Flows.{Precedes, next, through, is_before, IsLeastCycle, has_twice}
+use Rattle.workflow_schema.specs.Laws.{IsDecided}
+use Rattle.policy_reader.specs.Bounds.{AreBelow}
+use Rattle.policy_reader.specs.Flows.{least_below, found_or}
+
+none_above : (x : ℕ × ℕ) (ys : List (ℕ × ℕ)) → AllByRecursion (λ y. pair_cmp x y ≡ Less) ys → list_any (eq_by_cmp pair_cmp x) ys ≡ false
+none_above x [] all = refl
+none_above x (y ∷ ys) all = rw (all.0) (none_above x ys all.1)
+
+-- no pair stands twice in an ascending list
+pub once_each : (ps : List (ℕ × ℕ)) → IsAscending ps → has_twice ps ≡ false
+once_each [] s = refl
+once_each (p ∷ ps) s =
+    rw (set.contains-from_list pair_cmp_total ps p ∙ none_above p ps (sorted_head pair_cmp p ps s)) (once_each ps (sorted_tail pair_cmp p ps s))
+
+not_true : (a : Bool) → (a ≡ true → ⊥) → a ≡ false
+not_true true h = absurd (h refl)
+not_true false h = refl
+
+-- the least number that passes
+pub least_none : (n : ℕ) (test : ℕ → Bool) → ((t : ℕ) → t < n → test t ≡ false) → least_below n test ≡ None
+least_none zero test h = refl
+least_none (suc n) test h = rw (least_none n test (λ t lt. h t (omega (arith, lt))), h n (omega arith)) refl
+
+pub least_is : (n : ℕ) (test : ℕ → Bool) (s : ℕ) → s < n → test s ≡ true → ((t : ℕ) → t < s → test t ≡ false) → least_below n test ≡ Some s
+least_is zero test s lt here before = absurd (omega (arith, lt))
+least_is (suc n) test s lt here before =
+    elim (cases_lt s n) [
+      | inl below ↦ rw (least_is n test s below here before) refl
+      | inr above ↦
+          let same : n ≡ s = omega (arith, lt, above) in
+          let none : least_below n test ≡ None = least_none n test (λ t less. before t (omega (arith, less, same))) in
+          rw (none, ap test same ∙ here) (ap Some same)
+    ]
+
+record IsLeast (n : ℕ) (test : ℕ → Bool) (s : ℕ) : Type 0 where
+  pub within : s < n
+  pub here : test s ≡ true
+  pub before : (t : ℕ) → t < s → test t ≡ false
+
+-- what a search that ended at s, or found none, tells
+abbrev Tells : ℕ → (ℕ → Bool) → Option ℕ → Type 0
+Tells n test None = (t : ℕ) → t < n → test t ≡ false
+Tells n test (Some s) = IsLeast n test s
+
+tells_more : (n : ℕ) (test : ℕ → Bool) (o : Option ℕ) (b : Bool) → test n ≡ b → Tells n test o → Tells (suc n) test (found_or o n b)
+tells_more n test (Some s) b e h = record { within = omega (arith, h.within); here = h.here; before = h.before }
+tells_more n test None true e h = record { within = omega arith; here = e; before = h }
+tells_more n test None false e h = λ t lt.
+    elim (cases_lt t n) [
+      | inl below ↦ h t below
+      | inr above ↦ let same : n ≡ t = omega (arith, lt, above) in subst (λ x. test x ≡ false) same e
+    ]
+
+least_tells : (n : ℕ) (test : ℕ → Bool) → Tells n test (least_below n test)
+least_tells zero test = λ t lt. absurd (omega (arith, lt))
+least_tells (suc n) test = tells_more n test (least_below n test) (test n) refl (least_tells n test)
+
+-- the step at which a chain begins is in range
+first_below : (n : ℕ) (order : Pairs) (s t : ℕ) → AreBelow n order → Precedes order s t → s < n
+first_below n order s t within (next pair) = (within.each s _ pair).0
+first_below n order s t within (through pair more) = (within.each s _ pair).0
+
+-- the least step before itself is the one that the search finds
+pub cycle_found : IsDecided → (n : ℕ) (order : Pairs) (s : ℕ) → n ≤ STEP_LIMIT → AreBelow n order → IsLeastCycle order s → least_below n (λ t. is_before order t t) ≡ Some s
+cycle_found decided n order s few within h =
+    least_is n (λ t. is_before order t t) s (first_below n order s s within h.cycle)
+    ((decided order s s (λ a b pair. omega (arith, few, (within.each a b pair).1))).1 h.cycle)
+    (λ t lt. not_true (is_before order t t) (λ e. h.least t lt ((decided order t t (λ a b pair. omega (arith, few, (within.each a b pair).1))).0 e)))
+
+least_cycle : IsDecided → (n : ℕ) (order : Pairs) (s : ℕ) → n ≤ STEP_LIMIT → AreBelow n order → IsLeast n (λ t. is_before order t t) s → IsLeastCycle order s
+least_cycle decided n order s few within h = record {
+  cycle = (decided order s s (λ a b pair. omega (arith, few, (within.each a b pair).1))).0 h.here;
+  least = λ t lt chain. let yes : is_before order t t ≡ true = (decided order t t (λ a b pair. omega (arith, few, (within.each a b pair).1))).1 chain in let no = h.before t lt in cc;
+}
+
+none_found : IsDecided → (n : ℕ) (order : Pairs) (o : Option ℕ) → n ≤ STEP_LIMIT → AreBelow n order → ((s : ℕ) → IsLeastCycle order s → ⊥) → Tells n (λ t. is_before order t t) o → o ≡ None
+none_found decided n order None few within free h = refl
+none_found decided n order (Some s) few within free h = absurd (free s (least_cycle decided n order s few within h))
+
+-- where no step is the least before itself, the search finds none
+pub no_cycle_found : IsDecided → (n : ℕ) (order : Pairs) → n ≤ STEP_LIMIT → AreBelow n order → ((s : ℕ) → IsLeastCycle order s → ⊥) → least_below n (λ t. is_before order t t) ≡ None
+no_cycle_found decided n order few within free = none_found decided n order _ few within free (least_tells n (λ t. is_before order t t))
+
+pub cycle_within : (n : ℕ) (order : Pairs) (s : ℕ) → AreBelow n order → IsLeastCycle order s → s < n
+cycle_within n order s within h = first_below n order s s within h.cycle
+
+-- the roles of permissions, with one more
+pub permits_insert : (n : ℕ) (permits : Pairs) (r s : ℕ) → ((a b : ℕ) → set.contains permits (a, b) ≡ true → a < n) → r < n → (a b : ℕ) → set.contains (set.insert permits (r, s)) (a, b) ≡ true → a < n
+permits_insert n permits r s old here = (all_insert (λ a b. a < n) permits r s here (record { each = old })).each
+
+or_true : (a : Bool) → (a || true) ≡ true
+or_true true = refl
+or_true false = refl
+
+below_each : (n : ℕ) (ps : List (ℕ × ℕ)) → AreBelow n (set.from_list ps) → AllByRecursion (λ p. (p.0 < n) × (p.1 < n)) ps
+below_each n [] h = tt
+below_each n (p ∷ ps) h = (
+  h.each p.0 p.1 (contains_inserted pair_cmp_total pair_cmp-IsAntisymmetric (set.from_list ps) p),
+  below_each n ps (record { each = λ a b here. h.each a b (set.contains-insert pair_cmp_total (set.from_list ps) p (a, b) ∙ ap (λ x. eq_by_cmp pair_cmp (a, b) p || x) here ∙ or_true _) }),
+)
+
+-- the pairs of a list whose set is below n
+pub all_below : (n : ℕ) (ps : List (ℕ × ℕ)) → AreBelow n (set.from_list ps) → All (λ p. (p.0 < n) × (p.1 < n)) ps
+all_below n ps h = All-from_recursion (λ (p : ℕ × ℕ). (p.0 < n) × (p.1 < n)) ps (below_each n ps h)
+
+pub below_limit : (n m : ℕ) (pairs : Pairs) → n ≤ m → AreBelow n pairs → AreBelow m pairs
+below_limit n m pairs le h = record { each = λ a b here. let both = h.each a b here in (omega (arith, le, both.0), omega (arith, le, both.1)) }
