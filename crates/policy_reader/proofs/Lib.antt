@@ -6,9 +6,9 @@ pub mod Groups
 pub mod RuleLists
 pub mod Orders
 pub mod Cycles
-pub mod KindLaws
-pub mod Drafts
+pub mod Relating
 pub mod Held
+pub mod Grown
 pub mod Permitted
 pub mod Texts
 pub mod Ends

@@ -5,7 +5,8 @@ pub mod Bounds
 pub mod Kept
 pub mod Rosters
 pub mod Relations
-pub mod Drafts
+pub mod Kinds
+pub mod Printable
 pub mod Rules
 pub mod Flows
 pub mod Files
