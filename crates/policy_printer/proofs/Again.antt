@@ -1,156 +1,104 @@
 -- A policy is read from the document that it is written as.
-use Rattle.std.proofs.Common.{◌≡◌, ℕ, Bool, true, false, ◌&&◌, List, [], Ordering, Less, Equal, Greater, nat_cmp, refl, sym, ap, subst, ◌∙◌}
-use Rattle.std.specs.Prelude.{codes, Option, Some, None, Ok}
-use Rattle.std.specs.Ordering.{match_ordering}
-use Rattle.std.specs.Cmp.Lexicographic.{slice_cmp}
-use Rattle.toml.specs.Data.{Data, string, integer, float, boolean, datetime, array, table, Members, no_members, member, get_member, as_table, is_before, is_sorted, members_are_sorted}
-use Rattle.rbac_state.specs.Rosters.{RosterShape}
-use Rattle.user_relations.specs.Relations.{RelationShape}
-use Rattle.policy_book.specs.Shapes.{PolicyShape}
-use Rattle.first_fault.specs.Reading.{check}
-use Rattle.policy_reader.specs.declared.fault.PolicyPart.TheVariants.{File, Users}
-use Rattle.policy_reader.specs.declared.fault.PolicyKind.TheVariants as word
-use Rattle.policy_reader.specs.Faults.{fault}
-use Rattle.policy_reader.specs.Parts.{entries, value_at, text_in, name_in, number_in, no_others, known_key}
-use Rattle.policy_reader.specs.Rosters.{roles_of, roster_of, is_held}
-use Rattle.policy_reader.specs.Relations.{relations_of}
-use Rattle.policy_reader.specs.Flows.{flows_of}
-use Rattle.policy_reader.specs.Files.{format_of, admin_of, file_keys, start_of, policy_in}
+use Rattle.std.proofs.Common.{◌≡◌, ℕ, zero, suc, ◌+◌, ◌<◌, Bool, true, false, List, [], ◌∷◌, length, map, refl, ap, subst, ◌∙◌, arith}
+use Rattle.std.specs.Prelude.{codes, Some, Ok, slice_index_or, nat_eq, position}
+use Rattle.std.specs.Cmp.Lexicographic.{pointwise}
+use Rattle.std.proofs.lemmas.Grind.{common_steps}
+use Rattle.wf_names.specs.Names.{is_name}
+use Rattle.std.specs.List.{AllByRecursion}
+use Rattle.toml.specs.Data.{Members, get_member}
+use Rattle.user_relations.specs.Relations.{RelationShape, known_names}
+use Rattle.workflow_schema.specs.Laws.{IsDecided}
+use Rattle.policy_book.specs.Shapes.{PolicyShape, WorkflowShape}
+use Rattle.policy_book.specs.Policies.{no_workflow, any_below}
+use Rattle.first_fault.specs.Reading.{◌>>=◌}
+use Rattle.policy_reader.specs.declared.fault.PolicyPart.TheVariants.{File}
+use Rattle.policy_reader.specs.Parts.{value_at, text_in, name_in, no_others, known_key}
+use Rattle.policy_reader.specs.Relations.{first_declared}
+use Rattle.policy_reader.specs.Files.{document_in, format_of, admin_of, file_keys, start_over, start_with, start_of, rest_of, policy_in, policy_of_file}
+use Rattle.policy_reader.specs.Printable.{IsPrintable}
 use Rattle.policy_printer.specs.Documents.{name_at, names_data, users_data, relations_data, flows_data, document_of}
-use Rattle.policy_printer.proofs.Readings.{then_of, ok_same, number_of}
+use Rattle.policy_printer.specs.Named.{IsNamed, IsNamedPolicy}
+use Rattle.policy_printer.proofs.Readings.{number_back}
 use Rattle.policy_printer.proofs.NamesAgain.{roles_back}
-use Rattle.policy_printer.proofs.UsersAgain.{roster_back, roles_kept}
+use Rattle.policy_printer.proofs.UsersAgain.{roster_back}
 use Rattle.policy_printer.proofs.RelationsAgain.{relations_back}
 use Rattle.policy_printer.proofs.FlowsAgain.{flows_back}
-use Rattle.policy_printer.proofs.Sorted.{keys, Ascend, keys_ascend}
 
--- ---- tables within a table
+place_first : {X : Type 0} (p : X → Bool) (x : X) (xs : List X) → p x ≡ true → position p (x ∷ xs) ≡ Some 0
+place_first p x xs here = grind (arith, common_steps, here)
 
-first_true : (a b : Bool) → (a && b) ≡ true → a ≡ true
-first_true true b e = refl
-first_true false b e = e
+place_second : {X : Type 0} (p : X → Bool) (x y : X) (xs : List X) → p x ≡ false → p y ≡ true → position p (x ∷ y ∷ xs) ≡ Some 1
+place_second p x y xs one two = grind (arith, common_steps, one, two)
 
-second_true : (a b : Bool) → (a && b) ≡ true → b ≡ true
-second_true true b e = e
-second_true false b e = cc
+-- the built-in relations are named too
+all_related : (relations : List RelationShape) → ((n : ℕ) → n < length relations → IsNamed (known_names relations) (first_declared + n)) → (rho : ℕ) → rho < length relations + 2 → IsNamed (known_names relations) rho
+unfolding is_name
+all_related relations h zero lt = record { form = refl; place = place_first (pointwise nat_eq (codes "same")) (codes "same") (codes "other" ∷ map (λ r. r.name) relations) refl; within = omega arith }
+all_related relations h (suc zero) lt = record { form = refl; place = place_second (pointwise nat_eq (codes "other")) (codes "same") (codes "other") (map (λ r. r.name) relations) refl refl; within = omega arith }
+all_related relations h (suc (suc n)) lt = let same : first_declared + n ≡ suc (suc n) = omega arith in subst (IsNamed (known_names relations)) same (h n (omega (arith, lt)))
 
-abbrev data_or : Data → Option Data → Data
-data_or d None = d
-data_or d (Some e) = e
+active_at : (ws : List WorkflowShape) (f : ℕ) → AllByRecursion (λ w. w.retired ≡ false) ws → f < length ws → (slice_index_or ws f no_workflow).retired ≡ false
+active_at [] f h lt = absurd (omega (arith, lt))
+active_at (w ∷ ws) zero h lt = h.0
+active_at (w ∷ ws) (suc f) h lt = active_at ws f h.1 (omega (arith, lt))
 
-chosen_sorted : (o : Ordering) (d e : Data) (ms : Members) (k : List ℕ) → is_sorted d ≡ true → (get_member k ms ≡ Some e → is_sorted e ≡ true) → match_ordering o (get_member k ms) (Some d) (get_member k ms) ≡ Some e → is_sorted e ≡ true
-chosen_sorted Less d e ms k here rest h = rest h
-chosen_sorted Equal d e ms k here rest h = subst (λ x. is_sorted x ≡ true) (ap (data_or d) h) here
-chosen_sorted Greater d e ms k here rest h = rest h
+some_user : (n : ℕ) (test : ℕ → Bool) → any_below n test ≡ true → 0 < n
+some_user zero test h = cc
+some_user (suc n) test h = omega arith
 
-value_sorted : (ms : Members) (k : List ℕ) (d : Data) → members_are_sorted ms ≡ true → get_member k ms ≡ Some d → is_sorted d ≡ true
-value_sorted no_members k d s h = cc
-value_sorted (member l x ms) k d s h =
-    let front = first_true (is_before l ms && is_sorted x) (members_are_sorted ms) s in
-    chosen_sorted (slice_cmp nat_cmp k l) x d ms k (second_true (is_before l ms) (is_sorted x) front) (value_sorted ms k d (second_true (is_before l ms && is_sorted x) (members_are_sorted ms) s)) h
+module _ (decided : IsDecided) (p : PolicyShape) (h : IsNamedPolicy p) (is : IsPrintable p) where
+  abbrev doc : Members
+  doc = document_of p
 
-abbrev members_or : Members → Option Members → Members
-members_or ms None = ms
-members_or ms (Some xs) = xs
+  format_back : format_of doc ≡ Ok tt
+  unfolding format_of value_at document_of
+  format_back = refl
 
-table_sorted : (d : Data) (ms : Members) → as_table d ≡ Some ms → is_sorted d ≡ true → members_are_sorted ms ≡ true
-table_sorted (string s) ms e h = cc
-table_sorted (integer z) ms e h = cc
-table_sorted (float x) ms e h = cc
-table_sorted (boolean b) ms e h = cc
-table_sorted (datetime t) ms e h = cc
-table_sorted (array ds) ms e h = cc
-table_sorted (table xs) ms e h = subst (λ x. members_are_sorted x ≡ true) (ap (members_or xs) e) h
+  admin_back : admin_of doc ≡ Ok (name_at p.roster.roles p.admin)
+  unfolding admin_of value_at text_in name_in document_of
+  admin_back = rw ((h.roles p.admin h.sound.admin).form) refl
 
-ascend_in : (file : Members) (k : List ℕ) → members_are_sorted file ≡ true → (d : Data) (ms : Members) → get_member k file ≡ Some d → as_table d ≡ Some ms → Ascend (keys (entries ms))
-ascend_in file k s d ms there is = keys_ascend ms (table_sorted d ms is (value_sorted file k d s there))
+  known_keys : no_others File 0 file_keys doc ≡ Ok tt
+  unfolding no_others known_key document_of
+  known_keys = refl
 
--- ---- the start
+  users_there : get_member (codes "users") doc ≡ Some (users_data p.roster)
+  unfolding document_of
+  users_there = refl
 
-start_built : (doc : Members) (name : List ℕ) (roles : List (List ℕ)) (admin : ℕ) (roster : RosterShape) (relations : List RelationShape) (u v : Unit {0}) → format_of doc ≡ Ok u → admin_of doc ≡ Ok name → roles_of doc ≡ Ok roles
-    → number_in File 0 roles name ≡ Ok admin → roster_of roles doc ≡ Ok roster → check (is_held roster admin) (fault word.NoAdmin Users 0) ≡ Ok v → relations_of roster.users doc ≡ Ok relations
-    → start_of doc ≡ Ok (record { roster = roster; relations = relations; flow_names = []; flows = []; admin = admin })
-unfolding start_of
-start_built doc name roles admin roster relations u v a b c d e f g = rw (a, b, c, d, e, f, g) refl
+  roles_there : get_member (codes "roles") doc ≡ Some (names_data p.roster.roles)
+  unfolding document_of
+  roles_there = refl
 
-admin_back : (file again : Members) (name : List ℕ) → admin_of file ≡ Ok name → get_member (codes "admin") again ≡ Some (string name) → admin_of again ≡ Ok name
-unfolding admin_of value_at text_in
-admin_back file again name e there =
-    let a = then_of (value_at File 0 (codes "admin") file) _ name e in
-    let b = then_of (text_in File 0 a.value) _ name a.rest in
-    let c = then_of (name_in File 0 b.value) _ name b.rest in
-    let same : b.value ≡ name = ok_same b.value name c.rest in
-    let form : name_in File 0 name ≡ Ok c.value = subst (λ t. name_in File 0 t ≡ Ok c.value) same c.first in
-    rw (there, form) refl
+  relations_there : get_member (codes "relations") doc ≡ Some (relations_data p.roster.users p.relations)
+  unfolding document_of
+  relations_there = refl
 
-format_back : (p : PolicyShape) → format_of (document_of p) ≡ Ok tt
-unfolding format_of value_at document_of
-format_back p = refl
+  flows_there : get_member (codes "flows") doc ≡ Some (flows_data p)
+  unfolding document_of
+  flows_there = refl
 
-policy_built : (doc : Members) (start p : PolicyShape) → start_of doc ≡ Ok start → flows_of start doc ≡ Ok p → no_others File 0 file_keys doc ≡ Ok tt → policy_in doc ≡ Ok p
-unfolding policy_in
-policy_built doc start p a b c = rw (a, b, c) refl
+  start_back : start_of doc ≡ Ok (record p { flow_names = []; flows = [] })
+  unfolding start_of start_with start_over
+  start_back = rw (
+      format_back,
+      admin_back,
+      roles_back doc p.roster.roles h.roles (omega (arith, h.sound.admin)) h.sound.roles roles_there,
+      number_back File 0 p.roster.roles p.admin (h.roles p.admin h.sound.admin),
+      roster_back p.roster h.roster h.roles (λ n lt. (h.users n lt).form) doc is.begun.users (some_user (length p.roster.users) _ is.begun.admin) users_there,
+      is.begun.admin,
+      relations_back p.roster.users p.relations h.users h.relations h.sound.related h.related doc is.begun.relations relations_there,
+    ) refl
 
-known_keys : (p : PolicyShape) → no_others File 0 file_keys (document_of p) ≡ Ok tt
-unfolding no_others known_key document_of
-known_keys p = refl
+  policy_back : policy_in doc ≡ Ok p
+  unfolding policy_in rest_of
+  policy_back = rw (
+      start_back,
+      flows_back decided p h.roles (all_related p.relations h.related) h.flow_names h.sound.named h.flows h.sound.flows (λ f lt. active_at p.flows f is.active lt) doc is.flows is.some h.sound.few flows_there,
+      known_keys,
+    ) refl
 
-users_there : (p : PolicyShape) → get_member (codes "users") (document_of p) ≡ Some (users_data p.roster)
-unfolding document_of
-users_there p = refl
-
-roles_there : (p : PolicyShape) → get_member (codes "roles") (document_of p) ≡ Some (names_data p.roster.roles)
-unfolding document_of
-roles_there p = refl
-
-relations_there : (p : PolicyShape) → get_member (codes "relations") (document_of p) ≡ Some (relations_data p.roster.users p.relations)
-unfolding document_of
-relations_there p = refl
-
-flows_there : (p : PolicyShape) → get_member (codes "flows") (document_of p) ≡ Some (flows_data p)
-unfolding document_of
-flows_there p = refl
-
-admin_there : (p : PolicyShape) → get_member (codes "admin") (document_of p) ≡ Some (string (name_at p.roster.roles p.admin))
-unfolding document_of
-admin_there p = refl
-
-back_from : (file : Members) (p : PolicyShape) → members_are_sorted file ≡ true → (name : List ℕ) (roles : List (List ℕ)) (admin : ℕ) (roster : RosterShape) (relations : List RelationShape) (v : Unit {0})
-    → admin_of file ≡ Ok name → roles_of file ≡ Ok roles → number_in File 0 roles name ≡ Ok admin → roster_of roles file ≡ Ok roster → check (is_held roster admin) (fault word.NoAdmin Users 0) ≡ Ok v
-    → relations_of roster.users file ≡ Ok relations → flows_of (record { roster = roster; relations = relations; flow_names = []; flows = []; admin = admin }) file ≡ Ok p
-    → policy_in (document_of p) ≡ Ok p
-back_from file p sorted name roles admin roster relations v b c d x y z flows =
-    let doc = document_of p in
-    let start : PolicyShape = record { roster = roster; relations = relations; flow_names = []; flows = []; admin = admin } in
-    let back = flows_back start file doc p flows refl refl (ascend_in file (codes "flows") sorted) in
-    let roles_are : p.roster.roles ≡ roles = ap (λ r. r.roles) back.grown.roster_is ∙ roles_kept roles file roster x in
-    let named : name_at p.roster.roles p.admin ≡ name = (λ i. name_at (roles_are i) (back.grown.admin_is i)) ∙ (number_of File 0 roles name admin d).text_is in
-    let admin_is : get_member (codes "admin") doc ≡ Some (string name) = admin_there p ∙ ap (λ n. Some (string n)) named in
-    let roles_is : get_member (codes "roles") doc ≡ Some (names_data roles) = roles_there p ∙ ap (λ ns. Some (names_data ns)) roles_are in
-    let users_is : get_member (codes "users") doc ≡ Some (users_data roster) = users_there p ∙ ap (λ r. Some (users_data r)) back.grown.roster_is in
-    let relations_is : get_member (codes "relations") doc ≡ Some (relations_data roster.users relations) = relations_there p ∙ (λ i. Some (relations_data (back.grown.roster_is i).users (back.grown.relations_are i))) in
-    policy_built doc start p
-    (start_built doc name roles admin roster relations tt v (format_back p) (admin_back file doc name b admin_is) (roles_back file doc roles c roles_is) d
-    (roster_back roles file doc roster x (ascend_in file (codes "users") sorted) users_is) y
-    (relations_back roster.users file doc relations z (ascend_in file (codes "relations") sorted) relations_is))
-    (back.back (flows_there p)) (known_keys p)
-
--- a policy that a table gave is read from what it is written as
-pub policy_back : (file : Members) (p : PolicyShape) → members_are_sorted file ≡ true → policy_in file ≡ Ok p → policy_in (document_of p) ≡ Ok p
-unfolding policy_in start_of
-policy_back file p sorted e =
-    let s = then_of (start_of file) _ p e in
-    let t = then_of (flows_of s.value file) _ p s.rest in
-    let o = then_of (no_others File 0 file_keys file) _ p t.rest in
-    let same : t.value ≡ p = ok_same t.value p o.rest in
-    let a = then_of (format_of file) _ s.value s.first in
-    let b = then_of (admin_of file) _ s.value a.rest in
-    let c = then_of (roles_of file) _ s.value b.rest in
-    let d = then_of (number_in File 0 c.value b.value) _ s.value c.rest in
-    let x = then_of (roster_of c.value file) _ s.value d.rest in
-    let y = then_of (check (is_held x.value d.value) (fault word.NoAdmin Users 0)) _ s.value x.rest in
-    let z = then_of (relations_of x.value.users file) _ s.value y.rest in
-    let start : PolicyShape = record { roster = x.value; relations = z.value; flow_names = []; flows = []; admin = d.value } in
-    let begun : start ≡ s.value = ok_same start s.value z.rest in
-    let flows : flows_of start file ≡ Ok p = subst (λ r. flows_of r file ≡ Ok p) (sym begun) (t.first ∙ ap Ok same) in
-    back_from file p sorted b.value c.value d.value x.value z.value y.value b.first c.first d.first x.first y.first z.first flows
+  -- a policy that can be printed is read from what it is written as
+  pub file_back : (text : List ℕ) → document_in text ≡ Ok doc → policy_of_file text ≡ Ok p
+  unfolding policy_of_file
+  file_back text written = ap (λ r. r >>= policy_in) written ∙ policy_back

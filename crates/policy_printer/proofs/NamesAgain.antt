@@ -1,164 +1,85 @@
 -- Lists of names are read from what they are written as.
-use Rattle.std.proofs.Common.{◌≡◌, ℕ, zero, suc, ◌<◌, ◌≤◌, Bool, true, false, not, nat_le, nat_eq, inl, inr, arith, List, [], ◌∷◌, ◌++◌, length, map, refl, sym, ap, subst, ◌∙◌, append_assoc}
-use Rattle.std.specs.Prelude.{codes, Some, Ok, is_some, position}
-use Rattle.std.specs.Cmp.Lexicographic.{pointwise, nat_list_eq_equiv}
-use Rattle.std.proofs.lemmas.Bool.{cases_lt}
+use Rattle.std.proofs.Common.{◌≡◌, ℕ, suc, ◌<◌, ◌≤◌, Bool, true, false, not, nat_le, nat_eq, arith, List, [], ◌∷◌, ◌++◌, length, map, get_or, refl, sym, ap, ◌∙◌}
+use Rattle.std.specs.Prelude.{codes, Some, Ok, is_some, position, ◌==◌}
+use Rattle.std.specs.Cmp.Lexicographic.{pointwise}
 use Rattle.std.proofs.lemmas.Bool.Decides.{nat_tests}
 use Rattle.std.proofs.lemmas.Grind.{common_steps}
-use Rattle.std.proofs.lemmas.List.Sums.{prefix_len-le-length}
+use Rattle.std.proofs.lemmas.List.Quantifiers.{position-Some}
+use Rattle.std.proofs.lemmas.List.{length-append}
 use Rattle.wf_names.specs.Names.{is_name}
-use Rattle.std.proofs.lemmas.List.{append-nil, length-append}
-use Rattle.toml.specs.Data.{Data, string, Members, get_member, as_str}
-use Rattle.toml.specs.View.{items_of}
-use Rattle.wf_names.specs.declared.limits.TheConstants.{ROLE_LIMIT, STEP_LIMIT}
 use Rattle.wf_names.specs.Table.{place_of}
-use Rattle.first_fault.specs.Reading.{◌>>=◌, each}
+use Rattle.wf_names.specs.declared.limits.TheConstants.{ROLE_LIMIT, STEP_LIMIT}
+use Rattle.toml.specs.Data.{string, Members, get_member}
 use Rattle.policy_reader.specs.declared.fault.PolicyPart.{PolicyPart}
 use Rattle.policy_reader.specs.declared.fault.PolicyPart.TheVariants.{Roles, Flows}
-use Rattle.policy_reader.specs.Faults.{Reading}
-use Rattle.policy_reader.specs.Parts.{items, value_at, array_in, at_least_one, at_most, text_in, name_in, once, next_name}
+use Rattle.policy_reader.specs.Parts.{value_at, array_in, at_least_one, at_most, text_in, name_in, once, next_name}
 use Rattle.policy_reader.specs.Rosters.{roles_of, next_role}
 use Rattle.policy_reader.specs.Flows.{steps_of}
 use Rattle.policy_printer.specs.Documents.{name_at, names_data}
-use Rattle.policy_printer.proofs.Readings.{then_of, check_of, fault_of_none, text_of, ok_same, items_back, IsNamed}
-use Rattle.policy_printer.proofs.PairsAgain.{not_false}
+use Rattle.policy_printer.specs.Named.{AreNamed}
+use Rattle.policy_printer.proofs.Readings.{list_back, map_length, items_back}
 
-record IsText (names : List (List ℕ)) (d : Data) (more : List (List ℕ)) : Type 0 where
-  text : List ℕ
-  is : d ≡ string text
-  pushed : more ≡ names ++ text ∷ []
+name_here : (before : List (List ℕ)) (x : List ℕ) (after : List (List ℕ)) → name_at (before ++ x ∷ after) (length before) ≡ x
+name_here [] x after = refl
+name_here (y ∷ before) x after = name_here before x after
 
-name_of : (t : PolicyPart) (f : ℕ) (names : List (List ℕ)) (d : Data) (more : List (List ℕ)) → next_name t f names d ≡ Ok more → IsText names d more
-unfolding next_name text_in
-name_of t f names d more e =
-    let a = then_of (text_in t f d) _ more e in
-    let b = then_of (name_in t f a.value) _ more a.rest in
-    let c = then_of (once t f a.value (is_some (place_of names a.value))) _ more b.rest in
-    record { text = a.value; is = text_of d a.value (fault_of_none (as_str d) _ a.value a.first); pushed = sym (ok_same _ more c.rest) }
+none_cons : {X : Type 0} (p : X → Bool) (x : X) (xs : List X) → p x ≡ false → is_some (position p xs) ≡ false → is_some (position p (x ∷ xs)) ≡ false
+none_cons p x xs here none = grind (arith, common_steps)
 
-record AreTexts (names : List (List ℕ)) (ds : List Data) (all : List (List ℕ)) : Type 0 where
-  texts : List (List ℕ)
-  are : ds ≡ map string texts
-  whole : all ≡ names ++ texts
+none_passes : (p : List ℕ → Bool) (before rest : List (List ℕ)) → ((k : ℕ) → k < length before → p (get_or (before ++ rest) k []) ≡ false) → is_some (position p before) ≡ false
+none_passes p [] rest h = refl
+none_passes p (x ∷ before) rest h = none_cons p x before (h 0 (omega arith)) (none_passes p before rest (λ k lt. h (suc k) (omega (arith, lt))))
 
-module _ (read : List (List ℕ) → Data → Reading (List (List ℕ))) (gives : (names : List (List ℕ)) (d : Data) (more : List (List ℕ)) → read names d ≡ Ok more → IsText names d more) where
-  texts_of : (names : List (List ℕ)) (ds : List Data) (all : List (List ℕ)) → each read names ds ≡ Ok all → AreTexts names ds all
-  texts_of names [] all e = record { texts = []; are = refl; whole = sym (ok_same names all e) ∙ sym (append-nil names) }
-  texts_of names (d ∷ ds) all e =
-      let a = then_of (read names d) _ all e in
-      let here = gives names d a.value a.first in
-      let rest = texts_of a.value ds all a.rest in
-      record {
-        texts = here.text ∷ rest.texts;
-        are = λ i. here.is i ∷ rest.are i;
-        whole = rest.whole ∙ ap (λ ns. ns ++ rest.texts) here.pushed ∙ append_assoc names (here.text ∷ []) rest.texts;
-      }
+-- a name that stands first after some names is none of them
+not_before : (p : List ℕ → Bool) (before : List (List ℕ)) (x : List ℕ) (after : List (List ℕ)) → position p (before ++ x ∷ after) ≡ Some (length before) → is_some (position p before) ≡ false
+not_before p before x after e = none_passes p before (x ∷ after) (position-Some p (before ++ x ∷ after) (length before) [] e).2
 
-  -- the items that names were read from are the texts of these names
-  items_are : (ds : List Data) (all : List (List ℕ)) → each read [] ds ≡ Ok all → ds ≡ map string all
-  items_are ds all e = let h = texts_of [] ds all e in h.are ∙ ap (map string) (sym h.whole)
+pub record IsFresh (before : List (List ℕ)) (x : List ℕ) : Type 0 where
+  pub form : is_name x ≡ true
+  pub fresh : is_some (place_of before x) ≡ false
 
-role_of : (names : List (List ℕ)) (d : Data) (more : List (List ℕ)) → next_role names d ≡ Ok more → IsText names d more
+fresh_of : (names before : List (List ℕ)) (x : List ℕ) (after : List (List ℕ)) → AreNamed names → names ≡ before ++ x ∷ after → IsFresh before x
+fresh_of names before x after named e =
+    let within : length before < length names = omega (arith, ap length e, length-append before (x ∷ after)) in
+    let h = named (length before) within in
+    let is : name_at names (length before) ≡ x = ap (λ ns. name_at ns (length before)) e ∙ name_here before x after in
+    record {
+      form = ap is_name (sym is) ∙ h.form;
+      fresh = not_before (pointwise nat_eq x) before x after ((λ i. place_of (sym e i) (sym is i)) ∙ h.place);
+    }
+
+name_again : (t : PolicyPart) (f : ℕ) (before : List (List ℕ)) (x : List ℕ) → IsFresh before x → next_name t f before (string x) ≡ Ok (before ++ x ∷ [])
+unfolding next_name text_in name_in once
+name_again t f before x h = rw (h.form, h.fresh) refl
+
+role_again : (before : List (List ℕ)) (x : List ℕ) → IsFresh before x → next_role before (string x) ≡ Ok (before ++ x ∷ [])
 unfolding next_role
-role_of names d more e = name_of Roles (length names) names d more e
+role_again before x h = name_again Roles (length before) before x h
 
-abbrev after_roles : List Data → Reading (List (List ℕ))
-after_roles ds = at_least_one Roles 0 (length ds) >>= (λ _. at_most Roles 0 ROLE_LIMIT (length ds) >>= (λ _. each next_role [] ds))
+some_items : (n : ℕ) → 0 < n → not (n == 0) ≡ true
+some_items n lt = grind (arith, nat_tests, lt)
 
--- the roles of a file are read from what they are written as
-pub roles_back : (file again : Members) (roles : List (List ℕ)) → roles_of file ≡ Ok roles → get_member (codes "roles") again ≡ Some (names_data roles) → roles_of again ≡ Ok roles
+few_items : (n m : ℕ) → n ≤ m → nat_le n m ≡ true
+few_items n m le = grind (arith, nat_tests, le)
+
+pub at_least-ok : (t : PolicyPart) (f n : ℕ) → 0 < n → at_least_one t f n ≡ Ok tt
+unfolding at_least_one
+at_least-ok t f n lt = rw (some_items n lt) refl
+
+pub at_most-ok : (t : PolicyPart) (f n m : ℕ) → n ≤ m → at_most t f m n ≡ Ok tt
+unfolding at_most
+at_most-ok t f n m le = rw (few_items n m le) refl
+
+-- the roles are read from what they are written as
+pub roles_back : (again : Members) (roles : List (List ℕ)) → AreNamed roles → 0 < length roles → length roles ≤ ROLE_LIMIT → get_member (codes "roles") again ≡ Some (names_data roles) → roles_of again ≡ Ok roles
 unfolding roles_of value_at array_in
-roles_back file again roles e there =
-    let a = then_of (value_at Roles 0 (codes "roles") file) _ roles e in
-    let b = then_of (array_in Roles 0 a.value) _ roles a.rest in
-    let c = then_of (at_least_one Roles 0 (length (items b.value))) _ roles b.rest in
-    let d = then_of (at_most Roles 0 ROLE_LIMIT (length (items b.value))) _ roles c.rest in
-    let same : items b.value ≡ items (items_of (map string roles)) = items_are next_role role_of (items b.value) roles d.rest ∙ sym (items_back (map string roles)) in
-    rw there (subst (λ ds. after_roles ds ≡ Ok roles) same b.rest)
-
-abbrev after_steps : ℕ → List Data → Reading (List (List ℕ))
-after_steps f ds = at_least_one Flows f (length ds) >>= (λ _. at_most Flows f STEP_LIMIT (length ds) >>= (λ _. each (next_name Flows f) [] ds))
+roles_back again roles named some few there =
+    rw (there, items_back (map string roles), map_length string roles, at_least-ok Roles 0 (length roles) some, at_most-ok Roles 0 (length roles) ROLE_LIMIT few)
+    (list_back next_role string (λ ns. ns) roles (λ before x after e. role_again before x (fresh_of roles before x after named e)))
 
 -- the steps of a workflow are read from what they are written as
-pub steps_back : (f : ℕ) (ms again : Members) (steps : List (List ℕ)) → steps_of f ms ≡ Ok steps → get_member (codes "steps") again ≡ Some (names_data steps) → steps_of f again ≡ Ok steps
+pub steps_back : (f : ℕ) (again : Members) (steps : List (List ℕ)) → AreNamed steps → 0 < length steps → length steps ≤ STEP_LIMIT → get_member (codes "steps") again ≡ Some (names_data steps) → steps_of f again ≡ Ok steps
 unfolding steps_of value_at array_in
-steps_back f ms again steps e there =
-    let a = then_of (value_at Flows f (codes "steps") ms) _ steps e in
-    let b = then_of (array_in Flows f a.value) _ steps a.rest in
-    let c = then_of (at_least_one Flows f (length (items b.value))) _ steps b.rest in
-    let d = then_of (at_most Flows f STEP_LIMIT (length (items b.value))) _ steps c.rest in
-    let same : items b.value ≡ items (items_of (map string steps)) = items_are (next_name Flows f) (name_of Flows f) (items b.value) steps d.rest ∙ sym (items_back (map string steps)) in
-    rw there (subst (λ ds. after_steps f ds ≡ Ok steps) same b.rest)
-
--- ---- the numbers of steps
-
-at_before : (xs ys : List (List ℕ)) (i : ℕ) → i < length xs → name_at (xs ++ ys) i ≡ name_at xs i
-at_before [] ys i lt = absurd (omega (arith, lt))
-at_before (x ∷ xs) ys zero lt = refl
-at_before (x ∷ xs) ys (suc i) lt = at_before xs ys i (omega (arith, lt))
-
-at_last : (xs : List (List ℕ)) (y : List ℕ) → name_at (xs ++ y ∷ []) (length xs) ≡ y
-at_last [] y = refl
-at_last (x ∷ xs) y = at_last xs y
-
-some_push : (p : List ℕ → Bool) (xs : List (List ℕ)) (y : List ℕ) (i : ℕ) → position p xs ≡ Some i → position p (xs ++ y ∷ []) ≡ Some i
-some_push p xs y i h = grind (arith, common_steps, h)
-
-new_push : (p : List ℕ → Bool) (xs : List (List ℕ)) (y : List ℕ) → is_some (position p xs) ≡ false → p y ≡ true → position p (xs ++ y ∷ []) ≡ Some (length xs)
-new_push p xs y none here = grind (arith, common_steps, none, here, prefix_len-le-length (λ x. not (p x)) xs)
-
-named_before : (names : List (List ℕ)) (text : List ℕ) (i : ℕ) → IsNamed names i → IsNamed (names ++ text ∷ []) i
-named_before names text i h =
-    let same = at_before names (text ∷ []) i h.within in
-    record { form = ap is_name same ∙ h.form; place = ap (place_of (names ++ text ∷ [])) same ∙ some_push (pointwise nat_eq (name_at names i)) names text i h.place; within = omega (arith, h.within, length-append names (text ∷ [])) }
-
-is_itself : (text : List ℕ) → pointwise nat_eq text text ≡ true
-is_itself text = nat_list_eq_equiv.refl text
-
-map_count : {X Y : Type 0} (g : X → Y) (xs : List X) → length (map g xs) ≡ length xs
-map_count g [] = refl
-map_count g (x ∷ xs) = ap suc (map_count g xs)
-
-named_last : (names : List (List ℕ)) (text : List ℕ) → is_name text ≡ true → is_some (place_of names text) ≡ false → IsNamed (names ++ text ∷ []) (length names)
-named_last names text form fresh =
-    let same = at_last names text in
-    record { form = ap is_name same ∙ form; place = ap (place_of (names ++ text ∷ [])) same ∙ new_push (pointwise nat_eq text) names text fresh (is_itself text); within = omega (arith, length-append names (text ∷ [])) }
-
-named_push : (names : List (List ℕ)) (text : List ℕ) → ((i : ℕ) → i < length names → IsNamed names i) → is_name text ≡ true → is_some (place_of names text) ≡ false
-    → (i : ℕ) → i < length (names ++ text ∷ []) → IsNamed (names ++ text ∷ []) i
-named_push names text all form fresh i lt = elim (cases_lt i (length names)) [
-  | inl less ↦ named_before names text i (all i less)
-  | inr above ↦ let same : length names ≡ i = omega (arith, lt, above, length-append names (text ∷ [])) in subst (IsNamed (names ++ text ∷ [])) same (named_last names text form fresh)
-]
-
-named_all : (f : ℕ) (names : List (List ℕ)) (ds : List Data) (all : List (List ℕ)) → each (next_name Flows f) names ds ≡ Ok all → ((i : ℕ) → i < length names → IsNamed names i) → (i : ℕ) → i < length all → IsNamed all i
-unfolding next_name name_in once
-named_all f names [] all e h = subst (λ (ns : List (List ℕ)). (i : ℕ) → i < length ns → IsNamed ns i) (ok_same names all e) h
-named_all f names (d ∷ ds) all e h =
-    let x = then_of (next_name Flows f names d) _ all e in
-    let a = then_of (text_in Flows f d) _ x.value x.first in
-    let b = then_of (name_in Flows f a.value) _ x.value a.rest in
-    let c = then_of (once Flows f a.value (is_some (place_of names a.value))) _ x.value b.rest in
-    let pushed : names ++ a.value ∷ [] ≡ x.value = ok_same (names ++ a.value ∷ []) x.value c.rest in
-    named_all f x.value ds all x.rest
-    (subst (λ (ns : List (List ℕ)). (i : ℕ) → i < length ns → IsNamed ns i) pushed
-    (named_push names a.value h (check_of (is_name a.value) _ b.value b.first) (not_false (is_some (place_of names a.value)) (check_of (not (is_some (place_of names a.value))) _ c.value c.first))))
-
-pub record AreSteps (steps : List (List ℕ)) : Type 0 where
-  pub named : (i : ℕ) → i < length steps → IsNamed steps i
-  pub few : length steps ≤ STEP_LIMIT
-
--- what steps that were read are
-pub steps_read : (f : ℕ) (ms : Members) (steps : List (List ℕ)) → steps_of f ms ≡ Ok steps → AreSteps steps
-unfolding steps_of at_most
-steps_read f ms steps e =
-    let a = then_of (value_at Flows f (codes "steps") ms) _ steps e in
-    let b = then_of (array_in Flows f a.value) _ steps a.rest in
-    let c = then_of (at_least_one Flows f (length (items b.value))) _ steps b.rest in
-    let d = then_of (at_most Flows f STEP_LIMIT (length (items b.value))) _ steps c.rest in
-    let few : nat_le (length (items b.value)) STEP_LIMIT ≡ true = check_of (nat_le (length (items b.value)) STEP_LIMIT) _ d.value d.first in
-    let texts = items_are (next_name Flows f) (name_of Flows f) (items b.value) steps d.rest in
-    record {
-      named = named_all f [] (items b.value) steps d.rest (λ i lt. absurd (omega (arith, lt)));
-      few = grind (arith, nat_tests, few, ap length texts, map_count string steps);
-    }
+steps_back f again steps named some few there =
+    rw (there, items_back (map string steps), map_length string steps, at_least-ok Flows f (length steps) some, at_most-ok Flows f (length steps) STEP_LIMIT few)
+    (list_back (next_name Flows f) string (λ ns. ns) steps (λ before x after e. name_again Flows f before x (fresh_of steps before x after named e)))

@@ -1,37 +1,30 @@
--- What a reading that succeeded tells, and readings that succeed.
-use Rattle.std.proofs.Common.{◌≡◌, ℕ, ◌<◌, Bool, true, false, nat_eq, List, [], ◌∷◌, ◌++◌, length, get_or, refl, sym, ap, ◌∙◌}
-use Rattle.std.specs.Prelude.{Option, Some, None, Result, Ok, Err}
-use Rattle.std.specs.Cmp.Lexicographic.{pointwise}
-use Rattle.std.proofs.lemmas.List.Quantifiers.{position-Some}
-use Rattle.std.specs.Cmp.Lexicographic.{bytes_decides}
-use Rattle.toml.specs.Data.{Data, string, integer, float, boolean, datetime, array, table, as_str}
+-- Lists that are read back from what they are written as.
+use Rattle.std.proofs.Common.{◌≡◌, ℕ, zero, suc, ◌<◌, ◌≤◌, List, [], ◌∷◌, ◌++◌, length, map, take, refl, sym, ap, ◌∙◌, append_assoc, arith}
+use Rattle.std.specs.Prelude.{Result, Ok, Err, slice_get, slice_index_or, Some}
+use Rattle.std.specs.List.{AllByRecursion}
+use Rattle.std.proofs.lemmas.List.{append-nil, map-append, length-append}
+use Rattle.toml.specs.Data.{Data, string}
 use Rattle.toml.specs.View.{items_of}
-use Rattle.wf_names.specs.Names.{is_name}
-use Rattle.wf_names.specs.Table.{place_of}
-use Rattle.first_fault.specs.Reading.{◌>>=◌, or_fault, check, each}
+use Rattle.first_fault.specs.Reading.{◌>>=◌, each}
 use Rattle.policy_reader.specs.declared.fault.PolicyPart.{PolicyPart}
-use Rattle.policy_reader.specs.Parts.{items, number_in, text_in}
+use Rattle.policy_reader.specs.Parts.{items, number_in}
 use Rattle.policy_printer.specs.Documents.{name_at}
+use Rattle.policy_printer.specs.Named.{IsNamed}
 
--- ---- in general
+-- a list is read back: what was read so far is told by the items before the next
+module _ {X S D F : Type 0} (read : S → D → Result S F) (write : X → D) (state : List X → S) (whole : List X)
+    (step : (before : List X) (x : X) (after : List X) → whole ≡ before ++ x ∷ after → read (state before) (write x) ≡ Ok (state (before ++ x ∷ []))) where
+  rest_back : (before after : List X) → whole ≡ before ++ after → each read (state before) (map write after) ≡ Ok (state whole)
+  rest_back before [] e = ap (λ xs. Ok (state xs)) (sym (e ∙ append-nil before))
+  rest_back before (x ∷ after) e = rw (step before x after e) (rest_back (before ++ x ∷ []) after (e ∙ sym (append_assoc before (x ∷ []) after)))
 
-pub record Then {A B F : Type 0} (r : Result A F) (next : A → Result B F) (y : B) : Type 0 where
-  pub value : A
-  pub first : r ≡ Ok value
-  pub rest : next value ≡ Ok y
+  pub list_back : each read (state []) (map write whole) ≡ Ok (state whole)
+  list_back = rest_back [] whole refl
 
--- a reading that went on from another
-pub then_of : {A B F : Type 0} (r : Result A F) (next : A → Result B F) (y : B) → (r >>= next) ≡ Ok y → Then r next y
-then_of (Ok x) next y e = record { value = x; first = refl; rest = e }
-then_of (Err f) next y e = cc
-
-pub check_of : {F : Type 0} (b : Bool) (f : F) (u : Unit {0}) → check b f ≡ Ok u → b ≡ true
-check_of true f u e = refl
-check_of false f u e = cc
-
-pub fault_of_none : {A F : Type 0} (o : Option A) (f : F) (x : A) → or_fault o f ≡ Ok x → o ≡ Some x
-fault_of_none (Some y) f x e = cc
-fault_of_none None f x e = cc
+-- the numbers below n
+abbrev pub upto : ℕ → List ℕ
+upto zero = []
+upto (suc n) = upto n ++ n ∷ []
 
 then_assoc : {S D F : Type 0} (read : S → D → Result S F) (r : Result S F) (xs ys : List D)
     → ((t : S) → each read t (xs ++ ys) ≡ (each read t xs >>= (λ u. each read u ys)))
@@ -40,73 +33,69 @@ then_assoc read (Ok t) xs ys h = h t
 then_assoc read (Err f) xs ys h = refl
 
 -- reading two lists one after the other
-pub each_append : {S D F : Type 0} (read : S → D → Result S F) (s : S) (xs ys : List D) → each read s (xs ++ ys) ≡ (each read s xs >>= (λ u. each read u ys))
+each_append : {S D F : Type 0} (read : S → D → Result S F) (s : S) (xs ys : List D) → each read s (xs ++ ys) ≡ (each read s xs >>= (λ u. each read u ys))
 each_append read s [] ys = refl
 each_append read s (x ∷ xs) ys = then_assoc read (read s x) xs ys (λ t. each_append read t xs ys)
 
--- reading one item more
-pub each_push : {S D F : Type 0} (read : S → D → Result S F) (s t u : S) (xs : List D) (y : D) → each read s xs ≡ Ok t → read t y ≡ Ok u → each read s (xs ++ y ∷ []) ≡ Ok u
+each_push : {S D F : Type 0} (read : S → D → Result S F) (s t u : S) (xs : List D) (y : D) → each read s xs ≡ Ok t → read t y ≡ Ok u → each read s (xs ++ y ∷ []) ≡ Ok u
 each_push read s t u xs y first last = each_append read s xs (y ∷ []) ∙ ap (λ r. r >>= (λ v. each read v (y ∷ []))) first ∙ ap (λ r. r >>= (λ next. Ok next)) last
 
-abbrev value_or : {A F : Type 0} → A → Result A F → A
-value_or x (Ok y) = y
-value_or x (Err f) = x
+-- the same of what is written by numbers
+module _ {S D F : Type 0} (read : S → D → Result S F) (write : ℕ → D) (state : ℕ → S) (bound : ℕ) (step : (n : ℕ) → n < bound → read (state n) (write n) ≡ Ok (state (suc n))) where
+  pub count_back : (n : ℕ) → n ≤ bound → each read (state 0) (map write (upto n)) ≡ Ok (state n)
+  count_back zero le = refl
+  count_back (suc n) le =
+      ap (each read (state 0)) (map-append write (upto n) (n ∷ []))
+      ∙ each_push read (state 0) (state n) (state (suc n)) (map write (upto n)) (write n) (count_back n (omega (arith, le))) (step n (omega (arith, le)))
 
-abbrev as_ok : {A F : Type 0} → A → Result A F
-as_ok x = Ok x
+-- ---- lists
 
-pub ok_same : {A F : Type 0} (x y : A) → as_ok {F = F} x ≡ Ok y → x ≡ y
-ok_same x y e = ap (value_or x) e
+pub among : {X : Type 0} (P : X → Type 0) (xs : List X) (y : X) (ys : List X) → AllByRecursion P (xs ++ y ∷ ys) → P y
+among P [] y ys h = h.0
+among P (x ∷ xs) y ys h = among P xs y ys h.1
 
--- ---- data
+pub map_length : {X Y : Type 0} (g : X → Y) (xs : List X) → length (map g xs) ≡ length xs
+map_length g [] = refl
+map_length g (x ∷ xs) = ap suc (map_length g xs)
+
+pub upto_length : (n : ℕ) → length (upto n) ≡ n
+upto_length zero = refl
+upto_length (suc n) = omega (arith, length-append (upto n) (n ∷ []), upto_length n)
+
+first_number : {Y : Type 0} (n : ℕ) (f : ℕ → Y) → map f (upto (suc n)) ≡ f 0 ∷ map (λ i. f (suc i)) (upto n)
+first_number zero f = refl
+first_number (suc n) f =
+    map-append f (upto (suc n)) (suc n ∷ []) ∙ ap (λ ys. ys ++ f (suc n) ∷ []) (first_number n f) ∙ ap (λ ys. f 0 ∷ ys) (sym (map-append (λ i. f (suc i)) (upto n) (n ∷ [])))
+
+-- what is written by numbers of a list's items
+pub upto_map : {X Y : Type 0} (xs : List X) (f : ℕ → Y) (g : X → Y) → ((i : ℕ) (x : X) → slice_get xs i ≡ Some x → f i ≡ g x) → map f (upto (length xs)) ≡ map g xs
+upto_map [] f g h = refl
+upto_map (x ∷ xs) f g h = let rest = upto_map xs (λ i. f (suc i)) g (λ i y e. h (suc i) y e) in first_number (length xs) f ∙ (λ i. h 0 x refl i ∷ rest i)
+
+pub take_next : {X : Type 0} (xs : List X) (n : ℕ) (d : X) → n < length xs → take n xs ++ slice_index_or xs n d ∷ [] ≡ take (suc n) xs
+take_next [] n d lt = absurd (omega (arith, lt))
+take_next (x ∷ xs) zero d lt = refl
+take_next (x ∷ xs) (suc n) d lt = ap (λ ys. x ∷ ys) (take_next xs n d (omega (arith, lt)))
+
+pub take_count : {X : Type 0} (n : ℕ) (xs : List X) → n ≤ length xs → length (take n xs) ≡ n
+take_count zero xs le = refl
+take_count (suc n) [] le = absurd (omega (arith, le))
+take_count (suc n) (x ∷ xs) le = ap suc (take_count n xs (omega (arith, le)))
+
+pub take_all : {X : Type 0} (xs : List X) → take (length xs) xs ≡ xs
+take_all [] = refl
+take_all (x ∷ xs) = ap (λ ys. x ∷ ys) (take_all xs)
 
 pub items_back : (ds : List Data) → items (items_of ds) ≡ ds
 items_back [] = refl
 items_back (d ∷ ds) = ap (λ es. d ∷ es) (items_back ds)
 
-pub text_of : (d : Data) (text : List ℕ) → as_str d ≡ Some text → d ≡ string text
-text_of (string s) text e = cc
-text_of (integer z) text e = cc
-text_of (float x) text e = cc
-text_of (boolean b) text e = cc
-text_of (datetime t) text e = cc
-text_of (array ds) text e = cc
-text_of (table ms) text e = cc
+-- ---- names
 
--- ---- numbers of names
+abbrev pub text_at : List (List ℕ) → ℕ → Data
+text_at names n = string (name_at names n)
 
--- the name with this number is of a name's form, and its number is this
-pub record IsNamed (names : List (List ℕ)) (n : ℕ) : Type 0 where
-  pub form : is_name (name_at names n) ≡ true
-  pub place : place_of names (name_at names n) ≡ Some n
-  pub within : n < length names
-
-pub name_placed : (names : List (List ℕ)) (text : List ℕ) (n : ℕ) → place_of names text ≡ Some n → name_at names n ≡ text
-name_placed names text n e = sym ((bytes_decides text (get_or names n [])).0 (position-Some (pointwise nat_eq text) names n [] e).1)
-
-module _ (t : PolicyPart) (f : ℕ) (names : List (List ℕ)) where
-  pub record IsNumber (text : List ℕ) (n : ℕ) : Type 0 where
-    pub named : IsNamed names n
-    pub text_is : name_at names n ≡ text
-
-  -- what a number that was read tells
-  pub number_of : (text : List ℕ) (n : ℕ) → number_in t f names text ≡ Ok n → IsNumber text n
-  unfolding number_in
-  number_of text n e =
-      let a = then_of _ _ n e in
-      let form : is_name text ≡ true = check_of (is_name text) _ a.value a.first in
-      let place : place_of names text ≡ Some n = fault_of_none _ _ n a.rest in
-      let same : name_at names n ≡ text = name_placed names text n place in
-      record {
-        named = record { form = rw same form; place = rw same place; within = (position-Some (pointwise nat_eq text) names n [] place).0 };
-        text_is = same;
-      }
-
-  -- the name of a number is read as that number
-  pub number_back : (n : ℕ) → IsNamed names n → number_in t f names (name_at names n) ≡ Ok n
-  unfolding number_in
-  number_back n h = rw (h.form, h.place) refl
-
-  pub text_back : (text : List ℕ) → text_in t f (string text) ≡ Ok text
-  unfolding text_in
-  text_back text = refl
+-- the name of a number is read as that number
+pub number_back : (t : PolicyPart) (f : ℕ) (names : List (List ℕ)) (n : ℕ) → IsNamed names n → number_in t f names (name_at names n) ≡ Ok n
+unfolding number_in
+number_back t f names n h = rw (h.form, h.place) refl

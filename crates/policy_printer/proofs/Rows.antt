@@ -3,7 +3,8 @@ use Rattle.std.proofs.Common.{◌≡◌, ℕ, zero, suc, ◌<◌, Bool, true, fa
 use Rattle.std.specs.Prelude.{if◌then◌else◌}
 use Rattle.std.specs.Ordering.{eq_by_cmp, is_eq, nat_cmp, ordering_then, ordering_reverse}
 use Rattle.std.specs.Cmp.{nat_cmp_is, tied_itself}
-use Rattle.std.specs.List.{list_any, AllByRecursion}
+use Rattle.std.specs.List.{list_any, All, AllByRecursion}
+use Rattle.std.proofs.lemmas.List.Elements.{All-from_recursion}
 use Rattle.std.specs.List.Sorted.{IsStrictlySortedBy}
 use Rattle.std.specs.FinSet as set
 use Rattle.std.proofs.lemmas.Bool.{cases_lt}
@@ -11,7 +12,7 @@ use Rattle.std.proofs.lemmas.List.Folds.{list_any-append}
 use Rattle.std.proofs.lemmas.Map.Views.{tells_apart}
 use Rattle.std.proofs.lemmas.Map.Keys.{sorted_head, sorted_tail}
 use Rattle.pair_set.specs.Pairs.{Pairs, pair_cmp, IsAscending, AllPairs}
-use Rattle.pair_set.specs.PairLaws.{pair_cmp_total, pair_cmp-IsAntisymmetric}
+use Rattle.pair_set.specs.PairLaws.{pair_cmp_total, pair_cmp-IsAntisymmetric, contains_inserted}
 use Rattle.policy_printer.specs.Documents.{row, rows}
 use Rattle.policy_printer.proofs.Writing.{rows_all, all_append}
 
@@ -81,12 +82,12 @@ or_true : (a : Bool) → (a || true) ≡ true
 or_true true = refl
 or_true false = refl
 
-alike : (b c : Bool) → (b ≡ true → c ≡ true) → (c ≡ true → b ≡ true) → b ≡ c
+pub alike : (b c : Bool) → (b ≡ true → c ≡ true) → (c ≡ true → b ≡ true) → b ≡ c
 alike true c to back = sym (to refl)
 alike false true to back = back refl
 alike false false to back = refl
 
-itself : (q : ℕ × ℕ) → eq_by_cmp pair_cmp q q ≡ true
+pub itself : (q : ℕ × ℕ) → eq_by_cmp pair_cmp q q ≡ true
 itself q = ap is_eq (tied_itself pair_cmp_total q)
 
 found_here : (S : Pairs) (q p : ℕ × ℕ) (b : Bool) → eq_by_cmp pair_cmp q p ≡ b → set.contains S p ≡ true → (ps : List (ℕ × ℕ)) → (list_any (eq_by_cmp pair_cmp q) ps ≡ true → set.contains S q ≡ true)
@@ -94,14 +95,14 @@ found_here : (S : Pairs) (q p : ℕ × ℕ) (b : Bool) → eq_by_cmp pair_cmp q 
 found_here S q p true e here ps more h = ap (set.contains S) (tells_apart pair_cmp-IsAntisymmetric q p e) ∙ here
 found_here S q p false e here ps more h = more h
 
-any_contained : (S : Pairs) (q : ℕ × ℕ) (ps : List (ℕ × ℕ)) → AllByRecursion (λ p. set.contains S p ≡ true) ps → list_any (eq_by_cmp pair_cmp q) ps ≡ true → set.contains S q ≡ true
+pub any_contained : (S : Pairs) (q : ℕ × ℕ) (ps : List (ℕ × ℕ)) → AllByRecursion (λ p. set.contains S p ≡ true) ps → list_any (eq_by_cmp pair_cmp q) ps ≡ true → set.contains S q ≡ true
 any_contained S q [] all h = cc
 any_contained S q (p ∷ ps) all h = found_here S q p (eq_by_cmp pair_cmp q p) refl all.0 ps (any_contained S q ps all.1) h
 
-append_right : (q : ℕ × ℕ) (xs ys : List (ℕ × ℕ)) → list_any (eq_by_cmp pair_cmp q) ys ≡ true → list_any (eq_by_cmp pair_cmp q) (xs ++ ys) ≡ true
+pub append_right : (q : ℕ × ℕ) (xs ys : List (ℕ × ℕ)) → list_any (eq_by_cmp pair_cmp q) ys ≡ true → list_any (eq_by_cmp pair_cmp q) (xs ++ ys) ≡ true
 append_right q xs ys h = list_any-append (eq_by_cmp pair_cmp q) xs ys ∙ ap (λ b. list_any (eq_by_cmp pair_cmp q) xs || b) h ∙ or_true _
 
-append_left : (q : ℕ × ℕ) (xs ys : List (ℕ × ℕ)) → list_any (eq_by_cmp pair_cmp q) xs ≡ true → list_any (eq_by_cmp pair_cmp q) (xs ++ ys) ≡ true
+pub append_left : (q : ℕ × ℕ) (xs ys : List (ℕ × ℕ)) → list_any (eq_by_cmp pair_cmp q) xs ≡ true → list_any (eq_by_cmp pair_cmp q) (xs ++ ys) ≡ true
 append_left q xs ys h = list_any-append (eq_by_cmp pair_cmp q) xs ys ∙ ap (λ b. b || list_any (eq_by_cmp pair_cmp q) ys) h
 
 row_last : (s n : ℕ) (pairs : Pairs) (b : Bool) → b ≡ true → list_any (eq_by_cmp pair_cmp (s, n)) (if b then row s n pairs ++ (s, n) ∷ [] else row s n pairs) ≡ true
@@ -137,9 +138,9 @@ rows_have n pairs within q = alike _ _
 
 -- ---- lists that ascend and have the same pairs are the same
 
-apart : (x : ℕ × ℕ) (ys : List (ℕ × ℕ)) → AllByRecursion (λ y. pair_cmp x y ≡ Less) ys → list_any (eq_by_cmp pair_cmp x) ys ≡ false
-apart x [] h = refl
-apart x (y ∷ ys) h = rw h.0 (apart x ys h.1)
+pub none_above : (x : ℕ × ℕ) (ys : List (ℕ × ℕ)) → AllByRecursion (λ y. pair_cmp x y ≡ Less) ys → list_any (eq_by_cmp pair_cmp x) ys ≡ false
+none_above x [] h = refl
+none_above x (y ∷ ys) h = rw h.0 (none_above x ys h.1)
 
 above_all : (x y : ℕ × ℕ) (ys : List (ℕ × ℕ)) → pair_cmp x y ≡ Less → AllByRecursion (λ z. pair_cmp y z ≡ Less) ys → AllByRecursion (λ z. pair_cmp x z ≡ Less) ys
 above_all x y ys lt h = all_of (λ z. pair_cmp y z ≡ Less) (λ z. pair_cmp x z ≡ Less) ys (λ z k. pair_cmp_total.trans x y z lt k) h
@@ -147,7 +148,7 @@ above_all x y ys lt h = all_of (λ z. pair_cmp y z ≡ Less) (λ z. pair_cmp x z
 not_less : (x y : ℕ × ℕ) (xs ys : List (ℕ × ℕ)) → IsAscending (y ∷ ys) → ((q : ℕ × ℕ) → list_any (eq_by_cmp pair_cmp q) (x ∷ xs) ≡ list_any (eq_by_cmp pair_cmp q) (y ∷ ys)) → pair_cmp x y ≡ Less → ⊥
 not_less x y xs ys b same lt =
     let there : list_any (eq_by_cmp pair_cmp x) (x ∷ xs) ≡ true = ap (λ c. c || list_any (eq_by_cmp pair_cmp x) xs) (itself x) in
-    let none : list_any (eq_by_cmp pair_cmp x) (y ∷ ys) ≡ false = apart x (y ∷ ys) (lt, above_all x y ys lt (sorted_head pair_cmp y ys b)) in
+    let none : list_any (eq_by_cmp pair_cmp x) (y ∷ ys) ≡ false = none_above x (y ∷ ys) (lt, above_all x y ys lt (sorted_head pair_cmp y ys b)) in
     let no : true ≡ false = sym there ∙ same x ∙ none in cc
 
 heads : (x y : ℕ × ℕ) (xs ys : List (ℕ × ℕ)) (o : Ordering) → pair_cmp x y ≡ o → IsAscending (x ∷ xs) → IsAscending (y ∷ ys)
@@ -170,10 +171,21 @@ same_list (x ∷ xs) (y ∷ ys) a b same =
     let b' : IsAscending (x ∷ ys) = subst (λ z. IsAscending (z ∷ ys)) (sym head) b in
     let same' : (q : ℕ × ℕ) → list_any (eq_by_cmp pair_cmp q) (x ∷ xs) ≡ list_any (eq_by_cmp pair_cmp q) (x ∷ ys) = subst (λ z. (q : ℕ × ℕ) → list_any (eq_by_cmp pair_cmp q) (x ∷ xs) ≡ list_any (eq_by_cmp pair_cmp q) (z ∷ ys)) (sym head) same in
     let rest : xs ≡ ys = same_list xs ys (sorted_tail pair_cmp x xs a) (sorted_tail pair_cmp x ys b')
-    (λ q. without_head x q xs ys (eq_by_cmp pair_cmp q x) refl (apart x xs (sorted_head pair_cmp x xs a)) (apart x ys (sorted_head pair_cmp x ys b')) (same' q)) in
+    (λ q. without_head x q xs ys (eq_by_cmp pair_cmp q x) refl (none_above x xs (sorted_head pair_cmp x xs a)) (none_above x ys (sorted_head pair_cmp x ys b')) (same' q)) in
     λ i. head i ∷ rest i
 
 -- an ascending list of the pairs of a set is the one row by row
 pub listed_rows : (n : ℕ) (pairs : Pairs) (ps : List (ℕ × ℕ)) → IsAscending ps → set.from_list ps ≡ pairs → AllPairs (λ a b. (a < n) × (b < n)) pairs → ps ≡ rows n n pairs
 listed_rows n pairs ps ascending all within = same_list ps (rows n n pairs) ascending (rows_ascend n n pairs)
     (λ q. sym (set.contains-from_list pair_cmp_total ps q) ∙ ap (λ (s : Pairs). set.contains s q) all ∙ sym (rows_have n pairs within q))
+
+below_each : (n : ℕ) (ps : List (ℕ × ℕ)) → AllPairs (λ a b. (a < n) × (b < n)) (set.from_list ps) → AllByRecursion (λ p. (p.0 < n) × (p.1 < n)) ps
+below_each n [] h = tt
+below_each n (p ∷ ps) h = (
+  h.each p.0 p.1 (contains_inserted pair_cmp_total pair_cmp-IsAntisymmetric (set.from_list ps) p),
+  below_each n ps (record { each = λ a b here. h.each a b (set.contains-insert pair_cmp_total (set.from_list ps) p (a, b) ∙ ap (λ x. eq_by_cmp pair_cmp (a, b) p || x) here ∙ or_true _) }),
+)
+
+-- the pairs of a list whose set is below n
+pub all_below : (n : ℕ) (ps : List (ℕ × ℕ)) → AllPairs (λ a b. (a < n) × (b < n)) (set.from_list ps) → All (λ p. (p.0 < n) × (p.1 < n)) ps
+all_below n ps h = All-from_recursion (λ (p : ℕ × ℕ). (p.0 < n) × (p.1 < n)) ps (below_each n ps h)

@@ -1,5 +1,5 @@
 -- The entries of a table that was put together by numbers.
-use Rattle.std.proofs.Common.{◌≡◌, ℕ, zero, suc, ◌<◌, ◌≤◌, List, [], ◌∷◌, ◌++◌, map, Ordering, Less, Equal, Greater, nat_cmp, refl, sym, ap, subst, ◌∙◌, ◌⊎◌, inl, inr, arith}
+use Rattle.std.proofs.Common.{◌≡◌, ℕ, zero, suc, ◌<◌, ◌≤◌, List, [], ◌∷◌, ◌++◌, map, Ordering, Less, Equal, Greater, nat_cmp, refl, sym, ap, subst, ◌∙◌, inl, inr, arith}
 use Rattle.std.specs.List.{AllByRecursion}
 use Rattle.std.specs.Ordering.{match_ordering}
 use Rattle.std.specs.Cmp.Lexicographic.{slice_cmp}
@@ -8,23 +8,11 @@ use Rattle.std.proofs.lemmas.Bool.{cases_lt}
 use Rattle.toml.specs.Data.{Data, Members, no_members, member}
 use Rattle.policy_reader.specs.Parts.{entries}
 use Rattle.policy_printer.specs.Documents.{with_member, table_below}
-use Rattle.policy_printer.proofs.Picked.{below}
+use Rattle.policy_printer.proofs.Readings.{upto}
+use Rattle.policy_printer.proofs.Lines.{Has, Lacks, Differ}
 
 abbrev pub key_cmp : List ℕ → List ℕ → Ordering
 key_cmp k l = slice_cmp nat_cmp k l
-
--- a number is among some
-abbrev pub Has : ℕ → List ℕ → Type 0
-Has s [] = ⊥
-Has s (n ∷ ns) = (n ≡ s) ⊎ Has s ns
-
--- a number is not among some
-abbrev pub Lacks : ℕ → List ℕ → Type 0
-Lacks s ns = AllByRecursion (λ n. n ≡ s → ⊥) ns
-
-abbrev pub Differ : List ℕ → Type 0
-Differ [] = Unit {0}
-Differ (n ∷ ns) = Lacks n ns × Differ ns
 
 module _ (entry : ℕ → List ℕ × Data) where
   -- the numbers with one more, by the order of their keys
@@ -74,10 +62,6 @@ module _ (entry : ℕ → List ℕ × Data) where
   placed_end n [] h = refl
   placed_end n (m ∷ ms) h = placed_last (key_cmp (entry n).0 (entry m).0) n m ms (placed n ms) h.0 (placed_end n ms h.1)
 
-  abbrev upto : ℕ → List ℕ
-  upto zero = []
-  upto (suc n) = upto n ++ n ∷ []
-
   all_push : {X : Type 0} (P : X → Type 0) (xs : List X) (x : X) → AllByRecursion P xs → P x → AllByRecursion P (xs ++ x ∷ [])
   all_push P [] x h here = (here, tt)
   all_push P (y ∷ xs) x h here = (h.0, all_push P xs x h.1 here)
@@ -86,22 +70,14 @@ module _ (entry : ℕ → List ℕ × Data) where
   upto_all P zero h = tt
   upto_all P (suc n) h = all_push P (upto n) n (upto_all P n (λ m lt. h m (omega (arith, lt)))) (h n (omega arith))
 
-  map_upto : (n : ℕ) → map entry (upto n) ≡ below n entry
-  map_upto zero = refl
-  map_upto (suc n) = map_push (upto n) n ∙ ap (λ es. es ++ entry n ∷ []) (map_upto n)
-    where
-      map_push : (ns : List ℕ) (n : ℕ) → map entry (ns ++ n ∷ []) ≡ map entry ns ++ entry n ∷ []
-      map_push [] n = refl
-      map_push (m ∷ ns) n = ap (λ es. entry m ∷ es) (map_push ns n)
-
   module _ (bound : ℕ) (ascend : (i j : ℕ) → i < j → j < bound → key_cmp (entry j).0 (entry i).0 ≡ Greater) where
     numbers_upto : (n : ℕ) → n ≤ bound → numbers n ≡ upto n
     numbers_upto zero le = refl
     numbers_upto (suc n) le = ap (placed n) (numbers_upto n (omega (arith, le))) ∙ placed_end n (upto n) (upto_all (λ m. key_cmp (entry n).0 (entry m).0 ≡ Greater) n (λ m lt. ascend m n lt (omega (arith, le))))
 
     -- a table whose keys ascend has its entries in the order of their numbers
-    pub tabled_in_order : entries (table_below bound entry) ≡ below bound entry
-    tabled_in_order = tabled bound ∙ ap (map entry) (numbers_upto bound (omega arith)) ∙ map_upto bound
+    pub tabled_in_order : entries (table_below bound entry) ≡ map entry (upto bound)
+    tabled_in_order = tabled bound ∙ ap (map entry) (numbers_upto bound (omega arith))
 
   -- ---- keys that differ
 

@@ -1,9 +1,14 @@
 -- Values and tables as they are built.
 use Rattle.std.proofs.Common.{◌≡◌, ℕ, suc, ◌+◌, ◌<◌, Bool, true, false, List, [], ◌∷◌, ◌++◌, length, map, take, get_or, append_assoc, ◌||◌, ◌==◌, String, Global, Ordering, Less, Equal, Greater, string_bytes, refl, sym, ap, ◌∙◌, arith}
-use Rattle.std.specs.Prelude.{slice_get, Option, Some, None, option_map, zero, if◌then◌else◌}
+use Rattle.std.specs.Prelude.{Result, Ok, Err, OnOk, slice_get, Option, Some, None, option_map, zero, if◌then◌else◌}
 use Rattle.std.specs.List.{AllByRecursion, All}
 use Rattle.std.proofs.lemmas.List.Elements.{All-from_recursion}
 use Rattle.std.proofs.lemmas.Option.{get_or_from_slice_get, slice_get_within}
+use Rattle.std.proofs.lemmas.Bool.{cases_lt}
+use Rattle.std.proofs.Common.{subst, inl, inr}
+use Rattle.wf_names.specs.Names.{is_name}
+use Rattle.wf_names.specs.Table.{place_of}
+use Rattle.policy_printer.specs.Named.{IsNamed}
 use Rattle.wf_names.specs.declared.limits.TheConstants.{RELATION_LIMIT}
 use Rattle.pair_set.specs.Pairs.{Pairs, AllPairs}
 use Rattle.user_relations.specs.Relations.{RelationShape, RelationKind, listed, complement, kind_of, has_list, is_listed, complemented, complement_of, listed_pairs, pairs_of}
@@ -87,10 +92,32 @@ rows_all P (suc m) n pairs h = all_append P (rows m n pairs) (row m n pairs) (ro
 pub rows_within : (k m n : ℕ) (pairs : Pairs) → AllPairs (λ a b. (a < k) × (b < k)) pairs → All (λ p. (p.0 < k) × (p.1 < k)) (rows m n pairs)
 rows_within k m n pairs h = All-from_recursion (λ (p : ℕ × ℕ). (p.0 < k) × (p.1 < k)) (rows m n pairs) (rows_all (λ p. (p.0 < k) × (p.1 < k)) m n pairs h)
 
--- ---- relations
+-- ---- names
 
 pub name_found : (names : List (List ℕ)) (n : ℕ) (name : List ℕ) → slice_get names n ≡ Some name → name_at names n ≡ name
 name_found names n name h = get_or_from_slice_get names n name [] h
+
+pub named_of : (names : List (List ℕ)) (n : ℕ) (name : List ℕ) → slice_get names n ≡ Some name → is_name name ≡ true → place_of names name ≡ Some n → IsNamed names n
+named_of names n name got form place =
+    let is = name_found names n name got in
+    record { form = ap is_name is ∙ form; place = ap (place_of names) is ∙ place; within = slice_get_within names n name got }
+
+pub related_of : (names : List (List ℕ)) (n : ℕ) (name : List ℕ) → name ≡ name_at names n → is_name name ≡ true → place_of names name ≡ Some n → n < length names → IsNamed names n
+related_of names n name is form place within = record { form = ap is_name (sym is) ∙ form; place = ap (place_of names) (sym is) ∙ place; within = within }
+
+-- what is true is true where a call succeeds
+pub on_ok : {A E : Type 0} (result : Result A E) (P : Type 0) → P → OnOk result P
+on_ok (Ok x) P h = h
+on_ok (Err e) P h = tt
+
+-- what holds of each number below the next
+pub one_further : (P : ℕ → Type 0) (n : ℕ) → ((m : ℕ) → m < n → P m) → P n → (m : ℕ) → m < n + 1 → P m
+one_further P n h here m lt = elim (cases_lt m n) [
+  | inl below ↦ h m below
+  | inr above ↦ let same : n ≡ m = omega (arith, lt, above) in subst P same here
+]
+
+-- ---- relations
 
 pub number_fits : (relations : List RelationShape) (n : ℕ) → AreSound relations → n < length relations → n < RELATION_LIMIT
 number_fits relations n sound lt = omega (arith, sound.count, lt)

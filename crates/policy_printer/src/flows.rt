@@ -1,12 +1,14 @@
 //! Writes the workflows.
-ghost use Rattle.std.specs.Prelude.{◌≡◌, ◌<◌, ◌≤◌, ◌+◌, ◌++◌, ◌∷◌, [], length, map, IfOk, OnOk};
+ghost use Rattle.std.specs.Prelude.{◌≡◌, ◌<◌, ◌≤◌, ◌+◌, ◌++◌, ◌∷◌, [], ℕ, length, map, true, IfOk, OnOk};
 ghost use Rattle.std.specs.FinSet as set;
 ghost use Rattle.policy_book.specs.Facts.{AreSoundRules, IsSoundRule};
 ghost use Rattle.policy_book.specs.Policies.{flow_at};
 ghost use Rattle.wf_names.specs.declared.limits.TheConstants.{ROLE_LIMIT, STEP_LIMIT};
 ghost use Rattle.constraint_forms.specs.Assigned.{is_member};
 ghost use Rattle.toml.specs.View.{view, table_view};
+ghost use Rattle.wf_names.specs.Names.{is_name};
 ghost use Rattle.policy_printer.specs.Documents as spec;
+ghost use Rattle.policy_printer.specs.Named.{HasFlags, HaveFlags, HaveForm, IsNamedWorkflow};
 
 use crate::parts::{names_value, numbered, pairs_value, push, push_name, put};
 use crate::rosters::relation_value;
@@ -110,8 +112,11 @@ fn permits_value(alloc: Global, roles: &NameTable, flow: &Flow) -> Result<Value,
 #[tactic(auto, using(crate::proofs::Writing::chosen_more, crate::proofs::Writing::chosen_skip))]
 fn group_value(alloc: Global, steps: &NameTable, group: &StepSet) -> Result<Value, AllocError>
     requires { length steps.now.names ≤ STEP_LIMIT }
-    ensures { IfOk result (λ v. view v ≡ spec.names_where steps.now.names (is_member group.now)) }
+    ensures value { IfOk result (λ v. view v ≡ spec.names_where steps.now.names (is_member group.now)) }
+    ensures flags { length group.now ≡ STEP_LIMIT }
 {
+    let limit = group.limit();
+    prove!(steps.len() as usize <= limit);
     let mut values = Vec::new(alloc);
     'steps: for s in 0..steps.len() {
         if group.has(StepId(s as u8)) && push_name(alloc, &mut values, steps, s).is_err() {
@@ -171,7 +176,8 @@ fn grouped_table(
     requires few { length steps.now.names ≤ STEP_LIMIT }
     requires relation { rho < length relations.now + 2 }
     requires step { step < length steps.now.names }
-    ensures { IfOk result (λ t. table_view t ≡ spec.grouped_members form.now relations.now steps.now.names rho group.now step) }
+    ensures table { IfOk result (λ t. table_view t ≡ spec.grouped_members form.now relations.now steps.now.names rho group.now step) }
+    ensures flags { IfOk result (λ _. length group.now ≡ STEP_LIMIT) }
 {
     let mut table = Table::new(alloc);
     put(
@@ -205,7 +211,8 @@ fn rule_table(
 ) -> Result<Table, AllocError>
     requires few { length steps.now.names ≤ STEP_LIMIT }
     requires sound { IsSoundRule (length steps.now.names) (length relations.now) rule.now }
-    ensures { IfOk result (λ t. table_view t ≡ spec.rule_members relations.now steps.now.names rule.now) }
+    ensures table { IfOk result (λ t. table_view t ≡ spec.rule_members relations.now steps.now.names rule.now) }
+    ensures flags { IfOk result (λ _. HasFlags rule.now) }
 {
     match *rule {
         Rule::Pair { rho, first, second } => {
@@ -230,7 +237,8 @@ fn rules_value(
 ) -> Result<Value, AllocError>
     requires few { length steps.now.names ≤ STEP_LIMIT }
     requires sound { AreSoundRules (length steps.now.names) (length relations.now) rules.now }
-    ensures { IfOk result (λ v. view v ≡ spec.rules_data relations.now steps.now.names rules.now) }
+    ensures value { IfOk result (λ v. view v ≡ spec.rules_data relations.now steps.now.names rules.now) }
+    ensures flags { IfOk result (λ _. HaveFlags rules.now) }
 {
     let mut values = Vec::new(alloc);
     'rules: for k in 0..rules.len() {
@@ -251,7 +259,8 @@ fn push_rule(
 ) -> Result<(), AllocError>
     requires few { length steps.now.names ≤ STEP_LIMIT }
     requires sound { IsSoundRule (length steps.now.names) (length relations.now) rule.now }
-    ensures { OnOk result (map view values.new.items ≡ map view values.old.items ++ spec.rule_data relations.now steps.now.names rule.now ∷ []) }
+    ensures pushed { OnOk result (map view values.new.items ≡ map view values.old.items ++ spec.rule_data relations.now steps.now.names rule.now ∷ []) }
+    ensures flags { OnOk result (HasFlags rule.now) }
 {
     let table = rule_table(alloc, relations, steps, rule)?;
     push(values, Value::Table(table))
@@ -261,7 +270,8 @@ fn push_rule(
 #[tactic(auto, unfolding(crate::specs::Documents::workflow_members))]
 fn workflow_table(alloc: Global, policy: &Policy, f: FlowId) -> Result<Table, AllocError>
     requires { f < length policy.now.flows }
-    ensures { IfOk result (λ t. table_view t ≡ spec.workflow_members policy.now.roster.roles policy.now.relations (flow_at policy.now f)) }
+    ensures table { IfOk result (λ t. table_view t ≡ spec.workflow_members policy.now.roster.roles policy.now.relations (flow_at policy.now f)) }
+    ensures named { IfOk result (λ _. IsNamedWorkflow (flow_at policy.now f)) }
 {
     let flow = policy.flow(f);
     let steps = flow.steps();
@@ -287,7 +297,9 @@ fn flow_name(policy: &Policy, f: FlowId) -> Name
 
 fn put_flow(alloc: Global, table: &mut Table, policy: &Policy, f: FlowId) -> Result<(), AllocError>
     requires { f < length policy.now.flows }
-    ensures { OnOk result (table_view table.new ≡ spec.with_member (spec.flow_entry policy.now f).0 (spec.flow_entry policy.now f).1 (table_view table.old)) }
+    ensures form { OnOk result (is_name (spec.name_at policy.now.flow_names f) ≡ true) }
+    ensures named { OnOk result (IsNamedWorkflow (flow_at policy.now f)) }
+    ensures put { OnOk result (table_view table.new ≡ spec.with_member (spec.flow_entry policy.now f).0 (spec.flow_entry policy.now f).1 (table_view table.old)) }
 {
     let workflow = workflow_table(alloc, policy, f)?;
     let name = flow_name(policy, f);
@@ -295,9 +307,11 @@ fn put_flow(alloc: Global, table: &mut Table, policy: &Policy, f: FlowId) -> Res
 }
 
 /// A table of the workflows.
-#[tactic(auto, using(crate::proofs::Writing::table_more))]
+#[tactic(auto, using(crate::proofs::Writing::table_more, crate::proofs::Writing::one_further))]
 pub(crate) fn flows_value(alloc: Global, policy: &Policy) -> Result<Value, AllocError>
-    ensures { IfOk result (λ v. view v ≡ spec.flows_data policy.now) }
+    ensures value { IfOk result (λ v. view v ≡ spec.flows_data policy.now) }
+    ensures forms { IfOk result (λ _. HaveForm policy.now.flow_names) }
+    ensures named { IfOk result (λ _. (f : ℕ) → f < length policy.now.flows → IsNamedWorkflow (flow_at policy.now f)) }
 {
     let mut table = Table::new(alloc);
     'flows: for f in 0..policy.flows().len() {

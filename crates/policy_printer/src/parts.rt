@@ -1,9 +1,11 @@
 //! What the values of all tables that are written have in common.
-ghost use Rattle.std.specs.Prelude.{◌≡◌, ◌<◌, ◌++◌, ◌∷◌, [], length, map, IfOk, OnOk};
+ghost use Rattle.std.specs.Prelude.{◌≡◌, ◌<◌, ◌++◌, ◌∷◌, [], length, map, true, IfOk, OnOk};
 ghost use Rattle.toml.specs.Data.{string};
 ghost use Rattle.toml.specs.View.{view, table_view};
 ghost use Rattle.std.specs.List.{All};
+ghost use Rattle.wf_names.specs.Names.{is_name};
 ghost use Rattle.policy_printer.specs.Documents as spec;
+ghost use Rattle.policy_printer.specs.Named.{IsNamed, AreNamed};
 
 use std::alloc::{AllocError, Global};
 use toml::Value;
@@ -12,15 +14,18 @@ use wf_names::{Name, NameTable};
 
 /// The text of a name.
 pub(crate) fn name_value(alloc: Global, name: &Name) -> Result<Value, AllocError>
-    ensures { IfOk result (λ v. view v ≡ string name.now) }
+    ensures value { IfOk result (λ v. view v ≡ string name.now) }
+    ensures form { is_name name.now ≡ true }
 {
     Value::string(alloc, name.as_str())
 }
 
 /// The text of the name with a number.
+#[tactic(auto, using(crate::proofs::Writing::named_of))]
 pub(crate) fn numbered(alloc: Global, names: &NameTable, n: u16) -> Result<Value, AllocError>
     requires { n < length names.now.names }
-    ensures { IfOk result (λ v. view v ≡ string (spec.name_at names.now.names n)) }
+    ensures value { IfOk result (λ v. view v ≡ string (spec.name_at names.now.names n)) }
+    ensures named { IsNamed names.now.names n }
 {
     name_value(alloc, &names.name(n))
 }
@@ -50,7 +55,8 @@ pub(crate) fn push_name(
     n: u16,
 ) -> Result<(), AllocError>
     requires { n < length names.now.names }
-    ensures { OnOk result (map view values.new.items ≡ map view values.old.items ++ string (spec.name_at names.now.names n) ∷ []) }
+    ensures pushed { OnOk result (map view values.new.items ≡ map view values.old.items ++ string (spec.name_at names.now.names n) ∷ []) }
+    ensures named { IsNamed names.now.names n }
 {
     let value = numbered(alloc, names, n)?;
     push(values, value)
@@ -67,9 +73,10 @@ pub(crate) fn push(values: &mut Vec<Value>, value: Value) -> Result<(), AllocErr
 }
 
 /// An array of all names of a table.
-#[tactic(auto, using(crate::proofs::Writing::map_take_more))]
+#[tactic(auto, using(crate::proofs::Writing::map_take_more, crate::proofs::Writing::one_further))]
 pub(crate) fn names_value(alloc: Global, names: &NameTable) -> Result<Value, AllocError>
-    ensures { IfOk result (λ v. view v ≡ spec.names_data names.now.names) }
+    ensures value { IfOk result (λ v. view v ≡ spec.names_data names.now.names) }
+    ensures named { IfOk result (λ _. AreNamed names.now.names) }
 {
     let mut values = Vec::new(alloc);
     'names: for n in 0..names.len() {
