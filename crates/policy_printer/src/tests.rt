@@ -3,8 +3,10 @@
 use crate::print;
 use policy_book::Policy;
 use policy_reader::read;
+use rbac_state::Roster;
 use std::alloc::Global;
 use std::test::Fail;
+use user_relations::Relations;
 use wf_names::{RelId, RoleId, UserId};
 
 // Pairs, members and permissions out of order, each form of a rule, steps that are not in the
@@ -28,28 +30,26 @@ fn again(alloc: Global, file: &str) -> Option<Policy> {
     read(alloc, text.as_bytes()).ok()
 }
 
+// Whether the users hold the roles that the file says, and no other.
+fn roster_is_as_before(roster: &Roster) -> bool {
+    roster.has(UserId(1), RoleId(2))
+        && roster.has(UserId(1), RoleId(1))
+        && !roster.has(UserId(0), RoleId(2))
+        && roster.has(UserId(2), RoleId(0))
+}
+
+// Whether the relations are a complement and the one that it is of, with its two pairs.
+fn relations_are_as_before(relations: &Relations) -> bool {
+    relations.complement_of(RelId(2)) == Some(RelId(3))
+        && relations.holds(RelId(3), UserId(1), UserId(0))
+        && !relations.holds(RelId(3), UserId(0), UserId(1))
+        && !relations.holds(RelId(2), UserId(0), UserId(2))
+}
+
 #[test]
 fn users_and_relations_are_as_before(rt: HostRuntime) -> Result<(), Fail> {
     let policy = again(rt.alloc(), WHOLE).ok_or("the print is a policy")?;
-    let roster = policy.roster();
-    assert_eq!(rt;
-        (
-            roster.has(UserId(1), RoleId(2)),
-            roster.has(UserId(1), RoleId(1)),
-            roster.has(UserId(0), RoleId(2)),
-            roster.has(UserId(2), RoleId(0))
-        ),
-        (true, true, false, true)
-    );
-    let relations = policy.relations();
-    assert_eq!(rt;
-        (
-            relations.complement_of(RelId(2)),
-            relations.holds(RelId(3), UserId(1), UserId(0)),
-            relations.holds(RelId(3), UserId(0), UserId(1)),
-            relations.holds(RelId(2), UserId(0), UserId(2))
-        ),
-        (Some(RelId(3)), true, false, false)
-    );
+    assert!(rt; roster_is_as_before(policy.roster()));
+    assert!(rt; relations_are_as_before(policy.relations()));
     Ok(())
 }

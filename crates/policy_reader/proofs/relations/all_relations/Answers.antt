@@ -1,4 +1,4 @@
-use Rattle.std.proofs.Common.{◌∙◌, sym, length, refl, [], arith}
+use Rattle.std.proofs.Common.{length, refl, [], arith}
 use Rattle.toml.specs.View.{table_view}
 use Rattle.user_relations.specs.View.{shapes}
 use Rattle.policy_reader.specs.Parts.{entries}

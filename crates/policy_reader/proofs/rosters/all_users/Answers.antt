@@ -1,6 +1,6 @@
 use Rattle.std.proofs.Common.{◌∙◌, refl}
 use Rattle.policy_reader.specs.Rosters.{next_user}
-use Rattle.policy_reader.proofs.Fresh.{left_start, left_new, left_next, left_ascend}
+use Rattle.policy_reader.proofs.Fresh.{left_start, left_new, left_next}
 use Rattle.policy_reader.proofs.rosters.all_users.Goals as goal
 
 pub entries-init : goal.entries-init
