@@ -81,22 +81,22 @@ module _ (decided : IsDecided) (p : PolicyShape) (h : IsNamedPolicy p) (is : IsP
   start_back : start_of doc ≡ Ok (record p { flow_names = []; flows = [] })
   unfolding start_of start_with start_over
   start_back = rw (
-      format_back,
-      admin_back,
-      roles_back doc p.roster.roles h.roles (omega (arith, h.sound.admin)) h.sound.roles roles_there,
-      number_back File 0 p.roster.roles p.admin (h.roles p.admin h.sound.admin),
-      roster_back p.roster h.roster h.roles (λ n lt. (h.users n lt).form) doc is.begun.users (some_user (length p.roster.users) _ is.begun.admin) users_there,
-      is.begun.admin,
-      relations_back p.roster.users p.relations h.users h.relations h.sound.related h.related doc is.begun.relations relations_there,
-    ) refl
+    format_back,
+    admin_back,
+    roles_back doc p.roster.roles h.roles (omega (arith, h.sound.admin)) h.sound.roles roles_there,
+    number_back File 0 p.roster.roles p.admin (h.roles p.admin h.sound.admin),
+    roster_back p.roster h.roster h.roles (λ n lt. (h.users n lt).form) doc is.begun.users (some_user (length p.roster.users) _ is.begun.admin) users_there,
+    is.begun.admin,
+    relations_back p.roster.users p.relations h.users h.relations h.sound.related h.related doc is.begun.relations relations_there,
+  ) refl
 
   policy_back : policy_in doc ≡ Ok p
   unfolding policy_in rest_of
   policy_back = rw (
-      start_back,
-      flows_back decided p h.roles (all_related p.relations h.related) h.flow_names h.sound.named h.flows h.sound.flows (λ f lt. active_at p.flows f is.active lt) doc is.flows is.some h.sound.few flows_there,
-      known_keys,
-    ) refl
+    start_back,
+    flows_back decided p h.roles (all_related p.relations h.related) h.flow_names h.sound.named h.flows h.sound.flows (λ f lt. active_at p.flows f is.active lt) doc is.flows is.some h.sound.few flows_there,
+    known_keys,
+  ) refl
 
   -- a policy that can be printed is read from what it is written as
   pub file_back : (text : List ℕ) → document_in text ≡ Ok doc → policy_of_file text ≡ Ok p

@@ -75,6 +75,6 @@ module _ (f : ℕ) (roles : List (List ℕ)) (whole : FlowShape) (named : AreNam
   unfolding permits_of value_at table_in
   permits_back again there =
       let covered : (q : ℕ × ℕ) → set.contains whole.permits q ≡ true → IsCovered by_second count whole.permits order q =
-          λ q h. (let both = within.each q.0 q.1 h in record { is = refl; line = numbers_have (permit_entry roles whole) total total same_names (omega arith) q.1 both.1; within = both.0 }) in
+      λ q h. (let both = within.each q.0 q.1 h in record { is = refl; line = numbers_have (permit_entry roles whole) total total same_names (omega arith) q.1 both.1; within = both.0 }) in
       rw (there, tabled (permit_entry roles whole) total)
       (list_back (next_permit f roles) (permit_entry roles whole) state order step_step ∙ ap (λ (ps : Pairs). Ok (record whole { permits = ps })) (lines_whole by_second count whole.permits order covered))

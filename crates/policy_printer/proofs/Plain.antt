@@ -12,6 +12,8 @@ use Rattle.user_relations.specs.Relations.{RelationShape, complement_of, known_n
 use Rattle.policy_book.specs.Shapes.{PolicyShape, WorkflowShape}
 use Rattle.policy_book.specs.Policies.{flow_at}
 use Rattle.policy_reader.specs.Relations.{first_declared}
+use Rattle.policy_reader.specs.declared.form.Form.{Form}
+use Rattle.policy_reader.specs.Forms.{form_word}
 use Rattle.policy_printer.specs.Documents.{with_member, table_below, name_at, names_where, names_data, pair_data, listed_data, kind_members, relation_entry, grouped_members, rule_members, rule_data, rules_data, workflow_members, flow_entry, permit_entry, user_entry, pairs_data, permits_data, flows_data, relations_data, users_data, document_of}
 use Rattle.constraint_forms.specs.Assigned.{is_member}
 use Rattle.std.specs.FinSet as set
@@ -108,10 +110,10 @@ unfolding kind_members
 kind_plain users relations rho None = cons_plain 2 _ _ no_members (listed_plain 0 users _) (none_plain 2)
 kind_plain users relations rho (Some n) = cons_plain 2 _ _ no_members (plain_text 2 _) (none_plain 2)
 
-grouped_plain : (form : List ℕ) (relations : List RelationShape) (steps : List (List ℕ)) (rho : ℕ) (group : List Bool) (step : ℕ) → ArePlain 1 (grouped_members form relations steps rho group step)
+grouped_plain : (form : Form) (relations : List RelationShape) (steps : List (List ℕ)) (rho : ℕ) (group : List Bool) (step : ℕ) → ArePlain 1 (grouped_members form relations steps rho group step)
 unfolding grouped_members
 grouped_plain form relations steps rho group step =
-    cons_plain 1 (codes "form") (string form) _ (plain_text 1 form)
+    cons_plain 1 (codes "form") (string (form_word form)) _ (plain_text 1 (form_word form))
     (cons_plain 1 (codes "group") (names_where steps (is_member group)) _ (names_plain 0 steps (is_member group))
     (cons_plain 1 (codes "relation") (string (name_at (known_names relations) rho)) _ (plain_text 1 (name_at (known_names relations) rho))
     (cons_plain 1 (codes "step") (string (name_at steps step)) no_members (plain_text 1 (name_at steps step)) (none_plain 1))))

@@ -124,8 +124,12 @@ module _ (users : List (List ℕ)) (whole : List RelationShape) where
     listed_again n rho pairs e =
         let all = named_pairs users pairs named (related rho pairs e) in
         let size = pairs_count Relations n users pairs all in
-        rw (items_back (map (pair_data users) (rows (length users) (length users) pairs)), map_length (pair_data users) (rows (length users) (length users) pairs),
-        at_most-ok Relations n (length (rows (length users) (length users) pairs)) PAIR_LIMIT (omega (arith, size, sound.few rho pairs e)), pairs_back Relations n users pairs all) refl
+        rw (
+          items_back (map (pair_data users) (rows (length users) (length users) pairs)),
+          map_length (pair_data users) (rows (length users) (length users) pairs),
+          at_most-ok Relations n (length (rows (length users) (length users) pairs)) PAIR_LIMIT (omega (arith, size, sound.few rho pairs e)),
+          pairs_back Relations n users pairs all,
+        ) refl
 
     module _ (again : Members) (are : entries again ≡ map entry' whole) where
       complement_again : (n m : ℕ) → is_listed whole m ≡ true → complement_in again n (string (name_at (known_names whole) m)) ≡ Ok (complement m)
@@ -155,8 +159,8 @@ module _ (users : List (List ℕ)) (whole : List RelationShape) where
         let all = table_below (length whole) (λ n. relation_entry users whole (first_declared + n)) in
         let at : (i : ℕ) → name_at (known_names whole) (first_declared + i) ≡ name_at (names_of whole) i = λ i. ap (name_at (known_names whole)) (two_more i) in
         let are : entries all ≡ map entry' whole = tabled_in_order (λ n. relation_entry users whole (first_declared + n)) (length whole)
-            (λ i j lt within. (λ k. key_cmp (at j k) (at i k)) ∙ ascend_at (names_of whole) ascend i j lt (omega (arith, within, map_length (λ (r : RelationShape). r.name) whole)))
-            ∙ upto_map whole (λ n. relation_entry users whole (first_declared + n)) entry' entry_same in
+        (λ i j lt within. (λ k. key_cmp (at j k) (at i k)) ∙ ascend_at (names_of whole) ascend i j lt (omega (arith, within, map_length (λ (r : RelationShape). r.name) whole)))
+        ∙ upto_map whole (λ n. relation_entry users whole (first_declared + n)) entry' entry_same in
         rw (are, map_length entry' whole, at_most-ok Relations 0 (length whole) RELATION_LIMIT sound.count)
         (list_back (next_relation users all) entry' (λ rs. rs) whole (step all are))
 

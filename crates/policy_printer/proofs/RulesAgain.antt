@@ -13,7 +13,7 @@ use Rattle.policy_book.specs.Facts.{IsSoundRule, AreSoundRules}
 use Rattle.policy_reader.specs.declared.fault.PolicyPart.TheVariants.{Flows}
 use Rattle.policy_reader.specs.Faults.{Reading}
 use Rattle.policy_reader.specs.Parts.{value_at, array_in, table_in, text_in, once, no_others, known_key}
-use Rattle.policy_reader.specs.Rules.{relation_in, step_in, next_member, group_in, pair_in, grouped_in, rule_in, next_rule, rules_in, rules_of}
+use Rattle.policy_reader.specs.Rules.{relation_in, step_in, next_member, group_in, pair_in, grouped_in, form_in, rule_of_form, rule_in, next_rule, rules_in, rules_of}
 use Rattle.policy_printer.specs.Documents.{name_at, names_where, chosen, rule_members, grouped_members, rule_data, rules_data}
 use Rattle.policy_printer.specs.Named.{IsNamed, AreNamed, HasFlags, HaveFlags}
 use Rattle.policy_printer.proofs.NamesAgain.{at_least-ok, at_most-ok}
@@ -167,8 +167,11 @@ module _ (f : ℕ) (steps : List (List ℕ)) (named : AreNamed steps) where
     pub group_again : HasSome whole → group_in f steps (names_where steps (is_member whole)) ≡ Ok whole
     unfolding group_in array_in
     group_again some =
-        rw (items_back (map (text_at steps) members), map_length (text_at steps) members,
-        at_least-ok Flows f (length members) (has_length some.step members (chosen_has (length steps) (is_member whole) some.step (within some.step some.here) some.here)))
+        rw (
+          items_back (map (text_at steps) members),
+          map_length (text_at steps) members,
+          at_least-ok Flows f (length members) (has_length some.step members (chosen_has (length steps) (is_member whole) some.step (within some.step some.here) some.here)),
+        )
         (list_back (next_member f steps) (text_at steps) (marked no_steps) members member_step ∙ ap Ok all_marked)
 
   -- ---- rules
@@ -193,7 +196,7 @@ module _ (f : ℕ) (steps : List (List ℕ)) (named : AreNamed steps) where
     all_group rho s g h x here = h.names x (ap (λ b. Rattle.std.specs.Prelude.nat_eq x s || b) here ∙ or_right _)
 
     rule_again : (r : Rule) → IsSoundRule (length steps) (length relations) r → HasFlags r → rule_in f relations steps (rule_data relations steps r) ≡ Ok r
-    unfolding rule_in pair_in grouped_in value_at table_in no_others known_key rule_members grouped_members
+    unfolding rule_in form_in rule_of_form pair_in grouped_in value_at table_in no_others known_key rule_members grouped_members
     rule_again (rule.Pair rho s t) h flags = rw (relation_again rho h.relation, step_again s (first_in (length steps) (length relations) rho s t h), step_again t (second_in (length steps) (length relations) rho s t h)) refl
     rule_again (rule.SomeOf rho g s) h flags =
         rw (relation_again rho h.relation, step_again s (some_step_in (length steps) (length relations) rho s g h), group_again g flags (some_group rho s g h) (some_of 0 g h.members)) refl

@@ -80,7 +80,7 @@ module _ (whole : RosterShape) (sound : IsSoundRoster whole) (roles : AreNamed w
   whole_back : each next_user (state 0) (map (user_entry whole) (upto total)) ≡ Ok whole
   whole_back =
       let covered : (q : ℕ × ℕ) → set.contains whole.members q ≡ true → IsCovered by_first count whole.members (upto total) q =
-          λ q h. (let both = sound.members.each q.0 q.1 h in record { is = refl; line = upto_has total q.0 both.0; within = both.1 }) in
+      λ q h. (let both = sound.members.each q.0 q.1 h in record { is = refl; line = upto_has total q.0 both.0; within = both.1 }) in
       count_back next_user (user_entry whole) state total user_again total (omega arith)
       ∙ (λ i. Ok (record { users = take_all whole.users i; roles = whole.roles; members = lines_whole by_first count whole.members (upto total) covered i }))
 

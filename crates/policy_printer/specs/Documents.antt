@@ -14,6 +14,9 @@ use Rattle.constraint_forms.specs.declared.rule.Rule.{Rule}
 use Rattle.constraint_forms.specs.declared.rule.Rule.TheVariants as rule
 use Rattle.policy_book.specs.Shapes.{PolicyShape, WorkflowShape}
 use Rattle.policy_book.specs.Policies.{flow_at}
+use Rattle.policy_reader.specs.declared.form.Form.{Form}
+use Rattle.policy_reader.specs.declared.form.Form.TheVariants as form
+use Rattle.policy_reader.specs.Forms.{form_word}
 use Rattle.policy_reader.specs.Relations.{first_declared}
 
 -- a table with one more key, at its place in the order of the keys
@@ -97,9 +100,9 @@ abbrev pub permits_data : List (List ℕ) → FlowShape → Data
 permits_data roles flow = table (table_below (length flow.steps) (permit_entry roles flow))
 
 -- a rule over a group of steps and a step, of this form
-unfoldable pub grouped_members : List ℕ → List RelationShape → List (List ℕ) → ℕ → List Bool → ℕ → Members
-grouped_members form relations steps rho group step = table_of (
-    (codes "form", string form)
+unfoldable pub grouped_members : Form → List RelationShape → List (List ℕ) → ℕ → List Bool → ℕ → Members
+grouped_members rule_form relations steps rho group step = table_of (
+    (codes "form", string (form_word rule_form))
     ∷ (codes "group", names_where steps (is_member group))
     ∷ (codes "relation", string (name_at (known_names relations) rho))
     ∷ (codes "step", string (name_at steps step))
@@ -108,12 +111,12 @@ grouped_members form relations steps rho group step = table_of (
 unfoldable pub rule_members : List RelationShape → List (List ℕ) → Rule → Members
 rule_members relations steps (rule.Pair rho first second) = table_of (
     (codes "first", string (name_at steps first))
-    ∷ (codes "form", string (codes "pair"))
+    ∷ (codes "form", string (form_word form.Pair))
     ∷ (codes "relation", string (name_at (known_names relations) rho))
     ∷ (codes "second", string (name_at steps second))
     ∷ [])
-rule_members relations steps (rule.SomeOf rho group step) = grouped_members (codes "some") relations steps rho group step
-rule_members relations steps (rule.AllOf rho group step) = grouped_members (codes "all") relations steps rho group step
+rule_members relations steps (rule.SomeOf rho group step) = grouped_members form.SomeOf relations steps rho group step
+rule_members relations steps (rule.AllOf rho group step) = grouped_members form.AllOf relations steps rho group step
 
 abbrev pub rule_data : List RelationShape → List (List ℕ) → Rule → Data
 rule_data relations steps r = table (rule_members relations steps r)

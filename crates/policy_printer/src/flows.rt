@@ -14,6 +14,7 @@ use crate::parts::{names_value, numbered, pairs_value, push, push_name, put};
 use crate::rosters::relation_value;
 use constraint_forms::{Rule, Rules, StepSet};
 use policy_book::Policy;
+use policy_reader::Form;
 use std::alloc::{AllocError, Global};
 use toml::Value;
 use toml::value::Table;
@@ -153,7 +154,12 @@ fn pair_table(
         "relation",
         relation_value(alloc, relations, rho)?,
     )?;
-    put(alloc, &mut table, "form", Value::string(alloc, "pair")?)?;
+    put(
+        alloc,
+        &mut table,
+        "form",
+        Value::string(alloc, Form::Pair.word())?,
+    )?;
     put(
         alloc,
         &mut table,
@@ -166,7 +172,7 @@ fn pair_table(
 #[tactic(auto, unfolding(crate::specs::Documents::grouped_members))]
 fn grouped_table(
     alloc: Global,
-    form: &str,
+    form: Form,
     relations: &Relations,
     steps: &NameTable,
     rho: RelId,
@@ -176,7 +182,7 @@ fn grouped_table(
     requires few { length steps.now.names ≤ STEP_LIMIT }
     requires relation { rho < length relations.now + 2 }
     requires step { step < length steps.now.names }
-    ensures table { IfOk result (λ t. table_view t ≡ spec.grouped_members form.now relations.now steps.now.names rho group.now step) }
+    ensures table { IfOk result (λ t. table_view t ≡ spec.grouped_members form relations.now steps.now.names rho group.now step) }
     ensures flags { IfOk result (λ _. length group.now ≡ STEP_LIMIT) }
 {
     let mut table = Table::new(alloc);
@@ -198,7 +204,12 @@ fn grouped_table(
         "group",
         group_value(alloc, steps, group)?,
     )?;
-    put(alloc, &mut table, "form", Value::string(alloc, form)?)?;
+    put(
+        alloc,
+        &mut table,
+        "form",
+        Value::string(alloc, form.word())?,
+    )?;
     Ok(table)
 }
 
@@ -219,10 +230,10 @@ fn rule_table(
             pair_table(alloc, relations, steps, rho, first, second)
         }
         Rule::SomeOf { rho, group, step } => {
-            grouped_table(alloc, "some", relations, steps, rho, &group, step)
+            grouped_table(alloc, Form::SomeOf, relations, steps, rho, &group, step)
         }
         Rule::AllOf { rho, group, step } => {
-            grouped_table(alloc, "all", relations, steps, rho, &group, step)
+            grouped_table(alloc, Form::AllOf, relations, steps, rho, &group, step)
         }
     }
 }

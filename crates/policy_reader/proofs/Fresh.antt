@@ -1,5 +1,5 @@
 -- A loop over a table: its keys ascend, so none is among the names that were read from those before it.
-use Rattle.std.proofs.Common.{◌≡◌, ℕ, zero, suc, Bool, false, List, [], ◌∷◌, ◌++◌, map, String, Global, string_bytes, refl, sym, ap, ◌∙◌, ◌+◌, ◌<◌, ◌≤◌, length, Ok, subst, append_assoc, arith, nat_cmp, is_eq}
+use Rattle.std.proofs.Common.{◌≡◌, ℕ, suc, Bool, false, List, [], ◌∷◌, ◌++◌, map, String, Global, string_bytes, refl, sym, ap, ◌∙◌, ◌<◌, length, Ok, subst, append_assoc, arith, nat_cmp, is_eq}
 use Rattle.std.proofs.lemmas.Grind.{common_steps}
 use Rattle.std.proofs.lemmas.List.{length-append, map-append, append-nil}
 use Rattle.std.specs.Prelude.{is_some, nat_eq, position}

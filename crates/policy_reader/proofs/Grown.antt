@@ -1,7 +1,6 @@
 -- Policies with more workflows.
-use Rattle.std.proofs.Common.{◌≡◌, ℕ, ◌<◌, false, List, [], ◌∷◌, ◌++◌, length, refl, sym, ap, ◌∙◌, subst}
+use Rattle.std.proofs.Common.{◌≡◌, ℕ, ◌<◌, false, List, [], ◌∷◌, ◌++◌, length, refl, sym, ◌∙◌, subst}
 use Rattle.std.specs.List.{AllByRecursion}
-use Rattle.user_relations.specs.Relations.{RelationShape}
 use Rattle.policy_book.specs.Shapes.{PolicyShape, WorkflowShape}
 use Rattle.policy_reader.specs.Kept.{IsGrown}
 use Rattle.policy_reader.specs.Relations.{names_of}

@@ -1,5 +1,5 @@
 -- Sets of pairs and lists of them.
-use Rattle.std.proofs.Common.{◌≡◌, ℕ, zero, suc, ◌+◌, Bool, true, false, ◌||◌, ◌&&◌, List, [], ◌∷◌, ◌++◌, nat_eq, not, cond, refl, sym, ap, subst, ◌∙◌, arith}
+use Rattle.std.proofs.Common.{◌≡◌, ℕ, suc, ◌+◌, Bool, true, false, ◌||◌, ◌&&◌, List, [], ◌∷◌, ◌++◌, nat_eq, not, cond, refl, sym, ap, subst, ◌∙◌, arith}
 use Rattle.std.specs.Prelude.{IsPermutation, slice_index_or}
 use Rattle.std.specs.List.{list_any, IsDistinct, AllByRecursion}
 use Rattle.std.specs.List.Sorted.{IsSorted, IsStrictlySortedBy}
@@ -74,6 +74,6 @@ ascending (p ∷ []) s d = (tt, tt)
 ascending (p ∷ q ∷ ps) s d =
     let less = before_next p q d.0.0 (s 0 p (omega arith) (omega arith)) in
     let later : IsSorted pair_cmp (q ∷ ps) = λ k e _ within. (let one : suc k + 1 ≡ suc (k + 1) = omega arith in
-        subst (λ n. is_lt (pair_cmp (slice_index_or (p ∷ q ∷ ps) n e) (slice_index_or (p ∷ q ∷ ps) (suc k) e)) ≡ false) one (s (suc k) e (omega arith) (omega (arith, within)))) in
+    subst (λ n. is_lt (pair_cmp (slice_index_or (p ∷ q ∷ ps) n e) (slice_index_or (p ∷ q ∷ ps) (suc k) e)) ≡ false) one (s (suc k) e (omega arith) (omega (arith, within)))) in
     let rest = ascending (q ∷ ps) later d.1 in
     ((less, above_all p q ps less rest.0), rest)

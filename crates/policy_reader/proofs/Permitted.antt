@@ -1,7 +1,7 @@
 -- A workflow that permits nothing.
-use Rattle.std.proofs.Common.{◌≡◌, ℕ, List}
+use Rattle.std.proofs.Common.{◌≡◌, ℕ}
 use Rattle.std.specs.FinSet as set
-use Rattle.pair_set.specs.Pairs.{Pairs, pair_cmp}
+use Rattle.pair_set.specs.Pairs.{pair_cmp}
 use Rattle.workflow_schema.specs.Flows.{FlowShape}
 use Rattle.policy_book.specs.Facts.{PermitsRolesBelow}
 

@@ -3,14 +3,13 @@ use Rattle.std.proofs.Common.{◌≡◌, ℕ, zero, suc, ◌+◌, ◌<◌, ◌�
 use Rattle.std.specs.Prelude.{Option, Some, None, option_map, slice_get, nat_eq, codes, Ok}
 use Rattle.std.specs.List.{IsDistinct, list_any}
 use Rattle.std.specs.Cmp.Lexicographic.{pointwise, nat_list_eq_equiv}
-use Rattle.std.specs.FinSet as set
 use Rattle.std.proofs.lemmas.Bool.Decides.{nat_tests}
-use Rattle.std.proofs.lemmas.List.{map-append, length-append}
+use Rattle.std.proofs.lemmas.List.{map-append}
 use Rattle.std.proofs.lemmas.Map.Keys.{IsDistinct-push}
 use Rattle.toml.specs.Data.{Data, Members, as_table}
 use Rattle.wf_names.specs.declared.limits.TheConstants.{RELATION_LIMIT, USER_LIMIT}
 use Rattle.pair_set.specs.Pairs.{Pairs, AllPairs}
-use Rattle.user_relations.specs.Relations.{RelationShape, RelationKind, listed, complement, kind_of, has_list, is_listed, known_names}
+use Rattle.user_relations.specs.Relations.{RelationShape, RelationKind, listed, complement, kind_of, has_list, known_names}
 use Rattle.user_relations.specs.Soundness.{AreSound}
 use Rattle.policy_book.specs.Facts.{AreOfUsers}
 use Rattle.first_fault.specs.Reading.{or_fault}

@@ -26,12 +26,7 @@ use workflow_schema::Flow;
 
 /// Reads the steps of a workflow, their order and who may perform them.
 #[tactic(auto, unfolding(crate::specs::Flows::flow_in))]
-fn flow_of(
-    alloc: Global,
-    roles: &NameTable,
-    table: &Table,
-    number: u32,
-) -> Result<Flow, ReadFault>
+fn flow_of(alloc: Global, roles: &NameTable, table: &Table, number: u32) -> Result<Flow, ReadFault>
     requires few { length roles.now.names ≤ ROLE_LIMIT }
     ensures read { Gives fault_of (λ f. f) result (spec.flow_in number roles.now.names (table_view table.now)) }
     ensures roles { IfOk result (PermitsRolesBelow (length roles.now.names)) }

@@ -4,6 +4,7 @@
 mod fault;
 mod file;
 mod flows;
+mod form;
 mod parts;
 mod relations;
 mod rosters;
@@ -12,6 +13,7 @@ mod workflows;
 
 pub use fault::{PolicyFault, PolicyKind, PolicyPart, ReadFault};
 pub use file::read;
+pub use form::Form;
 
 #[cfg(test)]
 mod tests;

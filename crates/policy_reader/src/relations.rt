@@ -121,11 +121,7 @@ fn is_built_in(text: &str) -> bool
     is_among(&["same", "other"], text)
 }
 
-fn push_relation(
-    relations: &mut Vec<Relation>,
-    name: Name,
-    kind: Kind,
-) -> Result<(), ReadFault>
+fn push_relation(relations: &mut Vec<Relation>, name: Name, kind: Kind) -> Result<(), ReadFault>
     ensures added { OnOk result (shapes relations.new.items ≡ shapes relations.old.items ++ record { name = name; kind = kind_view kind } ∷ []) }
     ensures memory { IfErr result (λ e. e ≡ NoMemory) }
 {

@@ -507,7 +507,9 @@ fn rows_of(table: &Table) -> Option<&[Value]> {
 
 #[test]
 fn the_first_fault_of_each_row_is_told(rt: HostRuntime) -> Result<(), Fail> {
-    let table = toml::table_from_str(rt.alloc(), FAULTS).ok().ok_or("the rows are TOML")?;
+    let table = toml::table_from_str(rt.alloc(), FAULTS)
+        .ok()
+        .ok_or("the rows are TOML")?;
     let rows = rows_of(&table).ok_or("there are rows")?;
     assert!(rt; rows.len() == 60);
     assert!(rt; all_hold(rt.alloc(), rows)?);
@@ -554,5 +556,10 @@ fn a_policy_has_what_its_file_says(rt: HostRuntime) -> Result<(), Fail> {
 fn counts_of(policy: &Policy) -> (u16, u16, u8, u16) {
     let roster = policy.roster();
     let (users, roles) = (roster.users().len(), roster.roles().len());
-    (users, roles, policy.relations().count(), policy.flows().len())
+    (
+        users,
+        roles,
+        policy.relations().count(),
+        policy.flows().len(),
+    )
 }

@@ -14,4 +14,4 @@ returns-in-Ok-clause-kept c =
     let kept = subst (λ b. IsKept users all b (kind_view c.in-Ok.kind)) (sym (c.requires.here ∙ table_told _ _ _ _ c.in_ok-table.ensures)) c.in-Ok.ensures.kept in
     on_ok c.push_relation.result _ _ c.push_relation.ensures.added
     (λ e. rw (e, c.in_ok-name.ensures.value)
-        (kept_push users all (shapes c.args.relations.now.items) (record { name = c.args.key.now; kind = kind_view c.in-Ok.kind }) c.requires.kept (sym c.is_built_in.ensures ∙ c.if-is_built_in.false) c.requires.new kept))
+    (kept_push users all (shapes c.args.relations.now.items) (record { name = c.args.key.now; kind = kind_view c.in-Ok.kind }) c.requires.kept (sym c.is_built_in.ensures ∙ c.if-is_built_in.false) c.requires.new kept))
