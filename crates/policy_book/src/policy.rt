@@ -8,7 +8,7 @@ ghost use Rattle.user_relations.specs.Relations.{pairs_of};
 ghost use Rattle.user_relations.specs.Faults.{AnswersFault, relate_fault, unrelate_fault};
 ghost use Rattle.policy_book.specs.Policies.{any_below, flow_at, is_authorised, problem_of, with_roster, with_pairs, with_permits, with_flow};
 ghost use Rattle.policy_book.specs.Plans.{IsWellFormed};
-ghost use Rattle.policy_book.specs.Facts.{AreOfUsers, AreSoundRules, PermitsRolesBelow};
+ghost use Rattle.policy_book.specs.Facts.{AreOfUsers, AreSoundRules, IsSoundPolicy, PermitsRolesBelow};
 
 use crate::workflow::Workflow;
 use constraint_forms::{Holds, Rules};
@@ -166,6 +166,7 @@ impl Policy {
     pub fn admin(&self) -> RoleId
         ensures admin { result ≡ self.now.admin }
         ensures within { self.now.admin < length self.now.roster.roles }
+        ensures sound { IsSoundPolicy self.now }
     {
         self.admin
     }

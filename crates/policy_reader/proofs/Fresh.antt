@@ -1,7 +1,7 @@
--- The keys of a table are distinct: none is among the names that were read from those before it.
-use Rattle.std.proofs.Common.{◌≡◌, ℕ, Bool, false, List, [], ◌∷◌, ◌++◌, String, Global, string_bytes, refl, sym, ap, ◌∙◌, ◌+◌, ◌<◌, ◌≤◌, length, Ok, subst, arith, nat_cmp, is_eq}
+-- A loop over a table: its keys ascend, so none is among the names that were read from those before it.
+use Rattle.std.proofs.Common.{◌≡◌, ℕ, suc, Bool, false, List, [], ◌∷◌, ◌++◌, map, String, Global, string_bytes, refl, sym, ap, ◌∙◌, ◌<◌, length, Ok, subst, append_assoc, arith, nat_cmp, is_eq}
 use Rattle.std.proofs.lemmas.Grind.{common_steps}
-use Rattle.std.proofs.lemmas.List.{length-append}
+use Rattle.std.proofs.lemmas.List.{length-append, map-append, append-nil}
 use Rattle.std.specs.Prelude.{is_some, nat_eq, position}
 use Rattle.std.specs.declared.cmp.Ordering.TheVariants.{Less}
 use Rattle.std.specs.Ordering.{ordering_reverse}
@@ -16,73 +16,96 @@ use Rattle.toml.specs.View.{view, members_view}
 use Rattle.wf_names.specs.Table.{place_of}
 use Rattle.first_fault.specs.Reading.{◌>>=◌, each}
 use Rattle.policy_reader.specs.Faults.{Reading}
-use Rattle.policy_reader.specs.Parts.{entries}
+use Rattle.policy_reader.specs.Parts.{entries, is_among}
+use Rattle.policy_reader.specs.Printable.{Ascend}
 
 abbrev pub Entry : Type 0
 Entry = String Global × Value
+
+abbrev pub texts : List Entry → List (List ℕ)
+texts es = map (λ e. string_bytes e.0) es
 
 -- a name is not among some names
 abbrev pub IsNew : List (List ℕ) → Entry → Type 0
 IsNew names e = is_some (place_of names (string_bytes e.0)) ≡ false
 
--- the names that were read, and the entries that are left
-pub record AreFresh (names : List (List ℕ)) (es : List Entry) : Type 0 where
-  pub apart : AllByRecursion (IsNew names) es
-  pub sorted : IsStrictlySortedBy string_cmp (keys_of es)
+first_below : (k : String Global) (es : List Entry) → AllByRecursion (λ y. string_cmp k y ≡ Less) (keys_of es) → AllByRecursion (λ y. slice_cmp nat_cmp (string_bytes k) y ≡ Less) (texts es)
+first_below k [] h = tt
+first_below k (e ∷ es) h = (h.0, first_below k es h.1)
 
-none_push : {X : Type 0} (p : X → Bool) (xs : List X) (y : X) → is_some (position p xs) ≡ false → p y ≡ false → is_some (position p (xs ++ y ∷ [])) ≡ false
-none_push p xs y none other = grind (arith, common_steps)
+texts_ascend : (es : List Entry) → IsStrictlySortedBy string_cmp (keys_of es) → Ascend (texts es)
+unfolding IsStrictlySortedBy
+texts_ascend [] h = tt
+texts_ascend (e ∷ es) h = (first_below e.0 es h.0, texts_ascend es h.1)
+
+none_cons : {X : Type 0} (p : X → Bool) (x : X) (xs : List X) → p x ≡ false → is_some (position p xs) ≡ false → is_some (position p (x ∷ xs)) ≡ false
+none_cons p x xs here none = grind (arith, common_steps)
 
 differs : (k l : List ℕ) → slice_cmp nat_cmp k l ≡ Less → pointwise nat_eq l k ≡ false
 differs k l below = texts_ties l k ∙ ap is_eq (nat_list_cmp_total.antisymm l k ∙ ap ordering_reverse below)
 
-new_after : (names : List (List ℕ)) (k : String Global) (es : List Entry) → AllByRecursion (IsNew names) es → AllByRecursion (λ y. string_cmp k y ≡ Less) (keys_of es)
-    → AllByRecursion (IsNew (names ++ string_bytes k ∷ [])) es
-new_after names k [] apart below = tt
-new_after names k (e ∷ es) apart below =
-    (none_push (pointwise nat_eq (string_bytes e.0)) names (string_bytes k) apart.0 (differs (string_bytes k) (string_bytes e.0) below.0), new_after names k es apart.1 below.1)
+among : {X : Type 0} (P : X → Type 0) (xs : List X) (y : X) (ys : List X) → AllByRecursion P (xs ++ y ∷ ys) → P y
+among P [] y ys h = h.0
+among P (x ∷ xs) y ys h = among P xs y ys h.1
 
-all_new : (es : List Entry) → AllByRecursion (IsNew []) es
-all_new [] = tt
-all_new (e ∷ es) = (refl, all_new es)
-
-pub fresh_start : (es : List Entry) → IsStrictlySortedBy string_cmp (keys_of es) → AreFresh [] es
-fresh_start es sorted = record { apart = all_new es; sorted = sorted }
-
-pub fresh_first : (names : List (List ℕ)) (e : Entry) (es : List Entry) → AreFresh names (e ∷ es) → IsNew names e
-fresh_first names e es h = h.apart.0
-
-pub fresh_rest : (names : List (List ℕ)) (e : Entry) (es : List Entry) → AreFresh names (e ∷ es) → AreFresh (names ++ string_bytes e.0 ∷ []) es
+new_in : (names : List (List ℕ)) (k : List ℕ) (ks : List (List ℕ)) → Ascend (names ++ k ∷ ks) → is_some (place_of names k) ≡ false
 unfolding IsStrictlySortedBy
-fresh_rest names e es h = record { apart = new_after names e.0 es h.apart.1 h.sorted.0; sorted = h.sorted.1 }
+new_in [] k ks h = refl
+new_in (n ∷ names) k ks h = none_cons (pointwise nat_eq k) n names (differs n k (among (λ y. slice_cmp nat_cmp n y ≡ Less) names k ks h.0)) (new_in names k ks h.1)
 
--- a loop over a table read its first entries: what is left gives the whole, its keys are new, and there is room for them
-pub record IsLeft {S : Type 0} (read : S → List ℕ × Data → Reading S) (names : S → List (List ℕ)) (limit : ℕ) (whole : Reading S) (so_far : S) (es : List Entry) : Type 0 where
+none_in : (names : List (List ℕ)) (k : List ℕ) (ks : List (List ℕ)) → Ascend (names ++ k ∷ ks) → is_among names k ≡ false
+unfolding IsStrictlySortedBy
+none_in [] k ks h = refl
+none_in (n ∷ names) k ks h = rw (differs n k (among (λ y. slice_cmp nat_cmp n y ≡ Less) names k ks h.0)) (none_in names k ks h.1)
+
+-- a loop over a table read its first entries: what is left gives the whole
+pub record IsLeft {S : Type 0} (read : S → List ℕ × Data → Reading S) (names : S → List (List ℕ)) (all : List Entry) (whole : Reading S) (so_far : S) (es : List Entry) : Type 0 where
+  pub before : List Entry
+  pub split : all ≡ before ++ es
+  pub named : names so_far ≡ texts before
+  pub ascend : Ascend (texts all)
   pub reads : each read so_far (entries (members_view es)) ≡ whole
-  pub fresh : AreFresh (names so_far) es
-  pub room : length (names so_far) + length es ≤ limit
 
-pub left_next : {S : Type 0} (read : S → List ℕ × Data → Reading S) (names : S → List (List ℕ)) (limit : ℕ) (whole : Reading S) (s t : S) (all : List Entry) (e : Entry) (es : List Entry)
-    → all ≡ e ∷ es → IsLeft read names limit whole s all → read s (string_bytes e.0, view e.1) ≡ Ok t → names t ≡ names s ++ string_bytes e.0 ∷ [] → IsLeft read names limit whole t es
-left_next read names limit whole s t all e es steps left given named =
-    let h : IsLeft read names limit whole s (e ∷ es) = subst (λ x. IsLeft read names limit whole s x) steps left in
-    let reads : (read s (string_bytes e.0, view e.1) >>= (λ next. each read next (entries (members_view es)))) ≡ whole = h.reads in
-    let now : each read t (entries (members_view es)) ≡ whole = subst (λ r. (r >>= (λ next. each read next (entries (members_view es)))) ≡ whole) given reads in
-    record {
-      reads = now;
-      fresh = subst (λ x. AreFresh x es) (sym named) (fresh_rest (names s) e es h.fresh);
-      room = omega (arith, h.room, ap length named, length-append (names s) (string_bytes e.0 ∷ []));
-    }
+pub texts_count : (es : List Entry) → length (texts es) ≡ length es
+texts_count [] = refl
+texts_count (e ∷ es) = ap suc (texts_count es)
 
-pub left_start : {S : Type 0} (read : S → List ℕ × Data → Reading S) (names : S → List (List ℕ)) (limit : ℕ) (s : S) (es : List Entry) → names s ≡ [] → IsStrictlySortedBy string_cmp (keys_of es) → length es ≤ limit
-    → IsLeft read names limit (each read s (entries (members_view es))) s es
-left_start read names limit s es none sorted few =
-    record { reads = refl; fresh = subst (λ x. AreFresh x es) (sym none) (fresh_start es sorted); room = omega (arith, ap length none, few) }
+module _ {S : Type 0} (read : S → List ℕ × Data → Reading S) (names : S → List (List ℕ)) (all : List Entry) (whole : Reading S) where
+  pub left_next : (s t : S) (left : List Entry) (e : Entry) (es : List Entry) → left ≡ e ∷ es → IsLeft read names all whole s left → read s (string_bytes e.0, view e.1) ≡ Ok t
+      → names t ≡ names s ++ string_bytes e.0 ∷ [] → IsLeft read names all whole t es
+  left_next s t left e es steps h given named =
+      let at : IsLeft read names all whole s (e ∷ es) = subst (λ x. IsLeft read names all whole s x) steps h in
+      let reads : (read s (string_bytes e.0, view e.1) >>= (λ next. each read next (entries (members_view es)))) ≡ whole = at.reads in
+      record {
+        before = at.before ++ e ∷ [];
+        split = at.split ∙ sym (append_assoc at.before (e ∷ []) es);
+        named = named ∙ ap (λ ns. ns ++ string_bytes e.0 ∷ []) at.named ∙ sym (map-append (λ (x : Entry). string_bytes x.0) at.before (e ∷ []));
+        ascend = at.ascend;
+        reads = subst (λ r. (r >>= (λ next. each read next (entries (members_view es)))) ≡ whole) given reads;
+      }
 
-pub left_new : {S : Type 0} (read : S → List ℕ × Data → Reading S) (names : S → List (List ℕ)) (limit : ℕ) (whole : Reading S) (s : S) (all : List Entry) (e : Entry) (es : List Entry)
-    → all ≡ e ∷ es → IsLeft read names limit whole s all → IsNew (names s) e
-left_new read names limit whole s all e es steps left = fresh_first (names s) e es (subst (λ x. AreFresh (names s) x) steps left.fresh)
+  parts : (s : S) (left : List Entry) (e : Entry) (es : List Entry) → left ≡ e ∷ es → (h : IsLeft read names all whole s left) → texts all ≡ texts h.before ++ string_bytes e.0 ∷ texts es
+  parts s left e es steps h = ap texts (h.split ∙ ap (λ x. h.before ++ x) steps) ∙ map-append (λ (x : Entry). string_bytes x.0) h.before (e ∷ es)
 
-pub left_room : {S : Type 0} (read : S → List ℕ × Data → Reading S) (names : S → List (List ℕ)) (limit : ℕ) (whole : Reading S) (s : S) (all : List Entry) (e : Entry) (es : List Entry)
-    → all ≡ e ∷ es → IsLeft read names limit whole s all → length (names s) < limit
-left_room read names limit whole s all e es steps left = omega (arith, left.room, ap length steps)
+  pub left_none : (s : S) (left : List Entry) (e : Entry) (es : List Entry) → left ≡ e ∷ es → IsLeft read names all whole s left → is_among (names s) (string_bytes e.0) ≡ false
+  left_none s left e es steps h = rw h.named (none_in (texts h.before) (string_bytes e.0) (texts es) (subst Ascend (parts s left e es steps h) h.ascend))
+
+  pub left_new : (s : S) (left : List Entry) (e : Entry) (es : List Entry) → left ≡ e ∷ es → IsLeft read names all whole s left → IsNew (names s) e
+  left_new s left e es steps h = rw h.named (new_in (texts h.before) (string_bytes e.0) (texts es) (subst Ascend (parts s left e es steps h) h.ascend))
+
+  pub left_room : (s : S) (left : List Entry) (e : Entry) (es : List Entry) → left ≡ e ∷ es → IsLeft read names all whole s left → length (names s) < length all
+  left_room s left e es steps h = omega (arith, ap length h.named, texts_count h.before, ap length (h.split ∙ ap (λ x. h.before ++ x) steps), length-append h.before (e ∷ es))
+
+  -- after the last entry the names are the keys
+  left_all : (s : S) (left : List Entry) → left ≡ [] → IsLeft read names all whole s left → names s ≡ texts all
+  left_all s left none h = h.named ∙ sym (ap texts (h.split ∙ ap (λ x. h.before ++ x) none ∙ append-nil h.before))
+
+  pub left_ascend : (s : S) (left : List Entry) → left ≡ [] → IsLeft read names all whole s left → Ascend (names s)
+  left_ascend s left none h = subst Ascend (sym (left_all s left none h)) h.ascend
+
+  pub left_count : (s : S) (left : List Entry) → left ≡ [] → IsLeft read names all whole s left → length (names s) ≡ length all
+  left_count s left none h = ap length (left_all s left none h) ∙ texts_count all
+
+pub left_start : {S : Type 0} (read : S → List ℕ × Data → Reading S) (names : S → List (List ℕ)) (s : S) (all : List Entry) → names s ≡ [] → IsStrictlySortedBy string_cmp (keys_of all)
+    → IsLeft read names all (each read s (entries (members_view all))) s all
+left_start read names s all none sorted = record { before = []; split = refl; named = none; ascend = texts_ascend all sorted; reads = refl }

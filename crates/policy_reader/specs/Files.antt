@@ -3,6 +3,7 @@ use Rattle.std.specs.Prelude.{codes, ℕ, ℤ, pos, negsuc, Bool, false, ◌==�
 use Rattle.std.specs.Str.Lossy.{utf8_valid_len}
 use Rattle.toml.specs.Data.{Members, as_integer}
 use Rattle.toml.specs.Parse.{parse_document}
+use Rattle.rbac_state.specs.Rosters.{RosterShape}
 use Rattle.policy_book.specs.Shapes.{PolicyShape}
 use Rattle.first_fault.specs.Reading.{◌>>=◌, or_fault, check}
 use Rattle.policy_reader.specs.declared.fault.PolicyPart.TheVariants.{File, Users}
@@ -44,25 +45,40 @@ admin_of file = do
 abbrev pub file_keys : List (List ℕ)
 file_keys = codes "admin" ∷ codes "flows" ∷ codes "format" ∷ codes "relations" ∷ codes "roles" ∷ codes "users" ∷ []
 
+-- a policy without workflows, some of whose users hold the admin role
+unfoldable pub start_over : RosterShape → ℕ → Members → Reading PolicyShape
+start_over roster admin file = do
+  _ ← check (is_held roster admin) (fault kind.NoAdmin Users 0)
+  relations ← relations_of roster.users file
+  Ok (record { roster = roster; relations = relations; flow_names = []; flows = []; admin = admin })
+
+-- the same with these roles, of which the named one is that of the admins
+unfoldable pub start_with : List (List ℕ) → List ℕ → Members → Reading PolicyShape
+start_with roles name file = do
+  admin ← number_in File 0 roles name
+  roster ← roster_of roles file
+  start_over roster admin file
+
 -- what a document says before its workflows
 unfoldable pub start_of : Members → Reading PolicyShape
 start_of file = do
   _ ← format_of file
   name ← admin_of file
   roles ← roles_of file
-  admin ← number_in File 0 roles name
-  roster ← roster_of roles file
-  _ ← check (is_held roster admin) (fault kind.NoAdmin Users 0)
-  relations ← relations_of roster.users file
-  Ok (record { roster = roster; relations = relations; flow_names = []; flows = []; admin = admin })
+  start_with roles name file
+
+-- the workflows, and no other key
+unfoldable pub rest_of : PolicyShape → Members → Reading PolicyShape
+rest_of start file = do
+  policy ← flows_of start file
+  _ ← no_others File 0 file_keys file
+  Ok policy
 
 -- the policy in a document
 unfoldable pub policy_in : Members → Reading PolicyShape
 policy_in file = do
   start ← start_of file
-  policy ← flows_of start file
-  _ ← no_others File 0 file_keys file
-  Ok policy
+  rest_of start file
 
 -- the policy that the bytes of a file are, or their first fault
 unfoldable pub policy_of_file : List ℕ → Reading PolicyShape

@@ -77,16 +77,27 @@ permits_of f roles flow ms = do
   permits ← table_in Flows f d
   each (next_permit f roles) flow (entries permits)
 
+-- steps in an order without a cycle, which are permitted to no role yet
+unfoldable pub ordered_in : ℕ → List (List ℕ) → Members → Reading FlowShape
+ordered_in f steps ms = do
+  order ← pairs_of f steps ms
+  _ ← no_cycle f steps order
+  Ok (record { steps = steps; order = order; permits = set.empty })
+
+-- the steps, the order and the permissions of a workflow
+unfoldable pub flow_in : ℕ → List (List ℕ) → Members → Reading FlowShape
+flow_in f roles ms = do
+  steps ← steps_of f ms
+  ordered ← ordered_in f steps ms
+  permits_of f roles ordered ms
+
 -- the workflow in a table: its steps, order, permissions and rules
 unfoldable pub workflow_in : PolicyShape → Members → Reading WorkflowShape
 workflow_in p ms = do
   let f = length p.flows
   _ ← no_others Flows f (codes "order" ∷ codes "permit" ∷ codes "rules" ∷ codes "steps" ∷ []) ms
-  steps ← steps_of f ms
-  order ← pairs_of f steps ms
-  _ ← no_cycle f steps order
-  flow ← permits_of f p.roster.roles (record { steps = steps; order = order; permits = set.empty }) ms
-  rules ← rules_of f p.relations steps ms
+  flow ← flow_in f p.roster.roles ms
+  rules ← rules_of f p.relations flow.steps ms
   Ok (record { flow = flow; rules = rules; retired = false })
 
 -- the policy with a workflow that was read

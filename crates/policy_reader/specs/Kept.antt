@@ -1,5 +1,7 @@
--- What is true of the parts of a workflow as they are read.
-use Rattle.std.specs.Prelude.{◌≡◌, ℕ, ◌<◌, Bool, true, List}
+-- Inside: what is true of the parts of a policy as they are read.
+use Rattle.std.specs.Prelude.{◌≡◌, ℕ, ◌<◌, Bool, true, false, List}
+use Rattle.std.specs.List.{AllByRecursion}
+use Rattle.policy_book.specs.Shapes.{PolicyShape}
 use Rattle.workflow_schema.specs.declared.fault.FlowFault.{FlowFault}
 use Rattle.workflow_schema.specs.declared.fault.FlowFault.TheVariants.{TooMany, Twice, Cycle, NoMemory}
 use Rattle.constraint_forms.specs.Assigned.{is_member}
@@ -14,3 +16,10 @@ IsCycleOrMemory TooMany = ⊥
 IsCycleOrMemory Twice = ⊥
 IsCycleOrMemory (Cycle s) = Unit {0}
 IsCycleOrMemory NoMemory = Unit {0}
+
+-- a policy with more workflows, none of them retired where none was before
+pub record IsGrown (before after : PolicyShape) : Type 0 where
+  pub roster : after.roster ≡ before.roster
+  pub relations : after.relations ≡ before.relations
+  pub admin : after.admin ≡ before.admin
+  pub active : AllByRecursion (λ w. w.retired ≡ false) before.flows → AllByRecursion (λ w. w.retired ≡ false) after.flows

@@ -5,8 +5,9 @@ pub mod Bounds
 pub mod Kept
 pub mod Rosters
 pub mod Relations
-pub mod Drafts
+pub mod Kinds
+pub mod Printable
+pub mod Forms
 pub mod Rules
 pub mod Flows
 pub mod Files
-pub mod Documents

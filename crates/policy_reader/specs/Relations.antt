@@ -1,5 +1,5 @@
 -- The relations of a policy file.
-use Rattle.std.specs.Prelude.{codes, ℕ, ◌+◌, Bool, false, not, nat_eq, ◌&&◌, ◌==◌, List, [], ◌∷◌, ◌++◌, length, Option, None, Some, is_some, if◌then◌else◌, Ok, Err}
+use Rattle.std.specs.Prelude.{codes, ℕ, ◌+◌, Bool, false, not, nat_eq, ◌&&◌, ◌==◌, List, [], ◌∷◌, ◌++◌, length, map, Option, None, Some, is_some, if◌then◌else◌, Ok, Err}
 use Rattle.std.specs.FinSet as set
 use Rattle.std.specs.Cmp.Lexicographic.{pointwise}
 use Rattle.toml.specs.Data.{Data, Members, get_member, as_table}
@@ -11,6 +11,10 @@ use Rattle.policy_reader.specs.declared.fault.PolicyPart.TheVariants.{Relations}
 use Rattle.policy_reader.specs.declared.fault.PolicyKind.TheVariants as kind
 use Rattle.policy_reader.specs.Faults.{Reading, fault, fault_about}
 use Rattle.policy_reader.specs.Parts.{items, entries, text_in, array_in, table_in, at_most, name_in, next_pair, is_among}
+
+-- the names of relations, in order
+abbrev pub names_of : List RelationShape → List (List ℕ)
+names_of relations = map (λ r. r.name) relations
 
 -- the number of the first declared relation, after `same` and `other`
 abbrev pub first_declared : ℕ

@@ -39,13 +39,19 @@ next_user so_far entry = do
   held ← array_in Users u entry.1
   each (next_held u) (record so_far { users = so_far.users ++ entry.0 ∷ [] }) (items held)
 
--- the users: a table of them by name
-unfoldable pub roster_of : List (List ℕ) → Members → Reading RosterShape
-roster_of roles file = do
+-- the table of the users
+unfoldable pub users_in : Members → Reading Members
+users_in file = do
   d ← value_at Users 0 (codes "users") file
   users ← table_in Users 0 d
   _ ← at_least_one Users 0 (length (entries users))
   _ ← at_most Users 0 USER_LIMIT (length (entries users))
+  Ok users
+
+-- the users: a table of them by name
+unfoldable pub roster_of : List (List ℕ) → Members → Reading RosterShape
+roster_of roles file = do
+  users ← users_in file
   each next_user (record { users = []; roles = roles; members = set.empty }) (entries users)
 
 -- some user holds the role

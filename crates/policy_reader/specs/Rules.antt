@@ -1,15 +1,17 @@
 -- The rules of a workflow in a policy file. Their faults carry the workflow's number.
-use Rattle.std.specs.Prelude.{codes, ℕ, Bool, true, false, nat_eq, List, [], ◌∷◌, ◌++◌, length, slice_set, None, Some, if◌then◌else◌, Ok, Err}
-use Rattle.std.specs.Cmp.Lexicographic.{pointwise}
-use Rattle.toml.specs.Data.{Data, string, Members, get_member}
+use Rattle.std.specs.Prelude.{codes, ℕ, Bool, true, List, [], ◌∷◌, ◌++◌, length, slice_set, None, Some, option_and_then, Ok}
+use Rattle.toml.specs.Data.{Data, Members, get_member, as_str}
 use Rattle.wf_names.specs.declared.limits.TheConstants.{RULE_LIMIT}
 use Rattle.user_relations.specs.Relations.{RelationShape, known_names}
 use Rattle.constraint_forms.specs.Assigned.{is_member, no_steps}
 use Rattle.constraint_forms.specs.declared.rule.Rule.{Rule}
 use Rattle.constraint_forms.specs.declared.rule.Rule.TheVariants as rule
-use Rattle.first_fault.specs.Reading.{◌>>=◌, each}
+use Rattle.first_fault.specs.Reading.{◌>>=◌, or_fault, each}
 use Rattle.policy_reader.specs.declared.fault.PolicyPart.TheVariants.{Flows}
 use Rattle.policy_reader.specs.declared.fault.PolicyKind.TheVariants as kind
+use Rattle.policy_reader.specs.declared.form.Form.{Form}
+use Rattle.policy_reader.specs.declared.form.Form.TheVariants as form
+use Rattle.policy_reader.specs.Forms.{form_of_word}
 use Rattle.policy_reader.specs.Faults.{Reading, fault}
 use Rattle.policy_reader.specs.Parts.{items, value_at, text_in, array_in, table_in, at_most, at_least_one, number_in, once, no_others}
 
@@ -52,14 +54,9 @@ pair_in f relations steps ms = do
   t ← step_in f steps second
   Ok (rule.Pair rho s t)
 
--- a rule over every step of a group, or over some step of it
-abbrev pub group_rule : Bool → ℕ → List Bool → ℕ → Rule
-group_rule true rho group step = rule.AllOf rho group step
-group_rule false rho group step = rule.SomeOf rho group step
-
--- a rule over a group of steps and a step
-unfoldable pub grouped_in : Bool → ℕ → List RelationShape → List (List ℕ) → Members → Reading Rule
-grouped_in every f relations steps ms = do
+-- a relation, a group of steps and a step
+unfoldable pub grouped_in : ℕ → List RelationShape → List (List ℕ) → Members → Reading (ℕ × (List Bool × ℕ))
+grouped_in f relations steps ms = do
   relation ← value_at Flows f (codes "relation") ms
   group ← value_at Flows f (codes "group") ms
   step ← value_at Flows f (codes "step") ms
@@ -67,22 +64,25 @@ grouped_in every f relations steps ms = do
   rho ← relation_in f relations relation
   s ← step_in f steps step
   members ← group_in f steps group
-  Ok (group_rule every rho members s)
+  Ok (rho, (members, s))
 
--- the value is this text
-abbrev pub is_text : List ℕ → Data → Bool
-is_text text (string s) = pointwise nat_eq s text
-is_text text _ = false
+-- the rule of a form
+unfoldable pub rule_of_form : Form → ℕ → List RelationShape → List (List ℕ) → Members → Reading Rule
+rule_of_form form.Pair f relations steps ms = pair_in f relations steps ms
+rule_of_form form.SomeOf f relations steps ms = grouped_in f relations steps ms >>= (λ g. Ok (rule.SomeOf g.0 g.1.0 g.1.1))
+rule_of_form form.AllOf f relations steps ms = grouped_in f relations steps ms >>= (λ g. Ok (rule.AllOf g.0 g.1.0 g.1.1))
+
+-- the form that a value names
+unfoldable pub form_in : ℕ → Data → Reading Form
+form_in f d = or_fault (option_and_then form_of_word (as_str d)) (fault kind.Form Flows f)
 
 -- the rule in a table, by its form
 unfoldable pub rule_in : ℕ → List RelationShape → List (List ℕ) → Data → Reading Rule
 rule_in f relations steps d = do
   ms ← table_in Flows f d
-  form ← value_at Flows f (codes "form") ms
-  if is_text (codes "pair") form then pair_in f relations steps ms
-      else if is_text (codes "some") form then grouped_in false f relations steps ms
-      else if is_text (codes "all") form then grouped_in true f relations steps ms
-      else Err (fault kind.Form Flows f)
+  value ← value_at Flows f (codes "form") ms
+  form ← form_in f value
+  rule_of_form form f relations steps ms
 
 -- the next rule
 unfoldable pub next_rule : ℕ → List RelationShape → List (List ℕ) → List Rule → Data → Reading (List Rule)

@@ -1,11 +1,13 @@
 //! Reads a policy file.
-ghost use Rattle.std.specs.Prelude.{◌≡◌, Bool, true, [], length, Option, option_map, IfOk, IfErr, MatchResult, Some, None};
+ghost use Rattle.std.specs.Prelude.{◌≡◌, ◌<◌, ◌≤◌, Bool, true, [], length, Option, option_map, IfOk, OnOk, IfErr, MatchResult, Some, None};
 ghost use Rattle.std.specs.List.{list_any};
 ghost use Rattle.toml.specs.View.{table_view};
 ghost use Rattle.policy_reader.specs.declared.fault.ReadFault.TheVariants.{NoMemory};
 ghost use Rattle.policy_reader.specs.Faults.{fault_of};
 ghost use Rattle.policy_reader.specs.Files as spec;
+ghost use Rattle.policy_reader.specs.Printable.{Ascend, IsBegun, IsPrintable};
 ghost use Rattle.policy_reader.specs.Rosters.{is_held};
+ghost use Rattle.wf_names.specs.declared.limits.TheConstants.{ROLE_LIMIT};
 ghost use Rattle.first_fault.specs.Reading.{Gives};
 
 use crate::fault::{PolicyKind, PolicyPart, ReadFault, refuse};
@@ -17,12 +19,13 @@ use policy_book::Policy;
 use rbac_state::Roster;
 use std::alloc::Global;
 use toml::value::Table;
-use wf_names::{Name, RoleId, UserId};
+use wf_names::{Name, NameTable, RoleId, UserId};
 
 /// Reads the policy in the bytes of a TOML file, or tells their first fault.
 #[tactic(auto, unfolding(crate::specs::Files::policy_of_file))]
 pub fn read(alloc: Global, bytes: &[u8]) -> Result<Policy, ReadFault>
-    ensures { Gives fault_of (λ p. p) result (spec.policy_of_file bytes.now) }
+    ensures policy { Gives fault_of (λ p. p) result (spec.policy_of_file bytes.now) }
+    ensures printable { IfOk result IsPrintable }
 {
     let file = document_of(alloc, bytes)?;
     policy_in(alloc, &file)
@@ -57,35 +60,84 @@ fn document_of_text(alloc: Global, text: &str) -> Result<Table, ReadFault>
 /// Reads the policy in a document.
 #[tactic(auto, unfolding(crate::specs::Files::policy_in))]
 fn policy_in(alloc: Global, file: &Table) -> Result<Policy, ReadFault>
-    ensures { Gives fault_of (λ p. p) result (spec.policy_in (table_view file.now)) }
+    ensures read { Gives fault_of (λ p. p) result (spec.policy_in (table_view file.now)) }
+    ensures printable { IfOk result IsPrintable }
 {
     let mut policy = read_start(alloc, file)?;
-    if let Err(fault) = read_flows(alloc, &mut policy, file) {
+    match read_rest(alloc, &mut policy, file) {
+        Ok(()) => Ok(policy),
+        Err(fault) => Err(fault),
+    }
+}
+
+/// Reads the workflows, after which there is no other key.
+#[tactic(auto, unfolding(crate::specs::Files::rest_of))]
+fn read_rest(alloc: Global, policy: &mut Policy, file: &Table) -> Result<(), ReadFault>
+    requires none { policy.old.flow_names ≡ [] }
+    requires bare { policy.old.flows ≡ [] }
+    requires begun { IsBegun policy.old }
+    ensures read { Gives fault_of (λ _. policy.new) result (spec.rest_of policy.old (table_view file.now)) }
+    ensures printable { OnOk result (IsPrintable policy.new) }
+{
+    if let Err(fault) = read_flows(alloc, policy, file) {
         return Err(fault);
     }
-    match no_others(
+    no_others(
         file,
         &["admin", "flows", "format", "relations", "roles", "users"],
         PolicyPart::File,
         0,
-    ) {
-        Ok(()) => Ok(policy),
-        Err(fault) => Err(fault),
-    }
+    )
 }
 
 /// Reads what a document says before its workflows.
 #[tactic(auto, unfolding(crate::specs::Files::start_of))]
 fn read_start(alloc: Global, file: &Table) -> Result<Policy, ReadFault>
     ensures read { Gives fault_of (λ p. p) result (spec.start_of (table_view file.now)) }
-    ensures bare { IfOk result (λ p. p.flow_names ≡ []) }
+    ensures none { IfOk result (λ p. p.flow_names ≡ []) }
+    ensures bare { IfOk result (λ p. p.flows ≡ []) }
+    ensures begun { IfOk result IsBegun }
 {
     read_format(file)?;
     let name = read_admin(file)?;
     let roles = read_roles(alloc, file)?;
+    start_with(alloc, roles, &name, file)
+}
+
+/// Reads the rest of it, with these roles and this name of the admin role.
+#[tactic(auto, unfolding(crate::specs::Files::start_with))]
+fn start_with(
+    alloc: Global,
+    roles: NameTable,
+    name: &Name,
+    file: &Table,
+) -> Result<Policy, ReadFault>
+    requires few { length roles.names ≤ ROLE_LIMIT }
+    ensures read { Gives fault_of (λ p. p) result (spec.start_with roles.names name.now (table_view file.now)) }
+    ensures none { IfOk result (λ p. p.flow_names ≡ []) }
+    ensures bare { IfOk result (λ p. p.flows ≡ []) }
+    ensures begun { IfOk result IsBegun }
+{
     let admin = number_of(&roles, name.as_str(), PolicyPart::File, 0)?;
     let roster = read_roster(alloc, roles, file)?;
-    let admin = RoleId(admin as u8);
+    start_over(alloc, roster, RoleId(admin as u8), file)
+}
+
+/// Begins a policy over a roster.
+#[tactic(auto, unfolding(crate::specs::Files::start_over))]
+fn start_over(
+    alloc: Global,
+    roster: Roster,
+    admin: RoleId,
+    file: &Table,
+) -> Result<Policy, ReadFault>
+    requires within { admin < length roster.roles }
+    requires ascend { Ascend roster.users }
+    ensures read { Gives fault_of (λ p. p) result (spec.start_over roster admin (table_view file.now)) }
+    ensures none { IfOk result (λ p. p.flow_names ≡ []) }
+    ensures bare { IfOk result (λ p. p.flows ≡ []) }
+    ensures begun { IfOk result IsBegun }
+{
     if !is_held(&roster, admin) {
         return Err(refuse(PolicyKind::NoAdmin, PolicyPart::Users, 0));
     }

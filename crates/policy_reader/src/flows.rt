@@ -1,9 +1,13 @@
 //! Reads the workflows of a policy file. Their faults carry the workflow's number.
-ghost use Rattle.std.specs.Prelude.{◌≡◌, ◌<◌, ◌≤◌, ◌++◌, ◌∷◌, [], length, is_some, IfOk, OnOk, false};
+ghost use Rattle.std.specs.Prelude.{◌≡◌, ◌<◌, ◌≤◌, ◌++◌, ◌∷◌, [], length, is_some, IfOk, OnOk, false, true};
 ghost use Rattle.toml.specs.View.{view, table_view};
-ghost use Rattle.wf_names.specs.declared.limits.TheConstants.{FLOW_LIMIT, RULE_LIMIT};
+ghost use Rattle.wf_names.specs.declared.limits.TheConstants.{FLOW_LIMIT, ROLE_LIMIT, RULE_LIMIT};
 ghost use Rattle.wf_names.specs.Table.{place_of};
-ghost use Rattle.policy_book.specs.Facts.{AreSoundRules, PermitsRolesBelow};
+ghost use Rattle.policy_book.specs.Facts.{PermitsRolesBelow};
+ghost use Rattle.std.specs.FinSet as set;
+ghost use Rattle.workflow_schema.specs.Flows.{is_count};
+ghost use Rattle.policy_reader.specs.Kept.{IsGrown};
+ghost use Rattle.policy_reader.specs.Printable.{IsBegun, IsPrintable};
 ghost use Rattle.policy_reader.specs.Faults.{fault_of};
 ghost use Rattle.policy_reader.specs.Parts.{entries};
 ghost use Rattle.policy_reader.specs.Flows as spec;
@@ -17,10 +21,44 @@ use policy_book::Policy;
 use std::alloc::Global;
 use toml::Value;
 use toml::value::Table;
-use wf_names::{FLOW_LIMIT, Name, NameFault};
+use wf_names::{FLOW_LIMIT, Name, NameFault, NameTable};
+use workflow_schema::Flow;
+
+/// Reads the steps of a workflow, their order and who may perform them.
+#[tactic(auto, unfolding(crate::specs::Flows::flow_in))]
+fn flow_of(alloc: Global, roles: &NameTable, table: &Table, number: u32) -> Result<Flow, ReadFault>
+    requires few { length roles.now.names ≤ ROLE_LIMIT }
+    ensures read { Gives fault_of (λ f. f) result (spec.flow_in number roles.now.names (table_view table.now)) }
+    ensures roles { IfOk result (PermitsRolesBelow (length roles.now.names)) }
+    ensures counted { IfOk result (λ f. is_count (length f.steps) ≡ true) }
+{
+    let steps = read_steps(alloc, table, number)?;
+    let mut made = ordered_flow(alloc, &steps, table, number)?;
+    match read_permits(&mut made, roles, table, number) {
+        Ok(()) => Ok(made),
+        Err(fault) => Err(fault),
+    }
+}
+
+/// Reads the order of a workflow of these steps, which permits nothing yet.
+#[tactic(auto, unfolding(crate::specs::Flows::ordered_in))]
+fn ordered_flow(
+    alloc: Global,
+    steps: &NameTable,
+    table: &Table,
+    number: u32,
+) -> Result<Flow, ReadFault>
+    requires counted { is_count (length steps.now.names) ≡ true }
+    ensures read { Gives fault_of (λ f. f) result (spec.ordered_in number steps.now.names (table_view table.now)) }
+    ensures bare { IfOk result (λ f. f.permits ≡ set.empty) }
+    ensures steps { IfOk result (λ f. f.steps ≡ steps.now.names) }
+{
+    let order = read_order(alloc, steps, table, number)?;
+    make_flow(alloc, steps, &order, number)
+}
 
 /// Reads the workflow in a table and adds it under its name.
-#[tactic(auto, unfolding(crate::specs::Flows::workflow_in), using(crate::proofs::Counts::few_steps, crate::proofs::Permitted::none_permitted))]
+#[tactic(auto, unfolding(crate::specs::Flows::workflow_in), using(crate::proofs::Counts::few_steps, crate::proofs::Grown::grown_push))]
 fn add_workflow(
     alloc: Global,
     policy: &mut Policy,
@@ -31,6 +69,7 @@ fn add_workflow(
     requires room { length policy.old.flows < FLOW_LIMIT }
     ensures read { Gives fault_of (λ _. policy.new) result (spec.with_workflow policy.old name (spec.workflow_in policy.old (table_view table.now))) }
     ensures names { OnOk result (policy.new.flow_names ≡ policy.old.flow_names ++ name ∷ []) }
+    ensures grown { OnOk result (IsGrown policy.old policy.new) }
 {
     let number = policy.flows().len() as u32;
     no_others(
@@ -39,13 +78,8 @@ fn add_workflow(
         PolicyPart::Flows,
         number,
     )?;
-    let steps = read_steps(alloc, table, number)?;
-    let order = read_order(alloc, &steps, table, number)?;
-    let mut made = make_flow(alloc, &steps, &order, number)?;
-    if let Err(fault) = read_permits(&mut made, policy.roster().roles(), table, number) {
-        return Err(fault);
-    }
-    let rules = read_rules(alloc, table, policy.relations(), &steps, number)?;
+    let made = flow_of(alloc, policy.roster().roles(), table, number)?;
+    let rules = read_rules(alloc, table, policy.relations(), made.steps(), number)?;
     match policy.add_flow(name, made, rules) {
         Ok(_) => Ok(()),
         Err(NameFault::NoMemory) => Err(ReadFault::NoMemory),
@@ -60,6 +94,7 @@ fn next_flow(alloc: Global, policy: &mut Policy, key: &str, value: &Value) -> Re
     requires room { length policy.old.flow_names < FLOW_LIMIT }
     ensures read { Gives fault_of (λ _. policy.new) result (spec.next_flow policy.old (key.now, view value.now)) }
     ensures names { OnOk result (policy.new.flow_names ≡ policy.old.flow_names ++ key.now ∷ []) }
+    ensures grown { OnOk result (IsGrown policy.old policy.new) }
 {
     let number = policy.flows().len() as u32;
     let name = name_of(key, PolicyPart::Flows, number)?;
@@ -70,7 +105,11 @@ fn next_flow(alloc: Global, policy: &mut Policy, key: &str, value: &Value) -> Re
 fn all_flows(alloc: Global, policy: &mut Policy, flows: &Table) -> Result<(), ReadFault>
     requires none { policy.old.flow_names ≡ [] }
     requires room { length flows.now.entries ≤ FLOW_LIMIT }
+    requires some { 0 < length flows.now.entries }
+    requires bare { policy.old.flows ≡ [] }
+    requires begun { IsBegun policy.old }
     ensures read { Gives fault_of (λ _. policy.new) result (each spec.next_flow policy.old (entries (table_view flows.now))) }
+    ensures printable { OnOk result (IsPrintable policy.new) }
 {
     'entries: for (key, value) in flows {
         if let Err(fault) = next_flow(alloc, policy, key.as_str(), value) {
@@ -84,7 +123,10 @@ fn all_flows(alloc: Global, policy: &mut Policy, flows: &Table) -> Result<(), Re
 #[tactic(auto, unfolding(crate::specs::Flows::flows_of), using(crate::proofs::Counts::count_entries))]
 pub(crate) fn read_flows(alloc: Global, policy: &mut Policy, file: &Table) -> Result<(), ReadFault>
     requires none { policy.old.flow_names ≡ [] }
+    requires bare { policy.old.flows ≡ [] }
+    requires begun { IsBegun policy.old }
     ensures read { Gives fault_of (λ _. policy.new) result (spec.flows_of policy.old (table_view file.now)) }
+    ensures printable { OnOk result (IsPrintable policy.new) }
 {
     let value = value_at(file, "flows", PolicyPart::Flows, 0)?;
     let flows = table_of(value, PolicyPart::Flows, 0)?;

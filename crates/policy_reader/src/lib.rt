@@ -4,21 +4,16 @@
 mod fault;
 mod file;
 mod flows;
+mod form;
 mod parts;
 mod relations;
 mod rosters;
 mod rules;
 mod workflows;
-mod written;
-mod written_flows;
-mod written_parts;
-mod written_rosters;
 
 pub use fault::{PolicyFault, PolicyKind, PolicyPart, ReadFault};
 pub use file::read;
-pub use written::print;
+pub use form::Form;
 
 #[cfg(test)]
 mod tests;
-#[cfg(test)]
-mod written_tests;

@@ -6,7 +6,8 @@ ghost use Rattle.toml.specs.Data.{Data, get_member};
 ghost use Rattle.std.specs.FinSet as set;
 ghost use Rattle.pair_set.specs.Pairs.{pair_cmp};
 ghost use Rattle.policy_reader.specs.declared.fault.ReadFault.TheVariants.{NoMemory};
-ghost use Rattle.policy_reader.specs.Bounds.{AreBelow, put_all};
+ghost use Rattle.std.specs.List.{IsDistinct};
+ghost use Rattle.policy_reader.specs.Bounds.{AreBelow, is_same_pair};
 ghost use Rattle.policy_reader.specs.Faults.{fault_of};
 ghost use Rattle.policy_reader.specs.Parts as parts;
 ghost use Rattle.first_fault.specs.Reading.{Gives, each};
@@ -248,25 +249,14 @@ pub(crate) fn read_pairs(
     Ok(set_of(alloc, seen.as_slice())?)
 }
 
-/// The set of some pairs.
+/// The set of some distinct pairs.
 fn set_of(alloc: Global, pairs: &[(u16, u16)]) -> Result<PairSet, AllocError>
+    requires { IsDistinct is_same_pair pairs.now }
     ensures { IfOk result (λ s. s ≡ set.from_list pairs.now) }
 {
     let mut sorted = Vec::from_slice(alloc, pairs)?;
     sorted.sort_unstable();
-    put_all(alloc, &sorted)
-}
-
-fn put_all(alloc: Global, pairs: &[(u16, u16)]) -> Result<PairSet, AllocError>
-    ensures { IfOk result (λ s. s ≡ put_all set.empty pairs.now) }
-{
-    let mut own = PairSet::new(alloc);
-    'pairs: for pair in pairs {
-        if own.insert(pair.0, pair.1).is_err() {
-            return Err(AllocError);
-        }
-    }
-    Ok(own)
+    Ok(PairSet::from_sorted(sorted))
 }
 
 /// Refuses the least key that is not one of the known ones.

@@ -4,14 +4,18 @@ ghost use Rattle.std.specs.FinSet as set;
 ghost use Rattle.toml.specs.View.{view, table_view};
 ghost use Rattle.wf_names.specs.declared.limits.TheConstants.{PAIR_LIMIT, RELATION_LIMIT, USER_LIMIT};
 ghost use Rattle.wf_names.specs.Table.{place_of};
-ghost use Rattle.user_relations.specs.Relations.{known_names, listed, complement};
+ghost use Rattle.user_relations.specs.Relations.{listed, complement};
 ghost use Rattle.policy_book.specs.Facts.{AreOfUsers};
 ghost use Rattle.policy_reader.specs.Bounds.{AreBelow};
-ghost use Rattle.policy_reader.specs.Drafts.{kind_view, completed, is_marked, IsTarget, IsKept, IsDraft, IsReady};
+ghost use Rattle.policy_reader.specs.Kinds.{is_marked, IsTarget, IsKept, AreKept};
+ghost use Rattle.policy_reader.specs.Printable.{Ascend};
+ghost use Rattle.user_relations.specs.Soundness.{AreSound};
+ghost use Rattle.user_relations.specs.View.{kind_view, shapes};
 ghost use Rattle.policy_reader.specs.Faults.{fault_of};
+ghost use Rattle.policy_reader.specs.Parts as parts;
 ghost use Rattle.policy_reader.specs.Parts.{entries};
 ghost use Rattle.policy_reader.specs.Relations as spec;
-ghost use Rattle.policy_reader.specs.Relations.{first_declared};
+ghost use Rattle.policy_reader.specs.Relations.{first_declared, names_of};
 ghost use Rattle.policy_reader.specs.declared.fault.ReadFault.TheVariants.{NoMemory};
 ghost use Rattle.first_fault.specs.Reading.{Gives, each};
 
@@ -21,16 +25,8 @@ use pair_set::PairSet;
 use std::alloc::Global;
 use toml::Value;
 use toml::value::Table;
-use user_relations::Relations;
-use wf_names::{Name, NameFault, NameTable, PAIR_LIMIT, RELATION_LIMIT, RelId};
-
-/// What a relation is, as the file says it.
-#[derive(Drop)]
-pub(crate) enum Kind {
-    Listed(PairSet),
-    /// The complement of the relation with this number.
-    Complement(RelId),
-}
+use user_relations::{Kind, Relation, Relations};
+use wf_names::{Name, NameTable, PAIR_LIMIT, RELATION_LIMIT, RelId};
 
 /// Reads the pairs of a listed relation.
 #[tactic(auto, unfolding(crate::specs::Relations::listed_in), using(crate::proofs::Counts::count_items))]
@@ -104,7 +100,7 @@ fn kind_of(
 ) -> Result<Kind, ReadFault>
     requires few { length all.now.entries ≤ RELATION_LIMIT }
     ensures read { Gives fault_of kind_view result (spec.kind_in users.now.names (table_view all.now) number (table_view table.now)) }
-    ensures kept { IfOk result (IsKept (length users.now.names) (entries (table_view all.now)) (spec.is_complement_table (table_view table.now))) }
+    ensures kept { IfOk result (λ k. IsKept (length users.now.names) (entries (table_view all.now)) (spec.is_complement_table (table_view table.now)) (kind_view k)) }
 {
     if table.len() != 1 {
         return Err(refuse(PolicyKind::Shape, PolicyPart::Relations, number));
@@ -125,116 +121,68 @@ fn is_built_in(text: &str) -> bool
     is_among(&["same", "other"], text)
 }
 
-/// Declares the next relation; a complement waits until all are declared.
-#[tactic(auto, using(crate::proofs::Drafts::names_push, crate::proofs::Drafts::completed_push))]
-fn declare(
-    relations: &mut Relations,
-    waiting: &mut Vec<(RelId, RelId)>,
-    name: Name,
-    kind: Kind,
-    users: &NameTable,
-    all: &Table,
-) -> Result<(), ReadFault>
-    requires users { length users.now.names ≤ USER_LIMIT }
-    requires fresh { is_some (place_of (known_names relations.old) name) ≡ false }
-    requires room { length relations.old < RELATION_LIMIT }
-    requires draft { IsDraft (length users.now.names) (entries (table_view all.now)) relations.old waiting.old.items }
-    requires kept { IsKept (length users.now.names) (entries (table_view all.now)) (is_marked first_declared (entries (table_view all.now)) (first_declared + length relations.old)) kind }
-    ensures added { OnOk result (completed relations.new waiting.new.items ≡ completed relations.old waiting.old.items ++ record { name = name; kind = kind_view kind } ∷ []) }
-    ensures names { OnOk result (map (λ r. r.name) relations.new ≡ map (λ r. r.name) relations.old ++ name ∷ []) }
-    ensures draft { OnOk result (IsDraft (length users.now.names) (entries (table_view all.now)) relations.new waiting.new.items) }
+fn push_relation(relations: &mut Vec<Relation>, name: Name, kind: Kind) -> Result<(), ReadFault>
+    ensures added { OnOk result (shapes relations.new.items ≡ shapes relations.old.items ++ record { name = name; kind = kind_view kind } ∷ []) }
     ensures memory { IfErr result (λ e. e ≡ NoMemory) }
 {
-    match kind {
-        Kind::Listed(pairs) => match relations.add_pairs(name, pairs) {
-            Ok(_) => Ok(()),
-            Err(NameFault::NoMemory) => Err(ReadFault::NoMemory),
-            Err(_) => unreachable!(),
-        },
-        Kind::Complement(other) => match relations.add_listed(name) {
-            Ok(rho) => wait(waiting, rho, other),
-            Err(NameFault::NoMemory) => Err(ReadFault::NoMemory),
-            Err(_) => unreachable!(),
-        },
-    }
-}
-
-fn wait(waiting: &mut Vec<(RelId, RelId)>, rho: RelId, other: RelId) -> Result<(), ReadFault>
-    ensures ok { OnOk result (waiting.new.items ≡ waiting.old.items ++ (rho, other) ∷ []) }
-    ensures memory { IfErr result (λ e. e ≡ NoMemory) }
-{
-    match waiting.push((rho, other)) {
+    match relations.push(Relation { name, kind }) {
         Ok(()) => Ok(()),
         Err(_) => Err(ReadFault::NoMemory),
     }
 }
 
-/// Reads the next relation. A complement is declared as a listed relation and waits.
-#[tactic(auto, unfolding(crate::specs::Relations::next_relation), using(crate::proofs::Drafts::completed_length))]
+/// Reads the next relation.
+#[tactic(auto, unfolding(crate::specs::Relations::next_relation), using(crate::proofs::Relating::names_push))]
 fn next_relation(
     alloc: Global,
     users: &NameTable,
     all: &Table,
-    relations: &mut Relations,
-    waiting: &mut Vec<(RelId, RelId)>,
+    relations: &mut Vec<Relation>,
     key: &str,
     value: &Value,
 ) -> Result<(), ReadFault>
-    requires users { length users.now.names ≤ USER_LIMIT }
     requires few { length all.now.entries ≤ RELATION_LIMIT }
-    requires new { is_some (place_of (map (λ r. r.name) relations.old) key.now) ≡ false }
-    requires room { length relations.old < RELATION_LIMIT }
-    requires draft { IsDraft (length users.now.names) (entries (table_view all.now)) relations.old waiting.old.items }
-    requires here { is_marked first_declared (entries (table_view all.now)) (first_declared + length relations.old) ≡ spec.is_complement (view value.now) }
-    ensures read { Gives fault_of (λ _. completed relations.new waiting.new.items) result (spec.next_relation users.now.names (table_view all.now) (completed relations.old waiting.old.items) (key.now, view value.now)) }
-    ensures names { OnOk result (map (λ r. r.name) relations.new ≡ map (λ r. r.name) relations.old ++ key.now ∷ []) }
-    ensures draft { OnOk result (IsDraft (length users.now.names) (entries (table_view all.now)) relations.new waiting.new.items) }
+    requires room { length (shapes relations.old.items) < RELATION_LIMIT }
+    requires new { parts.is_among (names_of (shapes relations.old.items)) key.now ≡ false }
+    requires kept { AreKept (length users.now.names) (entries (table_view all.now)) (shapes relations.old.items) }
+    requires here { is_marked first_declared (entries (table_view all.now)) (first_declared + length (shapes relations.old.items)) ≡ spec.is_complement (view value.now) }
+    ensures read { Gives fault_of (λ _. shapes relations.new.items) result (spec.next_relation users.now.names (table_view all.now) (shapes relations.old.items) (key.now, view value.now)) }
+    ensures names { OnOk result (names_of (shapes relations.new.items) ≡ names_of (shapes relations.old.items) ++ key.now ∷ []) }
+    ensures kept { OnOk result (AreKept (length users.now.names) (entries (table_view all.now)) (shapes relations.new.items)) }
 {
-    let number = relations.count() as u32 + 2;
+    let number = relations.len() as u32 + 2;
     let name = name_of(key, PolicyPart::Relations, number)?;
     if is_built_in(key) {
         return Err(refuse_text(PolicyKind::Reserved, PolicyPart::Relations, number, key));
     }
     let table = table_of(value, PolicyPart::Relations, number)?;
     match kind_of(alloc, users, all, number, table) {
-        Ok(kind) => declare(relations, waiting, name, kind, users, all),
+        Ok(kind) => push_relation(relations, name, kind),
         Err(fault) => Err(fault),
     }
 }
 
-/// Makes each that waits a complement.
-fn complete(relations: &mut Relations, waiting: &[(RelId, RelId)])
-    requires ready { (marks : ℕ → Bool) × (bound : ℕ) × IsReady marks bound relations.old waiting.now }
-    ensures { relations.new ≡ completed relations.old waiting.now }
-{
-    'pairs: for pair in waiting {
-        relations.make_complement(pair.0, pair.1);
-    }
-}
-
-fn all_relations(alloc: Global, users: &NameTable, all: &Table) -> Result<Relations, ReadFault>
+/// Reads the relations into an empty list.
+fn all_relations(
+    alloc: Global,
+    users: &NameTable,
+    all: &Table,
+    relations: &mut Vec<Relation>,
+) -> Result<(), ReadFault>
+    requires none { relations.old.items ≡ [] }
     requires users { length users.now.names ≤ USER_LIMIT }
     requires few { length all.now.entries ≤ RELATION_LIMIT }
-    ensures read { Gives fault_of (λ r. r) result (each (spec.next_relation users.now.names (table_view all.now)) [] (entries (table_view all.now))) }
-    ensures related { IfOk result (AreOfUsers (length users.now.names)) }
+    ensures read { Gives fault_of (λ _. shapes relations.new.items) result (each (spec.next_relation users.now.names (table_view all.now)) [] (entries (table_view all.now))) }
+    ensures sound { OnOk result (AreSound (shapes relations.new.items)) }
+    ensures related { OnOk result (AreOfUsers (length users.now.names) (shapes relations.new.items)) }
+    ensures ascend { OnOk result (Ascend (names_of (shapes relations.new.items))) }
 {
-    let mut relations = Relations::new(alloc)?;
-    let mut waiting = Vec::new(alloc);
     'entries: for (key, value) in all {
-        if let Err(fault) = next_relation(
-            alloc,
-            users,
-            all,
-            &mut relations,
-            &mut waiting,
-            key.as_str(),
-            value,
-        ) {
+        if let Err(fault) = next_relation(alloc, users, all, relations, key.as_str(), value) {
             return Err(fault);
         }
     }
-    complete(&mut relations, &waiting);
-    Ok(relations)
+    Ok(())
 }
 
 #[tactic(auto, unfolding(crate::specs::Relations::relations_in), using(crate::proofs::Counts::count_entries))]
@@ -242,14 +190,19 @@ fn relations_in(alloc: Global, users: &NameTable, value: &Value) -> Result<Relat
     requires users { length users.now.names ≤ USER_LIMIT }
     ensures read { Gives fault_of (λ r. r) result (spec.relations_in users.now.names (view value.now)) }
     ensures related { IfOk result (AreOfUsers (length users.now.names)) }
+    ensures ascend { IfOk result (λ r. Ascend (names_of r)) }
 {
     let all = table_of(value, PolicyPart::Relations, 0)?;
     at_most(RELATION_LIMIT as usize, all.len(), PolicyPart::Relations, 0)?;
-    all_relations(alloc, users, all)
+    let mut relations = Vec::new(alloc);
+    match all_relations(alloc, users, all, &mut relations) {
+        Ok(()) => Ok(Relations::build(relations)?),
+        Err(fault) => Err(fault),
+    }
 }
 
 /// Reads the relations of a policy file.
-#[tactic(auto, unfolding(crate::specs::Relations::relations_of), using(crate::proofs::Drafts::related_none))]
+#[tactic(auto, unfolding(crate::specs::Relations::relations_of), using(crate::proofs::Relating::related_none, crate::proofs::Relating::ascend_none))]
 pub(crate) fn read_relations(
     alloc: Global,
     users: &NameTable,
@@ -258,6 +211,7 @@ pub(crate) fn read_relations(
     requires users { length users.now.names ≤ USER_LIMIT }
     ensures read { Gives fault_of (λ r. r) result (spec.relations_of users.now.names (table_view file.now)) }
     ensures related { IfOk result (AreOfUsers (length users.now.names)) }
+    ensures ascend { IfOk result (λ r. Ascend (names_of r)) }
 {
     match find(file, "relations") {
         Some(value) => relations_in(alloc, users, value),

@@ -5,6 +5,7 @@ ghost use Rattle.wf_names.specs.declared.limits.TheConstants.{ROLE_LIMIT, USER_L
 ghost use Rattle.wf_names.specs.Table.{place_of};
 ghost use Rattle.policy_reader.specs.Faults.{fault_of};
 ghost use Rattle.policy_reader.specs.Parts.{items as part_items, entries};
+ghost use Rattle.policy_reader.specs.Printable.{Ascend};
 ghost use Rattle.policy_reader.specs.Rosters as rosters;
 ghost use Rattle.first_fault.specs.Reading.{Gives, each};
 
@@ -114,8 +115,21 @@ fn next_user(roster: &mut Roster, key: &str, value: &Value) -> Result<(), ReadFa
     }
 }
 
+/// The table of the users.
+#[tactic(auto, unfolding(crate::specs::Rosters::users_in), using(crate::proofs::Counts::count_entries))]
+fn users_of(file: &Table) -> Result<&Table, ReadFault>
+    ensures read { Gives fault_of (λ t. table_view t.now) result (rosters.users_in (table_view file.now)) }
+    ensures few { IfOk result (λ t. length t.now.entries ≤ USER_LIMIT) }
+{
+    let value = value_at(file, "users", PolicyPart::Users, 0)?;
+    let users = table_of(value, PolicyPart::Users, 0)?;
+    at_least_one(users.len(), PolicyPart::Users, 0)?;
+    at_most(USER_LIMIT as usize, users.len(), PolicyPart::Users, 0)?;
+    Ok(users)
+}
+
 /// Reads the users and the roles that they hold.
-#[tactic(auto, unfolding(crate::specs::Rosters::roster_of), using(crate::proofs::Counts::count_entries))]
+#[tactic(auto, unfolding(crate::specs::Rosters::roster_of))]
 pub(crate) fn read_roster(
     alloc: Global,
     roles: NameTable,
@@ -124,14 +138,14 @@ pub(crate) fn read_roster(
     requires roles { length roles.names ≤ ROLE_LIMIT }
     ensures read { Gives fault_of (λ r. r) result (rosters.roster_of roles.names (table_view file.now)) }
     ensures roles { IfOk result (λ r. r.roles ≡ roles.names) }
+    ensures ascend { IfOk result (λ r. Ascend r.users) }
 {
-    let value = value_at(file, "users", PolicyPart::Users, 0)?;
-    let users = table_of(value, PolicyPart::Users, 0)?;
-    at_least_one(users.len(), PolicyPart::Users, 0)?;
-    at_most(USER_LIMIT as usize, users.len(), PolicyPart::Users, 0)?;
+    let users = users_of(file)?;
     let mut roster = Roster::new(alloc, roles)?;
-    all_users(&mut roster, users)?;
-    Ok(roster)
+    match all_users(&mut roster, users) {
+        Ok(()) => Ok(roster),
+        Err(fault) => Err(fault),
+    }
 }
 
 fn all_users(roster: &mut Roster, users: &Table) -> Result<(), ReadFault>
@@ -139,6 +153,7 @@ fn all_users(roster: &mut Roster, users: &Table) -> Result<(), ReadFault>
     requires room { length users.now.entries ≤ USER_LIMIT }
     ensures read { Gives fault_of (λ _. roster.new) result (each rosters.next_user roster.old (entries (table_view users.now))) }
     ensures roles { OnOk result (roster.new.roles ≡ roster.old.roles) }
+    ensures ascend { OnOk result (Ascend roster.new.users) }
 {
     'entries: for (key, value) in users {
         if let Err(fault) = next_user(roster, key.as_str(), value) {

@@ -13,6 +13,7 @@ ghost use Rattle.policy_reader.specs.Rules as spec;
 ghost use Rattle.first_fault.specs.Reading.{Gives, each};
 
 use crate::fault::{PolicyKind, PolicyPart, ReadFault, refuse, refuse_text};
+use crate::form::Form;
 use crate::parts::{
     array_of, at_least_one, at_most, find, no_others, number_of, table_of, text_of, value_at,
 };
@@ -131,18 +132,28 @@ fn pair_of(
     Ok(Rule::Pair { rho, first, second })
 }
 
-/// The rule over a group of steps and a step in a table.
+/// What a rule over a group of steps has.
+#[derive(Clone, Copy)]
+struct Grouped {
+    rho: RelId,
+    group: StepSet,
+    step: StepId,
+}
+
+/// The relation, the group of steps and the step in a table.
 #[tactic(auto, unfolding(crate::specs::Rules::grouped_in))]
 fn grouped_of(
-    every: bool,
     table: &Table,
     relations: &Relations,
     steps: &NameTable,
     flow: u32,
-) -> Result<Rule, ReadFault>
+) -> Result<Grouped, ReadFault>
     requires few { length steps.now.names ≤ STEP_LIMIT }
-    ensures read { Gives fault_of (λ r. r) result (spec.grouped_in every flow relations.now steps.now.names (table_view table.now)) }
-    ensures sound { IfOk result (IsSoundRule (length steps.now.names) (length relations.now)) }
+    ensures read { Gives fault_of (λ g. (g.rho, (g.group, g.step))) result (spec.grouped_in flow relations.now steps.now.names (table_view table.now)) }
+    ensures relation { IfOk result (λ g. g.rho < length relations.now + 2) }
+    ensures step { IfOk result (λ g. g.step < length steps.now.names) }
+    ensures within { IfOk result (λ g. HasStepsBelow (length steps.now.names) g.group) }
+    ensures some { IfOk result (λ g. IsTrue (any_from 0 g.group (λ _. true))) }
 {
     let relation = value_at(table, "relation", PolicyPart::Flows, flow)?;
     let group = value_at(table, "group", PolicyPart::Flows, flow)?;
@@ -156,25 +167,46 @@ fn grouped_of(
     let rho = relation_of(relations, relation, flow)?;
     let step = step_of(steps, step, flow)?;
     let group = group_of(steps, group, flow)?;
-    Ok(group_rule(every, rho, group, step))
+    Ok(Grouped { rho, group, step })
 }
 
-fn group_rule(every: bool, rho: RelId, group: StepSet, step: StepId) -> Rule
-    ensures { result ≡ spec.group_rule every rho group step }
+/// The rule of a form in a table.
+#[tactic(auto, unfolding(crate::specs::Rules::rule_of_form))]
+fn rule_of_form(
+    form: Form,
+    table: &Table,
+    relations: &Relations,
+    steps: &NameTable,
+    flow: u32,
+) -> Result<Rule, ReadFault>
+    requires few { length steps.now.names ≤ STEP_LIMIT }
+    ensures read { Gives fault_of (λ r. r) result (spec.rule_of_form form flow relations.now steps.now.names (table_view table.now)) }
+    ensures sound { IfOk result (IsSoundRule (length steps.now.names) (length relations.now)) }
 {
-    if every {
-        Rule::AllOf { rho, group, step }
-    } else {
-        Rule::SomeOf { rho, group, step }
+    match form {
+        Form::Pair => pair_of(table, relations, steps, flow),
+        Form::SomeOf => match grouped_of(table, relations, steps, flow) {
+            Ok(Grouped { rho, group, step }) => Ok(Rule::SomeOf { rho, group, step }),
+            Err(fault) => Err(fault),
+        },
+        Form::AllOf => match grouped_of(table, relations, steps, flow) {
+            Ok(Grouped { rho, group, step }) => Ok(Rule::AllOf { rho, group, step }),
+            Err(fault) => Err(fault),
+        },
     }
 }
 
-fn is_text(value: &Value, text: &str) -> bool
-    ensures { result ≡ spec.is_text text.now (view value.now) }
+/// The form that a value names.
+#[tactic(auto, unfolding(crate::specs::Rules::form_in))]
+fn form_of(value: &Value, flow: u32) -> Result<Form, ReadFault>
+    ensures { Gives fault_of (λ f. f) result (spec.form_in flow (view value.now)) }
 {
-    match value.as_str() {
-        Some(own) => own == text,
-        None => false,
+    let Some(word) = value.as_str() else {
+        return Err(refuse(PolicyKind::Form, PolicyPart::Flows, flow));
+    };
+    match Form::read(word) {
+        Some(form) => Ok(form),
+        None => Err(refuse(PolicyKind::Form, PolicyPart::Flows, flow)),
     }
 }
 
@@ -192,16 +224,8 @@ fn rule_of(
 {
     let table = table_of(value, PolicyPart::Flows, flow)?;
     let form = value_at(table, "form", PolicyPart::Flows, flow)?;
-    if is_text(form, "pair") {
-        return pair_of(table, relations, steps, flow);
-    }
-    if is_text(form, "some") {
-        return grouped_of(false, table, relations, steps, flow);
-    }
-    if is_text(form, "all") {
-        return grouped_of(true, table, relations, steps, flow);
-    }
-    Err(refuse(PolicyKind::Form, PolicyPart::Flows, flow))
+    let form = form_of(form, flow)?;
+    rule_of_form(form, table, relations, steps, flow)
 }
 
 /// Adds the next rule.

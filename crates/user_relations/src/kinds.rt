@@ -17,7 +17,7 @@ use wf_names::{Name, PAIR_LIMIT, RELATION_LIMIT, RelId, UserId};
 
 /// What a declared relation is.
 #[derive(Drop)]
-pub(crate) enum Kind {
+pub enum Kind {
     Listed(PairSet),
     /// The complement of a listed relation.
     Complement(RelId),
@@ -25,9 +25,9 @@ pub(crate) enum Kind {
 
 /// A declared relation.
 #[derive(Drop)]
-pub(crate) struct Relation {
-    pub(crate) name: Name,
-    pub(crate) kind: Kind,
+pub struct Relation {
+    pub name: Name,
+    pub kind: Kind,
 }
 
 /// The place of a declared relation in the list.

@@ -9,13 +9,14 @@ ghost use Rattle.wf_names.specs.declared.limits.TheConstants.{PAIR_LIMIT, RELATI
 ghost use Rattle.wf_names.specs.Table.{place_of};
 ghost use Rattle.user_relations.specs.Relations.{RelationShape, listed, complement, kind_of, pairs_of, is_listed, complement_of, is_related, known_names, with_kind};
 ghost use Rattle.user_relations.specs.Soundness.{AreSound};
+ghost use Rattle.user_relations.specs.View.{shapes};
 ghost use Rattle.user_relations.specs.Faults.{relate_fault, unrelate_fault, AnswersFault};
 
 mod kinds;
 #[cfg(test)]
 mod tests;
 
-use kinds::{Kind, Relation};
+pub use kinds::{Kind, Relation};
 use pair_set::PairSet;
 use std::alloc::{AllocError, Global};
 use std::marker::Model;
@@ -66,6 +67,15 @@ impl Relations {
         Ok(Relations {
             declared: Vec::new(alloc),
         })
+    }
+
+    /// The relations of a list of them, each with what it is. A complement may stand before the
+    /// relation whose complement it is.
+    pub fn build(declared: Vec<Relation>) -> Result<Relations, AllocError>
+        requires { AreSound (shapes declared.items) }
+        ensures { IfOk result (λ relations. relations ≡ shapes declared.items) }
+    {
+        Ok(Relations { declared })
     }
 
     /// Declares a listed relation without pairs, and answers its number.

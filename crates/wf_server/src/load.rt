@@ -1,6 +1,7 @@
 //! Loading the policy, and writing an answer.
-ghost use Rattle.std.specs.Prelude.{◌≡◌, ◌≢◌, ℕ, List, IfSome, IfErr, Err};
+ghost use Rattle.std.specs.Prelude.{◌≡◌, ◌≢◌, ℕ, List, IfOk, IfSome, IfErr, Err};
 ghost use Rattle.wf_outside.specs.Outside.{Rose};
+ghost use Rattle.policy_reader.specs.Printable.{IsPrintable};
 ghost use Rattle.wf_server.specs.Endings.{GivesBytes, GivesPolicy, IsFileEnding, IsLoadEnding, ReadsPolicy, Writes};
 
 use crate::RunFault;
@@ -17,6 +18,7 @@ pub(crate) fn load_policy<F: Shelf>(
     name: &str,
 ) -> Result<Policy, RunFault>
     ensures policy { IfSome (F.file shelf.old name.now) (λ file. GivesPolicy file result) }
+    ensures printable { IfOk result IsPrintable }
     ensures ending { IfErr result IsLoadEnding }
     ensures rose { result ≡ Err RunFault.Load → Rose (F.faults shelf.old) (F.faults shelf.new) }
 {
@@ -41,6 +43,7 @@ fn load_file<F: Shelf>(alloc: Global, shelf: &mut F, name: &str) -> Result<Loade
 // The policy that the bytes of a file are.
 fn read_policy(alloc: Global, file: &Loaded) -> Result<Policy, RunFault>
     ensures policy { ReadsPolicy file.now result }
+    ensures printable { IfOk result IsPrintable }
 {
     match policy_reader::read(alloc, file.as_bytes()) {
         Ok(p) => Ok(p),

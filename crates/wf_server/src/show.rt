@@ -2,6 +2,7 @@
 ghost use Rattle.std.specs.Prelude.{◌≡◌, ℕ, List, Some, Ok, Err};
 ghost use Rattle.wf_outside.specs.Outside.{Rose};
 ghost use Rattle.policy_reader.specs.Files.{policy_of_file};
+ghost use Rattle.policy_reader.specs.Printable.{IsPrintable};
 ghost use Rattle.wf_server.specs.Answers.{OverPolicy, Shows};
 ghost use Rattle.wf_server.specs.Endings.{AnswersAs, Ends, IsAnswer, IsQuiet};
 
@@ -9,7 +10,7 @@ use crate::RunFault;
 use crate::answer::Answer;
 use crate::load::{load_policy, write_answer};
 use policy_book::Policy;
-use policy_reader::print;
+use policy_printer::print;
 use std::alloc::Global;
 use wf_outside::{Shelf, Sink};
 
@@ -49,6 +50,7 @@ fn show_file<F: Shelf>(alloc: Global, policy: &str, shelf: &mut F) -> Result<Ans
 
 // What the run answers for a policy that a file gave.
 fn show_policy(alloc: Global, p: &Policy) -> Result<Answer, RunFault>
+    requires { IsPrintable p.now }
     ensures answer { (file : List ℕ) → policy_of_file file ≡ Ok p.now → AnswersAs (Shows p.now) result }
     ensures ending { IsAnswer result }
     ensures read { result ≡ Err RunFault.Read → ⊥ }

@@ -1,6 +1,5 @@
 use Rattle.std.proofs.Common.{◌≡◌}
 use Rattle.toml.specs.View.{table_view}
-use Rattle.wf_names.specs.declared.limits.TheConstants.{USER_LIMIT}
 use Rattle.first_fault.specs.Reading.{each}
 use Rattle.policy_reader.specs.Parts.{entries}
 use Rattle.policy_reader.specs.Rosters.{next_user}
@@ -9,5 +8,5 @@ use Rattle.policy_reader.proofs.rosters.all_users.Given as goal
 
 abbrev pub invariant-entries : goal.invariant-entries
 invariant-entries l =
-    IsLeft next_user (λ r. r.users) USER_LIMIT (each next_user l.fn.roster (entries (table_view l.fn.users))) l.roster l.key-iterator
+    IsLeft next_user (λ r. r.users) l.fn.users.entries (each next_user l.fn.roster (entries (table_view l.fn.users))) l.roster l.key-iterator
     × (l.roster.roles ≡ l.fn.roster.roles)

@@ -1,0 +1,16 @@
+pub mod Texts
+pub mod Writing
+pub mod Rows
+pub mod Plain
+pub mod Readings
+pub mod Lines
+pub mod Tabled
+pub mod Sorted
+pub mod NamesAgain
+pub mod PairsAgain
+pub mod UsersAgain
+pub mod PermitsAgain
+pub mod RulesAgain
+pub mod RelationsAgain
+pub mod FlowsAgain
+pub mod Again

@@ -1,0 +1,9 @@
+use Rattle.std.proofs.Common.{◌≡◌, map}
+use Rattle.toml.specs.Data.{string}
+use Rattle.toml.specs.View.{view}
+use Rattle.std.specs.FinSet as set
+use Rattle.policy_printer.specs.Documents.{name_at, chosen}
+use Rattle.policy_printer.proofs.flows.permitted_value.Given as goal
+
+abbrev pub invariant-roles : goal.invariant-roles
+invariant-roles l = map view l.values.items ≡ map (λ n. string (name_at l.roles.names n)) (chosen l.r (λ r. set.contains l.flow.permits (r, l.s)))

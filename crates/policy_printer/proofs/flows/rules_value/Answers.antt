@@ -1,0 +1,25 @@
+use Rattle.std.proofs.Common.{sym, ap, ◌∙◌, ◌++◌, ◌∷◌, [], ◌≡◌, Some, subst, arith}
+use Rattle.std.specs.Prelude.{slice_get}
+use Rattle.std.proofs.lemmas.Option.{slice_get_within}
+use Rattle.constraint_forms.specs.declared.rule.Rule.{Rule}
+use Rattle.policy_printer.specs.Documents.{rule_data}
+use Rattle.policy_printer.specs.Named.{HasFlags}
+use Rattle.policy_printer.proofs.Writing.{map_take_got, one_further}
+use Rattle.policy_printer.proofs.flows.rules_value.Goals as goal
+
+pub push_rule-requires-clause-sound : goal.push_rule-requires-clause-sound
+push_rule-requires-clause-sound c = c.requires.sound c.rules.k c.get.result.now c.get.ensures
+
+same_rule : (a b : Rule) → Some a ≡ Some b → a ≡ b
+same_rule a b e = cc
+
+pub rules-preserved : goal.rules-preserved
+rules-preserved c =
+    let f = rule_data c.args.relations.now c.args.steps.now.names in (
+      c.in_ok-push_rule.ensures.pushed ∙ ap (λ xs. xs ++ f c.get.result.now ∷ []) c.rules.invariant.0 ∙ sym (map_take_got f c.args.rules.now c.rules.k c.get.result.now c.get.ensures),
+      one_further (λ m. (rule : Rule) → slice_get c.args.rules.now m ≡ Some rule → HasFlags rule) c.rules.k c.rules.invariant.1
+          (λ rule e. subst (λ r. HasFlags r) (same_rule c.in-Some.rule rule (c.in-Some.ensures ∙ e)) c.in_ok-push_rule.ensures.flags),
+    )
+
+pub returns-clause-flags : goal.returns-clause-flags
+returns-clause-flags c k rule e = c.rules.invariant.1 k (omega (arith, slice_get_within c.args.rules.now k rule e, c.rules-test.false, c.len-k-end.ensures)) rule e

@@ -1,0 +1,7 @@
+use Rattle.std.proofs.Common.{◌≡◌, map, take}
+use Rattle.toml.specs.View.{view}
+use Rattle.policy_printer.specs.Documents.{pair_data}
+use Rattle.policy_printer.proofs.parts.pairs_value.Given as goal
+
+abbrev pub invariant-pairs : goal.invariant-pairs
+invariant-pairs l = map view l.values.items ≡ map (pair_data l.names.names) (take l.pair-index l.pairs)

@@ -1,0 +1,9 @@
+use Rattle.std.proofs.Common.{◌≡◌, map}
+use Rattle.toml.specs.Data.{string}
+use Rattle.toml.specs.View.{view}
+use Rattle.rbac_state.specs.Rosters.{has_role}
+use Rattle.policy_printer.specs.Documents.{name_at, chosen}
+use Rattle.policy_printer.proofs.rosters.held_value.Given as goal
+
+abbrev pub invariant-roles : goal.invariant-roles
+invariant-roles l = map view l.values.items ≡ map (λ n. string (name_at l.roster.roles n)) (chosen l.r (has_role l.roster l.u))

@@ -1,0 +1,331 @@
+//! Writes the workflows.
+ghost use Rattle.std.specs.Prelude.{◌≡◌, ◌<◌, ◌≤◌, ◌+◌, ◌++◌, ◌∷◌, [], ℕ, length, map, true, IfOk, OnOk};
+ghost use Rattle.std.specs.FinSet as set;
+ghost use Rattle.policy_book.specs.Facts.{AreSoundRules, IsSoundRule};
+ghost use Rattle.policy_book.specs.Policies.{flow_at};
+ghost use Rattle.wf_names.specs.declared.limits.TheConstants.{ROLE_LIMIT, STEP_LIMIT};
+ghost use Rattle.constraint_forms.specs.Assigned.{is_member};
+ghost use Rattle.toml.specs.View.{view, table_view};
+ghost use Rattle.wf_names.specs.Names.{is_name};
+ghost use Rattle.policy_printer.specs.Documents as spec;
+ghost use Rattle.policy_printer.specs.Named.{HasFlags, HaveFlags, HaveForm, IsNamedWorkflow};
+
+use crate::parts::{names_value, numbered, pairs_value, push, push_name, put};
+use crate::rosters::relation_value;
+use constraint_forms::{Rule, Rules, StepSet};
+use policy_book::Policy;
+use policy_reader::Form;
+use std::alloc::{AllocError, Global};
+use toml::Value;
+use toml::value::Table;
+use user_relations::Relations;
+use wf_names::{FlowId, Name, NameTable, RelId, RoleId, StepId};
+use workflow_schema::Flow;
+
+/// The pairs of a workflow's order, ascending.
+#[tactic(auto, using(crate::proofs::Writing::rows_more))]
+fn order_pairs(alloc: Global, flow: &Flow) -> Result<Vec<(u16, u16)>, AllocError>
+    ensures { IfOk result (λ pairs. pairs.items ≡ spec.rows (length flow.now.steps) (length flow.now.steps) flow.now.order) }
+{
+    let mut pairs = Vec::new(alloc);
+    'steps: for s in 0..flow.steps().len() {
+        if push_row(&mut pairs, flow, s).is_err() {
+            return Err(AllocError);
+        }
+    }
+    Ok(pairs)
+}
+
+/// Appends the pairs of a step with each that comes right after it.
+#[tactic(auto, using(crate::proofs::Writing::row_more, crate::proofs::Writing::row_skip))]
+fn push_row(pairs: &mut Vec<(u16, u16)>, flow: &Flow, s: u16) -> Result<(), AllocError>
+    requires { s < length flow.now.steps }
+    ensures { OnOk result (pairs.new.items ≡ pairs.old.items ++ spec.row s (length flow.now.steps) flow.now.order) }
+{
+    'steps: for t in 0..flow.steps().len() {
+        if flow.ordered(StepId(s as u8), StepId(t as u8)) && pairs.push((s, t)).is_err() {
+            return Err(AllocError);
+        }
+    }
+    Ok(())
+}
+
+/// An array of the pairs of a workflow's order.
+fn order_value(alloc: Global, flow: &Flow) -> Result<Value, AllocError>
+    ensures { IfOk result (λ v. view v ≡ spec.pairs_data flow.now.steps flow.now.order) }
+{
+    let pairs = order_pairs(alloc, flow)?;
+    pairs_value(alloc, flow.steps(), &pairs)
+}
+
+/// An array of the roles that a step is permitted to.
+#[tactic(auto, using(crate::proofs::Writing::chosen_more, crate::proofs::Writing::chosen_skip))]
+fn permitted_value(
+    alloc: Global,
+    roles: &NameTable,
+    flow: &Flow,
+    s: StepId,
+) -> Result<Value, AllocError>
+    requires { length roles.now.names ≤ ROLE_LIMIT }
+    ensures { IfOk result (λ v. view v ≡ spec.names_where roles.now.names (λ r. set.contains flow.now.permits (r, s))) }
+{
+    let mut values = Vec::new(alloc);
+    'roles: for r in 0..roles.len() {
+        if flow.permits(RoleId(r as u8), s) && push_name(alloc, &mut values, roles, r).is_err() {
+            return Err(AllocError);
+        }
+    }
+    Ok(Value::Array(values))
+}
+
+fn put_permit(
+    alloc: Global,
+    table: &mut Table,
+    roles: &NameTable,
+    flow: &Flow,
+    s: StepId,
+) -> Result<(), AllocError>
+    requires roles { length roles.now.names ≤ ROLE_LIMIT }
+    requires step { s < length flow.now.steps }
+    ensures { OnOk result (table_view table.new ≡ spec.with_member (spec.permit_entry roles.now.names flow.now s).0 (spec.permit_entry roles.now.names flow.now s).1 (table_view table.old)) }
+{
+    let permitted = permitted_value(alloc, roles, flow, s)?;
+    let name = flow.steps().name(s.0 as u16);
+    put(alloc, table, name.as_str(), permitted)
+}
+
+/// A table of the steps with the roles that they are permitted to.
+#[tactic(auto, using(crate::proofs::Writing::table_more))]
+fn permits_value(alloc: Global, roles: &NameTable, flow: &Flow) -> Result<Value, AllocError>
+    requires { length roles.now.names ≤ ROLE_LIMIT }
+    ensures { IfOk result (λ v. view v ≡ spec.permits_data roles.now.names flow.now) }
+{
+    let mut table = Table::new(alloc);
+    'steps: for s in 0..flow.steps().len() {
+        if put_permit(alloc, &mut table, roles, flow, StepId(s as u8)).is_err() {
+            return Err(AllocError);
+        }
+    }
+    Ok(Value::Table(table))
+}
+
+/// An array of the steps of a group.
+#[tactic(auto, using(crate::proofs::Writing::chosen_more, crate::proofs::Writing::chosen_skip))]
+fn group_value(alloc: Global, steps: &NameTable, group: &StepSet) -> Result<Value, AllocError>
+    requires { length steps.now.names ≤ STEP_LIMIT }
+    ensures value { IfOk result (λ v. view v ≡ spec.names_where steps.now.names (is_member group.now)) }
+    ensures flags { length group.now ≡ STEP_LIMIT }
+{
+    let limit = group.limit();
+    prove!(steps.len() as usize <= limit);
+    let mut values = Vec::new(alloc);
+    'steps: for s in 0..steps.len() {
+        if group.has(StepId(s as u8)) && push_name(alloc, &mut values, steps, s).is_err() {
+            return Err(AllocError);
+        }
+    }
+    Ok(Value::Array(values))
+}
+
+#[tactic(auto, unfolding(crate::specs::Documents::rule_members))]
+fn pair_table(
+    alloc: Global,
+    relations: &Relations,
+    steps: &NameTable,
+    rho: RelId,
+    first: StepId,
+    second: StepId,
+) -> Result<Table, AllocError>
+    requires relation { rho < length relations.now + 2 }
+    requires first { first < length steps.now.names }
+    requires second { second < length steps.now.names }
+    ensures { IfOk result (λ t. table_view t ≡ spec.rule_members relations.now steps.now.names (Rule.Pair rho first second)) }
+{
+    let mut table = Table::new(alloc);
+    put(
+        alloc,
+        &mut table,
+        "second",
+        numbered(alloc, steps, second.0 as u16)?,
+    )?;
+    put(
+        alloc,
+        &mut table,
+        "relation",
+        relation_value(alloc, relations, rho)?,
+    )?;
+    put(
+        alloc,
+        &mut table,
+        "form",
+        Value::string(alloc, Form::Pair.word())?,
+    )?;
+    put(
+        alloc,
+        &mut table,
+        "first",
+        numbered(alloc, steps, first.0 as u16)?,
+    )?;
+    Ok(table)
+}
+
+#[tactic(auto, unfolding(crate::specs::Documents::grouped_members))]
+fn grouped_table(
+    alloc: Global,
+    form: Form,
+    relations: &Relations,
+    steps: &NameTable,
+    rho: RelId,
+    group: &StepSet,
+    step: StepId,
+) -> Result<Table, AllocError>
+    requires few { length steps.now.names ≤ STEP_LIMIT }
+    requires relation { rho < length relations.now + 2 }
+    requires step { step < length steps.now.names }
+    ensures table { IfOk result (λ t. table_view t ≡ spec.grouped_members form relations.now steps.now.names rho group.now step) }
+    ensures flags { IfOk result (λ _. length group.now ≡ STEP_LIMIT) }
+{
+    let mut table = Table::new(alloc);
+    put(
+        alloc,
+        &mut table,
+        "step",
+        numbered(alloc, steps, step.0 as u16)?,
+    )?;
+    put(
+        alloc,
+        &mut table,
+        "relation",
+        relation_value(alloc, relations, rho)?,
+    )?;
+    put(
+        alloc,
+        &mut table,
+        "group",
+        group_value(alloc, steps, group)?,
+    )?;
+    put(
+        alloc,
+        &mut table,
+        "form",
+        Value::string(alloc, form.word())?,
+    )?;
+    Ok(table)
+}
+
+#[tactic(auto, unfolding(crate::specs::Documents::rule_members))]
+fn rule_table(
+    alloc: Global,
+    relations: &Relations,
+    steps: &NameTable,
+    rule: &Rule,
+) -> Result<Table, AllocError>
+    requires few { length steps.now.names ≤ STEP_LIMIT }
+    requires sound { IsSoundRule (length steps.now.names) (length relations.now) rule.now }
+    ensures table { IfOk result (λ t. table_view t ≡ spec.rule_members relations.now steps.now.names rule.now) }
+    ensures flags { IfOk result (λ _. HasFlags rule.now) }
+{
+    match *rule {
+        Rule::Pair { rho, first, second } => {
+            pair_table(alloc, relations, steps, rho, first, second)
+        }
+        Rule::SomeOf { rho, group, step } => {
+            grouped_table(alloc, Form::SomeOf, relations, steps, rho, &group, step)
+        }
+        Rule::AllOf { rho, group, step } => {
+            grouped_table(alloc, Form::AllOf, relations, steps, rho, &group, step)
+        }
+    }
+}
+
+/// An array of the rules of a workflow.
+#[tactic(auto, using(crate::proofs::Writing::map_take_more))]
+fn rules_value(
+    alloc: Global,
+    relations: &Relations,
+    steps: &NameTable,
+    rules: &Rules,
+) -> Result<Value, AllocError>
+    requires few { length steps.now.names ≤ STEP_LIMIT }
+    requires sound { AreSoundRules (length steps.now.names) (length relations.now) rules.now }
+    ensures value { IfOk result (λ v. view v ≡ spec.rules_data relations.now steps.now.names rules.now) }
+    ensures flags { IfOk result (λ _. HaveFlags rules.now) }
+{
+    let mut values = Vec::new(alloc);
+    'rules: for k in 0..rules.len() {
+        push_rule(alloc, &mut values, relations, steps, rules.get(k))?;
+    }
+    Ok(Value::Array(values))
+}
+
+fn push_rule(
+    alloc: Global,
+    values: &mut Vec<Value>,
+    relations: &Relations,
+    steps: &NameTable,
+    rule: &Rule,
+) -> Result<(), AllocError>
+    requires few { length steps.now.names ≤ STEP_LIMIT }
+    requires sound { IsSoundRule (length steps.now.names) (length relations.now) rule.now }
+    ensures pushed { OnOk result (map view values.new.items ≡ map view values.old.items ++ spec.rule_data relations.now steps.now.names rule.now ∷ []) }
+    ensures flags { OnOk result (HasFlags rule.now) }
+{
+    let table = rule_table(alloc, relations, steps, rule)?;
+    push(values, Value::Table(table))
+}
+
+/// The table of the workflow with a number.
+#[tactic(auto, unfolding(crate::specs::Documents::workflow_members))]
+fn workflow_table(alloc: Global, policy: &Policy, f: FlowId) -> Result<Table, AllocError>
+    requires { f < length policy.now.flows }
+    ensures table { IfOk result (λ t. table_view t ≡ spec.workflow_members policy.now.roster.roles policy.now.relations (flow_at policy.now f)) }
+    ensures named { IfOk result (λ _. IsNamedWorkflow (flow_at policy.now f)) }
+{
+    let flow = policy.flow(f);
+    let steps = flow.steps();
+    let relations = policy.relations();
+    let mut table = Table::new(alloc);
+    put(alloc, &mut table, "steps", names_value(alloc, steps)?)?;
+    let rules = rules_value(alloc, relations, steps, policy.rules(f))?;
+    put(alloc, &mut table, "rules", rules)?;
+    let permits = permits_value(alloc, policy.roster().roles(), flow)?;
+    put(alloc, &mut table, "permit", permits)?;
+    put(alloc, &mut table, "order", order_value(alloc, flow)?)?;
+    Ok(table)
+}
+
+/// The name of a workflow.
+#[tactic(auto, using(crate::proofs::Writing::name_found))]
+fn flow_name(policy: &Policy, f: FlowId) -> Name
+    requires { f < length policy.now.flows }
+    ensures { result ≡ spec.name_at policy.now.flow_names f }
+{
+    policy.flows().name(f.0 as u16)
+}
+
+fn put_flow(alloc: Global, table: &mut Table, policy: &Policy, f: FlowId) -> Result<(), AllocError>
+    requires { f < length policy.now.flows }
+    ensures form { OnOk result (is_name (spec.name_at policy.now.flow_names f) ≡ true) }
+    ensures named { OnOk result (IsNamedWorkflow (flow_at policy.now f)) }
+    ensures put { OnOk result (table_view table.new ≡ spec.with_member (spec.flow_entry policy.now f).0 (spec.flow_entry policy.now f).1 (table_view table.old)) }
+{
+    let workflow = workflow_table(alloc, policy, f)?;
+    let name = flow_name(policy, f);
+    put(alloc, table, name.as_str(), Value::Table(workflow))
+}
+
+/// A table of the workflows.
+#[tactic(auto, using(crate::proofs::Writing::table_more, crate::proofs::Writing::one_further))]
+pub(crate) fn flows_value(alloc: Global, policy: &Policy) -> Result<Value, AllocError>
+    ensures value { IfOk result (λ v. view v ≡ spec.flows_data policy.now) }
+    ensures forms { IfOk result (λ _. HaveForm policy.now.flow_names) }
+    ensures named { IfOk result (λ _. (f : ℕ) → f < length policy.now.flows → IsNamedWorkflow (flow_at policy.now f)) }
+{
+    let mut table = Table::new(alloc);
+    'flows: for f in 0..policy.flows().len() {
+        if put_flow(alloc, &mut table, policy, FlowId(f as u8)).is_err() {
+            return Err(AllocError);
+        }
+    }
+    Ok(Value::Table(table))
+}

@@ -1,0 +1,12 @@
+//! Prints a policy as the TOML file that it is read from.
+#![tactic(auto)]
+
+mod document;
+mod flows;
+mod parts;
+mod rosters;
+
+pub use document::print;
+
+#[cfg(test)]
+mod tests;

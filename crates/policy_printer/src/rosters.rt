@@ -1,0 +1,188 @@
+//! Writes the users with their roles, and the relations between them.
+ghost use Rattle.std.specs.Prelude.{◌≡◌, ◌<◌, ◌+◌, ℕ, length, IfOk, OnOk, Some, None};
+ghost use Rattle.rbac_state.specs.Rosters.{has_role};
+ghost use Rattle.policy_book.specs.Facts.{AreOfUsers};
+ghost use Rattle.user_relations.specs.Relations.{complement_of, known_names, pairs_of};
+ghost use Rattle.toml.specs.Data.{string};
+ghost use Rattle.user_relations.specs.Soundness.{AreSound};
+ghost use Rattle.toml.specs.View.{view, table_view};
+ghost use Rattle.wf_names.specs.Table.{place_of};
+ghost use Rattle.policy_reader.specs.Relations.{first_declared};
+ghost use Rattle.policy_printer.specs.Documents as spec;
+ghost use Rattle.policy_printer.specs.Named.{IsNamed, AreNamed};
+
+use crate::parts::{name_value, pairs_value, push_name, put};
+use rbac_state::Roster;
+use std::alloc::{AllocError, Global};
+use toml::Value;
+use toml::value::Table;
+use user_relations::Relations;
+use wf_names::{Name, NameTable, RelId, RoleId, UserId};
+
+/// An array of the roles of a user.
+#[tactic(auto, using(crate::proofs::Writing::chosen_more, crate::proofs::Writing::chosen_skip))]
+fn held_value(alloc: Global, roster: &Roster, u: UserId) -> Result<Value, AllocError>
+    ensures { IfOk result (λ v. view v ≡ spec.names_where roster.now.roles (has_role roster.now u)) }
+{
+    let mut values = Vec::new(alloc);
+    'roles: for r in 0..roster.roles().len() {
+        if roster.has(u, RoleId(r as u8))
+            && push_name(alloc, &mut values, roster.roles(), r).is_err()
+        {
+            return Err(AllocError);
+        }
+    }
+    Ok(Value::Array(values))
+}
+
+/// A table of the users with their roles.
+#[tactic(auto, using(crate::proofs::Writing::table_more, crate::proofs::Writing::one_further))]
+pub(crate) fn users_value(alloc: Global, roster: &Roster) -> Result<Value, AllocError>
+    ensures value { IfOk result (λ v. view v ≡ spec.users_data roster.now) }
+    ensures named { IfOk result (λ _. AreNamed roster.now.users) }
+{
+    let mut table = Table::new(alloc);
+    'users: for u in 0..roster.users().len() {
+        if put_user(alloc, &mut table, roster, UserId(u)).is_err() {
+            return Err(AllocError);
+        }
+    }
+    Ok(Value::Table(table))
+}
+
+#[tactic(auto, using(crate::proofs::Writing::named_of))]
+fn put_user(alloc: Global, table: &mut Table, roster: &Roster, u: UserId) -> Result<(), AllocError>
+    requires { u < length roster.now.users }
+    ensures named { OnOk result (IsNamed roster.now.users u) }
+    ensures put { OnOk result (table_view table.new ≡ spec.with_member (spec.user_entry roster.now u).0 (spec.user_entry roster.now u).1 (table_view table.old)) }
+{
+    let held = held_value(alloc, roster, u)?;
+    let name = roster.users().name(u.0);
+    put(alloc, table, name.as_str(), held)
+}
+
+/// The name of a relation.
+#[tactic(auto, using(crate::proofs::Writing::name_found))]
+fn relation_name(relations: &Relations, rho: RelId) -> Name
+    requires { rho < length relations.now + 2 }
+    ensures name { result ≡ spec.name_at (known_names relations.now) rho }
+    ensures alone { place_of (known_names relations.now) result ≡ Some rho }
+{
+    relations.name(rho)
+}
+
+/// The text of a relation's name.
+pub(crate) fn relation_value(
+    alloc: Global,
+    relations: &Relations,
+    rho: RelId,
+) -> Result<Value, AllocError>
+    requires { rho < length relations.now + 2 }
+    ensures { IfOk result (λ v. view v ≡ string (spec.name_at (known_names relations.now) rho)) }
+{
+    name_value(alloc, &relation_name(relations, rho))
+}
+
+#[tactic(auto, unfolding(crate::specs::Documents::kind_members))]
+fn complement_table(
+    alloc: Global,
+    users: &NameTable,
+    relations: &Relations,
+    rho: RelId,
+    other: RelId,
+) -> Result<Table, AllocError>
+    requires { other < length relations.now + 2 }
+    ensures { IfOk result (λ t. table_view t ≡ spec.kind_members users.now.names relations.now rho (Some other)) }
+{
+    let mut table = Table::new(alloc);
+    let name = relation_value(alloc, relations, other)?;
+    put(alloc, &mut table, "complement", name)?;
+    Ok(table)
+}
+
+fn listed_value(
+    alloc: Global,
+    users: &NameTable,
+    relations: &Relations,
+    rho: RelId,
+) -> Result<Value, AllocError>
+    requires { AreOfUsers (length users.now.names) relations.now }
+    ensures { IfOk result (λ v. view v ≡ spec.pairs_data users.now.names (pairs_of relations.now rho)) }
+{
+    let pairs = relations.pairs(rho)?;
+    pairs_value(alloc, users, &pairs)
+}
+
+#[tactic(auto, unfolding(crate::specs::Documents::kind_members))]
+fn listed_table(
+    alloc: Global,
+    users: &NameTable,
+    relations: &Relations,
+    rho: RelId,
+) -> Result<Table, AllocError>
+    requires { AreOfUsers (length users.now.names) relations.now }
+    ensures { IfOk result (λ t. table_view t ≡ spec.kind_members users.now.names relations.now rho None) }
+{
+    let mut table = Table::new(alloc);
+    let listed = listed_value(alloc, users, relations, rho)?;
+    put(alloc, &mut table, "pairs", listed)?;
+    Ok(table)
+}
+
+/// The table of a relation: its pairs, or the name of the one whose complement it is.
+#[tactic(auto, using(crate::proofs::Writing::other_within))]
+fn kind_table(
+    alloc: Global,
+    users: &NameTable,
+    relations: &Relations,
+    rho: RelId,
+) -> Result<Table, AllocError>
+    requires users { AreOfUsers (length users.now.names) relations.now }
+    requires sound { AreSound relations.now }
+    ensures { IfOk result (λ t. table_view t ≡ spec.kind_members users.now.names relations.now rho (complement_of relations.now rho)) }
+{
+    match relations.complement_of(rho) {
+        Some(other) => complement_table(alloc, users, relations, rho, other),
+        None => listed_table(alloc, users, relations, rho),
+    }
+}
+
+#[tactic(auto, using(crate::proofs::Writing::related_of))]
+fn put_relation(
+    alloc: Global,
+    table: &mut Table,
+    users: &NameTable,
+    relations: &Relations,
+    rho: RelId,
+) -> Result<(), AllocError>
+    requires users { AreOfUsers (length users.now.names) relations.now }
+    requires sound { AreSound relations.now }
+    requires within { rho < length relations.now + 2 }
+    ensures named { OnOk result (IsNamed (known_names relations.now) rho) }
+    ensures put { OnOk result (table_view table.new ≡ spec.with_member (spec.relation_entry users.now.names relations.now rho).0 (spec.relation_entry users.now.names relations.now rho).1 (table_view table.old)) }
+{
+    let kind = kind_table(alloc, users, relations, rho)?;
+    let name = relation_name(relations, rho);
+    put(alloc, table, name.as_str(), Value::Table(kind))
+}
+
+/// A table of the relations.
+#[tactic(auto, using(crate::proofs::Writing::table_more, crate::proofs::Writing::number_fits, crate::proofs::Writing::one_further))]
+pub(crate) fn relations_value(
+    alloc: Global,
+    users: &NameTable,
+    relations: &Relations,
+) -> Result<Value, AllocError>
+    requires { AreOfUsers (length users.now.names) relations.now }
+    ensures value { IfOk result (λ v. view v ≡ spec.relations_data users.now.names relations.now) }
+    ensures named { IfOk result (λ _. (n : ℕ) → n < length relations.now → IsNamed (known_names relations.now) (first_declared + n)) }
+    ensures sound { AreSound relations.now }
+{
+    let mut table = Table::new(alloc);
+    'relations: for n in 0..relations.count() {
+        if let Err(fault) = put_relation(alloc, &mut table, users, relations, RelId(2 + n)) {
+            return Err(fault);
+        }
+    }
+    Ok(Value::Table(table))
+}

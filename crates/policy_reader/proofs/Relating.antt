@@ -1,0 +1,188 @@
+-- Relations that were read from the entries of a table, up to the last of them.
+use Rattle.std.proofs.Common.{◌≡◌, ℕ, zero, suc, ◌+◌, ◌<◌, ◌≤◌, Bool, true, false, cond, ◌||◌, List, [], ◌∷◌, ◌++◌, length, map, refl, sym, ap, ◌∙◌, subst, ◌⊎◌, inl, inr, arith}
+use Rattle.std.specs.Prelude.{Option, Some, None, option_map, slice_get, nat_eq, codes, Ok}
+use Rattle.std.specs.List.{IsDistinct, list_any}
+use Rattle.std.specs.Cmp.Lexicographic.{pointwise, nat_list_eq_equiv}
+use Rattle.std.proofs.lemmas.Bool.Decides.{nat_tests}
+use Rattle.std.proofs.lemmas.List.{map-append}
+use Rattle.std.proofs.lemmas.Map.Keys.{IsDistinct-push}
+use Rattle.toml.specs.Data.{Data, Members, as_table}
+use Rattle.wf_names.specs.declared.limits.TheConstants.{RELATION_LIMIT, USER_LIMIT}
+use Rattle.pair_set.specs.Pairs.{Pairs, AllPairs}
+use Rattle.user_relations.specs.Relations.{RelationShape, RelationKind, listed, complement, kind_of, has_list, known_names}
+use Rattle.user_relations.specs.Soundness.{AreSound}
+use Rattle.policy_book.specs.Facts.{AreOfUsers}
+use Rattle.first_fault.specs.Reading.{or_fault}
+use Rattle.policy_reader.specs.declared.fault.PolicyPart.{PolicyPart}
+use Rattle.policy_reader.specs.declared.fault.PolicyKind.TheVariants as kind
+use Rattle.policy_reader.specs.Faults.{fault}
+use Rattle.policy_reader.specs.Parts.{is_among, table_in}
+use Rattle.policy_reader.specs.Bounds.{AreBelow}
+use Rattle.policy_reader.specs.Relations.{first_declared, entry_of, is_complement, is_complement_table, passes}
+use Rattle.std.specs.List.Sorted.{IsStrictlySortedBy}
+use Rattle.policy_reader.specs.Printable.{Ascend}
+use Rattle.std.proofs.Common.{string_bytes}
+use Rattle.toml.specs.View.{view, members_view}
+use Rattle.policy_reader.specs.Faults.{Reading}
+use Rattle.policy_reader.specs.Parts.{entries}
+use Rattle.policy_reader.specs.Relations.{names_of}
+use Rattle.policy_reader.proofs.Counts.{count_entries}
+use Rattle.policy_reader.proofs.Fresh.{Entry, texts_count, IsLeft}
+use Rattle.policy_reader.specs.Kinds.{is_marked, IsTarget, IsKept, AreKept}
+
+-- ---- one relation more
+
+or_none : (a b : Bool) → (a || (b || false)) ≡ false → (a ≡ false) × (b ≡ false)
+or_none true b e = cc
+or_none false true e = cc
+or_none false false e = (refl, refl)
+
+-- a name that is neither built in nor declared is unknown
+unknown_name : (rs : List RelationShape) (key : List ℕ) → is_among (codes "same" ∷ codes "other" ∷ []) key ≡ false → is_among (names_of rs) key ≡ false → list_any (pointwise nat_eq key) (known_names rs) ≡ false
+unknown_name rs key free new =
+    let apart = or_none (pointwise nat_eq key (codes "same")) (pointwise nat_eq key (codes "other")) free in
+    rw (apart.0, apart.1) new
+
+pub names_push : (rs : List RelationShape) (r : RelationShape) → map (λ x. x.name) (rs ++ r ∷ []) ≡ map (λ x. x.name) rs ++ r.name ∷ []
+names_push rs r = map-append (λ (x : RelationShape). x.name) rs (r ∷ [])
+
+pushed : (rs : List RelationShape) (r : RelationShape) (n : ℕ) → (slice_get (rs ++ r ∷ []) n ≡ slice_get rs n) ⊎ ((n ≡ length rs) × (slice_get (rs ++ r ∷ []) n ≡ Some r))
+pushed [] r zero = inr (refl, refl)
+pushed [] r (suc n) = inl refl
+pushed (x ∷ rs) r zero = inl refl
+pushed (x ∷ rs) r (suc n) = elim (pushed rs r n) [ inl same ↦ inl same | inr new ↦ inr (ap suc new.0, new.1) ]
+
+kind_pushed : (rs : List RelationShape) (r : RelationShape) (m : ℕ) → (kind_of (rs ++ r ∷ []) m ≡ kind_of rs m) ⊎ ((m ≡ first_declared + length rs) × (kind_of (rs ++ r ∷ []) m ≡ Some r.kind))
+kind_pushed rs r zero = inl refl
+kind_pushed rs r (suc zero) = inl refl
+kind_pushed rs r (suc (suc n)) = elim (pushed rs r n) [
+  | inl same ↦ inl (ap (option_map (λ (x : RelationShape). x.kind)) same)
+  | inr new ↦ inr (omega (arith, new.0), ap (option_map (λ (x : RelationShape). x.kind)) new.1)
+]
+
+pub kept_push : (users : ℕ) (all : List (List ℕ × Data)) (rs : List RelationShape) (r : RelationShape) → AreKept users all rs → is_among (codes "same" ∷ codes "other" ∷ []) r.name ≡ false
+    → is_among (names_of rs) r.name ≡ false → IsKept users all (is_marked first_declared all (first_declared + length rs)) r.kind → AreKept users all (rs ++ r ∷ [])
+kept_push users all rs r h free new here = record {
+  names = subst (λ ns. IsDistinct (pointwise nat_eq) (codes "same" ∷ codes "other" ∷ ns)) (sym (names_push rs r)) (IsDistinct-push nat_list_eq_equiv (known_names rs) r.name h.names (unknown_name rs r.name free new));
+  kinds = λ rho k e. elim (kind_pushed rs r rho) [
+    | inl same ↦ h.kinds rho k (sym same ∙ e)
+    | inr now ↦
+        let is : Some r.kind ≡ Some k = sym now.1 ∙ e in
+        let same : r.kind ≡ k = cc in
+        subst (λ x. IsKept users all (is_marked first_declared all rho) x) same (subst (λ n. IsKept users all (is_marked first_declared all n) r.kind) (sym now.0) here)
+  ];
+}
+
+pub kept_none : (users : ℕ) (all : List (List ℕ × Data)) → AreKept users all []
+unfolding IsDistinct
+kept_none users all = record { names = ((refl, tt), (tt, tt)); kinds = no_kind }
+  where
+    no_kind : (rho : ℕ) (k : RelationKind) → kind_of [] rho ≡ Some k → IsKept users all (is_marked first_declared all rho) k
+    no_kind zero k e = cc
+    no_kind (suc zero) k e = cc
+    no_kind (suc (suc n)) k e = cc
+
+-- ---- the last relation
+
+pub related_none : (users : ℕ) → AreOfUsers users []
+related_none users zero pairs e = cc
+related_none users (suc zero) pairs e = cc
+related_none users (suc (suc n)) pairs e = cc
+
+pub ascend_none : Ascend []
+unfolding IsStrictlySortedBy
+ascend_none = tt
+
+pub related_of : (users : ℕ) (all : List (List ℕ × Data)) (rs : List RelationShape) → AreKept users all rs → AreOfUsers users rs
+related_of users all rs h rho pairs e = (h.kinds rho (listed pairs) e).1
+
+got : (rs : List RelationShape) (n : ℕ) → option_map (λ r. r.kind) (slice_get rs n) ≡ None → n < length rs → ⊥
+got [] n e lt = omega (arith, lt)
+got (r ∷ rs) zero e lt = cc
+got (r ∷ rs) (suc n) e lt = got rs n e (omega (arith, lt))
+
+there : (rs : List RelationShape) (m : ℕ) → first_declared ≤ m → m < first_declared + length rs → kind_of rs m ≡ None → ⊥
+there rs zero le lt e = omega (arith, le)
+there rs (suc zero) le lt e = omega (arith, le)
+there rs (suc (suc n)) le lt e = got rs n e (omega (arith, lt))
+
+is_list : (users : ℕ) (all : List (List ℕ × Data)) (marked : Bool) (o : Option RelationKind) → marked ≡ false → (o ≡ None → ⊥) → ((k : RelationKind) → o ≡ Some k → IsKept users all marked k) → has_list o ≡ true
+is_list users all marked None other some kept = absurd (some refl)
+is_list users all marked (Some (listed pairs)) other some kept = refl
+is_list users all marked (Some (complement m)) other some kept = let no : true ≡ false = sym (kept (complement m) refl).0 ∙ other in cc
+
+wider : (users : ℕ) (pairs : Pairs) → users ≤ USER_LIMIT → AreBelow users pairs → AllPairs (λ u v. (u < USER_LIMIT) × (v < USER_LIMIT)) pairs
+wider users pairs le h = record { each = λ u v k. let both = h.each u v k in (omega (arith, le, both.0), omega (arith, le, both.1)) }
+
+-- all relations of a table were read
+pub sound_of : (users : ℕ) (all : List (List ℕ × Data)) (rs : List RelationShape) → AreKept users all rs → users ≤ USER_LIMIT → length rs ≡ length all → length all ≤ RELATION_LIMIT → AreSound rs
+sound_of users all rs h le same few = record {
+  count = omega (arith, same, few);
+  names = h.names;
+  few = λ rho pairs e. (h.kinds rho (listed pairs) e).0;
+  users = λ rho pairs e. wider users pairs le (h.kinds rho (listed pairs) e).1;
+  complements = λ rho n e.
+      let t = (h.kinds rho (complement n) e).1 in
+      is_list users all (is_marked first_declared all n) (kind_of rs n) t.other (there rs n t.declared (omega (arith, t.within, same))) (h.kinds n);
+}
+
+-- ---- numbers of entries
+
+eq_same : (n : ℕ) → nat_eq n n ≡ true
+eq_same n = grind (arith, nat_tests)
+
+differs : (n m : ℕ) → n < m → nat_eq n m ≡ false
+differs n m lt = grind (arith, nat_tests, lt)
+
+same_some : {X : Type 0} (x y : X) → Some x ≡ Some y → x ≡ y
+same_some x y e = cc
+
+entry_target : (n : ℕ) (key : List ℕ) (es : List (List ℕ × Data)) (m : ℕ) (b : Bool) → entry_of n key es ≡ Some (m, b) → (is_marked n es m ≡ b) × (n ≤ m) × (m < n + length es)
+entry_target n key [] m b e = cc
+entry_target n key (x ∷ es) m b e =
+    elim (pointwise nat_eq key x.0) as (λ t. cond t (Some (n, is_complement x.1)) (entry_of (n + 1) key es) ≡ Some (m, b) → (is_marked n (x ∷ es) m ≡ b) × (n ≤ m) × (m < n + length (x ∷ es))) [
+      | true ↦ λ found.
+          let made : ℕ × Bool = (n, is_complement x.1) in
+          let p : made ≡ (m, b) = same_some made (m, b) found in
+          let number : n ≡ m = ap (λ (q : ℕ × Bool). q.0) p in
+          let told : is_complement x.1 ≡ b = ap (λ (q : ℕ × Bool). q.1) p in
+          (subst (λ k. cond (nat_eq n k) (is_complement x.1) (is_marked (n + 1) es k) ≡ b) number (rw (eq_same n) told), omega (arith, number), omega (arith, number))
+      | false ↦ λ found.
+          let later = entry_target (n + 1) key es m b found in
+          (rw (differs n m (omega (arith, later.1))) later.0, omega (arith, later.1), omega (arith, later.2))
+    ] e
+
+pub target_of : (key : List ℕ) (all : List (List ℕ × Data)) (m : ℕ) → entry_of first_declared key all ≡ Some (m, false) → IsTarget all m
+target_of key all m e = let t = entry_target first_declared key all m false e in record { other = t.0; declared = t.1; within = t.2 }
+
+-- the entry with a number is marked as it is
+pub marked_at : (n : ℕ) (before : List (List ℕ × Data)) (x : List ℕ × Data) (rest : List (List ℕ × Data)) → is_marked n (before ++ x ∷ rest) (n + length before) ≡ is_complement x.1
+marked_at n [] x rest = let same : n + 0 ≡ n = omega arith in rw (same, eq_same n) refl
+marked_at n (y ∷ before) x rest =
+    let same : (n + 1) + length before ≡ n + suc (length before) = omega arith in
+    rw (differs n (n + suc (length before)) (omega arith)) (subst (λ m. is_marked (n + 1) (before ++ x ∷ rest) m ≡ is_complement x.1) same (marked_at (n + 1) before x rest))
+
+entries_append : (xs ys : List Entry) → entries (members_view (xs ++ ys)) ≡ entries (members_view xs) ++ entries (members_view ys)
+entries_append [] ys = refl
+entries_append (x ∷ xs) ys = ap (λ es. (string_bytes x.0, view x.1) ∷ es) (entries_append xs ys)
+
+pub names_count : (rs : List RelationShape) → length (names_of rs) ≡ length rs
+names_count [] = refl
+names_count (r ∷ rs) = ap suc (names_count rs)
+
+-- the entry that is read next has the mark of the next relation
+pub marked_next : (read : List RelationShape → List ℕ × Data → Reading (List RelationShape)) (whole : Reading (List RelationShape)) (all left : List Entry) (e : Entry) (es : List Entry) (rs : List RelationShape)
+    → left ≡ e ∷ es → IsLeft read names_of all whole rs left → is_marked first_declared (entries (members_view all)) (first_declared + length rs) ≡ is_complement (view e.1)
+marked_next read whole all left e es rs steps h =
+    let before = entries (members_view h.before) in
+    let split : entries (members_view all) ≡ before ++ (string_bytes e.0, view e.1) ∷ entries (members_view es) = ap (λ x. entries (members_view x)) (h.split ∙ ap (λ x. h.before ++ x) steps) ∙ entries_append h.before (e ∷ es) in
+    let count : length rs ≡ length before = omega (arith, names_count rs, ap length h.named, texts_count h.before, count_entries h.before) in
+    rw (split, count) (marked_at first_declared before (string_bytes e.0, view e.1) (entries (members_view es)))
+
+pub table_told : (part : PolicyPart) (n : ℕ) (d : Data) (ms : Members) → table_in part n d ≡ Ok ms → is_complement d ≡ is_complement_table ms
+unfolding table_in
+table_told part n d ms e =
+    elim (as_table d) as (λ o. or_fault o (fault kind.Shape part n) ≡ Ok ms → passes is_complement_table o ≡ is_complement_table ms) [
+      | None ↦ λ no. cc
+      | Some x ↦ λ told. let same : x ≡ ms = cc in ap is_complement_table same
+    ] e

@@ -1,7 +1,0 @@
-use Rattle.std.proofs.Common.{◌≡◌}
-use Rattle.toml.specs.View.{table_view}
-use Rattle.policy_reader.specs.Documents.{table_below, permit_entry}
-use Rattle.policy_reader.proofs.written_flows.permits_value.Given as goal
-
-abbrev pub invariant-steps : goal.invariant-steps
-invariant-steps l = table_view l.table ≡ table_below l.s (permit_entry l.roles.names l.flow)

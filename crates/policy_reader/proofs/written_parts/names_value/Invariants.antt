@@ -1,7 +1,0 @@
-use Rattle.std.proofs.Common.{◌≡◌, map, take}
-use Rattle.toml.specs.Data.{string}
-use Rattle.toml.specs.View.{view}
-use Rattle.policy_reader.proofs.written_parts.names_value.Given as goal
-
-abbrev pub invariant-names : goal.invariant-names
-invariant-names l = map view l.values.items ≡ map string (take l.n l.names.names)

@@ -1,7 +1,0 @@
-use Rattle.std.proofs.Common.{◌≡◌, map, take}
-use Rattle.toml.specs.View.{view}
-use Rattle.policy_reader.specs.Documents.{pair_data}
-use Rattle.policy_reader.proofs.written_parts.pairs_value.Given as goal
-
-abbrev pub invariant-pairs : goal.invariant-pairs
-invariant-pairs l = map view l.values.items ≡ map (pair_data l.names.names) (take l.pair-index l.pairs)

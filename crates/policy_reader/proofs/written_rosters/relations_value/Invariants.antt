@@ -1,8 +1,0 @@
-use Rattle.std.proofs.Common.{◌≡◌, ◌+◌}
-use Rattle.toml.specs.View.{table_view}
-use Rattle.policy_reader.specs.Relations.{first_declared}
-use Rattle.policy_reader.specs.Documents.{table_below, relation_entry}
-use Rattle.policy_reader.proofs.written_rosters.relations_value.Given as goal
-
-abbrev pub invariant-relations : goal.invariant-relations
-invariant-relations l = table_view l.table ≡ table_below l.n (λ n. relation_entry l.users.names l.relations (first_declared + n))

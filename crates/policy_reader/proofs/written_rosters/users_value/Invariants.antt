@@ -1,7 +1,0 @@
-use Rattle.std.proofs.Common.{◌≡◌}
-use Rattle.toml.specs.View.{table_view}
-use Rattle.policy_reader.specs.Documents.{table_below, user_entry}
-use Rattle.policy_reader.proofs.written_rosters.users_value.Given as goal
-
-abbrev pub invariant-users : goal.invariant-users
-invariant-users l = table_view l.table ≡ table_below l.u (user_entry l.roster)

@@ -1,0 +1,43 @@
+//! The forms of a rule. A further one is a row here, one in `specs/Forms.antt`, and what is read
+//! and written of it.
+ghost use Rattle.std.specs.Prelude.{◌≡◌, map};
+ghost use Rattle.policy_reader.specs.Forms as spec;
+
+/// The form of a rule.
+#[derive(Clone, Copy, Debug, PartialEq, Eq)]
+pub enum Form {
+    /// Over two steps.
+    Pair,
+    /// Over some step of a group.
+    SomeOf,
+    /// Over every step of a group.
+    AllOf,
+}
+
+impl Form {
+    /// The word for the form in a policy file.
+    pub fn word(&self) -> &'static str
+        ensures { result.now ≡ spec.form_word self.now }
+    {
+        match self {
+            Form::Pair => "pair",
+            Form::SomeOf => "some",
+            Form::AllOf => "all",
+        }
+    }
+
+    /// The form with a word.
+    pub(crate) fn read(text: &str) -> Option<Form>
+        ensures { result ≡ spec.form_of_word text.now }
+    {
+        if text == Form::Pair.word() {
+            Some(Form::Pair)
+        } else if text == Form::SomeOf.word() {
+            Some(Form::SomeOf)
+        } else if text == Form::AllOf.word() {
+            Some(Form::AllOf)
+        } else {
+            None
+        }
+    }
+}
