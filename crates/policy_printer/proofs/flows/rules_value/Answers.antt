@@ -18,7 +18,7 @@ rules-preserved c =
     let f = rule_data c.args.relations.now c.args.steps.now.names in (
       c.in_ok-push_rule.ensures.pushed ∙ ap (λ xs. xs ++ f c.get.result.now ∷ []) c.rules.invariant.0 ∙ sym (map_take_got f c.args.rules.now c.rules.k c.get.result.now c.get.ensures),
       one_further (λ m. (rule : Rule) → slice_get c.args.rules.now m ≡ Some rule → HasFlags rule) c.rules.k c.rules.invariant.1
-          (λ rule e. subst (λ r. HasFlags r) (same_rule c.in-Some.rule rule (c.in-Some.ensures ∙ e)) c.in_ok-push_rule.ensures.flags),
+          (λ rule e. subst (λ r. HasFlags r) (same_rule c.get.result.now rule (sym c.get.ensures ∙ e)) c.in_ok-push_rule.ensures.flags),
     )
 
 pub returns-clause-flags : goal.returns-clause-flags
