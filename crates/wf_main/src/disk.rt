@@ -1,5 +1,5 @@
 //! The disk as a shelf that does not tell what it holds.
-ghost use Rattle.std.specs.Prelude.{None};
+ghost use Rattle.wf_outside.specs.Outside.{untold};
 
 use crate::streams::ReaderSource;
 use std::alloc::Global;
@@ -25,7 +25,7 @@ impl<'a, R: Files> DiskShelf<'a, R> {
 }
 
 impl<'a, R: Files> Shelf for DiskShelf<'a, R> {
-    ghost file = { λ _ _. None };
+    ghost file = { λ _ _. untold };
 
     ghost faults = { λ s. s.faults };
 

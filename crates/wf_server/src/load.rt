@@ -1,6 +1,6 @@
 //! Loading the policy, and writing an answer.
-ghost use Rattle.std.specs.Prelude.{◌≡◌, ◌≢◌, ℕ, List, IfSome, IfErr, Err};
-ghost use Rattle.wf_outside.specs.Outside.{Rose};
+ghost use Rattle.std.specs.Prelude.{◌≡◌, ◌≢◌, ℕ, List, IfErr, Err};
+ghost use Rattle.wf_outside.specs.Outside.{Rose, told};
 ghost use Rattle.wf_server.specs.Endings.{GivesBytes, GivesPolicy, IsFileEnding, IsLoadEnding, ReadsPolicy, Writes};
 
 use crate::RunFault;
@@ -16,7 +16,7 @@ pub(crate) fn load_policy<F: Shelf>(
     shelf: &mut F,
     name: &str,
 ) -> Result<Policy, RunFault>
-    ensures policy { IfSome (F.file shelf.old name.now) (λ file. GivesPolicy file result) }
+    ensures policy { (file : List ℕ) → F.file shelf.old name.now ≡ told file → GivesPolicy file result }
     ensures ending { IfErr result IsLoadEnding }
     ensures rose { result ≡ Err RunFault.Load → Rose (F.faults shelf.old) (F.faults shelf.new) }
 {
@@ -26,7 +26,7 @@ pub(crate) fn load_policy<F: Shelf>(
 
 // The bytes of a policy file.
 fn load_file<F: Shelf>(alloc: Global, shelf: &mut F, name: &str) -> Result<Loaded, RunFault>
-    ensures bytes { IfSome (F.file shelf.old name.now) (λ file. GivesBytes file result) }
+    ensures bytes { (file : List ℕ) → F.file shelf.old name.now ≡ told file → GivesBytes file result }
     ensures ending { IfErr result IsFileEnding }
     ensures rose { result ≡ Err RunFault.Load → Rose (F.faults shelf.old) (F.faults shelf.new) }
 {

@@ -1,6 +1,6 @@
 //! The command `plan`: it judges the plan in the input.
 ghost use Rattle.std.specs.Prelude.{◌≡◌, ◌<◌, ℕ, List, length, Some, Err, true, false, IfErr};
-ghost use Rattle.wf_outside.specs.Outside.{Rose};
+ghost use Rattle.wf_outside.specs.Outside.{Rose, told};
 ghost use Rattle.wf_server.specs.Words.{plan};
 ghost use Rattle.wf_server.specs.Answers.{IsRun, JudgesAll, JudgesInput};
 ghost use Rattle.wf_server.specs.Endings.{AnswersAs, Ends, IsAnswer, IsQuiet, is_before_input};
@@ -23,7 +23,7 @@ pub(crate) fn run_plan<F: Shelf, S: Source, K: Sink>(
     source: &mut S,
     sink: &mut K,
 ) -> RunFault
-    ensures runs { (file input : List ℕ) → F.file shelf.old policy.now ≡ Some file → S.left source.old ≡ Some input →
+    ensures runs { (file input : List ℕ) → F.file shelf.old policy.now ≡ told file → S.left source.old ≡ Some input →
         Ends (IsRun (plan policy.now flow.now) file input) (K.held sink.old) (K.held sink.new) result }
     ensures quiet { IsQuiet result (K.held sink.old) (K.held sink.new) }
     ensures unread { is_before_input result ≡ true → S.left source.new ≡ S.left source.old }
@@ -46,7 +46,7 @@ fn judge_input<F: Shelf, S: Source>(
     shelf: &mut F,
     source: &mut S,
 ) -> Result<Answer, RunFault>
-    ensures answer { (file input : List ℕ) → F.file shelf.old policy.now ≡ Some file → S.left source.old ≡ Some input →
+    ensures answer { (file input : List ℕ) → F.file shelf.old policy.now ≡ told file → S.left source.old ≡ Some input →
         AnswersAs (IsRun (plan policy.now flow.now) file input) result }
     ensures ending { IsAnswer result }
     ensures unread { IfErr result (λ fault. is_before_input fault ≡ true → S.left source.new ≡ S.left source.old) }

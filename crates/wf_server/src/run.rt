@@ -1,6 +1,6 @@
 //! The top call: one run of the program over a source, a sink and a shelf.
 ghost use Rattle.std.specs.Prelude.{◌≡◌, ◌↔◌, ◌≤◌, ℕ, List, map, string_bytes, None, Some, true, false, IfSome};
-ghost use Rattle.wf_outside.specs.Outside.{Rose};
+ghost use Rattle.wf_outside.specs.Outside.{Rose, told};
 ghost use Rattle.wf_server.specs.Statuses.{status_of};
 ghost use Rattle.wf_server.specs.Words.{command_of, policy_named, reads_input};
 ghost use Rattle.wf_server.specs.Endings.{is_before_input};
@@ -31,7 +31,7 @@ pub fn run_alone<F: Shelf, S: Source, K: Sink>(
 
     // What a run answers and writes, where the shelf and the source tell what they hold.
     ensures runs { IfSome (command_of (map string_bytes words.now)) (λ command. (file : List ℕ) →
-        F.file shelf.old (policy_named command) ≡ Some file →
+        F.file shelf.old (policy_named command) ≡ told file →
         RunsOver command file (S.left source.old) (S.left source.new) (K.held sink.old) (K.held sink.new) (told_by result) result.fault) }
 
     // What else it does, whether they tell or not.

@@ -1,6 +1,6 @@
 //! The command `serve`: it answers the requests in the input.
 ghost use Rattle.std.specs.Prelude.{◌≡◌, ℕ, List, Some, true, false};
-ghost use Rattle.wf_outside.specs.Outside.{Rose};
+ghost use Rattle.wf_outside.specs.Outside.{Rose, told};
 ghost use Rattle.wf_server.specs.Statuses.{status_of};
 ghost use Rattle.wf_server.specs.Endings.{is_before_input};
 ghost use Rattle.wf_server.specs.Sessions.{Served};
@@ -27,7 +27,7 @@ pub(crate) fn run_serve<F: Shelf, S: Source, K: Sink>(
     source: &mut S,
     sink: &mut K,
 ) -> Report
-    ensures serves { (file : List ℕ) → F.file shelf.old policy.now ≡ Some file →
+    ensures serves { (file : List ℕ) → F.file shelf.old policy.now ≡ told file →
         ServesFile file (S.left source.old) (S.left source.new) (K.held sink.old) (K.held sink.new) (told_by result) result.fault }
     ensures early { is_before_input result.fault ≡ true → IsUntouched (S.left source.old) (S.left source.new) (K.held sink.old) (K.held sink.new) (told_by result) }
     ensures status { result.status ≡ status_of result.fault }

@@ -1,6 +1,6 @@
 //! The command `show`: the policy as TOML.
 ghost use Rattle.std.specs.Prelude.{◌≡◌, ℕ, List, Some, Ok, Err};
-ghost use Rattle.wf_outside.specs.Outside.{Rose};
+ghost use Rattle.wf_outside.specs.Outside.{Rose, told};
 ghost use Rattle.policy_reader.specs.Files.{policy_of_file};
 ghost use Rattle.wf_server.specs.Answers.{OverPolicy, Shows};
 ghost use Rattle.wf_server.specs.Endings.{AnswersAs, Ends, IsAnswer, IsQuiet};
@@ -20,7 +20,7 @@ pub(crate) fn run_show<F: Shelf, K: Sink>(
     shelf: &mut F,
     sink: &mut K,
 ) -> RunFault
-    ensures runs { (file : List ℕ) → F.file shelf.old policy.now ≡ Some file →
+    ensures runs { (file : List ℕ) → F.file shelf.old policy.now ≡ told file →
         Ends (OverPolicy file Shows) (K.held sink.old) (K.held sink.new) result }
     ensures quiet { IsQuiet result (K.held sink.old) (K.held sink.new) }
     ensures usage { result ≡ RunFault.Usage → ⊥ }
@@ -36,7 +36,7 @@ pub(crate) fn run_show<F: Shelf, K: Sink>(
 
 // What the run answers.
 fn show_file<F: Shelf>(alloc: Global, policy: &str, shelf: &mut F) -> Result<Answer, RunFault>
-    ensures answer { (file : List ℕ) → F.file shelf.old policy.now ≡ Some file → AnswersAs (OverPolicy file Shows) result }
+    ensures answer { (file : List ℕ) → F.file shelf.old policy.now ≡ told file → AnswersAs (OverPolicy file Shows) result }
     ensures ending { IsAnswer result }
     ensures read { result ≡ Err RunFault.Read → ⊥ }
     ensures load { result ≡ Err RunFault.Load → Rose (F.faults shelf.old) (F.faults shelf.new) }

@@ -1,6 +1,6 @@
 //! The command `solve`: a plan for each workflow, or a tree that shows that there is none.
 ghost use Rattle.std.specs.Prelude.{◌≡◌, ◌<◌, ℕ, List, length, string_bytes, Some, Err, IfOk};
-ghost use Rattle.wf_outside.specs.Outside.{Rose};
+ghost use Rattle.wf_outside.specs.Outside.{Rose, told};
 ghost use Rattle.wf_server.specs.Solving.{TellsFirst, TellsFlow};
 ghost use Rattle.wf_server.specs.Answers.{OverPolicy, SolvesAll};
 ghost use Rattle.wf_server.specs.Endings.{AnswersAs, Ends, IsAnswer, IsQuiet};
@@ -22,7 +22,7 @@ pub(crate) fn run_solve<F: Shelf, K: Sink>(
     shelf: &mut F,
     sink: &mut K,
 ) -> RunFault
-    ensures runs { (file : List ℕ) → F.file shelf.old policy.now ≡ Some file →
+    ensures runs { (file : List ℕ) → F.file shelf.old policy.now ≡ told file →
         Ends (OverPolicy file SolvesAll) (K.held sink.old) (K.held sink.new) result }
     ensures quiet { IsQuiet result (K.held sink.old) (K.held sink.new) }
     ensures usage { result ≡ RunFault.Usage → ⊥ }
@@ -38,7 +38,7 @@ pub(crate) fn run_solve<F: Shelf, K: Sink>(
 
 // What the run answers.
 fn solve_file<F: Shelf>(alloc: Global, policy: &str, shelf: &mut F) -> Result<Answer, RunFault>
-    ensures answer { (file : List ℕ) → F.file shelf.old policy.now ≡ Some file → AnswersAs (OverPolicy file SolvesAll) result }
+    ensures answer { (file : List ℕ) → F.file shelf.old policy.now ≡ told file → AnswersAs (OverPolicy file SolvesAll) result }
     ensures ending { IsAnswer result }
     ensures read { result ≡ Err RunFault.Read → ⊥ }
     ensures load { result ≡ Err RunFault.Load → Rose (F.faults shelf.old) (F.faults shelf.new) }
