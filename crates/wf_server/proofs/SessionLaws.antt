@@ -13,16 +13,17 @@ use Rattle.wf_board.specs.States.{State, opening_state}
 use Rattle.wf_board.specs.Histories.{IsLegal, job_of_entry, state_after}
 use Rattle.wf_board.specs.Laws.{HistoriesKeepPlans}
 use Rattle.wf_board.specs.HistoryLaws.{in_order_fills, in_order_front}
-use Rattle.wf_server.specs.declared.fault.RunFault.{RunFault}
-use Rattle.wf_server.specs.declared.fault.RunFault.TheVariants.{Write, NoMemory}
-use Rattle.wf_server.specs.declared.fault.RunFault.TheVariants as fault
+use Rattle.run_record.specs.declared.fault.RunFault.{RunFault}
+use Rattle.run_record.specs.declared.fault.RunFault.TheVariants.{Write, NoMemory}
+use Rattle.run_record.specs.declared.fault.RunFault.TheVariants as fault
 use Rattle.wf_server.specs.declared.reader.Reader.{Reader}
 use Rattle.wf_server.specs.declared.reader.Paused.{Paused}
 use Rattle.wf_server.specs.declared.reader.Paused.TheVariants as paused
-use Rattle.wf_server.specs.Endings.{is_before_input}
+use Rattle.run_record.specs.Fault.{is_before_input}
 use Rattle.wf_server.specs.Reading.{pending, HasRead, IsCutUp, ReadsTo}
 use Rattle.wf_server.specs.Batches.{HasAnswered, HasAnsweredPart, BatchEnds, ending_of}
-use Rattle.wf_server.specs.Sessions.{Told, AllServed, PartlyServed, ServedAs, Serves, Served, nothing_told}
+use Rattle.run_record.specs.Report.{Told, nothing_told}
+use Rattle.wf_server.specs.Sessions.{AllServed, PartlyServed, ServedAs, Serves, Served}
 
 -- what a session tells after these entries
 abbrev told_of : Reader → List Entry → Told

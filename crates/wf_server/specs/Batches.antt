@@ -9,8 +9,8 @@ use Rattle.policy_book.specs.Shapes.{PolicyShape}
 use Rattle.wf_board.specs.States.{State, opening_state}
 use Rattle.wf_board.specs.Steps.{IsStep, state_after_step}
 use Rattle.wf_board.specs.Histories.{IsLegal, IsFront, job_of_entry, state_after}
-use Rattle.wf_server.specs.declared.fault.RunFault.{RunFault}
-use Rattle.wf_server.specs.declared.fault.RunFault.TheVariants.{Nothing, Read, NoMemory, LineTooLong, TooManyLines}
+use Rattle.run_record.specs.declared.fault.RunFault.{RunFault}
+use Rattle.run_record.specs.declared.fault.RunFault.TheVariants.{Nothing, Read, NoMemory, LineTooLong, TooManyLines}
 use Rattle.wf_server.specs.declared.reader.Reader.{Reader}
 use Rattle.wf_server.specs.declared.reader.Paused.{Paused}
 use Rattle.wf_server.specs.declared.reader.Paused.TheVariants as paused

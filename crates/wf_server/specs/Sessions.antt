@@ -10,18 +10,9 @@ use Rattle.policy_book.specs.Shapes.{PolicyShape}
 use Rattle.wf_board.specs.States.{opening_state}
 use Rattle.wf_board.specs.Kept.{KeepsPlans}
 use Rattle.wf_board.specs.Histories.{IsLegal, FillsJobs, FillsPart, state_after}
-use Rattle.wf_server.specs.declared.fault.RunFault.{RunFault}
-use Rattle.wf_server.specs.declared.fault.RunFault.TheVariants.{Nothing, Read, Write, NoMemory, LineTooLong, TooManyLines}
-
--- what a report tells of a session: the entries, the jobs that they answer, and the ends of the batches
-pub record Told : Type 0 where
-  pub entries : List Entry
-  pub jobs : List Job
-  pub batch_ends : List ℕ
-
--- a report of no session
-abbrev pub nothing_told : Told
-nothing_told = record { entries = []; jobs = []; batch_ends = [] }
+use Rattle.run_record.specs.declared.fault.RunFault.{RunFault}
+use Rattle.run_record.specs.Report.{Told}
+use Rattle.run_record.specs.declared.fault.RunFault.TheVariants.{Nothing, Read, Write, NoMemory, LineTooLong, TooManyLines}
 
 -- after each of the entries every open case has a valid plan
 abbrev pub AlwaysKeepsPlans : PolicyShape → List Entry → Type 0

@@ -7,17 +7,16 @@ ghost use Rattle.wf_board.specs.States.{opening_state};
 ghost use Rattle.wf_board.specs.Histories.{job_of_entry};
 ghost use Rattle.wire_json.specs.Jobs.{start};
 ghost use Rattle.wire_json.specs.JobLaws.{place};
-ghost use Rattle.wf_server.specs.Statuses.{status_of};
+ghost use Rattle.run_record.specs.Fault.{status_of};
 ghost use Rattle.wf_server.specs.Reading.{pending, IsReady, IsBetween, HasRead};
 ghost use Rattle.wf_server.specs.Batches.{BatchEnds, HasAnswered, ending_of};
 ghost use Rattle.wf_server.specs.Sessions.{Serves, Served};
-ghost use Rattle.wf_server.specs.Reports.{told_by};
+ghost use Rattle.run_record.specs.Report.{told_by};
 
-use crate::RunFault;
 use crate::reader::{Paused, Reader, read_on};
-use crate::report::{Report, bare_report};
 use crate::turn::{Turn, take_turn};
 use policy_book::Policy;
+use run_record::{Report, RunFault, bare_report};
 use std::alloc::Global;
 use wf_board::Board;
 use wf_outside::{Sink, Source};
@@ -128,6 +127,6 @@ fn report_of(fault: RunFault, entries: Journal, cut: Cutter) -> Report
         fault,
         entries,
         jobs,
-        ends,
+        batch_ends: ends,
     }
 }

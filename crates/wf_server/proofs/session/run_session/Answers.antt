@@ -1,4 +1,4 @@
-use Rattle.wf_server.specs.Reports.{told_by}
+use Rattle.run_record.specs.Report.{told_by}
 use Rattle.wf_server.proofs.SessionLaws.{bare_serves}
 use Rattle.wf_server.proofs.session.run_session.Goals as goal
 
