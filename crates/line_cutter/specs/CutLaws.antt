@@ -1,11 +1,13 @@
 -- Inside: laws of the cutting, for the proofs over it.
 use Rattle.std.proofs.Common.{refl, ap, subst, sym, ◌∙◌, arith}
-use Rattle.std.specs.Prelude.{◌≡◌, ◌≢◌, ℕ, suc, ◌+◌, ◌-◌, ◌*◌, ◌==◌, ◌<◌, ◌≤◌, nat_lt, nat_le, Bool, true, false, List, [], ◌∷◌, ◌++◌, length, take, drop, slice_index, Some, None, is_some, if◌then◌else◌}
+use Rattle.std.specs.Prelude.{◌≡◌, ◌≢◌, ℕ, suc, ◌+◌, ◌-◌, ◌*◌, ◌==◌, ◌<◌, ◌≤◌, nat_lt, nat_le, Bool, true, false, List, [], ◌∷◌, ◌++◌, length, map, take, drop, slice_index, Some, None, is_some, if◌then◌else◌}
 use Rattle.std.proofs.lemmas.Grind.{common_steps}
 use Rattle.std.proofs.lemmas.List.{map-append, length-append, append_assoc, append-nil, length-take-le, get_or-take, take_more}
+use Rattle.std.proofs.Math.Seq.{take-append_seam}
 use Rattle.wf_names.specs.declared.limits.TheConstants.{LINE_LIMIT, SESSION_LINE_LIMIT, BATCH_LINE_LIMIT}
 use Rattle.wf_talk.specs.declared.job.Job.{Job}
-use Rattle.line_cutter.specs.Jobs.{Cut, start, without_cr, job_of, end_batch, end_full_batch, next_line, end_line, step, cut_all, flush, jobs_of_input, last_or, UpToAnEnd}
+use Rattle.line_cutter.specs.declared.stop.Stop.{Stop}
+use Rattle.line_cutter.specs.Jobs.{Cut, start, without_cr, job_of, end_batch, end_full_batch, next_line, with_job, end_line, step, cut_all, flush, jobs_of_input, last_or, UpToAnEnd}
 use Rattle.line_cutter.specs.Cutter.{IsSound, IsEnded, Cuts, emptied, after_handing, ends_after, place, last_place}
 
 -- ---- soundness
@@ -71,6 +73,14 @@ ended_step c b from none some = record { closed = grind (arith, common_steps, le
 
 pub ended_byte : (c d : Cut) (b : ℕ) → IsSound c → c.ends ≡ [] → d ≡ step c b → d.ends ≢ [] → IsEnded d
 ended_byte c d b h none e some = subst IsEnded (sym e) (ended_step c b (begins_first c h none) none (λ q. some (ap (λ (x : Cut). x.ends) e ∙ q)))
+
+stops_step : (c : Cut) (b : ℕ) (stop : Stop) → c.stop ≡ None → c.ends ≡ [] → (step c b).stop ≡ Some stop → (step c b).ends ≡ []
+unfolding step
+stops_step c b stop going none e = grind (arith, common_steps, ends_of_line)
+
+pub stops_byte : (c d : Cut) (b : ℕ) → c.stop ≡ None → c.ends ≡ [] → d ≡ step c b → (stop : Stop) → d.stop ≡ Some stop → d.ends ≡ []
+stops_byte c d b going none e stop stopped =
+    ap (λ (x : Cut). x.ends) e ∙ stops_step c b stop going none (sym (ap (λ (x : Cut). x.stop) e) ∙ stopped)
 
 -- ---- runs
 
@@ -147,3 +157,72 @@ handed_end jobs batch_ends c = grind (arith, common_steps, length-append, map-ap
 handed_full : (jobs : List Job) (batch_ends : List ℕ) (c : Cut) → end_full_batch (after_handing jobs batch_ends c) ≡ after_handing jobs batch_ends (end_full_batch c)
 unfolding end_full_batch
 handed_full jobs batch_ends c = grind (arith, common_steps, length-append, handed_end)
+
+handed_if : (b : Bool) (jobs : List Job) (batch_ends : List ℕ) (c d c' d' : Cut)
+    → c' ≡ after_handing jobs batch_ends c → d' ≡ after_handing jobs batch_ends d → (if b then c' else d') ≡ after_handing jobs batch_ends (if b then c else d)
+handed_if true jobs batch_ends c d c' d' first second = first
+handed_if false jobs batch_ends c d c' d' first second = second
+
+handed_line : (jobs : List Job) (batch_ends : List ℕ) (c : Cut) → end_line (after_handing jobs batch_ends c) ≡ after_handing jobs batch_ends (end_line c)
+unfolding end_line
+handed_line jobs batch_ends c =
+    let job : Job = job_of c.lanes c.number (without_cr c.line) in
+    handed_if (length (without_cr c.line) == 0) jobs batch_ends (end_batch (next_line c)) (end_full_batch (with_job c job)) _ _
+    (handed_end jobs batch_ends (next_line c))
+    (ap (λ js. end_full_batch (record (after_handing jobs batch_ends (next_line c)) { jobs = js })) (append_assoc jobs c.jobs (job ∷ []))
+        ∙ handed_full jobs batch_ends (with_job c job))
+
+handed_step : (jobs : List Job) (batch_ends : List ℕ) (c : Cut) (b : ℕ) → step (after_handing jobs batch_ends c) b ≡ after_handing jobs batch_ends (step c b)
+unfolding step
+handed_step jobs batch_ends c b = grind (arith, common_steps, handed_line)
+
+-- what was handed over stays in front of all that is cut
+pub handed_all : (jobs : List Job) (batch_ends : List ℕ) (c : Cut) (bytes : List ℕ) → cut_all (after_handing jobs batch_ends c) bytes ≡ after_handing jobs batch_ends (cut_all c bytes)
+handed_all jobs batch_ends c [] = refl
+handed_all jobs batch_ends c (b ∷ bs) = ap (λ d. cut_all d bs) (handed_step jobs batch_ends c b) ∙ handed_all jobs batch_ends (step c b) bs
+
+handed_flush : (jobs : List Job) (batch_ends : List ℕ) (c : Cut) (ended : Bool) → flush ended (after_handing jobs batch_ends c) ≡ after_handing jobs batch_ends (flush ended c)
+unfolding flush
+handed_flush jobs batch_ends c ended = grind (arith, common_steps, append_assoc)
+
+-- so does it where the input is ended
+pub handed_finish : (jobs : List Job) (batch_ends : List ℕ) (c : Cut) (ended : Bool)
+    → end_batch (flush ended (after_handing jobs batch_ends c)) ≡ after_handing jobs batch_ends (end_batch (flush ended c))
+handed_finish jobs batch_ends c ended = ap end_batch (handed_flush jobs batch_ends c ended) ∙ handed_end jobs batch_ends (flush ended c)
+
+-- an ended batch that is handed over is the last of what was
+pub handed_over : (jobs : List Job) (batch_ends : List ℕ) (c : Cut) → IsEnded c
+    → after_handing jobs batch_ends c ≡ after_handing (jobs ++ c.jobs) (ends_after batch_ends (length jobs) c.jobs) (emptied c)
+handed_over jobs batch_ends c h = grind (arith, common_steps, h.closed, h.ends, append-nil, length-append)
+
+-- ---- ends of what was handed over
+
+-- the last end is the count of the jobs, with one more batch too
+pub closed_after : (jobs more : List Job) (batch_ends : List ℕ) → last_or 0 batch_ends ≡ length jobs
+    → last_or 0 (ends_after batch_ends (length jobs) more) ≡ length (jobs ++ more)
+closed_after jobs more batch_ends closed = grind (arith, common_steps, length-append, last-push)
+
+-- what was handed over stands first, up to its last end of a batch
+pub up_to_end : (jobs : List Job) (batch_ends : List ℕ) (c : Cut) → last_or 0 batch_ends ≡ length jobs → UpToAnEnd jobs batch_ends (after_handing jobs batch_ends c)
+up_to_end jobs batch_ends c closed =
+    let more : List ℕ = map (λ n. length jobs + n) c.ends in
+    record {
+      ends = (length batch_ends, sym (take-append_seam batch_ends more));
+      within = sym (rw closed (take-append_seam jobs c.jobs));
+    }
+
+-- ---- where the cutting stopped
+
+stopped_step : (c : Cut) (b : ℕ) → is_some c.stop ≡ true → step c b ≡ c
+unfolding step
+stopped_step c b h = rw h refl
+
+-- what follows is not cut
+pub stopped : (c : Cut) (bytes : List ℕ) → is_some c.stop ≡ true → cut_all c bytes ≡ c
+stopped c [] h = refl
+stopped c (b ∷ bs) h = rw (stopped_step c b h) (stopped c bs h)
+
+-- and ending the input changes nothing of it
+pub finished_stop : (c : Cut) (ended : Bool) → (end_batch (flush ended c)).stop ≡ c.stop
+unfolding end_batch flush
+finished_stop c ended = grind (arith, common_steps)

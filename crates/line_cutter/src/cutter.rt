@@ -1,6 +1,7 @@
 //! Cutting the input into lines, jobs and batches, in whatever pieces it comes.
-ghost use Rattle.std.specs.Prelude.{◌≡◌, ◌≢◌, ◌≤◌, ◌<◌, ◌+◌, ℕ, [], ◌∷◌, ◌++◌, length, take, slice_index, None, IfOk, OnOk, OnErr, MatchBool};
+ghost use Rattle.std.specs.Prelude.{◌≡◌, ◌≢◌, ◌≤◌, ◌<◌, ◌+◌, ℕ, [], ◌∷◌, ◌++◌, length, take, slice_index, None, Some, IfOk, OnOk, OnErr, MatchBool};
 ghost use Rattle.wf_names.specs.declared.limits.TheConstants.{LINE_LIMIT, SESSION_LINE_LIMIT, BATCH_LINE_LIMIT};
+ghost use Rattle.line_cutter.specs.declared.stop.Stop.{Stop};
 ghost use Rattle.line_cutter.specs.Jobs as jobs;
 ghost use Rattle.line_cutter.specs.Cutter.{IsSound, IsEnded, Cuts, emptied, place, last_place};
 
@@ -81,6 +82,7 @@ impl Cutter {
         ensures within { IfOk result (λ n. n ≤ length piece.now) }
         ensures cuts { IfOk result (λ n. Cuts self.old self.new (take n piece.now)) }
         ensures ended { OnOk result (self.new.ends ≢ [] → IsEnded self.new) }
+        ensures stopped { OnOk result ((s : Stop) → self.new.stop ≡ Some s → self.new.ends ≡ []) }
         ensures further { OnOk result (self.new.stop ≡ None → place self.old < place self.new) }
         ensures sound { IsSound self.new }
         ensures unchanged { OnErr result (self.new ≡ self.old) }

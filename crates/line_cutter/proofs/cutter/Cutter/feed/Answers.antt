@@ -1,7 +1,7 @@
 use Rattle.std.proofs.Common.{◌∙◌, ap, arith}
 use Rattle.std.proofs.lemmas.Grind.{common_steps}
 use Rattle.line_cutter.specs.Jobs.{step}
-use Rattle.line_cutter.specs.CutLaws.{one_cut, plain_cut, ended_byte}
+use Rattle.line_cutter.specs.CutLaws.{one_cut, plain_cut, ended_byte, stops_byte}
 use Rattle.line_cutter.proofs.cutter.Cutter.feed.Goals as goal
 
 pub returns-then-run-eq0-clause-cuts : goal.returns-then-run-eq0-clause-cuts
@@ -14,3 +14,6 @@ returns-clause-cuts c =
 
 pub returns-then-run-eq0-clause-ended : goal.returns-then-run-eq0-clause-ended
 returns-then-run-eq0-clause-ended c = ended_byte c.args.self.now c.feed_byte.new.self _ c.requires.sound c.requires.handed c.in_ok-feed_byte.ensures.fed
+
+pub returns-then-run-eq0-clause-stopped : goal.returns-then-run-eq0-clause-stopped
+returns-then-run-eq0-clause-stopped c = stops_byte c.args.self.now c.feed_byte.new.self _ c.requires.going c.requires.handed c.in_ok-feed_byte.ensures.fed
