@@ -6,12 +6,13 @@ use Rattle.std.proofs.lemmas.List.{append-nil, length-append, take-append-drop, 
 use Rattle.wf_outside.specs.Outside.{HasTaken, IsAtEnd, bytes_before}
 use Rattle.wf_outside.proofs.OutsideLaws.{more_taken}
 use Rattle.wf_talk.specs.declared.job.Job.{Job}
+use Rattle.line_cutter.specs.declared.stop.Stop.{Stop}
 use Rattle.line_cutter.specs.Jobs.{Cut, start, cut_all, flush, end_batch, jobs_of_input, last_or, UpToAnEnd}
 use Rattle.line_cutter.specs.Cutter.{Cuts, IsEnded, after_handing, ends_after, emptied}
 use Rattle.line_cutter.specs.CutLaws.{cut_all-append, handed_all, handed_finish, handed_over, closed_after, up_to_end, stopped, finished_stop}
 use Rattle.batch_reader.specs.declared.reader.Paused.{Paused}
 use Rattle.batch_reader.specs.declared.reader.Paused.TheVariants.{Batch, End, Failed, Stopped, NoMemory}
-use Rattle.batch_reader.specs.Reading.{ReaderShape, Handed, handed_more, HasRead, HasPaused, HasReadAll, IsReadUp, ReadsTo, CountsAs}
+use Rattle.batch_reader.specs.Reading.{ReaderShape, Handed, handed_more, HasRead, HasPaused, HasReadAll, HasStopped, IsReadUp, ReadsTo, CountsAs}
 use Rattle.batch_reader.specs.Pausing.{HasCut, PausesBy, PausesAs, ClosesAs, FinishesAs}
 
 -- what was cut was read
@@ -94,35 +95,71 @@ read_by before after h r (Stopped stop) read = read
 read_by before after h r NoMemory read = read
 
 -- a batch that has ended is handed over
-batch_handed : (before after : Option (List ℕ)) (h : Handed) (r : ReaderShape) → HasCut before after h r → IsEnded r.cut → 0 < length r.cut.jobs → length r.pending < r.room
-    → HasPaused before after (handed_more h r.cut.jobs) (record r { cut = emptied r.cut })
-batch_handed before after h r cut ended some ahead =
+batch_over : (before after : Option (List ℕ)) (h : Handed) (r : ReaderShape) (cut : HasCut before after h r) → IsEnded r.cut
+    → after_handing (h.jobs ++ r.cut.jobs) (ends_after h.batch_ends (length h.jobs) r.cut.jobs) (emptied r.cut) ≡ cut_all (start h.lanes) (cut.front ++ cut.last ∷ [])
+batch_over before after h r cut ended = sym (handed_over h.jobs h.batch_ends r.cut ended) ∙ cut.cut
+
+batch_read : (before after : Option (List ℕ)) (h : Handed) (r : ReaderShape) → HasCut before after h r → IsEnded r.cut
+    → HasRead before after (handed_more h r.cut.jobs) (record r { cut = emptied r.cut })
+batch_read before after h r cut ended = record {
+  bytes = cut.front ++ cut.last ∷ [];
+  taken = cut.taken;
+  cut = batch_over before after h r cut ended;
+  closed = closed_after h.jobs r.cut.jobs h.batch_ends cut.closed;
+}
+
+batch_paused : (before after : Option (List ℕ)) (h : Handed) (r : ReaderShape) → HasCut before after h r → IsEnded r.cut → 0 < length r.cut.jobs → length r.pending < r.room
+    → HasPaused before after r.room (handed_more h r.cut.jobs)
+batch_paused before after h r cut ended some ahead =
     let one_more : length (ends_after h.batch_ends (length h.jobs) r.cut.jobs) ≡ length h.batch_ends + 1 = grind (arith, common_steps, length-append) in
+    let over = batch_over before after h r cut ended in
     record {
       front = cut.front;
       last = cut.last;
+      rest = r.pending;
       taken = cut.taken;
-      cut = sym (handed_over h.jobs h.batch_ends r.cut ended) ∙ cut.cut;
-      closed = closed_after h.jobs r.cut.jobs h.batch_ends cut.closed;
+      jobs = sym (append-nil (h.jobs ++ r.cut.jobs)) ∙ ap (λ (c : Cut). c.jobs) over;
+      ends = sym (append-nil (ends_after h.batch_ends (length h.jobs) r.cut.jobs)) ∙ ap (λ (c : Cut). c.ends) over;
       before_last = let same = ap length cut.none in omega arith;
       ahead = ahead;
     }
 
 -- the input was ended, and the last batch is handed over
-all_handed : (before after : Option (List ℕ)) (ended : Bool) (h : Handed) (r : ReaderShape) (d : Cut) → HasRead before after h r → d ≡ end_batch (flush ended r.cut) → IsEnded d → length r.pending < r.room
-    → HasReadAll before after ended (handed_more h d.jobs) (record r { cut = emptied d })
+finish_over : (before after : Option (List ℕ)) (ended : Bool) (h : Handed) (r : ReaderShape) (d : Cut) (read : HasRead before after h r) → d ≡ end_batch (flush ended r.cut) → IsEnded d
+    → jobs_of_input read.bytes ended h.lanes ≡ after_handing (h.jobs ++ d.jobs) (ends_after h.batch_ends (length h.jobs) d.jobs) (emptied d)
 unfolding jobs_of_input
-all_handed before after ended h r d read is closed ahead =
-    let whole : end_batch (flush ended (cut_all (start h.lanes) read.bytes)) ≡ after_handing h.jobs h.batch_ends d =
-        ap (λ c. end_batch (flush ended c)) (sym read.cut) ∙ handed_finish h.jobs h.batch_ends r.cut ended ∙ ap (after_handing h.jobs h.batch_ends) (sym is) in
-    let over = whole ∙ handed_over h.jobs h.batch_ends d closed in
+finish_over before after ended h r d read is closed =
+    ap (λ c. end_batch (flush ended c)) (sym read.cut) ∙ handed_finish h.jobs h.batch_ends r.cut ended ∙ ap (after_handing h.jobs h.batch_ends) (sym is)
+    ∙ handed_over h.jobs h.batch_ends d closed
+
+-- so are the jobs of all that was taken, where nothing is pending
+all_taken : (before after : Option (List ℕ)) (h : Handed) (r : ReaderShape) (read : HasRead before after h r) → r.pending ≡ [] → HasTaken before after read.bytes
+all_taken before after h r read none = subst (λ xs. HasTaken before after xs) (ap (λ xs. read.bytes ++ xs) none ∙ append-nil read.bytes) read.taken
+
+all_read : (before after : Option (List ℕ)) (ended : Bool) (h : Handed) (r : ReaderShape) (d : Cut) → HasRead before after h r → d ≡ end_batch (flush ended r.cut) → IsEnded d
+    → r.pending ≡ [] → r.cut.stop ≡ None → (ended ≡ true → IsAtEnd after) → HasReadAll before after ended (handed_more h d.jobs)
+all_read before after ended h r d read is closed none going at_end =
+    let over = finish_over before after ended h r d read is closed in
     record {
       bytes = read.bytes;
-      taken = read.taken;
-      jobs = sym (ap (λ (c : Cut). c.jobs) whole);
+      taken = all_taken before after h r read none;
+      at_end = at_end;
+      jobs = sym (ap (λ (c : Cut). c.jobs) over ∙ append-nil (h.jobs ++ d.jobs));
       ends = sym (ap (λ (c : Cut). c.ends) over ∙ append-nil (ends_after h.batch_ends (length h.jobs) d.jobs));
-      stop = sym (ap (λ (c : Cut). c.stop) whole);
-      closed = closed_after h.jobs d.jobs h.batch_ends read.closed;
+      going = ap (λ (c : Cut). c.stop) over ∙ ap (λ (c : Cut). c.stop) is ∙ finished_stop r.cut ended ∙ going;
+    }
+
+stop_read : (before after : Option (List ℕ)) (h : Handed) (r : ReaderShape) (d : Cut) (stop : Stop) → HasRead before after h r → d ≡ end_batch (flush false r.cut) → IsEnded d
+    → r.cut.stop ≡ Some stop → length r.pending < r.room → HasStopped before after r.room stop (handed_more h d.jobs)
+stop_read before after h r d stop read is closed stops ahead =
+    let over = finish_over before after false h r d read is closed in
+    record {
+      bytes = read.bytes;
+      rest = r.pending;
+      taken = read.taken;
+      jobs = sym (ap (λ (c : Cut). c.jobs) over ∙ append-nil (h.jobs ++ d.jobs));
+      ends = sym (ap (λ (c : Cut). c.ends) over ∙ append-nil (ends_after h.batch_ends (length h.jobs) d.jobs));
+      stopped = ap (λ (c : Cut). c.stop) over ∙ ap (λ (c : Cut). c.stop) is ∙ finished_stop r.cut false ∙ stops;
       ahead = ahead;
     }
 
@@ -146,55 +183,60 @@ all_up before after ended h r d read is closed rest at_end =
     }
 
 -- what a closed reading has read, and that its jobs are up to an end
-pub record HasClosed (before after : Option (List ℕ)) (h : Handed) (r : ReaderShape) (result : Paused) : Type 0 where
-  pub reads : ReadsTo before after h r result
+pub record HasClosed (before after : Option (List ℕ)) (room : ℕ) (h : Handed) (result : Paused) : Type 0 where
+  pub reads : ReadsTo before after room h result
   pub up : IsReadUp before after h
 
 finished : (before after : Option (List ℕ)) (ended : Bool) (h : Handed) (r : ReaderShape) (d : Cut) (paused result : Paused)
     → HasRead before after h r → FinishesAs r.cut d ended paused result → result ≢ NoMemory → cut_all r.cut r.pending ≡ r.cut → (ended ≡ true → IsAtEnd after)
-    → length r.pending < r.room
-    → (HasReadAll before after ended (handed_more h d.jobs) (record r { cut = emptied d }) → d.stop ≡ r.cut.stop → ReadsTo before after (handed_more h d.jobs) (record r { cut = emptied d }) paused)
-    → HasClosed before after (handed_more h d.jobs) (record r { cut = emptied d }) result
-finished before after ended h r d paused result read finishes memory rest at_end ahead reads = elim finishes [
-  | inl done ↦ rw done.0 (record {
-    reads = reads (all_handed before after ended h r d read done.1 done.2 ahead) (ap (λ (c : Cut). c.stop) done.1 ∙ finished_stop r.cut ended);
-    up = all_up before after ended h r d read done.1 done.2 rest at_end;
-  })
+    → (d ≡ end_batch (flush ended r.cut) → IsEnded d → ReadsTo before after r.room (handed_more h d.jobs) paused)
+    → HasClosed before after r.room (handed_more h d.jobs) result
+finished before after ended h r d paused result read finishes memory rest at_end reads = elim finishes [
+  | inl done ↦ rw done.0 (record { reads = reads done.1 done.2; up = all_up before after ended h r d read done.1 done.2 rest at_end })
   | inr none ↦ absurd (memory none)
 ]
 
-none_pending : (r : ReaderShape) → r.pending ≡ [] → 0 < r.room → length r.pending < r.room
-none_pending r none some = let e = ap length none in omega arith
-
-pub closed_reads : (before after : Option (List ℕ)) (h : Handed) (r : ReaderShape) (d : Cut) (paused result : Paused)
+closed_reads : (before after : Option (List ℕ)) (h : Handed) (r : ReaderShape) (d : Cut) (paused result : Paused)
     → PausesBy before after h r paused → PausesAs r after paused → ClosesAs r.cut d paused result → result ≢ NoMemory
-    → HasClosed before after (handed_more h d.jobs) (record r { cut = emptied d }) result
+    → HasClosed before after r.room (handed_more h d.jobs) result
 closed_reads before after h r d Batch result read pauses closes memory =
-    let handed = batch_handed before after h r read pauses.1 pauses.2 pauses.3 in
     rw (closes.0, closes.1) (record {
-      reads = handed;
-      up = up_read before after (handed_more h r.cut.jobs) (record r { cut = emptied r.cut })
-          (record { bytes = handed.front ++ handed.last ∷ []; taken = handed.taken; cut = handed.cut; closed = handed.closed });
+      reads = batch_paused before after h r read pauses.1 pauses.2 pauses.3;
+      up = up_read before after (handed_more h r.cut.jobs) (record r { cut = emptied r.cut }) (batch_read before after h r read pauses.1);
     })
 closed_reads before after h r d NoMemory result read pauses closes memory = absurd (memory closes)
 closed_reads before after h r d End result read pauses closes memory =
-    finished before after true h r d End result read closes memory (ap (cut_all r.cut) pauses.1) (λ e. pauses.3) (none_pending r pauses.1 pauses.2)
-    (λ all stop. (all, stop ∙ pauses.0.going, pauses.1, pauses.3))
+    finished before after true h r d End result read closes memory (ap (cut_all r.cut) pauses.1) (λ e. pauses.2)
+    (λ is closed. all_read before after true h r d read is closed pauses.1 pauses.0.going (λ e. pauses.2))
 closed_reads before after h r d Failed result read pauses closes memory =
-    finished before after false h r d Failed result read closes memory (ap (cut_all r.cut) pauses.1) (λ e. cc) (none_pending r pauses.1 pauses.2)
-    (λ all stop. (all, stop ∙ pauses.0.going, pauses.1))
-closed_reads before after h r d (Stopped where_to) result read pauses closes memory =
-    finished before after false h r d (Stopped where_to) result read closes memory (stopped r.cut r.pending (ap is_some pauses.0)) (λ e. cc) pauses.2
-    (λ all stop. (all, stop ∙ pauses.0))
+    finished before after false h r d Failed result read closes memory (ap (cut_all r.cut) pauses.1) (λ e. cc)
+    (λ is closed. all_read before after false h r d read is closed pauses.1 pauses.0.going (λ e. cc))
+closed_reads before after h r d (Stopped stop) result read pauses closes memory =
+    finished before after false h r d (Stopped stop) result read closes memory (stopped r.cut r.pending (ap is_some pauses.0)) (λ e. cc)
+    (λ is closed. stop_read before after h r d stop read is closed pauses.0 pauses.2)
 
--- the same of a reader with these parts
-pub closed_at : (before after : Option (List ℕ)) (h : Handed) (r t : ReaderShape) (d : Cut) (jobs : List Job) (paused result : Paused)
+-- the same with these jobs
+pub closed_at : (before after : Option (List ℕ)) (h : Handed) (r : ReaderShape) (d : Cut) (jobs : List Job) (room : ℕ) (paused result : Paused)
     → PausesBy before after h r paused → PausesAs r after paused → ClosesAs r.cut d paused result → result ≢ NoMemory
-    → jobs ≡ d.jobs → t.cut ≡ emptied d → t.pending ≡ r.pending → t.room ≡ r.room → HasClosed before after (handed_more h jobs) t result
-closed_at before after h r t d jobs paused result read pauses closes memory same cut pending room =
-    let is : record r { cut = emptied d } ≡ t = sym (ap (λ (c : Cut). record t { cut = c }) cut ∙ ap (λ (p : List ℕ). record t { cut = emptied d; pending = p }) pending
-        ∙ ap (λ (n : ℕ). record r { cut = emptied d; room = n }) room) in
-    rw same (subst (λ (x : ReaderShape). HasClosed before after (handed_more h d.jobs) x result) is (closed_reads before after h r d paused result read pauses closes memory))
+    → jobs ≡ d.jobs → room ≡ r.room → HasClosed before after room (handed_more h jobs) result
+closed_at before after h r d jobs room paused result read pauses closes memory same is = rw (same, is) (closed_reads before after h r d paused result read pauses closes memory)
+
+-- after a batch reading goes on
+pub closed_on : (before after : Option (List ℕ)) (h : Handed) (r t : ReaderShape) (jobs : List Job) (paused : Paused)
+    → PausesBy before after h r paused → PausesAs r after paused → paused ≡ Batch → jobs ≡ r.cut.jobs → t.cut ≡ emptied r.cut → t.pending ≡ r.pending
+    → HasRead before after (handed_more h jobs) t
+closed_on before after h r t jobs Batch read pauses e same cut pending =
+    let on = batch_read before after h r read pauses.1 in
+    rw same (record {
+      bytes = on.bytes;
+      taken = subst (λ (p : List ℕ). HasTaken before after (on.bytes ++ p)) (sym pending) on.taken;
+      cut = ap (after_handing (h.jobs ++ r.cut.jobs) (ends_after h.batch_ends (length h.jobs) r.cut.jobs)) cut ∙ on.cut;
+      closed = on.closed;
+    })
+closed_on before after h r t jobs NoMemory read pauses e same cut pending = cc
+closed_on before after h r t jobs End read pauses e same cut pending = cc
+closed_on before after h r t jobs Failed read pauses e same cut pending = cc
+closed_on before after h r t jobs (Stopped stop) read pauses e same cut pending = cc
 
 -- where memory was refused
 pub closed_none : (before after : Option (List ℕ)) (h : Handed) (r : ReaderShape) (none : List Job) (paused : Paused)

@@ -33,8 +33,8 @@ AdvancesTo before after h r (Some paused) = PausesBy before after h r paused
 -- where reading pauses so
 abbrev pub PausesAs : ReaderShape → Option (List ℕ) → Paused → Type 0
 PausesAs r left Batch = (r.cut.stop ≡ None) × IsEnded r.cut × (0 < length r.cut.jobs) × (length r.pending < r.room)
-PausesAs r left End = IsReady r × (r.pending ≡ []) × (0 < r.room) × IsAtEnd left
-PausesAs r left Failed = IsReady r × (r.pending ≡ []) × (0 < r.room)
+PausesAs r left End = IsReady r × (r.pending ≡ []) × IsAtEnd left
+PausesAs r left Failed = IsReady r × (r.pending ≡ [])
 PausesAs r left (Stopped stop) = (r.cut.stop ≡ Some stop) × (r.cut.ends ≡ []) × (length r.pending < r.room)
 PausesAs r left NoMemory = Unit {0}
 

@@ -2,6 +2,7 @@
 use Rattle.std.specs.Prelude.{◌≡◌, ℕ, ◌-◌, ◌<◌, ◌≤◌, Bool, true, false, List, [], ◌∷◌, ◌++◌, length, Option, None, Some}
 use Rattle.wf_outside.specs.Outside.{Rose, HasTaken, IsAtEnd}
 use Rattle.wf_talk.specs.declared.job.Job.{Job}
+use Rattle.line_cutter.specs.declared.stop.Stop.{Stop}
 use Rattle.line_cutter.specs.Jobs.{Cut, start, cut_all, jobs_of_input, last_or, UpToAnEnd}
 use Rattle.line_cutter.specs.Cutter.{after_handing, ends_after, place, last_place}
 use Rattle.batch_reader.specs.declared.reader.Paused.{Paused}
@@ -32,25 +33,36 @@ pub record HasRead (before after : Option (List ℕ)) (h : Handed) (r : ReaderSh
   pub cut : after_handing h.jobs h.batch_ends r.cut ≡ cut_all (start h.lanes) bytes
   pub closed : last_or 0 h.batch_ends ≡ length h.jobs
 
--- all is handed over up to the end of a batch, and not a byte behind it is cut; less than one piece was taken ahead
-pub record HasPaused (before after : Option (List ℕ)) (h : Handed) (r : ReaderShape) : Type 0 where
+-- all is handed over up to the end of a batch, which the last byte that was cut has ended; less than one piece was
+-- taken ahead
+pub record HasPaused (before after : Option (List ℕ)) (room : ℕ) (h : Handed) : Type 0 where
   pub front : List ℕ
   pub last : ℕ
-  pub taken : HasTaken before after ((front ++ last ∷ []) ++ r.pending)
-  pub cut : after_handing h.jobs h.batch_ends r.cut ≡ cut_all (start h.lanes) (front ++ last ∷ [])
-  pub closed : last_or 0 h.batch_ends ≡ length h.jobs
+  pub rest : List ℕ
+  pub taken : HasTaken before after ((front ++ last ∷ []) ++ rest)
+  pub jobs : h.jobs ≡ (cut_all (start h.lanes) (front ++ last ∷ [])).jobs
+  pub ends : h.batch_ends ≡ (cut_all (start h.lanes) (front ++ last ∷ [])).ends
   pub before_last : length (cut_all (start h.lanes) front).ends < length h.batch_ends
-  pub ahead : length r.pending < r.room
+  pub ahead : length rest < room
 
--- all that can be read is handed over; less than one piece was taken ahead
-pub record HasReadAll (before after : Option (List ℕ)) (ended : Bool) (h : Handed) (r : ReaderShape) : Type 0 where
+-- all that the source gave is handed over, to its end where the input has ended, and no limit was met
+pub record HasReadAll (before after : Option (List ℕ)) (ended : Bool) (h : Handed) : Type 0 where
   pub bytes : List ℕ
-  pub taken : HasTaken before after (bytes ++ r.pending)
+  pub taken : HasTaken before after bytes
+  pub at_end : ended ≡ true → IsAtEnd after
   pub jobs : h.jobs ≡ (jobs_of_input bytes ended h.lanes).jobs
   pub ends : h.batch_ends ≡ (jobs_of_input bytes ended h.lanes).ends
-  pub stop : r.cut.stop ≡ (jobs_of_input bytes ended h.lanes).stop
-  pub closed : last_or 0 h.batch_ends ≡ length h.jobs
-  pub ahead : length r.pending < r.room
+  pub going : (jobs_of_input bytes ended h.lanes).stop ≡ None
+
+-- all is handed over up to where the cutting stopped; less than one piece was taken past that
+pub record HasStopped (before after : Option (List ℕ)) (room : ℕ) (stop : Stop) (h : Handed) : Type 0 where
+  pub bytes : List ℕ
+  pub rest : List ℕ
+  pub taken : HasTaken before after (bytes ++ rest)
+  pub jobs : h.jobs ≡ (jobs_of_input bytes false h.lanes).jobs
+  pub ends : h.batch_ends ≡ (jobs_of_input bytes false h.lanes).ends
+  pub stopped : (jobs_of_input bytes false h.lanes).stop ≡ Some stop
+  pub ahead : length rest < room
 
 -- jobs and ends that are those of what was taken, up to an end of a batch
 pub record IsReadUp (before after : Option (List ℕ)) (h : Handed) : Type 0 where
@@ -60,14 +72,13 @@ pub record IsReadUp (before after : Option (List ℕ)) (h : Handed) : Type 0 whe
   pub at_end : ended ≡ true → IsAtEnd after
   pub up : UpToAnEnd h.jobs h.batch_ends (jobs_of_input bytes ended h.lanes)
 
--- what was read where reading paused so
-abbrev pub ReadsTo : Option (List ℕ) → Option (List ℕ) → Handed → ReaderShape → Paused → Type 0
-ReadsTo before after h r Batch = HasPaused before after h r
-ReadsTo before after h r End =
-    HasReadAll before after true h r × (r.cut.stop ≡ None) × (r.pending ≡ []) × IsAtEnd after
-ReadsTo before after h r Failed = HasReadAll before after false h r × (r.cut.stop ≡ None) × (r.pending ≡ [])
-ReadsTo before after h r (Stopped stop) = HasReadAll before after false h r × (r.cut.stop ≡ Some stop)
-ReadsTo before after h r NoMemory = Unit {0}
+-- what was read where reading paused so, at most so many bytes at once
+abbrev pub ReadsTo : Option (List ℕ) → Option (List ℕ) → ℕ → Handed → Paused → Type 0
+ReadsTo before after room h Batch = HasPaused before after room h
+ReadsTo before after room h End = HasReadAll before after true h
+ReadsTo before after room h Failed = HasReadAll before after false h
+ReadsTo before after room h (Stopped stop) = HasStopped before after room stop h
+ReadsTo before after room h NoMemory = IsReadUp before after h
 
 -- more can be read: the cutting has not stopped, and all batches that have ended are handed over
 pub record IsReady (r : ReaderShape) : Type 0 where

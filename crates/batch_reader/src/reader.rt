@@ -78,9 +78,11 @@ impl Reader {
     pub fn next_batch<S: Source>(&mut self, source: &mut S) -> Reading
         requires { IsReady self.old }
         ensures reads { (before : Option (List ℕ)) (h : Handed) → HasRead before (S.left source.old) h self.old →
-            ReadsTo before (S.left source.new) (handed_more h result.jobs) self.new result.paused }
+            ReadsTo before (S.left source.new) self.new.room (handed_more h result.jobs) result.paused }
         ensures up { (before : Option (List ℕ)) (h : Handed) → HasRead before (S.left source.old) h self.old →
             IsReadUp before (S.left source.new) (handed_more h result.jobs) }
+        ensures goes_on { result.paused ≡ Paused.Batch → (before : Option (List ℕ)) (h : Handed) → HasRead before (S.left source.old) h self.old →
+            HasRead before (S.left source.new) (handed_more h result.jobs) self.new }
         ensures ready { result.paused ≡ Paused.Batch → IsReady self.new }
         ensures less { result.paused ≡ Paused.Batch → left_to_read self.new < left_to_read self.old }
         ensures room { self.new.room ≡ self.old.room }
@@ -185,7 +187,6 @@ impl Reader {
         ensures ended { result ≡ Ok false → (self.new.pending ≡ []) × IsAtEnd (S.left source.new) }
         ensures nothing { OnErr result (self.new.pending ≡ []) }
         ensures room { self.new.room ≡ self.old.room }
-        ensures some { 0 < self.new.room }
         ensures faults { S.faults source.old ≤ S.faults source.new }
         ensures rose { OnErr result (Rose (S.faults source.old) (S.faults source.new)) }
         ensures stays { OnOk result (S.faults source.new ≡ S.faults source.old) }
