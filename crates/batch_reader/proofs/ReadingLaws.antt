@@ -238,6 +238,10 @@ closed_on before after h r t jobs End read pauses e same cut pending = cc
 closed_on before after h r t jobs Failed read pauses e same cut pending = cc
 closed_on before after h r t jobs (Stopped stop) read pauses e same cut pending = cc
 
+-- what was handed over before is up to an end
+pub up_before : (before after : Option (List ℕ)) (h : Handed) (r : ReaderShape) (paused : Paused) → PausesBy before after h r paused → IsReadUp before after h
+up_before before after h r paused read = up_read before after h r (read_by before after h r paused read)
+
 -- where memory was refused
 pub closed_none : (before after : Option (List ℕ)) (h : Handed) (r : ReaderShape) (none : List Job) (paused : Paused)
     → PausesBy before after h r paused → none ≡ [] → IsReadUp before after (handed_more h none)

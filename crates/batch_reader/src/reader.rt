@@ -81,6 +81,8 @@ impl Reader {
             ReadsTo before (S.left source.new) self.new.room (handed_more h result.jobs) result.paused }
         ensures up { (before : Option (List ℕ)) (h : Handed) → HasRead before (S.left source.old) h self.old →
             IsReadUp before (S.left source.new) (handed_more h result.jobs) }
+        ensures up_before { (before : Option (List ℕ)) (h : Handed) → HasRead before (S.left source.old) h self.old →
+            IsReadUp before (S.left source.new) h }
         ensures goes_on { result.paused ≡ Paused.Batch → (before : Option (List ℕ)) (h : Handed) → HasRead before (S.left source.old) h self.old →
             HasRead before (S.left source.new) (handed_more h result.jobs) self.new }
         ensures ready { result.paused ≡ Paused.Batch → IsReady self.new }

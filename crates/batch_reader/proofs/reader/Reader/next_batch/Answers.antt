@@ -2,7 +2,7 @@ use Rattle.std.proofs.Common.{◌≡◌, ◌∙◌, ap, length, take, drop}
 use Rattle.line_cutter.specs.Jobs.{Cut}
 use Rattle.line_cutter.specs.Cutter.{emptied, place}
 use Rattle.batch_reader.specs.Reading.{ReaderShape}
-use Rattle.batch_reader.proofs.ReadingLaws.{closed_at, closed_on, closed_none, closed_batch, batch_going, closed_counts}
+use Rattle.batch_reader.proofs.ReadingLaws.{closed_at, closed_on, closed_none, closed_batch, up_before, batch_going, closed_counts}
 use Rattle.batch_reader.proofs.reader.Reader.next_batch.Goals as goal
 
 pub returns-in-NoMemory-clause-up : goal.returns-in-NoMemory-clause-up
@@ -38,3 +38,11 @@ returns-in_default-clause-goes_on g c batch before h read =
     (c.take_batch.ensures.batch ∙ ap (λ (s : ReaderShape). s.cut.jobs) c.self.view_is ∙ ap (λ (d : Cut). d.jobs) closes.1)
     (c.take_batch.ensures.left ∙ ap (λ (s : ReaderShape). emptied s.cut) c.self.view_is ∙ ap emptied closes.1)
     (ap (λ (s : ReaderShape). s.pending) c.self.view_is ∙ c.close_batch.ensures.pending)
+
+pub returns-in-NoMemory-clause-up_before : goal.returns-in-NoMemory-clause-up_before
+returns-in-NoMemory-clause-up_before g c before h read =
+    up_before before (g.S.Source.left c.read_batch-paused.new.source) h c.read_batch-paused.new.self c.read_batch-paused.result (c.read_batch-paused.ensures.reads before h read)
+
+pub returns-in_default-clause-up_before : goal.returns-in_default-clause-up_before
+returns-in_default-clause-up_before g c before h read =
+    up_before before (g.S.Source.left c.read_batch-paused.new.source) h c.read_batch-paused.new.self c.read_batch-paused.result (c.read_batch-paused.ensures.reads before h read)
