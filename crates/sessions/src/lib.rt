@@ -1,0 +1,7 @@
+//! Sessions.
+#![tactic(auto)]
+
+mod batch;
+mod session;
+
+pub use session::run_session;

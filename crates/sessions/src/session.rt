@@ -1,0 +1,141 @@
+//! The session: batch after batch is read, answered and written.
+ghost use Rattle.std.specs.Prelude.{◌≡◌, ◌≤◌, ◌<◌, ◌+◌, ℕ, List, [], length, Option, None, Some};
+ghost use Rattle.wf_names.specs.declared.limits.TheConstants.{DEFAULT_LANES, SESSION_LINE_LIMIT};
+ghost use Rattle.policy_book.specs.Shapes.{PolicyShape};
+ghost use Rattle.wf_board.specs.Boards.{state_on};
+ghost use Rattle.wf_board.specs.States.{opening_state};
+ghost use Rattle.line_cutter.specs.Jobs.{start};
+ghost use Rattle.batch_reader.specs.Reading.{IsReady, left_to_read};
+ghost use Rattle.run_record.specs.Fault.{status_of};
+ghost use Rattle.run_record.specs.Report.{told_by};
+ghost use Rattle.run_record.specs.Run.{Streams};
+ghost use Rattle.sessions.specs.Sessions.{Serves};
+ghost use Rattle.sessions.specs.Batches.{told_of, ending_of, IsServing, BatchEnds};
+
+use crate::batch::{Answered, answer_batch};
+use batch_reader::{Paused, Reader, Reading};
+use line_cutter::{Stop, jobs_are_in_order};
+use policy_book::Policy;
+use run_record::{Report, RunFault, bare_report};
+use std::alloc::Global;
+use wf_board::Board;
+use wf_names::DEFAULT_LANES;
+use wf_outside::{Sink, Source};
+
+/// Answers the lines of the source under a policy, batch by batch, and writes the entries to the
+/// sink. At most `room` bytes are taken at once.
+pub fn run_session<S: Source, K: Sink>(
+    alloc: Global,
+    policy: Policy,
+    room: usize,
+    source: &mut S,
+    sink: &mut K,
+) -> Report
+    requires { 0 < room }
+    ensures serves { Serves policy room
+        (record { input = S.left source.old; output = K.held sink.old; read_faults = S.faults source.old; write_faults = K.faults sink.old })
+        (record { input = S.left source.new; output = K.held sink.new; read_faults = S.faults source.new; write_faults = K.faults sink.new })
+        (told_by result) result.fault }
+    ensures status { result.status ≡ status_of result.fault }
+{
+    let Ok(board) = Board::new(alloc, policy) else {
+        return bare_report(alloc, RunFault::NoMemory);
+    };
+    let Ok(mut reader) = Reader::new(alloc, DEFAULT_LANES, room) else {
+        return bare_report(alloc, RunFault::NoMemory);
+    };
+    serve_batches(alloc, &mut reader, board, source, sink)
+}
+
+// Serves batch after batch.
+fn serve_batches<S: Source, K: Sink>(
+    alloc: Global,
+    reader: &mut Reader,
+    mut board: Board,
+    source: &mut S,
+    sink: &mut K,
+) -> Report
+    requires start { reader.old.cut ≡ start DEFAULT_LANES }
+    requires nothing { reader.old.pending ≡ [] }
+    requires opening { state_on board ≡ opening_state board.policy }
+    ensures serves { Serves board.policy reader.old.room
+        (record { input = S.left source.old; output = K.held sink.old; read_faults = S.faults source.old; write_faults = K.faults sink.old })
+        (record { input = S.left source.new; output = K.held sink.new; read_faults = S.faults source.new; write_faults = K.faults sink.new })
+        (told_by result) result.fault }
+    ensures status { result.status ≡ status_of result.fault }
+{
+    let mut told = Answered::new(alloc);
+    'serving: loop {
+        match serve_batch(alloc, reader, &mut board, &mut told, source, sink) {
+            None => {}
+            Some(fault) => return report_of(fault, told),
+        }
+    }
+}
+
+// Reads a batch, answers it and writes its entries; how the session ends, if it does.
+fn serve_batch<S: Source, K: Sink>(
+    alloc: Global,
+    reader: &mut Reader,
+    board: &mut Board,
+    told: &mut Answered,
+    source: &mut S,
+    sink: &mut K,
+) -> Option<RunFault>
+    requires ready { IsReady reader.old }
+    requires serving { (p : PolicyShape) × (before : Streams) × IsServing p before
+        (record { input = S.left source.old; output = K.held sink.old; read_faults = S.faults source.old; write_faults = K.faults sink.old })
+        reader.old (state_on board.old) (told_of told.old) }
+    ensures batch { (p : PolicyShape) (before : Streams) → IsServing p before
+        (record { input = S.left source.old; output = K.held sink.old; read_faults = S.faults source.old; write_faults = K.faults sink.old })
+        reader.old (state_on board.old) (told_of told.old) →
+        BatchEnds p before
+        (record { input = S.left source.new; output = K.held sink.new; read_faults = S.faults source.new; write_faults = K.faults sink.new })
+        reader.new (state_on board.new) (told_of told.new) result }
+    ensures ready { result ≡ None → IsReady reader.new }
+    ensures less { result ≡ None → left_to_read reader.new < left_to_read reader.old }
+    ensures room { reader.new.room ≡ reader.old.room }
+{
+    jobs_are_in_order(DEFAULT_LANES);
+    let Reading { jobs, paused } = reader.next_batch(source);
+    if let Paused::NoMemory = paused {
+        return Some(RunFault::NoMemory);
+    }
+    match answer_batch(alloc, board, told, jobs.as_slice(), sink) {
+        Ok(()) => ending_of(paused),
+        Err(fault) => Some(fault),
+    }
+}
+
+// How the session ends where all that was read is answered, if it does.
+fn ending_of(paused: Paused) -> Option<RunFault>
+    ensures { result ≡ ending_of paused }
+{
+    match paused {
+        Paused::Batch => None,
+        Paused::End => Some(RunFault::Nothing),
+        Paused::Failed => Some(RunFault::Read),
+        Paused::Stopped(Stop::LineTooLong(line)) => Some(RunFault::LineTooLong(line)),
+        Paused::Stopped(Stop::TooManyLines) => Some(RunFault::TooManyLines),
+        Paused::NoMemory => Some(RunFault::NoMemory),
+    }
+}
+
+fn report_of(fault: RunFault, told: Answered) -> Report
+    ensures status { result.status ≡ status_of fault }
+    ensures fault { result.fault ≡ fault }
+    ensures told { told_by result ≡ told_of told }
+{
+    let Answered {
+        entries,
+        jobs,
+        batch_ends,
+    } = told;
+    Report {
+        status: fault.status(),
+        fault,
+        entries,
+        jobs,
+        batch_ends,
+    }
+}
