@@ -1,7 +1,0 @@
-//! Sessions.
-#![tactic(auto)]
-
-mod batch;
-mod session;
-
-pub use session::run_session;
