@@ -1,12 +1,13 @@
 -- How a session stands over the file of its policy.
-use Rattle.std.proofs.Common.{◌≡◌, ℕ, List, false, Ok, Err, inl, inr}
+use Rattle.std.proofs.Common.{◌≡◌, ℕ, List, false, Ok, Err, inl, inr, refl, arith}
 use Rattle.wf_outside.specs.Outside.{Filed, told, missing, untold}
 use Rattle.policy_book.specs.Shapes.{PolicyShape}
 use Rattle.run_record.specs.declared.fault.RunFault.{RunFault}
 use Rattle.run_record.specs.declared.fault.RunFault.TheVariants.{Nothing, Found, Usage, Policy, Read, Write, Load, NoMemory, FileTooLong, LineTooLong, TooManyLines, BadInput}
-use Rattle.run_record.specs.Fault.{is_before_input, CountsLoads}
+use Rattle.run_record.specs.Fault.{is_before_input, CountsLoads, CountsReads, CountsWrites}
 use Rattle.run_record.specs.Run.{Run, IsUntouched, OverFile}
 use Rattle.wf_commands.specs.Load.{GivesPolicy, IsLoadEnding, PolicyOf}
+use Rattle.wf_server.specs.declared.serve.TheConstants.{PIECE}
 use Rattle.wf_server.specs.Sessions.{Served}
 use Rattle.wf_server.specs.Serving.{EndsBefore, ServesFile}
 
@@ -33,7 +34,7 @@ not_served (told file) r gives ending nothing = inl (ends_before file r.fault gi
 
 -- the policy was there, and was served
 pub is_served : (f : Filed) (p : PolicyShape) (r : Run) → GivesPolicy f (Ok p)
-    → Served p r.before.input r.after.input r.before.output r.after.output r.told r.fault → OverFile f r.fault (λ file. ServesFile file r)
+    → Served p PIECE r.before r.after r.told r.fault → OverFile f r.fault (λ file. ServesFile file r)
 is_served untold p r gives served = tt
 is_served missing p r gives served = cc
 is_served (told file) p r gives served = inr (record { policy = p; within = gives.0; read = gives.1; served = served })
@@ -52,3 +53,18 @@ loads_late FileTooLong before after late same = same
 loads_late (LineTooLong line) before after late same = same
 loads_late TooManyLines before after late same = same
 loads_late (BadInput e) before after late same = same
+
+-- loading a policy reads and writes nothing
+pub unread_counts : (fault : RunFault) (count : ℕ) → IsLoadEnding fault → CountsReads fault count count × CountsWrites fault count count
+unread_counts FileTooLong count ending = (refl, refl)
+unread_counts (Policy e) count ending = (refl, refl)
+unread_counts Load count ending = (refl, refl)
+unread_counts NoMemory count ending = (omega arith, refl)
+unread_counts Nothing count ending = absurd ending
+unread_counts Found count ending = absurd ending
+unread_counts Usage count ending = absurd ending
+unread_counts Read count ending = absurd ending
+unread_counts Write count ending = absurd ending
+unread_counts (LineTooLong line) count ending = absurd ending
+unread_counts TooManyLines count ending = absurd ending
+unread_counts (BadInput e) count ending = absurd ending

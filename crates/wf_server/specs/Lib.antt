@@ -1,6 +1,5 @@
 pub mod Words
 pub mod Asked
-pub mod Reading
 pub mod Sessions
 pub mod Batches
 pub mod Serving

@@ -1,14 +1,13 @@
 -- The command `serve`, from its policy file on.
-use Rattle.std.specs.Prelude.{◌≡◌, ℕ, ◌<◌, ◌≤◌, true, List, length, Ok, Err}
+use Rattle.std.specs.Prelude.{◌≡◌, ℕ, ◌<◌, ◌≤◌, List, length, Ok, Err}
 use Rattle.std.proofs.Common.{◌⊎◌}
 use Rattle.wf_names.specs.declared.limits.TheConstants.{POLICY_FILE_LIMIT}
-use Rattle.wf_outside.specs.Outside.{Rose}
 use Rattle.policy_book.specs.Shapes.{PolicyShape}
 use Rattle.policy_reader.specs.Files.{policy_of_file}
 use Rattle.run_record.specs.declared.fault.RunFault.{RunFault}
-use Rattle.run_record.specs.declared.fault.RunFault.TheVariants.{Policy, Read, Write, Load, NoMemory, FileTooLong}
-use Rattle.run_record.specs.Fault.{is_before_input, CountsLoads}
-use Rattle.run_record.specs.Run.{Run, IsUntouched, OverFile}
+use Rattle.run_record.specs.declared.fault.RunFault.TheVariants.{Policy, Load, NoMemory, FileTooLong}
+use Rattle.run_record.specs.Run.{Run, IsUntouched, IsOrderly, OverFile}
+use Rattle.wf_server.specs.declared.serve.TheConstants.{PIECE}
 use Rattle.wf_server.specs.Sessions.{Served}
 
 -- how a run may end before its session: the file is too long, or has a fault, or loading or memory failed
@@ -24,7 +23,7 @@ pub record ServesPolicy (file : List ℕ) (r : Run) : Type 0 where
   pub policy : PolicyShape
   pub within : length file ≤ POLICY_FILE_LIMIT
   pub read : policy_of_file file ≡ Ok policy
-  pub served : Served policy r.before.input r.after.input r.before.output r.after.output r.told r.fault
+  pub served : Served policy PIECE r.before r.after r.told r.fault
 
 -- a run over a policy file ends before its session, or serves the policy
 abbrev pub ServesFile : List ℕ → Run → Type 0
@@ -33,7 +32,4 @@ ServesFile file r = (EndsBefore file r.fault × IsUntouched r) ⊎ ServesPolicy 
 -- a run of `serve` with a policy file
 pub record ServesRun (policy : List ℕ) (r : Run) : Type 0 where
   pub serves : OverFile (r.files policy) r.fault (λ file. ServesFile file r)
-  pub early : is_before_input r.fault ≡ true → IsUntouched r
-  pub loads : CountsLoads r.fault r.load_faults r.load_faults_after
-  pub read : r.fault ≡ Read → Rose r.before.read_faults r.after.read_faults
-  pub write : r.fault ≡ Write → Rose r.before.write_faults r.after.write_faults
+  pub orderly : IsOrderly r

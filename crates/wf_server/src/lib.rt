@@ -1,9 +1,9 @@
 //! The top call, over whatever source, sink and shelf it is given, and the sessions of `serve`.
 #![tactic(auto)]
 
+mod batch;
 #[cfg(test)]
 mod change_tests;
-mod reader;
 mod run;
 mod serve;
 mod session;
@@ -11,7 +11,6 @@ mod session;
 mod solve_tests;
 #[cfg(test)]
 mod tests;
-mod turn;
 mod words;
 
 pub use run::run_alone;

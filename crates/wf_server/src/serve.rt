@@ -1,6 +1,5 @@
 //! The command `serve`: it answers the requests in the input.
 ghost use Rattle.std.specs.Prelude.{◌≡◌, false};
-ghost use Rattle.wf_outside.specs.Outside.{Rose};
 ghost use Rattle.run_record.specs.Fault.{status_of, is_before_input};
 ghost use Rattle.run_record.specs.Report.{told_by};
 ghost use Rattle.wf_server.specs.Sessions.{Served};
@@ -60,11 +59,22 @@ fn serve_policy<S: Source, K: Sink>(
     source: &mut S,
     sink: &mut K,
 ) -> Report
-    ensures served { Served policy (S.left source.old) (S.left source.new) (K.held sink.old) (K.held sink.new) (told_by result) result.fault }
+    ensures served { Served policy PIECE
+        (record {
+          input = S.left source.old;
+          output = K.held sink.old;
+          read_faults = S.faults source.old;
+          write_faults = K.faults sink.old;
+        })
+        (record {
+          input = S.left source.new;
+          output = K.held sink.new;
+          read_faults = S.faults source.new;
+          write_faults = K.faults sink.new;
+        })
+        (told_by result) result.fault }
     ensures late { is_before_input result.fault ≡ false }
     ensures status { result.status ≡ status_of result.fault }
-    ensures read { result.fault ≡ RunFault.Read → Rose (S.faults source.old) (S.faults source.new) }
-    ensures write { result.fault ≡ RunFault.Write → Rose (K.faults sink.old) (K.faults sink.new) }
 {
     histories_keep_plans(&policy);
     run_session(alloc, policy, PIECE, source, sink)

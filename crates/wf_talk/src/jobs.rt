@@ -53,6 +53,14 @@ impl Jobs {
         self.items.extend_from_slice(&[item])
     }
 
+    /// Adds all of these at the end, in order.
+    pub fn push_all(&mut self, items: &[Job]) -> Result<(), AllocError>
+        ensures pushed { OnOk result (self.new ≡ self.old ++ items.now) }
+        ensures unchanged { OnErr result (self.new ≡ self.old) }
+    {
+        self.items.extend_from_slice(items)
+    }
+
     /// Keeps the first so many alone. Takes no memory.
     pub fn truncate(&mut self, len: usize)
         ensures { self.new ≡ take len self.old }
