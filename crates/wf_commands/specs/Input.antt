@@ -38,8 +38,8 @@ next_user p so_far d = do
   u ← or_fault (option_and_then (number_named p.roster.users) (as_str d)) (NoUser (length so_far))
   Ok (so_far ++ u ∷ [])
 
--- the plan that an input is for a workflow with so many steps, or the first fault: the input is no array of texts,
--- there is not one text for each step, or a text names no user
+-- the plan that an input is for a workflow with so many steps, or the first fault: the input is no
+-- array of texts, there is not one text for each step, or a text names no user
 unfoldable pub plan_of_input : PolicyShape → ℕ → List ℕ → Result (List ℕ) InputFault
 plan_of_input p steps input = do
   items ← or_fault (option_and_then as_array (value_of input)) Syntax

@@ -34,8 +34,10 @@ TakesInput fault before after = HasTakenAtMost before after (LINE_LIMIT + 1)
 -- an input is judged as a plan for a workflow, or has its first fault, or memory failed
 abbrev pub JudgesAs : PolicyShape → ℕ → List ℕ → Result Answer RunFault → Type 0
 JudgesAs p f input (Ok answer) =
-    (users : List ℕ) × (plan_of_input p (length (flow_at p f).flow.steps) input ≡ Ok users) × Judges p f users (ending_of answer.found) (string_bytes answer.text)
-JudgesAs p f input (Err (BadInput fault)) = plan_of_input p (length (flow_at p f).flow.steps) input ≡ Err fault
+    (users : List ℕ) × (plan_of_input p (length (flow_at p f).flow.steps) input ≡ Ok users)
+    × Judges p f users (ending_of answer.found) (string_bytes answer.text)
+JudgesAs p f input (Err (BadInput fault)) =
+    plan_of_input p (length (flow_at p f).flow.steps) input ≡ Err fault
 JudgesAs p f input (Err fault) = Unit {0}
 
 -- the endings of judging an input that is there

@@ -30,7 +30,8 @@ IsFileEnding fault = ⊥
 abbrev pub PolicyOf : List ℕ → Result PolicyShape RunFault → Type 0
 PolicyOf file (Ok p) = (length file ≤ POLICY_FILE_LIMIT) × (policy_of_file file ≡ Ok p)
 PolicyOf file (Err FileTooLong) = POLICY_FILE_LIMIT < length file
-PolicyOf file (Err (Policy fault)) = (length file ≤ POLICY_FILE_LIMIT) × (policy_of_file file ≡ Err fault)
+PolicyOf file (Err (Policy fault)) =
+    (length file ≤ POLICY_FILE_LIMIT) × (policy_of_file file ≡ Err fault)
 PolicyOf file (Err fault) = Unit {0}
 
 -- the same by what is told; a missing file is a load fault

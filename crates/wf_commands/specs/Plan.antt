@@ -27,7 +27,8 @@ abbrev pub Judges : PolicyShape → ℕ → List ℕ → RunFault → List ℕ �
 Judges p f users Nothing text =
     IsValidPlan (problem_of p f) no_users no_steps users × (text ≡ codes "valid\n")
 Judges p f users Found text =
-    (e : PlanFault) × (plan_verdict (problem_of p f) no_users no_steps users ≡ Err e) × (text ≡ fault_line (flow_at p f).flow.steps e)
+    (e : PlanFault) × (plan_verdict (problem_of p f) no_users no_steps users ≡ Err e)
+    × (text ≡ fault_line (flow_at p f).flow.steps e)
 Judges p f users fault text = ⊥
 
 -- all of the input is judged as a plan for a workflow
@@ -50,8 +51,9 @@ pub record HasReadAll (before after : Option (List ℕ)) : Type 0 where
   pub within : length bytes ≤ LINE_LIMIT
   pub ended : IsAtEnd after
 
--- how much of the input was read, by the ending: all for an answer and for a fault of the input; past the limit
--- one byte, which shows that it is too long; no more where reading or memory failed; and else nothing
+-- how much of the input was read, by the ending: all for an answer and for a fault of the input;
+-- past the limit one byte, which shows that it is too long; no more where reading or memory failed;
+-- and else nothing
 abbrev pub ReadsAsPlan : RunFault → Option (List ℕ) → Option (List ℕ) → Type 0
 ReadsAsPlan Nothing before after = HasReadAll before after
 ReadsAsPlan Found before after = HasReadAll before after

@@ -15,11 +15,13 @@ use Rattle.wf_commands.specs.Once.{AnswersOnce}
 
 -- a line tells a valid plan of a workflow
 abbrev pub TellsPlan : PolicyShape → ℕ → List ℕ → Type 0
-TellsPlan p f line = (plan : List ℕ) × IsValidPlan (problem_of p f) no_users no_steps plan × (line ≡ plan_line p f plan)
+TellsPlan p f line =
+    (plan : List ℕ) × IsValidPlan (problem_of p f) no_users no_steps plan × (line ≡ plan_line p f plan)
 
 -- a line tells a tree that refutes, so that the workflow has no valid plan
 abbrev pub TellsTree : PolicyShape → ℕ → List ℕ → Type 0
-TellsTree p f line = (tree : Shape) × IsTrue (refutes (problem_of p f) no_users no_steps tree) × (line ≡ tree_line p f tree)
+TellsTree p f line =
+    (tree : Shape) × IsTrue (refutes (problem_of p f) no_users no_steps tree) × (line ≡ tree_line p f tree)
 
 -- a line tells what a search may find for a workflow
 abbrev pub TellsFlow : PolicyShape → ℕ → List ℕ → Type 0
@@ -28,7 +30,8 @@ TellsFlow p f line = TellsPlan p f line ⊎ TellsTree p f line
 -- a text is such a line for each of the first n workflows, in their order
 abbrev pub TellsFirst : PolicyShape → ℕ → List ℕ → Type 0
 TellsFirst p zero text = text ≡ []
-TellsFirst p (suc n) text = (front line : List ℕ) × TellsFirst p n front × TellsFlow p n line × (text ≡ front ++ line)
+TellsFirst p (suc n) text =
+    (front line : List ℕ) × TellsFirst p n front × TellsFlow p n line × (text ≡ front ++ line)
 
 -- the text tells of each workflow of the policy
 abbrev pub SolvesPolicy : PolicyShape → RunFault → List ℕ → Type 0

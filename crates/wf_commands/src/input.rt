@@ -82,7 +82,8 @@ fn are_texts(items: &[Value]) -> bool
 // The users that the items name.
 fn read_users(alloc: Global, p: &Policy, items: &[Value]) -> Result<Vec<UserId>, InputError>
     requires { length items.now ≤ STEP_LIMIT }
-    ensures users { Gives input_fault (λ users. users.items) result (each (next_user p.now) [] (listed_items (items_view items.now))) }
+    ensures users { Gives input_fault (λ users. users.items) result
+        (each (next_user p.now) [] (listed_items (items_view items.now))) }
     ensures whole { IfOk result (λ users. length users.items ≡ length items.now) }
     ensures fault { IfErr result IsOfInput }
     ensures known { IfOk result (λ users. AreBelow (length p.now.roster.users) users.items) }
@@ -98,9 +99,11 @@ fn read_users(alloc: Global, p: &Policy, items: &[Value]) -> Result<Vec<UserId>,
 #[tactic(auto, unfolding(crate::specs::Input::next_user))]
 fn read_user(p: &Policy, users: &mut Vec<UserId>, item: &Value) -> Result<(), InputError>
     requires { length users.old.items < 2 ^ 32 }
-    ensures user { Gives input_fault (λ _. users.new.items) result (next_user p.now users.old.items (view item.now)) }
+    ensures user { Gives input_fault (λ _. users.new.items) result
+        (next_user p.now users.old.items (view item.now)) }
     ensures fault { IfErr result IsOfInput }
-    ensures pushed { OnOk result (HasOneMore (length p.now.roster.users) users.old.items users.new.items) }
+    ensures pushed { OnOk result
+        (HasOneMore (length p.now.roster.users) users.old.items users.new.items) }
 {
     match user_of(p, item) {
         Some(u) => match users.push(u) {
@@ -113,7 +116,8 @@ fn read_user(p: &Policy, users: &mut Vec<UserId>, item: &Value) -> Result<(), In
 
 // The user that an item names, if it is a text and names one.
 fn user_of(p: &Policy, item: &Value) -> Option<UserId>
-    ensures user { result ≡ option_and_then (number_named p.now.roster.users) (as_str (view item.now)) }
+    ensures user { result ≡
+        option_and_then (number_named p.now.roster.users) (as_str (view item.now)) }
     ensures known { IfSome result (λ u. u < length p.now.roster.users) }
 {
     match item.as_str() {

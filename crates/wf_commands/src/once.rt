@@ -1,4 +1,5 @@
-//! The way of every command that answers once: the policy is loaded, the question answered, and the answer written.
+//! The way of every command that answers once: the policy is loaded, the question answered, and
+//! the answer written.
 ghost use Rattle.std.specs.Prelude.{◌≡◌, ℕ, List, Ok, false, IfErr};
 ghost use Rattle.policy_reader.specs.Files.{policy_of_file};
 ghost use Rattle.run_record.specs.Fault.{fault_in, status_of, CountsLoads, CountsReadsAlone};
@@ -66,7 +67,8 @@ fn find_answer<F: Shelf, S: Source>(
     shelf: &mut F,
     source: &mut S,
 ) -> Result<Answer, RunFault>
-    ensures answer { AnswersFile (answers question.now (S.left source.old)) (F.file shelf.old policy.now) result }
+    ensures answer { AnswersFile (answers question.now (S.left source.old))
+        (F.file shelf.old policy.now) result }
     ensures ending { IfErr result IsRefusal }
     ensures loads { CountsLoads (fault_in result) (F.faults shelf.old) (F.faults shelf.new) }
     ensures reads { CountsReadsAlone (fault_in result) (S.faults source.old) (S.faults source.new) }

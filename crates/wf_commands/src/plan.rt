@@ -42,7 +42,8 @@ pub(crate) fn judge_input<S: Source>(
 fn find_flow(p: &Policy, flow: &str) -> Result<FlowId, RunFault>
     ensures { MatchResult result
         (λ f. (number_named p.now.flow_names flow.now ≡ Some f) × (f < length p.now.flows))
-        (λ fault. (number_named p.now.flow_names flow.now ≡ None) × (fault ≡ RunFault.BadInput InputFault.NoFlow)) }
+        (λ fault. (number_named p.now.flow_names flow.now ≡ None)
+        × (fault ≡ RunFault.BadInput InputFault.NoFlow)) }
 {
     match Name::read(flow) {
         Some(name) => match p.find_flow(&name) {
@@ -85,8 +86,10 @@ fn judge(alloc: Global, p: &Policy, f: FlowId, input: &[u8]) -> Result<Answer, R
 fn judge_plan(alloc: Global, p: &Policy, f: FlowId, plan: &Plan) -> Result<Answer, AllocError>
     requires flow { f < length p.now.flows }
     requires whole { length plan.now ≡ length (flow_at p.now f).flow.steps }
-    requires users { (s : ℕ) → s < length plan.now → planned plan.now s < length p.now.roster.users }
-    ensures { IfOk result (λ answer. Judges p.now f plan.now (ending_of answer.found) (string_bytes answer.text)) }
+    requires users { (s : ℕ) → s < length plan.now
+        → planned plan.now s < length p.now.roster.users }
+    ensures { IfOk result (λ answer.
+        Judges p.now f plan.now (ending_of answer.found) (string_bytes answer.text)) }
 {
     match check_plan(p, f, &Assign::empty(), &StepSet::empty(), plan) {
         Ok(()) => Ok(Answer {
@@ -103,7 +106,8 @@ fn judge_plan(alloc: Global, p: &Policy, f: FlowId, plan: &Plan) -> Result<Answe
 // The line that names the first fault of a plan.
 fn fault_text(alloc: Global, p: &Policy, f: FlowId, fault: PlanFault) -> Result<String, AllocError>
     requires { f < length p.now.flows }
-    ensures { IfOk result (λ text. string_bytes text ≡ fault_line (flow_at p.now f).flow.steps fault) }
+    ensures { IfOk result (λ text.
+        string_bytes text ≡ fault_line (flow_at p.now f).flow.steps fault) }
 {
     match fault {
         PlanFault::Moved(_) => Ok(String::new(alloc)),

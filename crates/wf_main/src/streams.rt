@@ -32,7 +32,8 @@ impl<R: Read + Drop> Source for StdinSource<R> {
     #[tactic(auto, unfolding(wf_outside::specs::Outside::bytes_before))]
     fn take(&mut self, buf: &mut [u8]) -> Result<usize, Failed>
         // The bytes are those that the reader gave; none only at its end, and a fault loses none.
-        ensures gives { ReadConsumes (reader_left R.remaining self.old) (reader_left R.remaining self.new) result buf.new }
+        ensures gives { ReadConsumes (reader_left R.remaining self.old)
+            (reader_left R.remaining self.new) result buf.new }
 
         // The clauses of every source.
         ensures within { IfOk result (λ n. n ≤ length buf.old) }
@@ -74,8 +75,9 @@ impl<W: Write + Drop> Sink for StdoutSink<W> {
 
     #[tactic(auto, unfolding(wf_outside::specs::Outside::with_bytes))]
     fn put(&mut self, bytes: &[u8]) -> Result<usize, Failed>
-        // The bytes that count as taken are those that the writer took, and after a fault there are none.
-        ensures takes { WriteAppends (writer_held W.contents self.old) (writer_held W.contents self.new) result bytes.now }
+        // The bytes that count as taken are those that the writer took; after a fault there are none.
+        ensures takes { WriteAppends (writer_held W.contents self.old)
+            (writer_held W.contents self.new) result bytes.now }
 
         // The clauses of every sink.
         ensures within { IfOk result (λ n. n ≤ length bytes.now) }

@@ -13,8 +13,10 @@ use std::io::ErrorKind;
 pub fn all_words(alloc: Global, args: io::Result<Args>) -> Result<Vec<String>, RunFault>
     ensures all { IfOk args (λ given. MatchResult result
         (λ words. words.items ≡ into_iter_items given) (λ fault. fault ≡ RunFault.NoMemory)) }
-    ensures memory { IfErr args (λ e. error_kind e ≡ ErrorKind.OutOfMemory → result ≡ Err RunFault.NoMemory) }
-    ensures faulty { IfErr args (λ e. error_kind e ≢ ErrorKind.OutOfMemory → result ≡ Err RunFault.Usage) }
+    ensures memory { IfErr args (λ e.
+        error_kind e ≡ ErrorKind.OutOfMemory → result ≡ Err RunFault.NoMemory) }
+    ensures faulty { IfErr args (λ e.
+        error_kind e ≢ ErrorKind.OutOfMemory → result ≡ Err RunFault.Usage) }
 {
     match args {
         Ok(args) => Ok(listed(alloc, args)?),

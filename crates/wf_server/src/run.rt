@@ -22,7 +22,8 @@ pub fn run_alone<F: Shelf, S: Source, K: Sink>(
     sink: &mut K,
 ) -> Report
     ensures status { result.status ≡ status_of result.fault }
-    ensures usage { (result.fault ≡ RunFault.Usage) ↔ (command_of (map string_bytes words.now) ≡ None) }
+    ensures usage { (result.fault ≡ RunFault.Usage)
+        ↔ (command_of (map string_bytes words.now) ≡ None) }
     ensures does { Does (command_of (map string_bytes words.now)) (record {
       files = F.file shelf.old;
       load_faults = F.faults shelf.old;
@@ -42,7 +43,8 @@ pub fn run_alone<F: Shelf, S: Source, K: Sink>(
       told = told_by result;
       fault = result.fault;
     }) }
-    ensures untouched { reads_input (command_of (map string_bytes words.now)) ≡ false → source.new ≡ source.old }
+    ensures untouched { reads_input (command_of (map string_bytes words.now)) ≡ false
+        → source.new ≡ source.old }
 {
     match read_words(words) {
         Some(Command::Plan { policy, flow }) => {
