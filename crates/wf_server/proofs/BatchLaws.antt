@@ -225,8 +225,8 @@ ends_more js more ends are =
     let size : length (js ++ more) ≡ length js + length more = length-append js more in
     record {
       within = (ends_if_within (nat_lt 0 (length more)) (ends ++ (length js + length more) ∷ []) ends (length (js ++ more))
-        (λ k lt. end_within ends (length js + length more) k (length js) (length (js ++ more)) (nat_lt k (length ends)) are (omega arith) (omega arith) (omega (arith, lt, length-append ends ((length js + length more) ∷ []))) refl)
-        (λ k lt. let h = are.within k lt in omega arith));
+          (λ k lt. end_within ends (length js + length more) k (length js) (length (js ++ more)) (nat_lt k (length ends)) are (omega arith) (omega arith) (omega (arith, lt, length-append ends ((length js + length more) ∷ []))) refl)
+          (λ k lt. let h = are.within k lt in omega arith));
       closed = closed;
     }
 
@@ -264,7 +264,7 @@ new_jobs : (p : PolicyShape) (held mid : Option (List ℕ)) (s next : State) (be
 new_jobs p held mid s next before batch after h =
     let old = map job_of_entry before.entries in
     let both : old ++ map job_of_entry (new_entries before after) ≡ old ++ batch =
-        sym (map_append job_of_entry before.entries (new_entries before after)) ∙ ap (map job_of_entry) (sym (split_entries p held mid s next before batch after h)) ∙ h.filled in
+    sym (map_append job_of_entry before.entries (new_entries before after)) ∙ ap (map job_of_entry) (sym (split_entries p held mid s next before batch after h)) ∙ h.filled in
     sym (drop-append_seam old (map job_of_entry (new_entries before after))) ∙ ap (drop (length old)) both ∙ drop-append_seam old batch
 
 batch_fills : (p : PolicyShape) (held mid : Option (List ℕ)) (s next : State) (before : Told) (batch : List Job) (after : Told) → HasAnsweredBatch p held mid s next before batch after
