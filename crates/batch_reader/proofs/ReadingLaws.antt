@@ -26,7 +26,7 @@ cut_more before after h r s more cuts none pending read =
     let bytes = read.bytes in
     let behind : more ≡ cuts.front ++ cuts.last ∷ [] = cuts.whole in
     let all : bytes ++ more ≡ (bytes ++ cuts.front) ++ cuts.last ∷ [] =
-        ap (λ xs. bytes ++ xs) behind ∙ sym (append_assoc bytes cuts.front (cuts.last ∷ [])) in
+    ap (λ xs. bytes ++ xs) behind ∙ sym (append_assoc bytes cuts.front (cuts.last ∷ [])) in
     record {
       front = bytes ++ cuts.front;
       last = cuts.last;
@@ -43,7 +43,7 @@ pub take_more : (before left after : Option (List ℕ)) (h : Handed) (r s : Read
     → r.pending ≡ [] → s.cut ≡ r.cut → HasTaken left after s.pending → HasRead before left h r → HasRead before after h s
 take_more before left after h r s empty same taken read =
     let all : HasTaken before left read.bytes =
-        subst (λ xs. HasTaken before left xs) (ap (λ xs. read.bytes ++ xs) empty ∙ append-nil read.bytes) read.taken in
+    subst (λ xs. HasTaken before left xs) (ap (λ xs. read.bytes ++ xs) empty ∙ append-nil read.bytes) read.taken in
     record {
       bytes = read.bytes;
       taken = more_taken before left after read.bytes s.pending all taken;
@@ -57,7 +57,7 @@ pub split_between : (bytes : List ℕ) (at filled n : ℕ) → at ≤ filled
 split_between bytes at filled n begun =
     let whole : filled ≡ at + (filled - at) = omega (arith, begun) in
     let between : drop at (take filled bytes) ≡ take (filled - at) (drop at bytes) =
-        ap (λ m. drop at (take m bytes)) whole ∙ drop-take at (filled - at) bytes in
+    ap (λ m. drop at (take m bytes)) whole ∙ drop-take at (filled - at) bytes in
     sym (take-append-drop n (drop at (take filled bytes))) ∙ ap (λ xs. take n xs ++ drop n (drop at (take filled bytes))) between
     ∙ ap (λ xs. take n (take (filled - at) (drop at bytes)) ++ xs) (drop-drop n at (take filled bytes))
 
@@ -69,9 +69,9 @@ unfolding jobs_of_input
 up_read before after h r read =
     let rest : Cut = cut_all r.cut r.pending in
     let whole : cut_all (start h.lanes) (read.bytes ++ r.pending) ≡ after_handing h.jobs h.batch_ends rest =
-        cut_all-append (start h.lanes) read.bytes r.pending ∙ ap (λ c. cut_all c r.pending) (sym read.cut) ∙ handed_all h.jobs h.batch_ends r.cut r.pending in
+    cut_all-append (start h.lanes) read.bytes r.pending ∙ ap (λ c. cut_all c r.pending) (sym read.cut) ∙ handed_all h.jobs h.batch_ends r.cut r.pending in
     let all : end_batch (flush false (cut_all (start h.lanes) (read.bytes ++ r.pending))) ≡ after_handing h.jobs h.batch_ends (end_batch (flush false rest)) =
-        ap (λ c. end_batch (flush false c)) whole ∙ handed_finish h.jobs h.batch_ends rest false in
+    ap (λ c. end_batch (flush false c)) whole ∙ handed_finish h.jobs h.batch_ends rest false in
     record {
       bytes = read.bytes ++ r.pending;
       ended = false;
@@ -169,10 +169,10 @@ all_up : (before after : Option (List ℕ)) (ended : Bool) (h : Handed) (r : Rea
 unfolding jobs_of_input
 all_up before after ended h r d read is closed rest at_end =
     let cut : cut_all (start h.lanes) (read.bytes ++ r.pending) ≡ after_handing h.jobs h.batch_ends r.cut =
-        cut_all-append (start h.lanes) read.bytes r.pending ∙ ap (λ c. cut_all c r.pending) (sym read.cut) ∙ handed_all h.jobs h.batch_ends r.cut r.pending
-        ∙ ap (after_handing h.jobs h.batch_ends) rest in
+    cut_all-append (start h.lanes) read.bytes r.pending ∙ ap (λ c. cut_all c r.pending) (sym read.cut) ∙ handed_all h.jobs h.batch_ends r.cut r.pending
+    ∙ ap (after_handing h.jobs h.batch_ends) rest in
     let over : end_batch (flush ended (cut_all (start h.lanes) (read.bytes ++ r.pending))) ≡ after_handing (h.jobs ++ d.jobs) (ends_after h.batch_ends (length h.jobs) d.jobs) (emptied d) =
-        ap (λ c. end_batch (flush ended c)) cut ∙ handed_finish h.jobs h.batch_ends r.cut ended ∙ ap (after_handing h.jobs h.batch_ends) (sym is) ∙ handed_over h.jobs h.batch_ends d closed in
+    ap (λ c. end_batch (flush ended c)) cut ∙ handed_finish h.jobs h.batch_ends r.cut ended ∙ ap (after_handing h.jobs h.batch_ends) (sym is) ∙ handed_over h.jobs h.batch_ends d closed in
     record {
       bytes = read.bytes ++ r.pending;
       ended = ended;

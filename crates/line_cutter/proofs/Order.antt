@@ -51,33 +51,33 @@ unfolding end_batch
 keeps_end lanes c k =
     keeps_if lanes 0 (nat_lt c.from (length c.jobs)) (record c { from = length c.jobs; ends = c.ends ++ length c.jobs ∷ [] }) c
     (λ more.
-        let above : c.from < length c.jobs = grind (arith, common_steps) in
-        record {
-          same = k.same;
-          number = k.number;
-          within = k.within;
-          few = k.few;
-          lines = k.lines;
-          next = k.next;
-          of_lanes = k.of_lanes;
-          ends = lead_push 0 c.from (length c.jobs) c.ends k.ends above (let h = k.batch in omega arith);
-          begins = omega arith;
-          batch = omega arith;
-        })
+    let above : c.from < length c.jobs = grind (arith, common_steps) in
+    record {
+      same = k.same;
+      number = k.number;
+      within = k.within;
+      few = k.few;
+      lines = k.lines;
+      next = k.next;
+      of_lanes = k.of_lanes;
+      ends = lead_push 0 c.from (length c.jobs) c.ends k.ends above (let h = k.batch in omega arith);
+      begins = omega arith;
+      batch = omega arith;
+    })
     (λ none.
-        let same : length c.jobs ≤ c.from = grind (arith, common_steps) in
-        record {
-          same = k.same;
-          number = k.number;
-          within = k.within;
-          few = k.few;
-          lines = k.lines;
-          next = k.next;
-          of_lanes = k.of_lanes;
-          ends = k.ends;
-          begins = k.begins;
-          batch = omega arith;
-        })
+    let same : length c.jobs ≤ c.from = grind (arith, common_steps) in
+    record {
+      same = k.same;
+      number = k.number;
+      within = k.within;
+      few = k.few;
+      lines = k.lines;
+      next = k.next;
+      of_lanes = k.of_lanes;
+      ends = k.ends;
+      begins = k.begins;
+      batch = omega arith;
+    })
 
 keeps_full : (lanes : ℕ) (c : Cut) → Keeps lanes 1 c → Keeps lanes 0 (end_full_batch c)
 unfolding end_full_batch
@@ -85,19 +85,19 @@ keeps_full lanes c k =
     keeps_if lanes 0 (nat_le (c.from + BATCH_LINE_LIMIT) (length c.jobs)) (end_batch c) c
     (λ full. keeps_end lanes c k)
     (λ room.
-        let below : length c.jobs < c.from + BATCH_LINE_LIMIT = grind (arith, common_steps) in
-        record {
-          same = k.same;
-          number = k.number;
-          within = k.within;
-          few = k.few;
-          lines = k.lines;
-          next = k.next;
-          of_lanes = k.of_lanes;
-          ends = k.ends;
-          begins = k.begins;
-          batch = omega arith;
-        })
+    let below : length c.jobs < c.from + BATCH_LINE_LIMIT = grind (arith, common_steps) in
+    record {
+      same = k.same;
+      number = k.number;
+      within = k.within;
+      few = k.few;
+      lines = k.lines;
+      next = k.next;
+      of_lanes = k.of_lanes;
+      ends = k.ends;
+      begins = k.begins;
+      batch = omega arith;
+    })
 
 keeps_next : (lanes : ℕ) (c : Cut) → Keeps lanes 0 c → c.number < SESSION_LINE_LIMIT → Keeps lanes 1 (next_line c)
 keeps_next lanes c k within = record {
@@ -168,11 +168,11 @@ unfolding step
 keeps_step lanes c b some k =
     keeps_if lanes 0 (is_some c.stop) c _ (λ stopped. k) (λ going.
     keeps_if lanes 0 (nat_lt c.number SESSION_LINE_LIMIT) _ _ (λ below.
-        let within : c.number < SESSION_LINE_LIMIT = grind (arith, common_steps) in
-        keeps_if lanes 0 (b == 10) (end_line c) _ (λ lf. keeps_line lanes c some k within) (λ other.
-        keeps_if lanes 0 (nat_lt (length c.line) LINE_LIMIT) _ _
-        (λ short. keeps_still lanes c _ k refl refl refl refl refl (λ line. within))
-        (λ long. keeps_still lanes c _ k refl refl refl refl refl k.within)))
+    let within : c.number < SESSION_LINE_LIMIT = grind (arith, common_steps) in
+    keeps_if lanes 0 (b == 10) (end_line c) _ (λ lf. keeps_line lanes c some k within) (λ other.
+    keeps_if lanes 0 (nat_lt (length c.line) LINE_LIMIT) _ _
+    (λ short. keeps_still lanes c _ k refl refl refl refl refl (λ line. within))
+    (λ long. keeps_still lanes c _ k refl refl refl refl refl k.within)))
     (λ above. keeps_still lanes c _ k refl refl refl refl refl k.within))
 
 keeps_all : (lanes : ℕ) (c : Cut) (bytes : List ℕ) → 0 < lanes → Keeps lanes 0 c → Keeps lanes 0 (cut_all c bytes)
@@ -232,9 +232,9 @@ done_flush : (lanes : ℕ) (c : Cut) (ended : Bool) → 0 < lanes → Keeps lane
 unfolding flush
 done_flush lanes c ended some k =
     done_if lanes ended _ c (λ yes.
-        done_if lanes (is_some c.stop) c _ (λ stopped. done_kept lanes c k) (λ going.
-        done_if lanes (length c.line == 0) c _ (λ empty. done_kept lanes c k)
-        (λ full. done_job lanes c (job_of c.lanes c.number c.line) k (grind (arith, common_steps)) some refl)))
+    done_if lanes (is_some c.stop) c _ (λ stopped. done_kept lanes c k) (λ going.
+    done_if lanes (length c.line == 0) c _ (λ empty. done_kept lanes c k)
+    (λ full. done_job lanes c (job_of c.lanes c.number c.line) k (grind (arith, common_steps)) some refl)))
     (λ no. done_kept lanes c k)
 
 in_order_if : (lanes : ℕ) (b : Bool) (c d : Cut) → (b ≡ true → AreInOrder lanes c.jobs c.ends) → (b ≡ false → AreInOrder lanes d.jobs d.ends)
@@ -253,13 +253,13 @@ in_order_end lanes c h =
       ends = lead_push 0 c.from (length c.jobs) c.ends h.ends (grind (arith, common_steps)) h.batch;
     })
     (λ none.
-        let same : c.from ≡ length c.jobs = grind (arith, common_steps, h.begins) in
-        record {
-          few = h.few;
-          lines = h.lines;
-          of_lanes = h.of_lanes;
-          ends = subst (LeadTo 0 c.ends) same h.ends;
-        })
+    let same : c.from ≡ length c.jobs = grind (arith, common_steps, h.begins) in
+    record {
+      few = h.few;
+      lines = h.lines;
+      of_lanes = h.of_lanes;
+      ends = subst (LeadTo 0 c.ends) same h.ends;
+    })
 
 pub jobs_are_in_order : (lanes : ℕ) → 0 < lanes → JobsAreInOrder lanes
 unfolding jobs_of_input

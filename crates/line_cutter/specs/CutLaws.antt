@@ -170,7 +170,7 @@ handed_line jobs batch_ends c =
     handed_if (length (without_cr c.line) == 0) jobs batch_ends (end_batch (next_line c)) (end_full_batch (with_job c job)) _ _
     (handed_end jobs batch_ends (next_line c))
     (ap (λ js. end_full_batch (record (after_handing jobs batch_ends (next_line c)) { jobs = js })) (append_assoc jobs c.jobs (job ∷ []))
-        ∙ handed_full jobs batch_ends (with_job c job))
+    ∙ handed_full jobs batch_ends (with_job c job))
 
 handed_step : (jobs : List Job) (batch_ends : List ℕ) (c : Cut) (b : ℕ) → step (after_handing jobs batch_ends c) b ≡ after_handing jobs batch_ends (step c b)
 unfolding step

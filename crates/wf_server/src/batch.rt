@@ -60,7 +60,12 @@ pub(crate) fn answer_batch<K: Sink>(
     add_batch(told, batch)?;
     let done = told.entries.len();
     answer_jobs(board, &mut told.entries, batch);
-    write_entries(alloc, board.policy(), entries_after(&told.entries, done), sink)
+    write_entries(
+        alloc,
+        board.policy(),
+        entries_after(&told.entries, done),
+        sink,
+    )
 }
 
 // Adds the jobs of a batch and its end, and makes room for their entries.
