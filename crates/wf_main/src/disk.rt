@@ -1,7 +1,7 @@
 //! The disk as a shelf that does not tell what it holds.
-ghost use Rattle.std.specs.Prelude.{None};
+ghost use Rattle.wf_outside.specs.Outside.{untold};
 
-use crate::streams::ReaderSource;
+use crate::streams::StdinSource;
 use std::alloc::Global;
 use std::fs;
 use std::rt::Files;
@@ -25,7 +25,7 @@ impl<'a, R: Files> DiskShelf<'a, R> {
 }
 
 impl<'a, R: Files> Shelf for DiskShelf<'a, R> {
-    ghost file = { λ _ _. None };
+    ghost file = { λ _ _. untold };
 
     ghost faults = { λ s. s.faults };
 
@@ -34,7 +34,7 @@ impl<'a, R: Files> Shelf for DiskShelf<'a, R> {
             self.faults = self.faults.saturating_add(1);
             return Err(LoadFault::Failed);
         };
-        let read = take_all(alloc, &mut ReaderSource::new(file), limit, CHUNK);
+        let read = take_all(alloc, &mut StdinSource::new(file), limit, CHUNK);
         match read {
             Err(LoadFault::Failed) => {
                 self.faults = self.faults.saturating_add(1);

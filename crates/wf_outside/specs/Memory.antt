@@ -1,7 +1,8 @@
 -- The source, the sink and the shelf in memory: what they hold, and what each call does.
-use Rattle.std.specs.Prelude.{◌≡◌, ℕ, ◌+◌, ◌-◌, ◌^◌, min, Bool, ◌&&◌, ◌||◌, ◌==◌, nat_eq, nat_lt, if◌then◌else◌, List, [], ◌∷◌, length, Option, None, Some, MatchOption, MatchBool, Result, Ok, Err, true, false}
+use Rattle.std.specs.Prelude.{◌≡◌, ℕ, ◌+◌, ◌-◌, ◌^◌, min, Bool, ◌&&◌, ◌||◌, ◌==◌, nat_eq, nat_lt, if◌then◌else◌, List, [], ◌∷◌, length, MatchBool, Result, Ok, Err, true, false}
 use Rattle.wf_outside.specs.declared.loaded.LoadFault.{LoadFault}
 use Rattle.wf_outside.specs.declared.loaded.LoadFault.TheVariants.{Failed, TooLong, NoMemory}
+use Rattle.wf_outside.specs.Outside.{Filed, told, missing, untold}
 use Rattle.std.specs.List.{list_any}
 use Rattle.std.specs.Cmp.Lexicographic.{pointwise}
 
@@ -58,10 +59,10 @@ pub record MemShelfShape : Type 0 where
   pub files : List FileShape
   pub counts : CountsShape
 
--- the bytes of the first file of that name
-abbrev pub file_of : List FileShape → List ℕ → Option (List ℕ)
-file_of [] name = None
-file_of (f ∷ files) name = if pointwise nat_eq f.name name then Some f.bytes else file_of files name
+-- the bytes of the first file of that name, if there is one
+abbrev pub file_of : List FileShape → List ℕ → Filed
+file_of [] name = missing
+file_of (f ∷ files) name = if pointwise nat_eq f.name name then told f.bytes else file_of files name
 
 -- the counts after a load: a fault is counted exactly where the answer is one
 abbrev pub counts_after : CountsShape → Result (List ℕ) LoadFault → CountsShape
@@ -77,8 +78,10 @@ AnswersWith failing content (Err Failed) = failing ≡ true
 AnswersWith failing content (Err TooLong) = ⊥
 AnswersWith failing content (Err NoMemory) = failing ≡ false
 
--- what the shelf may answer: a fault for a name that it lacks, else that the file is too long, else by the list
-abbrev pub LoadsFrom : MemShelfShape → List ℕ → ℕ → Result (List ℕ) LoadFault → Type 0
-LoadsFrom s name limit result =
-    MatchOption (file_of s.files name) (result ≡ Err Failed)
-    (λ content. MatchBool (nat_lt limit (length content)) (result ≡ Err TooLong) (AnswersWith (is_failing s.counts) content result))
+-- what a shelf with these counts may answer: a fault for a name that it lacks, else that the file is too long, else by
+-- the list of failing calls
+abbrev pub LoadsFrom : CountsShape → Filed → ℕ → Result (List ℕ) LoadFault → Type 0
+LoadsFrom c missing limit result = result ≡ Err Failed
+LoadsFrom c (told content) limit result =
+    MatchBool (nat_lt limit (length content)) (result ≡ Err TooLong) (AnswersWith (is_failing c) content result)
+LoadsFrom c untold limit result = ⊥

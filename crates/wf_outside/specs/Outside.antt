@@ -1,4 +1,4 @@
--- What sources, sinks and shelves tell of their content, what a call moved, and when a count of faults has risen.
+-- What sources, sinks and shelves tell of their content, what a call moved, and what became of a count of faults.
 use Rattle.std.specs.Prelude.{◌≡◌, ℕ, ◌+◌, ◌^◌, ◌<◌, ◌≤◌, List, [], ◌++◌, length, take, Option, None, Some, IfSome, Result, Ok, Err}
 use Rattle.wf_outside.specs.declared.loaded.LoadFault.{LoadFault}
 use Rattle.wf_outside.specs.declared.loaded.LoadFault.TheVariants.{Failed, TooLong, NoMemory}
@@ -6,6 +6,19 @@ use Rattle.wf_outside.specs.declared.loaded.LoadFault.TheVariants.{Failed, TooLo
 -- the count of faults rose; one that is at the last value of 64 bits stays there
 abbrev pub Rose : ℕ → ℕ → Type 0
 Rose before after = after + 1 < 2 ^ 64 → before < after
+
+-- the count of faults is as it was, unless the answer is a fault
+abbrev pub StaysUnlessFailed : {A : Type 0} → Result A LoadFault → ℕ → ℕ → Type 0
+StaysUnlessFailed (Ok a) before after = after ≡ before
+StaysUnlessFailed (Err Failed) before after = Unit {0}
+StaysUnlessFailed (Err TooLong) before after = after ≡ before
+StaysUnlessFailed (Err NoMemory) before after = after ≡ before
+
+-- what a shelf tells of a name: the bytes of the file, that there is no such file, or nothing
+pub data Filed : Type 0 where
+  told : List ℕ → Filed
+  missing : Filed
+  untold : Filed
 
 -- what a sink holds once these bytes are put at its end, where it tells
 unfoldable pub with_bytes : Option (List ℕ) → List ℕ → Option (List ℕ)
@@ -56,3 +69,9 @@ LoadsFile content limit (Ok bytes) = (bytes ≡ content) × (length content ≤ 
 LoadsFile content limit (Err TooLong) = limit < length content
 LoadsFile content limit (Err Failed) = length content ≤ limit
 LoadsFile content limit (Err NoMemory) = length content ≤ limit
+
+-- what loading may answer under a limit, by what the shelf tells of the name: a file that is missing is a fault
+abbrev pub LoadsAs : Filed → ℕ → Result (List ℕ) LoadFault → Type 0
+LoadsAs (told content) limit result = LoadsFile content limit result
+LoadsAs missing limit result = result ≡ Err Failed
+LoadsAs untold limit result = Unit {0}

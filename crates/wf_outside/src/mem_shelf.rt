@@ -1,7 +1,7 @@
-ghost use Rattle.std.specs.Prelude.{◌≡◌, ◌≤◌, ◌<◌, ◌++◌, ◌↔◌, ℕ, List, map, length, None, Some, IfOk, IfSome, MatchOption};
+ghost use Rattle.std.specs.Prelude.{◌≡◌, ◌≤◌, ◌<◌, ◌++◌, ◌↔◌, ℕ, List, map, length, IfOk, MatchOption};
 ghost use Rattle.wf_outside.specs.Memory.{file_of, LoadsFrom, counts_after};
 ghost use Rattle.wf_outside.specs.Files.{file_view};
-ghost use Rattle.wf_outside.specs.Outside.{LoadsFile};
+ghost use Rattle.wf_outside.specs.Outside.{LoadsAs, told, missing};
 
 use crate::counts::Counts;
 use crate::{LoadFault, Loaded, Shelf};
@@ -54,7 +54,8 @@ impl MemShelf {
 
 // The first file of that name.
 fn find_file<'a>(files: &'a [MemFile], name: &str) -> Option<&'a [u8]>
-    ensures { MatchOption result (file_of (map file_view files.now) name.now ≡ None) (λ bytes. file_of (map file_view files.now) name.now ≡ Some bytes.now) }
+    ensures { MatchOption result (file_of (map file_view files.now) name.now ≡ missing)
+        (λ bytes. file_of (map file_view files.now) name.now ≡ told bytes.now) }
 {
     'finding: for file in files {
         if file.name.as_str() == name {
@@ -70,12 +71,12 @@ impl Shelf for MemShelf {
     ghost faults = { λ s. s.counts.faults };
 
     fn load(&mut self, alloc: Global, name: &str, limit: usize) -> Result<Loaded, LoadFault>
-        ensures answer { LoadsFrom self.old name.now limit result }
+        ensures answer { LoadsFrom self.old.counts (file_of self.old.files name.now) limit result }
         ensures files { self.new.files ≡ self.old.files }
         ensures counts { self.new.counts ≡ counts_after self.old.counts result }
 
         // The clauses of every shelf.
-        ensures loaded { IfSome (file_of self.old.files name.now) (λ content. LoadsFile content limit result) }
+        ensures loaded { LoadsAs (file_of self.old.files name.now) limit result }
         ensures within { IfOk result (λ bytes. length bytes ≤ limit) }
     {
         let Some(content) = find_file(&self.files, name) else {

@@ -18,7 +18,21 @@ pub trait Sink {
         ensures taken { IfOk result (λ n. held self.new ≡ with_bytes (held self.old) (take n bytes.now)) }
         ensures kept { OnErr result (held self.new ≡ held self.old) }
         ensures faults { faults self.old ≤ faults self.new }
-        ensures rose { OnErr result (Rose (faults self.old) (faults self.new)) };
+        ensures rose { OnErr result (Rose (faults self.old) (faults self.new)) }
+        ensures stays { OnOk result (faults self.new ≡ faults self.old) };
+}
+
+// Puts the first of the bytes; how many.
+fn put_some<K: Sink>(sink: &mut K, bytes: &[u8]) -> Result<usize, Failed>
+    ensures within { IfOk result (λ n. n ≤ length bytes.now) }
+    ensures some { IfOk result (λ n. 0 < length bytes.now → 0 < n) }
+    ensures taken { IfOk result (λ n. K.held sink.new ≡ with_bytes (K.held sink.old) (take n bytes.now)) }
+    ensures kept { OnErr result (K.held sink.new ≡ K.held sink.old) }
+    ensures faults { K.faults sink.old ≤ K.faults sink.new }
+    ensures rose { OnErr result (Rose (K.faults sink.old) (K.faults sink.new)) }
+    ensures stays { OnOk result (K.faults sink.new ≡ K.faults sink.old) }
+{
+    sink.put(bytes)
 }
 
 /// Puts all of the bytes; after a fault the sink holds a prefix of them.
@@ -27,10 +41,11 @@ pub fn put_all<K: Sink>(sink: &mut K, bytes: &[u8]) -> Result<(), Failed>
     ensures part { HasPart (K.held sink.old) (K.held sink.new) bytes.now }
     ensures faults { K.faults sink.old ≤ K.faults sink.new }
     ensures rose { OnErr result (Rose (K.faults sink.old) (K.faults sink.new)) }
+    ensures stays { OnOk result (K.faults sink.new ≡ K.faults sink.old) }
 {
     let mut done = 0;
     'putting: while done < bytes.len() {
-        done += sink.put(&bytes[done..])?;
+        done += put_some(sink, &bytes[done..])?;
     }
     Ok(())
 }

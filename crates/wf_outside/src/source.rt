@@ -1,5 +1,5 @@
 ghost use Rattle.std.specs.Prelude.{◌≡◌, ◌≤◌, ◌<◌, ◌+◌, ◌++◌, ℕ, List, length, take, Option, IfOk, IfSome, OnOk, OnErr, IsErrOf};
-ghost use Rattle.wf_outside.specs.Outside.{Rose, HasTaken, IsAtEnd, HasTakenCount, HasTakenAtMost, ReadsAll};
+ghost use Rattle.wf_outside.specs.Outside.{Rose, StaysUnlessFailed, HasTaken, IsAtEnd, HasTakenCount, HasTakenAtMost, ReadsAll};
 ghost use Rattle.wf_outside.specs.declared.loaded.LoadFault.TheVariants.{Failed as ReadFailed};
 
 use crate::{LoadFault, Loaded};
@@ -34,7 +34,21 @@ pub trait Source {
         // After a fault the same bytes are still to come; what stands in `buf` is open.
         ensures kept { OnErr result (left self.new ≡ left self.old) }
         ensures faults { faults self.old ≤ faults self.new }
-        ensures rose { OnErr result (Rose (faults self.old) (faults self.new)) };
+        ensures rose { OnErr result (Rose (faults self.old) (faults self.new)) }
+        ensures stays { OnOk result (faults self.new ≡ faults self.old) };
+}
+
+// Takes the next bytes to the front of `buf`; how many.
+fn take_some<S: Source>(source: &mut S, buf: &mut [u8]) -> Result<usize, Failed>
+    ensures within { IfOk result (λ n. n ≤ length buf.old) }
+    ensures taken { IfOk result (λ n. HasTaken (S.left source.old) (S.left source.new) (take n buf.new)) }
+    ensures ended { IfOk result (λ n. n ≡ 0 → 0 < length buf.old → IsAtEnd (S.left source.new)) }
+    ensures kept { OnErr result (S.left source.new ≡ S.left source.old) }
+    ensures faults { S.faults source.old ≤ S.faults source.new }
+    ensures rose { OnErr result (Rose (S.faults source.old) (S.faults source.new)) }
+    ensures stays { OnOk result (S.faults source.new ≡ S.faults source.old) }
+{
+    source.take(buf)
 }
 
 // One call's bytes behind those that were taken before; how many came.
@@ -50,8 +64,9 @@ fn take_piece<S: Source>(
     ensures fault { IsErrOf result LoadFault.TooLong → ⊥ }
     ensures faults { S.faults source.old ≤ S.faults source.new }
     ensures rose { IsErrOf result LoadFault.Failed → Rose (S.faults source.old) (S.faults source.new) }
+    ensures stays { StaysUnlessFailed result (S.faults source.old) (S.faults source.new) }
 {
-    let count = source.take(buf)?;
+    let count = take_some(source, buf)?;
     bytes.extend_from_slice(&buf[..count])?;
     Ok(count)
 }
@@ -90,6 +105,7 @@ pub fn take_all<S: Source>(
 
     ensures faults { S.faults source.old ≤ S.faults source.new }
     ensures rose { IsErrOf result LoadFault.Failed → Rose (S.faults source.old) (S.faults source.new) }
+    ensures stays { StaysUnlessFailed result (S.faults source.old) (S.faults source.new) }
 {
     let mut bytes = Vec::new(alloc);
     let mut buf = vec![in alloc; 0u8; chunk]?;

@@ -1,155 +1,199 @@
 -- How the batches of a session follow one another.
-use Rattle.std.proofs.Common.{◌≡◌, ℕ, true, false, List, [], map, Option, refl, sym, ◌∙◌, ap, subst}
-use Rattle.std.proofs.lemmas.List.{append-nil}
-use Rattle.wf_outside.specs.Outside.{with_bytes}
-use Rattle.wf_outside.proofs.OutsideLaws.{nothing_taken, nothing_put, part_all, part_none}
+use Rattle.std.proofs.Common.{◌≡◌, ℕ, ◌+◌, ◌<◌, ◌≤◌, true, false, List, [], ◌++◌, length, take, Option, Some, None, Err, inl, inr, refl, sym, ◌∙◌, ap, subst, arith}
+use Rattle.std.specs.Prelude.{◌≢◌}
+use Rattle.std.proofs.lemmas.List.{length-append, length-take}
+use Rattle.wf_names.specs.declared.limits.TheConstants.{DEFAULT_LANES, SESSION_LINE_LIMIT}
+use Rattle.wf_outside.specs.Outside.{HasTaken, with_bytes}
+use Rattle.wf_outside.proofs.OutsideLaws.{nothing_taken, nothing_put}
 use Rattle.policy_book.specs.Shapes.{PolicyShape}
-use Rattle.wf_talk.specs.declared.entry.Entry.{Entry}
 use Rattle.wf_talk.specs.declared.job.Job.{Job}
-use Rattle.wire_json.specs.declared.cutter.Stop.TheVariants as stop
-use Rattle.wire_json.specs.Jobs.{Cut, start, cut_all, jobs_of_input}
+use Rattle.line_cutter.specs.declared.stop.Stop.TheVariants as stop
+use Rattle.line_cutter.specs.Jobs.{start, jobs_of_input}
+use Rattle.line_cutter.specs.Cutter.{after_handing}
+use Rattle.line_cutter.specs.Laws.{JobsAreInOrder}
+use Rattle.batch_reader.specs.declared.reader.Paused.{Paused}
+use Rattle.batch_reader.specs.declared.reader.Paused.TheVariants as paused
+use Rattle.batch_reader.specs.Reading.{ReaderShape, Handed, handed_more, HasRead, IsReadUp, ReadsTo, CountsAs}
 use Rattle.wire_json.specs.Entries.{transcript_text}
 use Rattle.wf_board.specs.States.{State, opening_state}
-use Rattle.wf_board.specs.Histories.{IsLegal, job_of_entry, state_after}
+use Rattle.wf_board.specs.Histories.{IsLegal, FillsJobs}
 use Rattle.wf_board.specs.Laws.{HistoriesKeepPlans}
-use Rattle.wf_board.specs.HistoryLaws.{in_order_fills, in_order_front}
-use Rattle.wf_server.specs.declared.fault.RunFault.{RunFault}
-use Rattle.wf_server.specs.declared.fault.RunFault.TheVariants.{Write, NoMemory}
-use Rattle.wf_server.specs.declared.fault.RunFault.TheVariants as fault
-use Rattle.wf_server.specs.declared.reader.Reader.{Reader}
-use Rattle.wf_server.specs.declared.reader.Paused.{Paused}
-use Rattle.wf_server.specs.declared.reader.Paused.TheVariants as paused
-use Rattle.wf_server.specs.Endings.{is_before_input}
-use Rattle.wf_server.specs.Reading.{pending, HasRead, IsCutUp, ReadsTo}
-use Rattle.wf_server.specs.Batches.{HasAnswered, HasAnsweredPart, BatchEnds, ending_of}
-use Rattle.wf_server.specs.Sessions.{Told, AllServed, PartlyServed, ServedAs, Serves, Served, nothing_told}
+use Rattle.run_record.specs.declared.fault.RunFault.{RunFault}
+use Rattle.run_record.specs.declared.fault.RunFault.TheVariants as fault
+use Rattle.run_record.specs.Fault.{is_before_input, CountsReads, CountsWrites}
+use Rattle.run_record.specs.Report.{Told, nothing_told}
+use Rattle.run_record.specs.Run.{Streams}
+use Rattle.wf_server.specs.Sessions.{handed_in, ReadsFor, Serves, Served}
+use Rattle.wf_server.specs.Batches.{HasAnswered, IsAdded, AnswersTo, IsServing, BatchEnds, IsWriteEnding, ending_of}
+use Rattle.wf_server.proofs.BatchLaws.{writes_whole}
 
--- what a session tells after these entries
-abbrev told_of : Reader → List Entry → Told
-told_of r entries = record { entries = entries; jobs = r.cut.jobs; batch_ends = r.cut.ends }
+-- no count of faults falls
+counts_le : (how : Paused) (before after : ℕ) → CountsAs how before after → before ≤ after
+counts_le paused.Batch before after counts = omega (arith, counts)
+counts_le paused.End before after counts = omega (arith, counts)
+counts_le paused.Failed before after counts = counts.0
+counts_le (paused.Stopped stop) before after counts = omega (arith, counts)
+counts_le paused.NoMemory before after counts = counts
 
--- all of a cutting is answered
-all_served : (p : PolicyShape) (held held-after : Option (List ℕ)) (r : Reader) (s : State) (entries : List Entry) (all : Cut) → r.cut ≡ all → HasAnswered p held held-after s entries r.cut.jobs → AllServed p all held held-after (told_of r entries)
-all_served p held held-after r s entries all e h = record {
-  jobs = ap (λ (x : Cut). x.jobs) e;
-  batch_ends = ap (λ (x : Cut). x.ends) e;
-  legal = h.leads.legal;
-  fills = in_order_fills entries r.cut.jobs r.cut.ends h.filled;
-  written = h.written;
-}
+-- the jobs of a session are few
+pub few_jobs : (before after : Option (List ℕ)) (told : Told) (more : List Job) → JobsAreInOrder DEFAULT_LANES → IsReadUp before after (handed_more (handed_in told) more)
+    → length told.jobs + length more ≤ SESSION_LINE_LIMIT
+few_jobs before after told more order up =
+    let few = (order up.bytes up.ended).few in
+    let front = ap length up.up.within in
+    omega (arith, few, length-append told.jobs more, simp length-take at front)
 
--- a part of it is answered
-pub part_serves : (p : PolicyShape) (before after held held-after : Option (List ℕ)) (r : Reader) (entries : List Entry) (up : IsCutUp before after r.cut.jobs r.cut.ends) → HasAnsweredPart p held held-after entries r.cut.jobs → PartlyServed p up.bytes after held held-after (told_of r entries)
-part_serves p before after held held-after r entries up h = (
-  up.ended,
-  up.at_end,
-  record {
-    up = up.up;
-    legal = h.legal;
-    fills = in_order_front entries h.filled.0 r.cut.jobs r.cut.ends h.filled.1;
-    written = h.written;
-  },
-)
+-- what is told with one more batch
+added_handed : (before : Told) (batch : List Job) (after : Told) → IsAdded before batch after → handed_more (handed_in before) batch ≡ handed_in after
+added_handed before batch after added = rw (added.jobs, added.ends) refl
 
-pub write_serves : (p : PolicyShape) (before after held held-after : Option (List ℕ)) (r : Reader) (entries : List Entry) → IsCutUp before after r.cut.jobs r.cut.ends → HasAnsweredPart p held held-after entries r.cut.jobs → Serves p before after held held-after (told_of r entries) Write
-write_serves p before after held held-after r entries up h = record { bytes = up.bytes; taken = up.taken; served = part_serves p before after held held-after r entries up h }
-
-pub memory_serves : (p : PolicyShape) (before after held held-after : Option (List ℕ)) (r : Reader) (entries : List Entry) → IsCutUp before after r.cut.jobs r.cut.ends → HasAnsweredPart p held held-after entries r.cut.jobs → Serves p before after held held-after (told_of r entries) NoMemory
-memory_serves p before after held held-after r entries up h = record { bytes = up.bytes; taken = up.taken; served = part_serves p before after held held-after r entries up h }
-
--- all entries are a part too
-part_of_all : (p : PolicyShape) (held held-after : Option (List ℕ)) (s : State) (entries : List Entry) (jobs : List Job) → HasAnswered p held held-after s entries jobs → HasAnsweredPart p held held-after entries jobs
-part_of_all p held held-after s entries jobs h = record {
-  legal = h.leads.legal;
-  filled = ([], sym h.filled ∙ sym (append-nil (map job_of_entry entries)));
-  written = rw h.written (part_all held (transcript_text p entries));
+-- memory was refused while a batch was read
+pub memory_serves : (p : PolicyShape) (room : ℕ) (before mid aft : Streams) (r : ReaderShape) (s : State) (told : Told) (how : Paused)
+    → IsServing p before mid r s told → IsReadUp before.input aft.input (handed_in told) → aft.output ≡ mid.output → CountsAs how mid.read_faults aft.read_faults
+    → aft.write_faults ≡ mid.write_faults → Serves p room before aft told fault.NoMemory
+memory_serves p room before mid aft r s told how serving up output reads writes = record {
+  reads = up;
+  legal = serving.answered.leads.legal;
+  fills = serving.answered.fills;
+  writes = writes_whole p before.output aft.output told (output ∙ serving.answered.written);
+  read_faults = let le = counts_le how mid.read_faults aft.read_faults reads in let same = serving.read_faults in omega arith;
+  write_faults = writes ∙ serving.write_faults;
 }
 
 -- the session after a batch that is answered
-pub done_ends : (p : PolicyShape) (before after held held-after : Option (List ℕ)) (r : Reader) (s : State) (entries : List Entry) (how : Paused) → ReadsTo before after r.cut (pending r) how → IsCutUp before after r.cut.jobs r.cut.ends → HasAnswered p held held-after s entries r.cut.jobs → BatchEnds p before after held held-after r s entries (ending_of how)
-done_ends p before after held held-after r s entries paused.Batch reads up h = (reads, h)
-done_ends p before after held held-after r s entries paused.End reads up h =
-    let w = reads.0 in
-    record { bytes = w.bytes; taken = w.taken; served = (all_served p held held-after r s entries (jobs_of_input w.bytes true 1) w.cut h, sym (ap (λ (x : Cut). x.stop) w.cut) ∙ reads.1, w.at_end refl) }
-done_ends p before after held held-after r s entries paused.Failed reads up h =
-    let w = reads.0 in
-    record { bytes = w.bytes; taken = w.taken; served = (all_served p held held-after r s entries (jobs_of_input w.bytes false 1) w.cut h, sym (ap (λ (x : Cut). x.stop) w.cut) ∙ reads.1) }
-done_ends p before after held held-after r s entries (paused.Stopped (stop.LineTooLong line)) reads up h =
-    let w = reads.0 in
-    record { bytes = w.bytes; taken = w.taken; served = (all_served p held held-after r s entries (jobs_of_input w.bytes false 1) w.cut h, sym (ap (λ (x : Cut). x.stop) w.cut) ∙ reads.1) }
-done_ends p before after held held-after r s entries (paused.Stopped stop.TooManyLines) reads up h =
-    let w = reads.0 in
-    record { bytes = w.bytes; taken = w.taken; served = (all_served p held held-after r s entries (jobs_of_input w.bytes false 1) w.cut h, sym (ap (λ (x : Cut). x.stop) w.cut) ∙ reads.1) }
-done_ends p before after held held-after r s entries paused.NoMemory reads up h =
-    memory_serves p before after held held-after r entries up (part_of_all p held held-after s entries r.cut.jobs h)
+pub done_ends : (p : PolicyShape) (before mid aft : Streams) (r t : ReaderShape) (s next : State) (told after : Told) (batch : List Job) (how : Paused)
+    → IsServing p before mid r s told → ReadsTo before.input aft.input t.room (handed_more (handed_in told) batch) how
+    → (how ≡ paused.Batch → HasRead before.input aft.input (handed_more (handed_in told) batch) t)
+    → IsAdded told batch after → HasAnswered p before.output aft.output next after
+    → CountsAs how mid.read_faults aft.read_faults → aft.write_faults ≡ mid.write_faults → BatchEnds p before aft t next after (ending_of how)
+done_ends p before mid aft r t s next told after batch paused.Batch serving reads goes_on added answered counts writes = record {
+  read = subst (λ (h : Handed). HasRead before.input aft.input h t) (added_handed told batch after added) (goes_on refl);
+  answered = answered;
+  read_faults = counts ∙ serving.read_faults;
+  write_faults = writes ∙ serving.write_faults;
+}
+done_ends p before mid aft r t s next told after batch paused.End serving reads goes_on added answered counts writes = record {
+  reads = subst (λ (h : Handed). ReadsTo before.input aft.input t.room h paused.End) (added_handed told batch after added) reads;
+  legal = answered.leads.legal;
+  fills = answered.fills;
+  writes = answered.written;
+  read_faults = counts ∙ serving.read_faults;
+  write_faults = writes ∙ serving.write_faults;
+}
+done_ends p before mid aft r t s next told after batch paused.Failed serving reads goes_on added answered counts writes = record {
+  reads = subst (λ (h : Handed). ReadsTo before.input aft.input t.room h paused.Failed) (added_handed told batch after added) reads;
+  legal = answered.leads.legal;
+  fills = answered.fills;
+  writes = answered.written;
+  read_faults = λ small. let rose = counts.1 small in let same = serving.read_faults in omega arith;
+  write_faults = writes ∙ serving.write_faults;
+}
+done_ends p before mid aft r t s next told after batch (paused.Stopped (stop.LineTooLong line)) serving reads goes_on added answered counts writes = record {
+  reads = subst (λ (h : Handed). ReadsTo before.input aft.input t.room h (paused.Stopped (stop.LineTooLong line))) (added_handed told batch after added) reads;
+  legal = answered.leads.legal;
+  fills = answered.fills;
+  writes = answered.written;
+  read_faults = counts ∙ serving.read_faults;
+  write_faults = writes ∙ serving.write_faults;
+}
+done_ends p before mid aft r t s next told after batch (paused.Stopped stop.TooManyLines) serving reads goes_on added answered counts writes = record {
+  reads = subst (λ (h : Handed). ReadsTo before.input aft.input t.room h (paused.Stopped stop.TooManyLines)) (added_handed told batch after added) reads;
+  legal = answered.leads.legal;
+  fills = answered.fills;
+  writes = answered.written;
+  read_faults = counts ∙ serving.read_faults;
+  write_faults = writes ∙ serving.write_faults;
+}
+done_ends p before mid aft r t s next told after batch paused.NoMemory serving reads goes_on added answered counts writes = record {
+  reads = subst (λ (h : Handed). IsReadUp before.input aft.input h) (added_handed told batch after added) reads;
+  legal = answered.leads.legal;
+  fills = answered.fills;
+  writes = writes_whole p before.output aft.output after answered.written;
+  read_faults = let le = counts_le paused.NoMemory mid.read_faults aft.read_faults counts in let same = serving.read_faults in omega arith;
+  write_faults = writes ∙ serving.write_faults;
+}
 
--- the answers before, as answers to their own jobs
-pub own_answered : (p : PolicyShape) (held held-after : Option (List ℕ)) (s : State) (entries : List Entry) (jobs : List Job) → HasAnswered p held held-after s entries jobs → HasAnswered p held held-after s entries (map job_of_entry entries)
-own_answered p held held-after s entries jobs h = record { leads = h.leads; filled = refl; written = h.written }
+-- the session after a batch whose answering failed
+pub fault_ends : (p : PolicyShape) (room : ℕ) (before mid aft : Streams) (r : ReaderShape) (s next : State) (told after : Told) (batch : List Job) (how : Paused) (ending : RunFault)
+    → IsServing p before mid r s told → ReadsTo before.input aft.input room (handed_more (handed_in told) batch) how → how ≢ paused.NoMemory
+    → IsReadUp before.input aft.input (handed_more (handed_in told) batch) → IsReadUp before.input aft.input (handed_in told)
+    → AnswersTo p before.output aft.output next told batch after (Err ending) → IsWriteEnding ending → CountsAs how mid.read_faults aft.read_faults
+    → CountsWrites ending mid.write_faults aft.write_faults → Serves p room before aft after ending
+fault_ends p room before mid aft r s next told after batch how fault.Write serving reads memory up up_before answers end counts writes = record {
+  reads = (how, memory, subst (λ (h : Handed). ReadsTo before.input aft.input room h how) (added_handed told batch after answers.0) reads);
+  legal = answers.1.legal;
+  fills = answers.1.fills;
+  writes = answers.1.written;
+  read_faults = let le = counts_le how mid.read_faults aft.read_faults counts in let same = serving.read_faults in omega arith;
+  write_faults = λ small. let rose = writes small in let same = serving.write_faults in omega arith;
+}
+fault_ends p room before mid aft r s next told after batch how fault.NoMemory serving reads memory up up_before answers end counts writes = record {
+  reads = elim answers.0 [
+    | inl same ↦ subst (λ (t : Told). IsReadUp before.input aft.input (handed_in t)) (sym same) up_before
+    | inr added ↦ subst (λ (h : Handed). IsReadUp before.input aft.input h) (added_handed told batch after added) up
+  ];
+  legal = answers.1.legal;
+  fills = answers.1.fills;
+  writes = answers.1.written;
+  read_faults = let le = counts_le how mid.read_faults aft.read_faults counts in let same = serving.read_faults in omega arith;
+  write_faults = writes ∙ serving.write_faults;
+}
+fault_ends p room before mid aft r s next told after batch how ending serving reads memory up up_before answers end counts writes = absurd end
 
 -- before the first batch
-pub opening_answered : (p : PolicyShape) (held : Option (List ℕ)) (s : State) (entries : List Entry) (jobs : List Job) → s ≡ opening_state p → entries ≡ [] → jobs ≡ [] → HasAnswered p held held s entries jobs
-opening_answered p held s entries jobs opening none no_jobs = record {
-  leads = record { legal = subst (IsLegal (opening_state p)) (sym none) tt; state = ap (state_after (opening_state p)) none ∙ sym opening };
-  filled = ap (map job_of_entry) none ∙ sym no_jobs;
-  written = sym (ap (λ es. with_bytes held (transcript_text p es)) none ∙ nothing_put held);
-}
-
-pub opening_read : (left : Option (List ℕ)) (c : Cut) (rest : List ℕ) → c ≡ start 1 → rest ≡ [] → HasRead left left c rest
-opening_read left c rest begun none = record { bytes = []; taken = nothing_taken left; cut = ap (cut_all c) none ∙ begun }
-
--- where there was no memory for a session
-pub bare_serves : (p : PolicyShape) (left held : Option (List ℕ)) (told : Told) (ending : RunFault) → told ≡ nothing_told → ending ≡ NoMemory → Serves p left left held held told ending
-bare_serves p left held told ending nothing memory = rw (nothing, memory) (record {
-  bytes = [];
-  taken = nothing_taken left;
-  served = (
-    false,
-    λ e. cc,
-    record {
-      up = record { ends = (0, refl); within = refl };
-      legal = tt;
-      fills = in_order_front [] [] [] [] refl;
-      written = part_none held [];
-    },
-  );
+pub opening_serves : (p : PolicyShape) (streams : Streams) (r : ReaderShape) (s : State) (told : Told) → s ≡ opening_state p → told ≡ nothing_told → r.cut ≡ start DEFAULT_LANES → r.pending ≡ []
+    → IsServing p streams streams r s told
+opening_serves p streams r s told opening none begun empty = rw none (record {
+  read = record {
+    bytes = [];
+    taken = subst (λ xs. HasTaken streams.input streams.input xs) (sym empty) (nothing_taken streams.input);
+    cut = ap (after_handing [] []) begun;
+    closed = refl;
+  };
+  answered = record {
+    leads = record { legal = tt; state = sym opening };
+    fills = record { whole = refl; batches = λ k lt lane. absurd (omega (arith, lt)) };
+    ends = record { within = λ k lt. absurd (omega (arith, lt)); closed = refl };
+    written = sym (nothing_put streams.output);
+  };
+  read_faults = refl;
+  write_faults = refl;
 })
 
--- the entries of a session are a legal history
-legal_as : (p : PolicyShape) (bytes : List ℕ) (left held held-after : Option (List ℕ)) (told : Told) (ending : RunFault) → ServedAs p bytes left held held-after told ending → IsLegal (opening_state p) told.entries
-legal_as p bytes left held held-after told fault.Nothing h = h.0.legal
-legal_as p bytes left held held-after told fault.Read h = h.0.legal
-legal_as p bytes left held held-after told (fault.LineTooLong line) h = h.0.legal
-legal_as p bytes left held held-after told fault.TooManyLines h = h.0.legal
-legal_as p bytes left held held-after told fault.Write h = h.2.legal
-legal_as p bytes left held held-after told fault.NoMemory h = h.2.legal
-legal_as p bytes left held held-after told fault.Found h = absurd h
-legal_as p bytes left held held-after told fault.Usage h = absurd h
-legal_as p bytes left held held-after told (fault.Policy e) h = absurd h
-legal_as p bytes left held held-after told fault.Load h = absurd h
-legal_as p bytes left held held-after told fault.FileTooLong h = absurd h
-legal_as p bytes left held held-after told (fault.BadInput e) h = absurd h
+-- where there was no memory for a session
+pub bare_serves : (p : PolicyShape) (room : ℕ) (streams : Streams) (told : Told) (ending : RunFault) → told ≡ nothing_told → ending ≡ fault.NoMemory → Serves p room streams streams told ending
+bare_serves p room streams told ending nothing memory = rw (nothing, memory) (record {
+  reads = record {
+    bytes = [];
+    ended = false;
+    taken = nothing_taken streams.input;
+    at_end = λ e. cc;
+    up = record { ends = (0, refl); within = refl };
+  };
+  legal = tt;
+  fills = record { whole = refl; batches = λ k lt lane. absurd (omega (arith, lt)) };
+  writes = record { count = 0; within = omega arith; held = sym (nothing_put (with_bytes streams.output []) ∙ nothing_put streams.output) };
+  read_faults = omega arith;
+  write_faults = refl;
+})
 
-pub serves_kept : (p : PolicyShape) (before after held held-after : Option (List ℕ)) (told : Told) (ending : RunFault) → HistoriesKeepPlans p → Serves p before after held held-after told ending → Served p before after held held-after told ending
-serves_kept p before after held held-after told ending keeps h = record {
-  serves = h;
-  kept = keeps told.entries (legal_as p h.bytes after held held-after told ending h.served);
-}
+pub serves_kept : (p : PolicyShape) (room : ℕ) (before after : Streams) (told : Told) (ending : RunFault) → HistoriesKeepPlans p → Serves p room before after told ending → Served p room before after told ending
+serves_kept p room before after told ending keeps h = record { serves = h; kept = keeps told.entries h.legal }
 
 -- a session ends with its own endings alone
-late_as : (p : PolicyShape) (bytes : List ℕ) (left held held-after : Option (List ℕ)) (told : Told) (ending : RunFault) → ServedAs p bytes left held held-after told ending → is_before_input ending ≡ false
-late_as p bytes left held held-after told fault.Nothing h = refl
-late_as p bytes left held held-after told fault.Read h = refl
-late_as p bytes left held held-after told (fault.LineTooLong line) h = refl
-late_as p bytes left held held-after told fault.TooManyLines h = refl
-late_as p bytes left held held-after told fault.Write h = refl
-late_as p bytes left held held-after told fault.NoMemory h = refl
-late_as p bytes left held held-after told fault.Found h = refl
-late_as p bytes left held held-after told fault.Usage h = absurd h
-late_as p bytes left held held-after told (fault.Policy e) h = absurd h
-late_as p bytes left held held-after told fault.Load h = absurd h
-late_as p bytes left held held-after told fault.FileTooLong h = absurd h
-late_as p bytes left held held-after told (fault.BadInput e) h = absurd h
+late_reads : (before after : Option (List ℕ)) (room : ℕ) (told : Told) (ending : RunFault) → ReadsFor before after room told ending → is_before_input ending ≡ false
+late_reads before after room told fault.Nothing h = refl
+late_reads before after room told fault.Read h = refl
+late_reads before after room told (fault.LineTooLong line) h = refl
+late_reads before after room told fault.TooManyLines h = refl
+late_reads before after room told fault.Write h = refl
+late_reads before after room told fault.NoMemory h = refl
+late_reads before after room told fault.Found h = refl
+late_reads before after room told fault.Usage h = absurd h
+late_reads before after room told (fault.Policy e) h = absurd h
+late_reads before after room told fault.Load h = absurd h
+late_reads before after room told fault.FileTooLong h = absurd h
+late_reads before after room told (fault.BadInput e) h = absurd h
 
-pub serves_late : (p : PolicyShape) (before after held held-after : Option (List ℕ)) (told : Told) (ending : RunFault) → Serves p before after held held-after told ending → is_before_input ending ≡ false
-serves_late p before after held held-after told ending h = late_as p h.bytes after held held-after told ending h.served
+pub serves_late : (p : PolicyShape) (room : ℕ) (before after : Streams) (told : Told) (ending : RunFault) → Serves p room before after told ending → is_before_input ending ≡ false
+serves_late p room before after told ending h = late_reads before.input after.input room told ending h.reads

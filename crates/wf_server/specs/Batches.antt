@@ -1,23 +1,31 @@
--- Where a session stands between its batches.
-use Rattle.std.specs.Prelude.{◌≡◌, ℕ, List, [], ◌∷◌, ◌++◌, length, map, Option, None, Some}
+-- Inside: where a session stands between its batches.
+use Rattle.std.specs.Prelude.{◌≡◌, ℕ, ◌+◌, ◌<◌, ◌≤◌, List, [], ◌∷◌, ◌++◌, length, map, Option, None, Some, Result, Ok, Err}
+use Rattle.std.proofs.Common.{◌⊎◌}
 use Rattle.wf_outside.specs.Outside.{HasPart, with_bytes}
 use Rattle.wf_talk.specs.declared.entry.Entry.{Entry}
 use Rattle.wf_talk.specs.declared.job.Job.{Job}
-use Rattle.wire_json.specs.declared.cutter.Stop.TheVariants as stop
+use Rattle.wf_talk.specs.Journals.{JournalShape}
+use Rattle.line_cutter.specs.Jobs.{last_or}
+use Rattle.line_cutter.specs.Cutter.{ends_after}
+use Rattle.line_cutter.specs.declared.stop.Stop.TheVariants as stop
+use Rattle.batch_reader.specs.declared.reader.Paused.{Paused}
+use Rattle.batch_reader.specs.declared.reader.Paused.TheVariants as paused
+use Rattle.batch_reader.specs.Reading.{ReaderShape, HasRead}
 use Rattle.wire_json.specs.Entries.{transcript_text}
 use Rattle.policy_book.specs.Shapes.{PolicyShape}
 use Rattle.wf_board.specs.States.{State, opening_state}
 use Rattle.wf_board.specs.Steps.{IsStep, state_after_step}
-use Rattle.wf_board.specs.Histories.{IsLegal, IsFront, job_of_entry, state_after}
-use Rattle.wf_server.specs.declared.fault.RunFault.{RunFault}
-use Rattle.wf_server.specs.declared.fault.RunFault.TheVariants.{Nothing, Read, NoMemory, LineTooLong, TooManyLines}
-use Rattle.wf_server.specs.declared.reader.Reader.{Reader}
-use Rattle.wf_server.specs.declared.reader.Paused.{Paused}
-use Rattle.wf_server.specs.declared.reader.Paused.TheVariants as paused
-use Rattle.wf_server.specs.declared.turn.Turn.{Turn}
-use Rattle.wf_server.specs.declared.turn.Turn.TheVariants as turn
-use Rattle.wf_server.specs.Reading.{pending, HasRead}
-use Rattle.wf_server.specs.Sessions.{Serves}
+use Rattle.wf_board.specs.Histories.{IsLegal, FillsJobs, batch_end, job_of_entry, state_after}
+use Rattle.run_record.specs.declared.fault.RunFault.{RunFault}
+use Rattle.run_record.specs.declared.fault.RunFault.TheVariants.{Nothing, Read, Write, NoMemory, LineTooLong, TooManyLines}
+use Rattle.run_record.specs.Report.{Told}
+use Rattle.run_record.specs.Run.{Streams}
+use Rattle.wf_server.specs.declared.batch.Answered.{Answered}
+use Rattle.wf_server.specs.Sessions.{handed_in, WritesPart, Serves}
+
+-- what a session tells
+abbrev pub told_of : Answered → Told
+told_of a = record { entries = a.entries.entries; jobs = a.jobs; batch_ends = a.batch_ends }
 
 -- the entries are a legal history that leads to a state
 pub record LeadsTo (start : State) (entries : List Entry) (s : State) : Type 0 where
@@ -33,23 +41,41 @@ pub record HasAnsweredOne (before after : List Entry) (s next : State) (job : Jo
   pub state : next ≡ state_after_step s entry.ask entry.reply
   pub pushed : after ≡ before ++ entry ∷ []
 
+-- each end of a batch is a count of the jobs, and the last one is that of all
+pub record AreEnds (batch_ends : List ℕ) (count : ℕ) : Type 0 where
+  pub within : (k : ℕ) → k < length batch_ends → batch_end batch_ends k ≤ count
+  pub closed : last_or 0 batch_ends ≡ count
+
 -- the jobs so far are answered, and the entries written
-pub record HasAnswered (p : PolicyShape) (held held-after : Option (List ℕ)) (s : State) (entries : List Entry) (jobs : List Job) : Type 0 where
-  pub leads : LeadsTo (opening_state p) entries s
-  pub filled : map job_of_entry entries ≡ jobs
-  pub written : held-after ≡ with_bytes held (transcript_text p entries)
+pub record HasAnswered (p : PolicyShape) (held held-after : Option (List ℕ)) (s : State) (told : Told) : Type 0 where
+  pub leads : LeadsTo (opening_state p) told.entries s
+  pub fills : FillsJobs told.entries told.jobs told.batch_ends
+  pub ends : AreEnds told.batch_ends (length told.jobs)
+  pub written : held-after ≡ with_bytes held (transcript_text p told.entries)
 
--- the first of the jobs so far are answered, and the entries written in part
-pub record HasAnsweredPart (p : PolicyShape) (held held-after : Option (List ℕ)) (entries : List Entry) (jobs : List Job) : Type 0 where
-  pub legal : IsLegal (opening_state p) entries
-  pub filled : IsFront (map job_of_entry entries) jobs
-  pub written : HasPart held held-after (transcript_text p entries)
+-- the jobs so far are answered, and the entries of the last batch written in part
+pub record HasAnsweredPart (p : PolicyShape) (held held-after : Option (List ℕ)) (told : Told) : Type 0 where
+  pub legal : IsLegal (opening_state p) told.entries
+  pub fills : FillsJobs told.entries told.jobs told.batch_ends
+  pub written : WritesPart p held held-after told
 
--- what a turn has answered
-abbrev pub TurnsTo : PolicyShape → Option (List ℕ) → Option (List ℕ) → State → List Entry → List Job → Turn → Type 0
-TurnsTo p held held-after s entries jobs turn.Done = HasAnswered p held held-after s entries jobs
-TurnsTo p held held-after s entries jobs turn.Failed = HasAnsweredPart p held held-after entries jobs
-TurnsTo p held held-after s entries jobs turn.NoMemory = HasAnsweredPart p held held-after entries jobs
+-- the jobs of one more batch are told, with its end
+pub record IsAdded (before : Told) (batch : List Job) (after : Told) : Type 0 where
+  pub jobs : after.jobs ≡ before.jobs ++ batch
+  pub ends : after.batch_ends ≡ ends_after before.batch_ends (length before.jobs) batch
+
+-- what came of answering a batch
+abbrev pub AnswersTo : PolicyShape → Option (List ℕ) → Option (List ℕ) → State → Told → List Job → Told → Result (Unit {0}) RunFault → Type 0
+AnswersTo p held held-after s before batch after (Ok done) = IsAdded before batch after × HasAnswered p held held-after s after
+AnswersTo p held held-after s before batch after (Err NoMemory) =
+    ((after ≡ before) ⊎ IsAdded before batch after) × HasAnsweredPart p held held-after after
+AnswersTo p held held-after s before batch after (Err fault) = IsAdded before batch after × HasAnsweredPart p held held-after after
+
+-- the endings of answering a batch
+abbrev pub IsWriteEnding : RunFault → Type 0
+IsWriteEnding Write = Unit {0}
+IsWriteEnding NoMemory = Unit {0}
+IsWriteEnding fault = ⊥
 
 -- how a session ends where reading paused so and all is answered, if it does
 abbrev pub ending_of : Paused → Option RunFault
@@ -60,9 +86,14 @@ ending_of (paused.Stopped (stop.LineTooLong line)) = Some (LineTooLong line)
 ending_of (paused.Stopped stop.TooManyLines) = Some TooManyLines
 ending_of paused.NoMemory = Some NoMemory
 
+-- between two batches: all that was handed over is answered and written, and no call has failed
+pub record IsServing (p : PolicyShape) (before after : Streams) (r : ReaderShape) (s : State) (told : Told) : Type 0 where
+  pub read : HasRead before.input after.input (handed_in told) r
+  pub answered : HasAnswered p before.output after.output s told
+  pub read_faults : after.read_faults ≡ before.read_faults
+  pub write_faults : after.write_faults ≡ before.write_faults
+
 -- after a batch the session goes on, or ends
-abbrev pub BatchEnds : PolicyShape → Option (List ℕ) → Option (List ℕ) → Option (List ℕ) → Option (List ℕ) → Reader → State → List Entry → Option RunFault → Type 0
-BatchEnds p before after held held-after r s entries None =
-    HasRead before after r.cut (pending r) × HasAnswered p held held-after s entries r.cut.jobs
-BatchEnds p before after held held-after r s entries (Some fault) =
-    Serves p before after held held-after (record { entries = entries; jobs = r.cut.jobs; batch_ends = r.cut.ends }) fault
+abbrev pub BatchEnds : PolicyShape → Streams → Streams → ReaderShape → State → Told → Option RunFault → Type 0
+BatchEnds p before after r s told None = IsServing p before after r s told
+BatchEnds p before after r s told (Some fault) = Serves p r.room before after told fault

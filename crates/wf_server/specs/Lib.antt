@@ -1,12 +1,6 @@
 pub mod Words
-pub mod Inputs
-pub mod Solving
-pub mod Answers
-pub mod Endings
 pub mod Asked
-pub mod Statuses
-pub mod Reading
 pub mod Sessions
 pub mod Batches
-pub mod Reports
 pub mod Serving
+pub mod Run

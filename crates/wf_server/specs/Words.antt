@@ -19,16 +19,10 @@ command_of (word ∷ policy ∷ []) =
     if pointwise nat_eq word (codes "serve") then Some (serve policy) else None
 command_of _ = None
 
--- the policy file that a command names
-abbrev pub policy_named : Command → List ℕ
-policy_named (plan policy flow) = policy
-policy_named (show policy) = policy
-policy_named (solve policy) = policy
-policy_named (serve policy) = policy
-
--- whether a command reads the input
-abbrev pub reads_input : Command → Bool
-reads_input (plan policy flow) = true
-reads_input (show policy) = false
-reads_input (solve policy) = false
-reads_input (serve policy) = true
+-- whether the input is read for these words
+abbrev pub reads_input : Option Command → Bool
+reads_input None = false
+reads_input (Some (plan policy flow)) = true
+reads_input (Some (show policy)) = false
+reads_input (Some (solve policy)) = false
+reads_input (Some (serve policy)) = true

@@ -2,7 +2,8 @@
 ghost use Rattle.std.specs.Prelude.{◌<◌, length, IsTrue};
 ghost use Rattle.policy_book.specs.Policies.{flow_at};
 
-use policy_book::{Policy, RelationFault, RosterFault};
+use policy_book::{Policy, RosterFault};
+use std::alloc::AllocError;
 use std::test::Fail;
 use wf_board::Board;
 use wf_names::{FlowId, Name, RelId, RoleId, StepId, UserId};
@@ -38,41 +39,55 @@ const TRIO_FLOW: FlowId = FlowId(0);
 const FIRST: StepId = StepId(0);
 
 #[test]
-fn memberships_and_pairs_change(rt: HostRuntime) -> Result<(), Fail> {
+fn a_policy_changes(rt: HostRuntime) -> Result<(), Fail> {
     let mut p = policy_reader::read(rt.alloc(), TRIO.as_bytes())?;
-    assert!(rt; is_trio(&p));
-    let enrolled = p.enrol(KIM, CHIEF);
-    assert!(rt; is_trio(&p));
-    let again = p.enrol(KIM, CHIEF);
-    assert!(rt; is_trio(&p));
-    let dismissed = p.dismiss(KIM, CHIEF);
-    assert!(rt; is_trio(&p));
-    let related = p.relate(MENTOR, LEE, KIM);
-    assert!(rt; is_trio(&p));
-    let unrelated = p.unrelate(MENTOR, KIM, LEE);
-    assert!(rt; (enrolled, again, dismissed) == (Ok(()), Err(RosterFault::Already), Ok(())));
-    assert!(rt;
-        (related, unrelated) == (Ok(()), Ok(()))
-            && p.relations().holds(MENTOR, LEE, KIM)
-            && !p.relations().holds(MENTOR, KIM, LEE)
-    );
+    assert!(rt; memberships_change(&mut p) && pairs_change(&mut p) && permissions_change(&mut p));
+    assert!(rt; a_user_is_added(&mut p) && retires(&mut p)?);
     Ok(())
 }
 
-#[test]
-fn workflows_change(rt: HostRuntime) -> Result<(), Fail> {
-    let mut p = policy_reader::read(rt.alloc(), TRIO.as_bytes())?;
-    let added = p.add_user(Name::read("max").ok_or("no name")?);
-    assert!(rt; is_trio(&p) && added == Ok(UserId(3)));
-    let permitted = p.permit(TRIO_FLOW, CHIEF, FIRST);
-    assert!(rt; is_trio(&p));
-    let forbidden = p.forbid(TRIO_FLOW, RoleId(1), FIRST);
-    assert!(rt; is_trio(&p));
+fn memberships_change(p: &mut Policy) -> bool {
+    if !is_trio(p) || p.enrol(KIM, CHIEF) != Ok(()) {
+        return false;
+    }
+    if !is_trio(p) || p.enrol(KIM, CHIEF) != Err(RosterFault::Already) {
+        return false;
+    }
+    is_trio(p) && p.dismiss(KIM, CHIEF) == Ok(())
+}
+
+fn pairs_change(p: &mut Policy) -> bool {
+    if !is_trio(p) || p.relate(MENTOR, LEE, KIM) != Ok(()) {
+        return false;
+    }
+    if !is_trio(p) || p.unrelate(MENTOR, KIM, LEE) != Ok(()) {
+        return false;
+    }
+    p.relations().holds(MENTOR, LEE, KIM) && !p.relations().holds(MENTOR, KIM, LEE)
+}
+
+fn permissions_change(p: &mut Policy) -> bool {
+    if !is_trio(p) || !p.permit(TRIO_FLOW, CHIEF, FIRST) {
+        return false;
+    }
+    is_trio(p) && p.forbid(TRIO_FLOW, RoleId(1), FIRST)
+}
+
+fn a_user_is_added(p: &mut Policy) -> bool {
+    match Name::read("max") {
+        Some(name) => p.add_user(name) == Ok(UserId(3)),
+        None => false,
+    }
+}
+
+// Retires the workflow, and looks at a copy.
+fn retires(p: &mut Policy) -> Result<bool, AllocError> {
+    if !is_trio(p) {
+        return Ok(false);
+    }
     p.retire(TRIO_FLOW);
     let copy = p.copy()?;
-    assert!(rt; is_trio(&copy) && permitted && forbidden);
-    assert!(rt; copy.retired(TRIO_FLOW) && !copy.authorised(TRIO_FLOW, FIRST, KIM));
-    Ok(())
+    Ok(is_trio(&copy) && copy.retired(TRIO_FLOW) && !copy.authorised(TRIO_FLOW, FIRST, KIM))
 }
 
 #[test]

@@ -1,25 +1,22 @@
 //! The command `serve`: it answers the requests in the input.
-ghost use Rattle.std.specs.Prelude.{◌≡◌, ℕ, List, Some, true, false};
-ghost use Rattle.wf_outside.specs.Outside.{Rose};
-ghost use Rattle.wf_server.specs.Statuses.{status_of};
-ghost use Rattle.wf_server.specs.Endings.{is_before_input};
+ghost use Rattle.std.specs.Prelude.{◌≡◌, false};
+ghost use Rattle.run_record.specs.Fault.{status_of, is_before_input};
+ghost use Rattle.run_record.specs.Report.{told_by};
 ghost use Rattle.wf_server.specs.Sessions.{Served};
-ghost use Rattle.wf_server.specs.Reports.{told_by};
-ghost use Rattle.wf_server.specs.Serving.{ServesFile, IsUntouched};
+ghost use Rattle.wf_server.specs.Serving.{ServesRun};
 
-use crate::RunFault;
-use crate::load::load_policy;
-use crate::report::{Report, bare_report};
 use crate::session::run_session;
 use policy_book::Policy;
+use run_record::{Report, RunFault, bare_report};
 use std::alloc::Global;
 use wf_board::laws::histories_keep_plans;
+use wf_commands::load_policy;
 use wf_outside::{Shelf, Sink, Source};
 
 /// How many bytes of the input are taken at once.
 const PIECE: usize = 65_536;
 
-/// Answers the requests in the input under a policy.
+/// Answers the requests in the input under the policy in a file.
 pub(crate) fn run_serve<F: Shelf, S: Source, K: Sink>(
     alloc: Global,
     policy: &str,
@@ -27,14 +24,27 @@ pub(crate) fn run_serve<F: Shelf, S: Source, K: Sink>(
     source: &mut S,
     sink: &mut K,
 ) -> Report
-    ensures serves { (file : List ℕ) → F.file shelf.old policy.now ≡ Some file →
-        ServesFile file (S.left source.old) (S.left source.new) (K.held sink.old) (K.held sink.new) (told_by result) result.fault }
-    ensures early { is_before_input result.fault ≡ true → IsUntouched (S.left source.old) (S.left source.new) (K.held sink.old) (K.held sink.new) (told_by result) }
     ensures status { result.status ≡ status_of result.fault }
     ensures usage { result.fault ≡ RunFault.Usage → ⊥ }
-    ensures read { result.fault ≡ RunFault.Read → Rose (S.faults source.old) (S.faults source.new) }
-    ensures write { result.fault ≡ RunFault.Write → Rose (K.faults sink.old) (K.faults sink.new) }
-    ensures load { result.fault ≡ RunFault.Load → Rose (F.faults shelf.old) (F.faults shelf.new) }
+    ensures serves { ServesRun policy.now (record {
+      files = F.file shelf.old;
+      load_faults = F.faults shelf.old;
+      load_faults_after = F.faults shelf.new;
+      before = record {
+        input = S.left source.old;
+        output = K.held sink.old;
+        read_faults = S.faults source.old;
+        write_faults = K.faults sink.old;
+      };
+      after = record {
+        input = S.left source.new;
+        output = K.held sink.new;
+        read_faults = S.faults source.new;
+        write_faults = K.faults sink.new;
+      };
+      told = told_by result;
+      fault = result.fault;
+    }) }
 {
     match load_policy(alloc, shelf, policy) {
         Ok(p) => serve_policy(alloc, p, source, sink),
@@ -49,11 +59,22 @@ fn serve_policy<S: Source, K: Sink>(
     source: &mut S,
     sink: &mut K,
 ) -> Report
-    ensures served { Served policy (S.left source.old) (S.left source.new) (K.held sink.old) (K.held sink.new) (told_by result) result.fault }
+    ensures served { Served policy PIECE
+        (record {
+          input = S.left source.old;
+          output = K.held sink.old;
+          read_faults = S.faults source.old;
+          write_faults = K.faults sink.old;
+        })
+        (record {
+          input = S.left source.new;
+          output = K.held sink.new;
+          read_faults = S.faults source.new;
+          write_faults = K.faults sink.new;
+        })
+        (told_by result) result.fault }
     ensures late { is_before_input result.fault ≡ false }
     ensures status { result.status ≡ status_of result.fault }
-    ensures read { result.fault ≡ RunFault.Read → Rose (S.faults source.old) (S.faults source.new) }
-    ensures write { result.fault ≡ RunFault.Write → Rose (K.faults sink.old) (K.faults sink.new) }
 {
     histories_keep_plans(&policy);
     run_session(alloc, policy, PIECE, source, sink)

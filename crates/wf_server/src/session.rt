@@ -1,28 +1,26 @@
 //! The session: batch after batch is read, answered and written.
-ghost use Rattle.std.specs.Prelude.{◌≡◌, ◌≤◌, ◌<◌, ℕ, List, [], map, Option, None, Some};
-ghost use Rattle.wf_outside.specs.Outside.{Rose};
+ghost use Rattle.std.specs.Prelude.{◌≡◌, ◌≤◌, ◌<◌, ◌+◌, ℕ, List, [], length, Option, None, Some};
+ghost use Rattle.wf_names.specs.declared.limits.TheConstants.{DEFAULT_LANES, SESSION_LINE_LIMIT};
 ghost use Rattle.policy_book.specs.Shapes.{PolicyShape};
 ghost use Rattle.wf_board.specs.Boards.{state_on};
 ghost use Rattle.wf_board.specs.States.{opening_state};
-ghost use Rattle.wf_board.specs.Histories.{job_of_entry};
-ghost use Rattle.wire_json.specs.Jobs.{start};
-ghost use Rattle.wire_json.specs.JobLaws.{place};
-ghost use Rattle.wf_server.specs.Statuses.{status_of};
-ghost use Rattle.wf_server.specs.Reading.{pending, IsReady, IsBetween, HasRead};
-ghost use Rattle.wf_server.specs.Batches.{BatchEnds, HasAnswered, ending_of};
-ghost use Rattle.wf_server.specs.Sessions.{Serves, Served};
-ghost use Rattle.wf_server.specs.Reports.{told_by};
+ghost use Rattle.line_cutter.specs.Jobs.{start};
+ghost use Rattle.batch_reader.specs.Reading.{IsReady, left_to_read};
+ghost use Rattle.run_record.specs.Fault.{status_of};
+ghost use Rattle.run_record.specs.Report.{told_by};
+ghost use Rattle.run_record.specs.Run.{Streams};
+ghost use Rattle.wf_server.specs.Sessions.{Serves};
+ghost use Rattle.wf_server.specs.Batches.{told_of, ending_of, IsServing, BatchEnds};
 
-use crate::RunFault;
-use crate::reader::{Paused, Reader, read_on};
-use crate::report::{Report, bare_report};
-use crate::turn::{Turn, take_turn};
+use crate::batch::{Answered, answer_batch};
+use batch_reader::{Paused, Reader, Reading};
+use line_cutter::{Stop, jobs_are_in_order};
 use policy_book::Policy;
+use run_record::{Report, RunFault, bare_report};
 use std::alloc::Global;
 use wf_board::Board;
+use wf_names::DEFAULT_LANES;
 use wf_outside::{Sink, Source};
-use wf_talk::Journal;
-use wire_json::{Cutter, Stop};
 
 /// Answers the lines of the source under a policy, batch by batch, and writes the entries to the
 /// sink. At most `room` bytes are taken at once.
@@ -34,42 +32,43 @@ pub(crate) fn run_session<S: Source, K: Sink>(
     sink: &mut K,
 ) -> Report
     requires { 0 < room }
-    ensures served { Serves policy (S.left source.old) (S.left source.new) (K.held sink.old) (K.held sink.new) (told_by result) result.fault }
+    ensures serves { Serves policy room
+        (record { input = S.left source.old; output = K.held sink.old; read_faults = S.faults source.old; write_faults = K.faults sink.old })
+        (record { input = S.left source.new; output = K.held sink.new; read_faults = S.faults source.new; write_faults = K.faults sink.new })
+        (told_by result) result.fault }
     ensures status { result.status ≡ status_of result.fault }
-    ensures read { result.fault ≡ RunFault.Read → Rose (S.faults source.old) (S.faults source.new) }
-    ensures write { result.fault ≡ RunFault.Write → Rose (K.faults sink.old) (K.faults sink.new) }
 {
     let Ok(board) = Board::new(alloc, policy) else {
         return bare_report(alloc, RunFault::NoMemory);
     };
-    let Ok(reader) = Reader::new(alloc, room) else {
+    let Ok(mut reader) = Reader::new(alloc, DEFAULT_LANES, room) else {
         return bare_report(alloc, RunFault::NoMemory);
     };
-    serve_batches(alloc, reader, board, source, sink)
+    serve_batches(alloc, &mut reader, board, source, sink)
 }
 
 // Serves batch after batch.
 fn serve_batches<S: Source, K: Sink>(
     alloc: Global,
-    mut reader: Reader,
+    reader: &mut Reader,
     mut board: Board,
     source: &mut S,
     sink: &mut K,
 ) -> Report
-    requires ready { IsReady reader }
-    requires start { reader.cut ≡ start 1 }
-    requires nothing { pending reader ≡ [] }
+    requires start { reader.old.cut ≡ start DEFAULT_LANES }
+    requires nothing { reader.old.pending ≡ [] }
     requires opening { state_on board ≡ opening_state board.policy }
-    ensures served { Serves board.policy (S.left source.old) (S.left source.new) (K.held sink.old) (K.held sink.new) (told_by result) result.fault }
+    ensures serves { Serves board.policy reader.old.room
+        (record { input = S.left source.old; output = K.held sink.old; read_faults = S.faults source.old; write_faults = K.faults sink.old })
+        (record { input = S.left source.new; output = K.held sink.new; read_faults = S.faults source.new; write_faults = K.faults sink.new })
+        (told_by result) result.fault }
     ensures status { result.status ≡ status_of result.fault }
-    ensures read { result.fault ≡ RunFault.Read → Rose (S.faults source.old) (S.faults source.new) }
-    ensures write { result.fault ≡ RunFault.Write → Rose (K.faults sink.old) (K.faults sink.new) }
 {
-    let mut journal = Journal::new(alloc);
+    let mut told = Answered::new(alloc);
     'serving: loop {
-        match serve_batch(alloc, &mut reader, &mut board, &mut journal, source, sink) {
+        match serve_batch(alloc, reader, &mut board, &mut told, source, sink) {
             None => {}
-            Some(fault) => return report_of(fault, journal, reader.cut),
+            Some(fault) => return report_of(fault, told),
         }
     }
 }
@@ -79,27 +78,32 @@ fn serve_batch<S: Source, K: Sink>(
     alloc: Global,
     reader: &mut Reader,
     board: &mut Board,
-    journal: &mut Journal,
+    told: &mut Answered,
     source: &mut S,
     sink: &mut K,
 ) -> Option<RunFault>
-    requires between { IsBetween reader.old }
-    requires filled { map job_of_entry journal.old.entries ≡ reader.old.cut.jobs }
-    ensures batch { (p : PolicyShape) (before held : Option (List ℕ)) → HasRead before (S.left source.old) reader.old.cut (pending reader.old) →
-        HasAnswered p held (K.held sink.old) (state_on board.old) journal.old.entries reader.old.cut.jobs →
-        BatchEnds p before (S.left source.new) held (K.held sink.new) reader.new (state_on board.new) journal.new.entries result }
-    ensures between { result ≡ None → IsBetween reader.new }
-    ensures further { result ≡ None → place reader.old.cut < place reader.new.cut }
-    ensures source_faults { S.faults source.old ≤ S.faults source.new }
-    ensures sink_faults { K.faults sink.old ≤ K.faults sink.new }
-    ensures read { result ≡ Some RunFault.Read → Rose (S.faults source.old) (S.faults source.new) }
-    ensures write { result ≡ Some RunFault.Write → Rose (K.faults sink.old) (K.faults sink.new) }
+    requires ready { IsReady reader.old }
+    requires serving { (p : PolicyShape) × (before : Streams) × IsServing p before
+        (record { input = S.left source.old; output = K.held sink.old; read_faults = S.faults source.old; write_faults = K.faults sink.old })
+        reader.old (state_on board.old) (told_of told.old) }
+    ensures batch { (p : PolicyShape) (before : Streams) → IsServing p before
+        (record { input = S.left source.old; output = K.held sink.old; read_faults = S.faults source.old; write_faults = K.faults sink.old })
+        reader.old (state_on board.old) (told_of told.old) →
+        BatchEnds p before
+        (record { input = S.left source.new; output = K.held sink.new; read_faults = S.faults source.new; write_faults = K.faults sink.new })
+        reader.new (state_on board.new) (told_of told.new) result }
+    ensures ready { result ≡ None → IsReady reader.new }
+    ensures less { result ≡ None → left_to_read reader.new < left_to_read reader.old }
+    ensures room { reader.new.room ≡ reader.old.room }
 {
-    let paused = read_on(reader, alloc, source);
-    match take_turn(alloc, board, journal, &reader.cut.jobs, sink) {
-        Turn::Done => ending_of(paused),
-        Turn::Failed => Some(RunFault::Write),
-        Turn::NoMemory => Some(RunFault::NoMemory),
+    jobs_are_in_order(DEFAULT_LANES);
+    let Reading { jobs, paused } = reader.next_batch(source);
+    if let Paused::NoMemory = paused {
+        return Some(RunFault::NoMemory);
+    }
+    match answer_batch(alloc, board, told, jobs.as_slice(), sink) {
+        Ok(()) => ending_of(paused),
+        Err(fault) => Some(fault),
     }
 }
 
@@ -117,17 +121,21 @@ fn ending_of(paused: Paused) -> Option<RunFault>
     }
 }
 
-fn report_of(fault: RunFault, entries: Journal, cut: Cutter) -> Report
+fn report_of(fault: RunFault, told: Answered) -> Report
     ensures status { result.status ≡ status_of fault }
     ensures fault { result.fault ≡ fault }
-    ensures told { told_by result ≡ record { entries = entries.entries; jobs = cut.jobs; batch_ends = cut.ends } }
+    ensures told { told_by result ≡ told_of told }
 {
-    let Cutter { jobs, ends, .. } = cut;
+    let Answered {
+        entries,
+        jobs,
+        batch_ends,
+    } = told;
     Report {
         status: fault.status(),
         fault,
         entries,
         jobs,
-        ends,
+        batch_ends,
     }
 }

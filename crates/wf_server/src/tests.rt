@@ -1,8 +1,7 @@
-//! Runs over a source, a sink and a shelf in memory: the plans of example policies, and every status.
+//! Runs over a source, a sink and a shelf in memory that no row of a file can say: what a report
+//! tells, and inputs at their limits.
 
 use crate::run_alone;
-use crate::solve_tests::{is_valid, plan_numbered};
-use policy_book::Policy;
 use std::alloc::{AllocError, Global};
 use std::test::Fail;
 use wf_outside::{MemFile, MemShelf, MemSink, MemSource};
@@ -29,80 +28,214 @@ rules = [
 ]
 "#;
 
+// Printing succeeds; that what is written reads as the policy is proved.
 #[test]
-fn plans_are_judged(rt: HostRuntime) -> Result<(), Fail> {
+fn a_policy_is_shown(rt: HostRuntime) -> Result<(), Fail> {
+    let shown = ends(
+        rt.alloc(),
+        &["show", "policy"],
+        b"",
+        ample(),
+        &telling(0, 0, &[]),
+    )?;
+    assert!(rt; shown);
+    Ok(())
+}
+
+// An input with the count of entries and the ends of the batches.
+#[test]
+fn empty_lines_end_batches(rt: HostRuntime) -> Result<(), Fail> {
     let rows = [
-        (r#"["ann","cyd","bob"]"#, 0, "valid\n"),
-        (r#"["bob","cyd","ann"]"#, 0, "valid\n"),
-        (r#"["ann","bob","bob"]"#, 1, "rule 1\n"),
-        (r#"["cyd","bob","ann"]"#, 1, "role prepare\n"),
-        (r#"["ann"]"#, 11, ""),
-        (r#"["ann","zed","bob"]"#, 11, ""),
-        (r#"["ann",1,"bob"]"#, 11, ""),
-        ("", 11, ""),
+        ("", 0, [].as_slice()),
+        ("a\nb\n\nc\n", 3, [2, 3].as_slice()),
+        ("a\r\n\r\nb\r\n", 2, [1, 2].as_slice()),
+        ("\n\na", 1, [1].as_slice()),
     ];
-    for (input, status, output) in rows {
-        let (ended, written) = run(rt.alloc(), &["plan", "policy", "pay"], PAY, input)?;
-        assert!(rt;
-            ended == status && written.as_slice() == output.as_bytes(),
-            "{input}: {ended}"
-        );
+    for (input, count, batch_ends) in rows {
+        let right = serves(
+            rt.alloc(),
+            input.as_bytes(),
+            ample(),
+            &telling(0, count, batch_ends),
+        )?;
+        assert!(rt; right, "{input}");
     }
     Ok(())
 }
 
 #[test]
-fn other_runs_write_nothing(rt: HostRuntime) -> Result<(), Fail> {
-    let rows = [
-        (["plan", "policy", "pay"], "", 3),
-        (["plan", "policy", "buy"], PAY, 11),
-        (["plan", "none", "pay"], PAY, 6),
-        (["show", "policy", "pay"], PAY, 2),
-    ];
-    for (words, file, status) in rows {
-        let (ended, written) = run(rt.alloc(), &words, file, r#"["ann","cyd","bob"]"#)?;
-        assert!(rt; ended == status && written.is_empty(), "{status}: {ended}");
-    }
+fn the_longest_line_is_answered(rt: HostRuntime) -> Result<(), Fail> {
+    let mut input = repeated(rt.alloc(), "x", 16_384)?;
+    input.push_str("\n{\n")?;
+    assert!(rt; serves(rt.alloc(), input.as_bytes(), ample(), &telling(0, 2, &[2]))?);
     Ok(())
 }
 
 #[test]
-fn two_of_the_64_plans_are_valid(rt: HostRuntime) -> Result<(), Fail> {
-    let p = policy_reader::read(rt.alloc(), PAY.as_bytes())?;
-    // Of ann, bob, cyd and eve, who are numbered from 0: ann, cyd, bob and bob, cyd, ann.
-    assert!(rt; are_the_valid_plans(&p, 2 * 4 + 1, 16 + 2 * 4));
+fn a_longer_line_is_not(rt: HostRuntime) -> Result<(), Fail> {
+    let mut input = String::from_str(rt.alloc(), "{\n")?;
+    input.push_str(repeated(rt.alloc(), "x", 16_385)?.as_str())?;
+    assert!(rt; serves(rt.alloc(), input.as_bytes(), ample(), &telling(9, 1, &[1]))?);
     Ok(())
 }
 
-// Whether the plans with these two numbers are the valid ones.
-fn are_the_valid_plans(p: &Policy, one: u16, other: u16) -> bool {
-    for number in 0..64 {
-        if is_valid(p, &plan_numbered(number)) != (number == one || number == other) {
-            return false;
-        }
-    }
-    true
+#[test]
+fn so_many_lines_are_answered(rt: HostRuntime) -> Result<(), Fail> {
+    let mut input = repeated(rt.alloc(), "{\n", 200_000)?;
+    let most = Told {
+        status: 0,
+        entries: 200_000,
+        batch_ends: None,
+    };
+    assert!(rt; serves(rt.alloc(), input.as_bytes(), ample(), &most)?);
+    input.push('\n')?;
+    let more = Told { status: 10, ..most };
+    assert!(rt; serves(rt.alloc(), input.as_bytes(), ample(), &more)?);
+    Ok(())
 }
 
-// The status of a run with one policy file, and what it wrote.
-pub(crate) fn run(
+#[test]
+fn a_stop_comes_before_a_read_fault(rt: HostRuntime) -> Result<(), Fail> {
+    let outside = Outside {
+        piece: 16_385,
+        failing_take: 1,
+        ..ample()
+    };
+    let input = repeated(rt.alloc(), "x", 16_386)?;
+    assert!(rt; serves(rt.alloc(), input.as_bytes(), outside, &telling(9, 0, &[]))?);
+    Ok(())
+}
+
+// All of a batch is told where writing it fails.
+#[test]
+fn a_sink_fails_after_the_answers(rt: HostRuntime) -> Result<(), Fail> {
+    let outside = Outside {
+        put: 10,
+        failing_put: 1,
+        ..ample()
+    };
+    assert!(rt; serves(rt.alloc(), b"{\n{\n", outside, &telling(5, 2, &[2]))?);
+    Ok(())
+}
+
+/// How the source and the sink behave: how much they give and take at once, and which call fails.
+#[derive(Clone, Copy)]
+pub(crate) struct Outside {
+    piece: usize,
+    failing_take: u64,
+    put: usize,
+    failing_put: u64,
+}
+
+/// What a report has to tell: the status, how many entries, and the ends of the batches where they matter.
+#[derive(Clone, Copy)]
+pub(crate) struct Told<'a> {
+    status: u8,
+    entries: usize,
+    batch_ends: Option<&'a [u32]>,
+}
+
+fn telling(status: u8, entries: usize, batch_ends: &[u32]) -> Told<'_> {
+    Told {
+        status,
+        entries,
+        batch_ends: Some(batch_ends),
+    }
+}
+
+// No call fails.
+fn ample() -> Outside {
+    Outside {
+        piece: 1_000_000,
+        failing_take: 1_000_000_000,
+        put: 1_000_000,
+        failing_put: 1_000_000_000,
+    }
+}
+
+fn repeated(alloc: Global, text: &str, count: usize) -> Result<String, AllocError> {
+    let mut all = String::new(alloc);
+    for _ in 0..count {
+        all.push_str(text)?;
+    }
+    Ok(all)
+}
+
+fn serves(
     alloc: Global,
-    words: &[&str],
-    file: &str,
-    input: &str,
-) -> Result<(u8, Vec<u8>), AllocError> {
-    let mut given = Vec::new(alloc);
-    for word in words {
-        given.push(String::from_str(alloc, word)?)?;
+    input: &[u8],
+    outside: Outside,
+    told: &Told<'_>,
+) -> Result<bool, AllocError> {
+    ends(alloc, &["serve", "policy"], input, outside, told)
+}
+
+// Whether a run under the policy of payments tells this.
+fn ends(
+    alloc: Global,
+    given: &[&str],
+    input: &[u8],
+    outside: Outside,
+    told: &Told<'_>,
+) -> Result<bool, AllocError> {
+    let words = words_of(alloc, given)?;
+    let mut shelf = shelf_of(alloc)?;
+    ends_over(alloc, &words, &mut shelf, input, outside, told)
+}
+
+fn ends_over(
+    alloc: Global,
+    words: &[String],
+    shelf: &mut MemShelf,
+    input: &[u8],
+    outside: Outside,
+    told: &Told<'_>,
+) -> Result<bool, AllocError> {
+    let mut source = source_of(alloc, input, outside)?;
+    let mut sink = sink_of(alloc, outside)?;
+    Ok(tells(alloc, words, shelf, &mut source, &mut sink, told))
+}
+
+fn tells(
+    alloc: Global,
+    words: &[String],
+    shelf: &mut MemShelf,
+    source: &mut MemSource,
+    sink: &mut MemSink,
+    told: &Told<'_>,
+) -> bool {
+    let report = run_alone(alloc, words, shelf, source, sink);
+    report.status == told.status
+        && report.entries.len() == told.entries
+        && match told.batch_ends {
+            Some(batch_ends) => report.batch_ends.as_slice() == batch_ends,
+            None => true,
+        }
+}
+
+fn words_of(alloc: Global, given: &[&str]) -> Result<Vec<String>, AllocError> {
+    let mut words = Vec::new(alloc);
+    for word in given {
+        words.push(String::from_str(alloc, word)?)?;
     }
+    Ok(words)
+}
+
+fn shelf_of(alloc: Global) -> Result<MemShelf, AllocError> {
     let mut files = Vec::new(alloc);
     files.push(MemFile {
         name: String::from_str(alloc, "policy")?,
-        bytes: file.as_bytes().to_vec(alloc)?,
+        bytes: PAY.as_bytes().to_vec(alloc)?,
     })?;
-    let mut shelf = MemShelf::new(files, Vec::new(alloc));
-    let mut source = MemSource::new(input.as_bytes().to_vec(alloc)?, 7, Vec::new(alloc));
-    let mut sink = MemSink::new(alloc, 100, 2, Vec::new(alloc))?;
-    let report = run_alone(alloc, &given, &mut shelf, &mut source, &mut sink);
-    Ok((report.status, sink.bytes().to_vec(alloc)?))
+    Ok(MemShelf::new(files, Vec::new(alloc)))
+}
+
+fn source_of(alloc: Global, input: &[u8], outside: Outside) -> Result<MemSource, AllocError> {
+    let failing = [outside.failing_take].to_vec(alloc)?;
+    Ok(MemSource::new(input.to_vec(alloc)?, outside.piece.max(1), failing))
+}
+
+fn sink_of(alloc: Global, outside: Outside) -> Result<MemSink, AllocError> {
+    let failing = [outside.failing_put].to_vec(alloc)?;
+    MemSink::new(alloc, 20_000_000, outside.put, failing)
 }

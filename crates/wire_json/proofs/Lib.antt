@@ -1,4 +1,3 @@
 pub mod Values
-pub mod Feeding
 pub mod Floats
 pub mod Branches

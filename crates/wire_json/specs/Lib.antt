@@ -1,8 +1,6 @@
 pub mod Values
 pub mod Faults
 pub mod Requests
-pub mod Jobs
-pub mod JobLaws
 pub mod Entries
 pub mod Trees
 pub mod Findings

@@ -7,7 +7,7 @@ invariant-putting g l =
     record {
       within : l.done ≤ length l.bytes;
       taken : g.K.Sink.held l.sink ≡ with_bytes (g.K.Sink.held l.fn.sink) (take l.done l.bytes);
-      faults : g.K.Sink.faults l.fn.sink ≤ g.K.Sink.faults l.sink;
+      faults : g.K.Sink.faults l.sink ≡ g.K.Sink.faults l.fn.sink;
     }
 
 abbrev pub decreases-putting : goal.decreases-putting

@@ -1,4 +1,4 @@
-use Rattle.std.proofs.Common.{rules, arith}
+use Rattle.std.proofs.Common.{refl, rules, arith}
 use Rattle.std.proofs.lemmas.Grind.{common_steps}
 use Rattle.wf_outside.proofs.OutsideLaws.{nothing_taken, nothing_at_most, at_most_more, reads_whole, reads_more}
 use Rattle.wf_outside.proofs.source.take_all.Goals as goal
@@ -12,7 +12,7 @@ taking-init g c =
       taken = rw c.new-bytes.ensures.items (nothing_taken _);
       within = rw c.new-bytes.ensures.items (omega arith);
       buffer = search rules;
-      faults = omega arith;
+      faults = refl;
     }
 
 pub returns-in_err-take_piece-clause-part : goal.returns-in_err-take_piece-clause-part

@@ -8,7 +8,7 @@ invariant-taking g l =
       taken : HasTaken (g.S.Source.left l.fn.source) (g.S.Source.left l.source) l.bytes.items;
       within : length l.bytes.items ≤ l.limit + 1;
       buffer : length l.buf.items ≡ l.chunk;
-      faults : g.S.Source.faults l.fn.source ≤ g.S.Source.faults l.source;
+      faults : g.S.Source.faults l.source ≡ g.S.Source.faults l.fn.source;
     }
 
 abbrev pub decreases-taking : goal.decreases-taking

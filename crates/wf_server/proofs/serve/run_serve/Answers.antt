@@ -1,10 +1,13 @@
-use Rattle.std.proofs.Common.{◌≡◌, ◌≤◌, Ok, IfSome, inr, length, subst}
-use Rattle.wf_names.specs.declared.limits.TheConstants.{POLICY_FILE_LIMIT}
-use Rattle.policy_reader.specs.Files.{policy_of_file}
-use Rattle.wf_server.specs.Endings.{GivesPolicy}
+use Rattle.wf_server.proofs.ServeLaws.{is_served, loads_late, not_served, unread_counts}
 use Rattle.wf_server.proofs.serve.run_serve.Goals as goal
 
 pub returns-in-Ok-clause-serves : goal.returns-in-Ok-clause-serves
-returns-in-Ok-clause-serves g c = λ file told.
-    let gives : (length file ≤ POLICY_FILE_LIMIT) × (policy_of_file file ≡ Ok c.in-Ok.p) = subst (λ o. IfSome o (λ f. GivesPolicy f (Ok c.in-Ok.p))) told c.in-Ok.ensures.policy in
-    inr (record { policy = c.in-Ok.p; within = gives.0; read = gives.1; served = c.serve_policy.ensures.served })
+returns-in-Ok-clause-serves g c = record {
+  serves = is_served (g.F.Shelf.file c.args.shelf.now c.args.policy.now) c.in-Ok.p _ c.in-Ok.ensures.policy c.serve_policy.ensures.served;
+  orderly = record {
+    early = λ e. let late = c.serve_policy.ensures.late in cc;
+    loads = loads_late _ _ _ c.serve_policy.ensures.late c.in-Ok.ensures.loads;
+    reads = c.serve_policy.ensures.served.serves.read_faults;
+    writes = c.serve_policy.ensures.served.serves.write_faults;
+  };
+}

@@ -1,35 +1,36 @@
-use Rattle.std.proofs.Common.{◌∙◌, ap, sym, length, arith}
-use Rattle.std.specs.Prelude.{is_some}
-use Rattle.wire_json.specs.Jobs.{Cut}
+use Rattle.std.proofs.Common.{◌≡◌, ℕ, ◌∙◌, refl, sym, ap, subst}
 use Rattle.wf_board.specs.Boards.{state_on}
-use Rattle.wf_server.specs.Reading.{pending}
-use Rattle.wf_server.proofs.SessionLaws.{opening_answered, opening_read}
+use Rattle.line_cutter.specs.Jobs.{Cut}
+use Rattle.run_record.specs.Report.{nothing_told}
+use Rattle.run_record.specs.Run.{Streams}
+use Rattle.wf_server.specs.Sessions.{Serves}
+use Rattle.wf_server.specs.Batches.{told_of}
+use Rattle.wf_server.proofs.SessionLaws.{opening_serves}
 use Rattle.wf_server.proofs.session.serve_batches.Goals as goal
 
 pub serving-init : goal.serving-init
 serving-init g c =
-    let begun = c.requires.start in
-    let cut = c.args.reader.cut in
+    let streams : Streams = record { input = g.S.Source.left c.args.source.now; output = g.K.Sink.held c.args.sink.now; read_faults = g.S.Source.faults c.args.source.now; write_faults = g.K.Sink.faults c.args.sink.now } in
+    let empty : told_of c.new-told.result ≡ nothing_told = rw (c.new-told.ensures.entries, c.new-told.ensures.jobs, c.new-told.ensures.ends) refl in
     record {
-      between = record {
-        ready = c.requires.ready;
-        going = ap (λ (x : Cut). is_some x.stop) begun;
-        closed = ap (λ (x : Cut). x.from) begun ∙ sym (ap (λ (x : Cut). length x.jobs) begun);
-      };
-      read = opening_read (g.S.Source.left c.args.source.now) cut (pending c.args.reader) begun c.requires.nothing;
-      answered = opening_answered c.args.board.policy (g.K.Sink.held c.args.sink.now) (state_on c.args.board) c.new-journal.result.entries cut.jobs c.requires.opening c.new-journal.ensures (ap (λ (x : Cut). x.jobs) begun);
-      source_faults = omega arith;
-      sink_faults = omega arith;
+      ready = record { going = ap (λ (x : Cut). x.stop) c.requires.start; handed = ap (λ (x : Cut). x.ends) c.requires.start };
+      room = refl;
+      serving = opening_serves c.args.board.policy streams c.args.reader.now (state_on c.args.board) (told_of c.new-told.result) c.requires.opening empty c.requires.start c.requires.nothing;
     }
 
 pub serving-preserved : goal.serving-preserved
 serving-preserved g c =
-    let inv = c.serving.invariant in
-    let both = c.in-None.ensures.batch c.args.board.policy (g.S.Source.left c.args.source.now) (g.K.Sink.held c.args.sink.now) inv.read inv.answered in
+    let streams : Streams = record { input = g.S.Source.left c.args.source.now; output = g.K.Sink.held c.args.sink.now; read_faults = g.S.Source.faults c.args.source.now; write_faults = g.K.Sink.faults c.args.sink.now } in
     record {
-      between = c.serve_batch.ensures.between c.in-None.is;
-      read = both.0;
-      answered = both.1;
-      source_faults = omega (arith, inv.source_faults, c.serve_batch.ensures.source_faults);
-      sink_faults = omega (arith, inv.sink_faults, c.serve_batch.ensures.sink_faults);
+      ready = c.serve_batch.ensures.ready c.in-None.is;
+      room = c.serve_batch.ensures.room ∙ c.serving.invariant.room;
+      serving = c.in-None.ensures.batch c.args.board.policy streams c.serving.invariant.serving;
     }
+
+pub returns-in-Some-clause-serves : goal.returns-in-Some-clause-serves
+returns-in-Some-clause-serves g c =
+    let streams : Streams = record { input = g.S.Source.left c.args.source.now; output = g.K.Sink.held c.args.sink.now; read_faults = g.S.Source.faults c.args.source.now; write_faults = g.K.Sink.faults c.args.sink.now } in
+    let after : Streams = record { input = g.S.Source.left c.serve_batch.new.source; output = g.K.Sink.held c.serve_batch.new.sink; read_faults = g.S.Source.faults c.serve_batch.new.source; write_faults = g.K.Sink.faults c.serve_batch.new.sink } in
+    let served = c.in-Some.ensures.batch c.args.board.policy streams c.serving.invariant.serving in
+    rw (c.report_of.ensures.told, c.report_of.ensures.fault)
+    (subst (λ (n : ℕ). Serves c.args.board.policy n streams after (told_of c.serve_batch.new.told) c.in-Some.fault) (c.serve_batch.ensures.room ∙ c.serving.invariant.room) served)

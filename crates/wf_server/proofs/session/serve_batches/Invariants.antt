@@ -1,19 +1,19 @@
-use Rattle.std.proofs.Common.{◌≤◌, ◌-◌}
-use Rattle.wire_json.specs.JobLaws.{place, last_place}
+use Rattle.std.proofs.Common.{◌≡◌}
 use Rattle.wf_board.specs.Boards.{state_on}
-use Rattle.wf_server.specs.Reading.{pending, IsBetween, HasRead}
-use Rattle.wf_server.specs.Batches.{HasAnswered}
+use Rattle.batch_reader.specs.Reading.{IsReady, left_to_read}
+use Rattle.wf_server.specs.Batches.{told_of, IsServing}
 use Rattle.wf_server.proofs.session.serve_batches.Given as goal
 
 abbrev pub invariant-serving : goal.invariant-serving
 invariant-serving g l =
     record {
-      between : IsBetween l.reader;
-      read : HasRead (g.S.Source.left l.fn.source) (g.S.Source.left l.source) l.reader.cut (pending l.reader);
-      answered : HasAnswered l.fn.board.policy (g.K.Sink.held l.fn.sink) (g.K.Sink.held l.sink) (state_on l.board) l.journal.entries l.reader.cut.jobs;
-      source_faults : g.S.Source.faults l.fn.source ≤ g.S.Source.faults l.source;
-      sink_faults : g.K.Sink.faults l.fn.sink ≤ g.K.Sink.faults l.sink;
+      ready : IsReady l.reader;
+      room : l.reader.room ≡ l.fn.reader.room;
+      serving : IsServing l.fn.board.policy
+          (record { input = g.S.Source.left l.fn.source; output = g.K.Sink.held l.fn.sink; read_faults = g.S.Source.faults l.fn.source; write_faults = g.K.Sink.faults l.fn.sink })
+          (record { input = g.S.Source.left l.source; output = g.K.Sink.held l.sink; read_faults = g.S.Source.faults l.source; write_faults = g.K.Sink.faults l.sink })
+          l.reader (state_on l.board) (told_of l.told);
     }
 
 abbrev pub decreases-serving : goal.decreases-serving
-decreases-serving g l = last_place - place l.reader.cut
+decreases-serving g l = left_to_read l.reader

@@ -1,0 +1,271 @@
+-- How what was read goes on.
+use Rattle.std.proofs.Common.{◌≡◌, ℕ, ◌+◌, ◌-◌, ◌<◌, ◌≤◌, Bool, true, false, List, [], ◌∷◌, ◌++◌, length, map, take, drop, Option, None, Some, inl, inr, refl, sym, ◌∙◌, ap, subst, arith, append_assoc}
+use Rattle.std.specs.Prelude.{◌≢◌, is_some}
+use Rattle.std.proofs.lemmas.Grind.{common_steps}
+use Rattle.std.proofs.lemmas.List.{append-nil, length-append, take-append-drop, drop-drop, drop-take}
+use Rattle.wf_outside.specs.Outside.{HasTaken, IsAtEnd, bytes_before}
+use Rattle.wf_outside.proofs.OutsideLaws.{more_taken}
+use Rattle.wf_talk.specs.declared.job.Job.{Job}
+use Rattle.line_cutter.specs.declared.stop.Stop.{Stop}
+use Rattle.line_cutter.specs.Jobs.{Cut, start, cut_all, flush, end_batch, jobs_of_input, last_or, UpToAnEnd}
+use Rattle.line_cutter.specs.Cutter.{Cuts, IsEnded, after_handing, ends_after, emptied}
+use Rattle.line_cutter.specs.CutLaws.{cut_all-append, handed_all, handed_finish, handed_over, closed_after, up_to_end, stopped, finished_stop}
+use Rattle.batch_reader.specs.declared.reader.Paused.{Paused}
+use Rattle.batch_reader.specs.declared.reader.Paused.TheVariants.{Batch, End, Failed, Stopped, NoMemory}
+use Rattle.batch_reader.specs.Reading.{ReaderShape, Handed, handed_more, HasRead, HasPaused, HasReadAll, HasStopped, IsReadUp, ReadsTo, CountsAs}
+use Rattle.batch_reader.specs.Pausing.{HasCut, PausesBy, PausesAs, ClosesAs, FinishesAs}
+
+-- what was cut was read
+pub read_behind : (before after : Option (List ℕ)) (h : Handed) (r : ReaderShape) → HasCut before after h r → HasRead before after h r
+read_behind before after h r cut = record { bytes = cut.front ++ cut.last ∷ []; taken = cut.taken; cut = cut.cut; closed = cut.closed }
+
+-- some of what is pending is cut
+pub cut_more : (before after : Option (List ℕ)) (h : Handed) (r s : ReaderShape) (more : List ℕ)
+    → Cuts r.cut s.cut more → r.cut.ends ≡ [] → r.pending ≡ more ++ s.pending → HasRead before after h r → HasCut before after h s
+cut_more before after h r s more cuts none pending read =
+    let bytes = read.bytes in
+    let behind : more ≡ cuts.front ++ cuts.last ∷ [] = cuts.whole in
+    let all : bytes ++ more ≡ (bytes ++ cuts.front) ++ cuts.last ∷ [] =
+    ap (λ xs. bytes ++ xs) behind ∙ sym (append_assoc bytes cuts.front (cuts.last ∷ [])) in
+    record {
+      front = bytes ++ cuts.front;
+      last = cuts.last;
+      taken = read.taken ∙ ap (λ xs. bytes_before xs after) (ap (λ xs. bytes ++ xs) pending ∙ sym (append_assoc bytes more s.pending) ∙ ap (λ xs. xs ++ s.pending) all);
+      cut = ap (after_handing h.jobs h.batch_ends) cuts.cut ∙ sym (handed_all h.jobs h.batch_ends r.cut more) ∙ ap (λ c. cut_all c more) read.cut
+          ∙ sym (cut_all-append (start h.lanes) bytes more) ∙ ap (cut_all (start h.lanes)) all;
+      closed = read.closed;
+      none = ap (λ (c : Cut). c.ends) (cut_all-append (start h.lanes) bytes cuts.front ∙ ap (λ c. cut_all c cuts.front) (sym read.cut) ∙ handed_all h.jobs h.batch_ends r.cut cuts.front)
+          ∙ ap (λ es. h.batch_ends ++ map (λ n. length h.jobs + n) es) (cuts.none ∙ none) ∙ append-nil h.batch_ends;
+    }
+
+-- the next piece is taken, where the last one is cut
+pub take_more : (before left after : Option (List ℕ)) (h : Handed) (r s : ReaderShape)
+    → r.pending ≡ [] → s.cut ≡ r.cut → HasTaken left after s.pending → HasRead before left h r → HasRead before after h s
+take_more before left after h r s empty same taken read =
+    let all : HasTaken before left read.bytes =
+    subst (λ xs. HasTaken before left xs) (ap (λ xs. read.bytes ++ xs) empty ∙ append-nil read.bytes) read.taken in
+    record {
+      bytes = read.bytes;
+      taken = more_taken before left after read.bytes s.pending all taken;
+      cut = ap (after_handing h.jobs h.batch_ends) same ∙ read.cut;
+      closed = read.closed;
+    }
+
+-- what is left of the bytes between two places, some of which are cut
+pub split_between : (bytes : List ℕ) (at filled n : ℕ) → at ≤ filled
+    → drop at (take filled bytes) ≡ take n (take (filled - at) (drop at bytes)) ++ drop (at + n) (take filled bytes)
+split_between bytes at filled n begun =
+    let whole : filled ≡ at + (filled - at) = omega (arith, begun) in
+    let between : drop at (take filled bytes) ≡ take (filled - at) (drop at bytes) =
+    ap (λ m. drop at (take m bytes)) whole ∙ drop-take at (filled - at) bytes in
+    sym (take-append-drop n (drop at (take filled bytes))) ∙ ap (λ xs. take n xs ++ drop n (drop at (take filled bytes))) between
+    ∙ ap (λ xs. take n (take (filled - at) (drop at bytes)) ++ xs) (drop-drop n at (take filled bytes))
+
+-- ---- at the end of a batch, or of what can be read
+
+-- what was read is up to an end
+pub up_read : (before after : Option (List ℕ)) (h : Handed) (r : ReaderShape) → HasRead before after h r → IsReadUp before after h
+unfolding jobs_of_input
+up_read before after h r read =
+    let rest : Cut = cut_all r.cut r.pending in
+    let whole : cut_all (start h.lanes) (read.bytes ++ r.pending) ≡ after_handing h.jobs h.batch_ends rest =
+    cut_all-append (start h.lanes) read.bytes r.pending ∙ ap (λ c. cut_all c r.pending) (sym read.cut) ∙ handed_all h.jobs h.batch_ends r.cut r.pending in
+    let all : end_batch (flush false (cut_all (start h.lanes) (read.bytes ++ r.pending))) ≡ after_handing h.jobs h.batch_ends (end_batch (flush false rest)) =
+    ap (λ c. end_batch (flush false c)) whole ∙ handed_finish h.jobs h.batch_ends rest false in
+    record {
+      bytes = read.bytes ++ r.pending;
+      ended = false;
+      taken = read.taken;
+      at_end = λ e. cc;
+      up = subst (λ (c : Cut). UpToAnEnd h.jobs h.batch_ends c) (sym all) (up_to_end h.jobs h.batch_ends (end_batch (flush false rest)) read.closed);
+    }
+
+-- and so with no more jobs
+pub up_none : (before after : Option (List ℕ)) (h : Handed) (r : ReaderShape) (none : List Job) → none ≡ [] → HasRead before after h r → IsReadUp before after (handed_more h none)
+up_none before after h r none e read =
+    let same : h.jobs ++ [] ≡ h.jobs = append-nil h.jobs in
+    rw (e, same) (up_read before after h r read)
+
+-- what reading had read, however it paused
+pub read_by : (before after : Option (List ℕ)) (h : Handed) (r : ReaderShape) (paused : Paused) → PausesBy before after h r paused → HasRead before after h r
+read_by before after h r Batch read = read_behind before after h r read
+read_by before after h r End read = read
+read_by before after h r Failed read = read
+read_by before after h r (Stopped stop) read = read
+read_by before after h r NoMemory read = read
+
+-- a batch that has ended is handed over
+batch_over : (before after : Option (List ℕ)) (h : Handed) (r : ReaderShape) (cut : HasCut before after h r) → IsEnded r.cut
+    → after_handing (h.jobs ++ r.cut.jobs) (ends_after h.batch_ends (length h.jobs) r.cut.jobs) (emptied r.cut) ≡ cut_all (start h.lanes) (cut.front ++ cut.last ∷ [])
+batch_over before after h r cut ended = sym (handed_over h.jobs h.batch_ends r.cut ended) ∙ cut.cut
+
+batch_read : (before after : Option (List ℕ)) (h : Handed) (r : ReaderShape) → HasCut before after h r → IsEnded r.cut
+    → HasRead before after (handed_more h r.cut.jobs) (record r { cut = emptied r.cut })
+batch_read before after h r cut ended = record {
+  bytes = cut.front ++ cut.last ∷ [];
+  taken = cut.taken;
+  cut = batch_over before after h r cut ended;
+  closed = closed_after h.jobs r.cut.jobs h.batch_ends cut.closed;
+}
+
+batch_paused : (before after : Option (List ℕ)) (h : Handed) (r : ReaderShape) → HasCut before after h r → IsEnded r.cut → 0 < length r.cut.jobs → length r.pending < r.room
+    → HasPaused before after r.room (handed_more h r.cut.jobs)
+batch_paused before after h r cut ended some ahead =
+    let one_more : length (ends_after h.batch_ends (length h.jobs) r.cut.jobs) ≡ length h.batch_ends + 1 = grind (arith, common_steps, length-append) in
+    let over = batch_over before after h r cut ended in
+    record {
+      front = cut.front;
+      last = cut.last;
+      rest = r.pending;
+      taken = cut.taken;
+      jobs = sym (append-nil (h.jobs ++ r.cut.jobs)) ∙ ap (λ (c : Cut). c.jobs) over;
+      ends = sym (append-nil (ends_after h.batch_ends (length h.jobs) r.cut.jobs)) ∙ ap (λ (c : Cut). c.ends) over;
+      before_last = let same = ap length cut.none in omega arith;
+      ahead = ahead;
+    }
+
+-- the input was ended, and the last batch is handed over
+finish_over : (before after : Option (List ℕ)) (ended : Bool) (h : Handed) (r : ReaderShape) (d : Cut) (read : HasRead before after h r) → d ≡ end_batch (flush ended r.cut) → IsEnded d
+    → jobs_of_input read.bytes ended h.lanes ≡ after_handing (h.jobs ++ d.jobs) (ends_after h.batch_ends (length h.jobs) d.jobs) (emptied d)
+unfolding jobs_of_input
+finish_over before after ended h r d read is closed =
+    ap (λ c. end_batch (flush ended c)) (sym read.cut) ∙ handed_finish h.jobs h.batch_ends r.cut ended ∙ ap (after_handing h.jobs h.batch_ends) (sym is)
+    ∙ handed_over h.jobs h.batch_ends d closed
+
+-- so are the jobs of all that was taken, where nothing is pending
+all_taken : (before after : Option (List ℕ)) (h : Handed) (r : ReaderShape) (read : HasRead before after h r) → r.pending ≡ [] → HasTaken before after read.bytes
+all_taken before after h r read none = subst (λ xs. HasTaken before after xs) (ap (λ xs. read.bytes ++ xs) none ∙ append-nil read.bytes) read.taken
+
+all_read : (before after : Option (List ℕ)) (ended : Bool) (h : Handed) (r : ReaderShape) (d : Cut) → HasRead before after h r → d ≡ end_batch (flush ended r.cut) → IsEnded d
+    → r.pending ≡ [] → r.cut.stop ≡ None → (ended ≡ true → IsAtEnd after) → HasReadAll before after ended (handed_more h d.jobs)
+all_read before after ended h r d read is closed none going at_end =
+    let over = finish_over before after ended h r d read is closed in
+    record {
+      bytes = read.bytes;
+      taken = all_taken before after h r read none;
+      at_end = at_end;
+      jobs = sym (ap (λ (c : Cut). c.jobs) over ∙ append-nil (h.jobs ++ d.jobs));
+      ends = sym (ap (λ (c : Cut). c.ends) over ∙ append-nil (ends_after h.batch_ends (length h.jobs) d.jobs));
+      going = ap (λ (c : Cut). c.stop) over ∙ ap (λ (c : Cut). c.stop) is ∙ finished_stop r.cut ended ∙ going;
+    }
+
+stop_read : (before after : Option (List ℕ)) (h : Handed) (r : ReaderShape) (d : Cut) (stop : Stop) → HasRead before after h r → d ≡ end_batch (flush false r.cut) → IsEnded d
+    → r.cut.stop ≡ Some stop → length r.pending < r.room → HasStopped before after r.room stop (handed_more h d.jobs)
+stop_read before after h r d stop read is closed stops ahead =
+    let over = finish_over before after false h r d read is closed in
+    record {
+      bytes = read.bytes;
+      rest = r.pending;
+      taken = read.taken;
+      jobs = sym (ap (λ (c : Cut). c.jobs) over ∙ append-nil (h.jobs ++ d.jobs));
+      ends = sym (ap (λ (c : Cut). c.ends) over ∙ append-nil (ends_after h.batch_ends (length h.jobs) d.jobs));
+      stopped = ap (λ (c : Cut). c.stop) over ∙ ap (λ (c : Cut). c.stop) is ∙ finished_stop r.cut false ∙ stops;
+      ahead = ahead;
+    }
+
+-- its jobs are up to an end, where nothing is pending or the cutting has stopped
+all_up : (before after : Option (List ℕ)) (ended : Bool) (h : Handed) (r : ReaderShape) (d : Cut) → HasRead before after h r → d ≡ end_batch (flush ended r.cut) → IsEnded d
+    → cut_all r.cut r.pending ≡ r.cut → (ended ≡ true → IsAtEnd after) → IsReadUp before after (handed_more h d.jobs)
+unfolding jobs_of_input
+all_up before after ended h r d read is closed rest at_end =
+    let cut : cut_all (start h.lanes) (read.bytes ++ r.pending) ≡ after_handing h.jobs h.batch_ends r.cut =
+    cut_all-append (start h.lanes) read.bytes r.pending ∙ ap (λ c. cut_all c r.pending) (sym read.cut) ∙ handed_all h.jobs h.batch_ends r.cut r.pending
+    ∙ ap (after_handing h.jobs h.batch_ends) rest in
+    let over : end_batch (flush ended (cut_all (start h.lanes) (read.bytes ++ r.pending))) ≡ after_handing (h.jobs ++ d.jobs) (ends_after h.batch_ends (length h.jobs) d.jobs) (emptied d) =
+    ap (λ c. end_batch (flush ended c)) cut ∙ handed_finish h.jobs h.batch_ends r.cut ended ∙ ap (after_handing h.jobs h.batch_ends) (sym is) ∙ handed_over h.jobs h.batch_ends d closed in
+    record {
+      bytes = read.bytes ++ r.pending;
+      ended = ended;
+      taken = read.taken;
+      at_end = at_end;
+      up = subst (λ (c : Cut). UpToAnEnd (h.jobs ++ d.jobs) (ends_after h.batch_ends (length h.jobs) d.jobs) c) (sym over)
+          (up_to_end (h.jobs ++ d.jobs) (ends_after h.batch_ends (length h.jobs) d.jobs) (emptied d) (closed_after h.jobs d.jobs h.batch_ends read.closed));
+    }
+
+-- what a closed reading has read, and that its jobs are up to an end
+pub record HasClosed (before after : Option (List ℕ)) (room : ℕ) (h : Handed) (result : Paused) : Type 0 where
+  pub reads : ReadsTo before after room h result
+  pub up : IsReadUp before after h
+
+finished : (before after : Option (List ℕ)) (ended : Bool) (h : Handed) (r : ReaderShape) (d : Cut) (paused result : Paused)
+    → HasRead before after h r → FinishesAs r.cut d ended paused result → result ≢ NoMemory → cut_all r.cut r.pending ≡ r.cut → (ended ≡ true → IsAtEnd after)
+    → (d ≡ end_batch (flush ended r.cut) → IsEnded d → ReadsTo before after r.room (handed_more h d.jobs) paused)
+    → HasClosed before after r.room (handed_more h d.jobs) result
+finished before after ended h r d paused result read finishes memory rest at_end reads = elim finishes [
+  | inl done ↦ rw done.0 (record { reads = reads done.1 done.2; up = all_up before after ended h r d read done.1 done.2 rest at_end })
+  | inr none ↦ absurd (memory none)
+]
+
+closed_reads : (before after : Option (List ℕ)) (h : Handed) (r : ReaderShape) (d : Cut) (paused result : Paused)
+    → PausesBy before after h r paused → PausesAs r after paused → ClosesAs r.cut d paused result → result ≢ NoMemory
+    → HasClosed before after r.room (handed_more h d.jobs) result
+closed_reads before after h r d Batch result read pauses closes memory =
+    rw (closes.0, closes.1) (record {
+      reads = batch_paused before after h r read pauses.1 pauses.2 pauses.3;
+      up = up_read before after (handed_more h r.cut.jobs) (record r { cut = emptied r.cut }) (batch_read before after h r read pauses.1);
+    })
+closed_reads before after h r d NoMemory result read pauses closes memory = absurd (memory closes)
+closed_reads before after h r d End result read pauses closes memory =
+    finished before after true h r d End result read closes memory (ap (cut_all r.cut) pauses.1) (λ e. pauses.2)
+    (λ is closed. all_read before after true h r d read is closed pauses.1 pauses.0.going (λ e. pauses.2))
+closed_reads before after h r d Failed result read pauses closes memory =
+    finished before after false h r d Failed result read closes memory (ap (cut_all r.cut) pauses.1) (λ e. cc)
+    (λ is closed. all_read before after false h r d read is closed pauses.1 pauses.0.going (λ e. cc))
+closed_reads before after h r d (Stopped stop) result read pauses closes memory =
+    finished before after false h r d (Stopped stop) result read closes memory (stopped r.cut r.pending (ap is_some pauses.0)) (λ e. cc)
+    (λ is closed. stop_read before after h r d stop read is closed pauses.0 pauses.2)
+
+-- the same with these jobs
+pub closed_at : (before after : Option (List ℕ)) (h : Handed) (r : ReaderShape) (d : Cut) (jobs : List Job) (room : ℕ) (paused result : Paused)
+    → PausesBy before after h r paused → PausesAs r after paused → ClosesAs r.cut d paused result → result ≢ NoMemory
+    → jobs ≡ d.jobs → room ≡ r.room → HasClosed before after room (handed_more h jobs) result
+closed_at before after h r d jobs room paused result read pauses closes memory same is = rw (same, is) (closed_reads before after h r d paused result read pauses closes memory)
+
+-- after a batch reading goes on
+pub closed_on : (before after : Option (List ℕ)) (h : Handed) (r t : ReaderShape) (jobs : List Job) (paused : Paused)
+    → PausesBy before after h r paused → PausesAs r after paused → paused ≡ Batch → jobs ≡ r.cut.jobs → t.cut ≡ emptied r.cut → t.pending ≡ r.pending
+    → HasRead before after (handed_more h jobs) t
+closed_on before after h r t jobs Batch read pauses e same cut pending =
+    let on = batch_read before after h r read pauses.1 in
+    rw same (record {
+      bytes = on.bytes;
+      taken = subst (λ (p : List ℕ). HasTaken before after (on.bytes ++ p)) (sym pending) on.taken;
+      cut = ap (after_handing (h.jobs ++ r.cut.jobs) (ends_after h.batch_ends (length h.jobs) r.cut.jobs)) cut ∙ on.cut;
+      closed = on.closed;
+    })
+closed_on before after h r t jobs NoMemory read pauses e same cut pending = cc
+closed_on before after h r t jobs End read pauses e same cut pending = cc
+closed_on before after h r t jobs Failed read pauses e same cut pending = cc
+closed_on before after h r t jobs (Stopped stop) read pauses e same cut pending = cc
+
+-- what was handed over before is up to an end
+pub up_before : (before after : Option (List ℕ)) (h : Handed) (r : ReaderShape) (paused : Paused) → PausesBy before after h r paused → IsReadUp before after h
+up_before before after h r paused read = up_read before after h r (read_by before after h r paused read)
+
+-- where memory was refused
+pub closed_none : (before after : Option (List ℕ)) (h : Handed) (r : ReaderShape) (none : List Job) (paused : Paused)
+    → PausesBy before after h r paused → none ≡ [] → IsReadUp before after (handed_more h none)
+closed_none before after h r none paused read e = up_none before after h r none e (read_by before after h r paused read)
+
+-- only a batch that had ended closes so
+pub closed_batch : (c d : Cut) (paused result : Paused) → ClosesAs c d paused result → result ≡ Batch → (paused ≡ Batch) × (d ≡ c)
+closed_batch c d Batch result closes e = (refl, closes.1)
+closed_batch c d NoMemory result closes e = cc
+closed_batch c d End result closes e = elim closes [ inl done ↦ cc | inr none ↦ cc ]
+closed_batch c d Failed result closes e = elim closes [ inl done ↦ cc | inr none ↦ cc ]
+closed_batch c d (Stopped stop) result closes e = elim closes [ inl done ↦ cc | inr none ↦ cc ]
+
+pub batch_going : (r : ReaderShape) (left : Option (List ℕ)) (paused : Paused) → PausesAs r left paused → paused ≡ Batch → r.cut.stop ≡ None
+batch_going r left Batch pauses e = pauses.0
+batch_going r left NoMemory pauses e = cc
+batch_going r left End pauses e = cc
+batch_going r left Failed pauses e = cc
+batch_going r left (Stopped stop) pauses e = cc
+
+-- closing counts no fault
+pub closed_counts : (c d : Cut) (paused result : Paused) (before after : ℕ) → ClosesAs c d paused result → CountsAs paused before after → CountsAs result before after
+closed_counts c d Batch result before after closes counts = rw closes.0 counts
+closed_counts c d NoMemory result before after closes counts = rw closes counts
+closed_counts c d End result before after closes counts = elim closes [ inl done ↦ rw done.0 counts | inr none ↦ rw none (omega (arith, counts)) ]
+closed_counts c d Failed result before after closes counts = elim closes [ inl done ↦ rw done.0 counts | inr none ↦ rw none counts.0 ]
+closed_counts c d (Stopped stop) result before after closes counts = elim closes [ inl done ↦ rw done.0 counts | inr none ↦ rw none (omega (arith, counts)) ]

@@ -1,0 +1,66 @@
+-- Inside: how reading goes on, step by step.
+use Rattle.std.specs.Prelude.{◌≡◌, ℕ, ◌+◌, ◌-◌, ◌*◌, ◌<◌, ◌≤◌, Bool, true, false, List, [], ◌∷◌, ◌++◌, length, Option, None, Some}
+use Rattle.std.proofs.Common.{◌⊎◌}
+use Rattle.wf_outside.specs.Outside.{HasTaken, IsAtEnd}
+use Rattle.line_cutter.specs.Jobs.{Cut, start, cut_all, flush, end_batch, last_or}
+use Rattle.line_cutter.specs.Cutter.{after_handing, IsEnded}
+use Rattle.batch_reader.specs.declared.reader.Paused.{Paused}
+use Rattle.batch_reader.specs.declared.reader.Paused.TheVariants.{Batch, End, Failed, Stopped, NoMemory}
+use Rattle.batch_reader.specs.Reading.{ReaderShape, Handed, HasRead, IsReady, CountsAs, left_to_read}
+
+-- some bytes were cut, and no batch had ended before the last of them
+pub record HasCut (before after : Option (List ℕ)) (h : Handed) (r : ReaderShape) : Type 0 where
+  pub front : List ℕ
+  pub last : ℕ
+  pub taken : HasTaken before after ((front ++ last ∷ []) ++ r.pending)
+  pub cut : after_handing h.jobs h.batch_ends r.cut ≡ cut_all (start h.lanes) (front ++ last ∷ [])
+  pub closed : last_or 0 h.batch_ends ≡ length h.jobs
+  pub none : (cut_all (start h.lanes) front).ends ≡ h.batch_ends
+
+-- what was read where reading paused so, before the jobs are handed over
+abbrev pub PausesBy : Option (List ℕ) → Option (List ℕ) → Handed → ReaderShape → Paused → Type 0
+PausesBy before after h r Batch = HasCut before after h r
+PausesBy before after h r End = HasRead before after h r
+PausesBy before after h r Failed = HasRead before after h r
+PausesBy before after h r (Stopped stop) = HasRead before after h r
+PausesBy before after h r NoMemory = HasRead before after h r
+
+-- what was read by one step, after which reading pauses or goes on
+abbrev pub AdvancesTo : Option (List ℕ) → Option (List ℕ) → Handed → ReaderShape → Option Paused → Type 0
+AdvancesTo before after h r None = HasRead before after h r
+AdvancesTo before after h r (Some paused) = PausesBy before after h r paused
+
+-- where reading pauses so
+abbrev pub PausesAs : ReaderShape → Option (List ℕ) → Paused → Type 0
+PausesAs r left Batch = (r.cut.stop ≡ None) × IsEnded r.cut × (0 < length r.cut.jobs) × (length r.pending < r.room)
+PausesAs r left End = IsReady r × (r.pending ≡ []) × IsAtEnd left
+PausesAs r left Failed = IsReady r × (r.pending ≡ [])
+PausesAs r left (Stopped stop) = (r.cut.stop ≡ Some stop) × (r.cut.ends ≡ []) × (length r.pending < r.room)
+PausesAs r left NoMemory = Unit {0}
+
+-- how much reading still has to do at most: cut bytes, and take a piece where none is left
+abbrev pub steps_left : ReaderShape → ℕ
+steps_left r = 2 * left_to_read r + (1 - length r.pending)
+
+-- one step goes on, or pauses
+abbrev pub StepsAs : ReaderShape → ReaderShape → Option (List ℕ) → Option Paused → Type 0
+StepsAs r s left None = IsReady s × (steps_left s < steps_left r)
+StepsAs r s left (Some paused) = PausesAs s left paused
+
+-- the input is ended, unless memory was refused
+abbrev pub FinishesAs : Cut → Cut → Bool → Paused → Paused → Type 0
+FinishesAs c d ended paused result =
+    ((result ≡ paused) × (d ≡ end_batch (flush ended c)) × IsEnded d) ⊎ (result ≡ NoMemory)
+
+-- the open batch is ended where reading paused so
+abbrev pub ClosesAs : Cut → Cut → Paused → Paused → Type 0
+ClosesAs c d Batch result = (result ≡ Batch) × (d ≡ c)
+ClosesAs c d End result = FinishesAs c d true End result
+ClosesAs c d Failed result = FinishesAs c d false Failed result
+ClosesAs c d (Stopped stop) result = FinishesAs c d false (Stopped stop) result
+ClosesAs c d NoMemory result = result ≡ NoMemory
+
+-- the count of faults of the source over one step
+abbrev pub CountsStep : Option Paused → ℕ → ℕ → Type 0
+CountsStep None before after = after ≡ before
+CountsStep (Some paused) before after = CountsAs paused before after

@@ -1,0 +1,99 @@
+-- Reading an input batch by batch: what was taken of it, how far it is cut, and where reading pauses.
+use Rattle.std.specs.Prelude.{◌≡◌, ℕ, ◌-◌, ◌<◌, ◌≤◌, Bool, true, false, List, [], ◌∷◌, ◌++◌, length, Option, None, Some}
+use Rattle.wf_outside.specs.Outside.{Rose, HasTaken, IsAtEnd}
+use Rattle.wf_talk.specs.declared.job.Job.{Job}
+use Rattle.line_cutter.specs.declared.stop.Stop.{Stop}
+use Rattle.line_cutter.specs.Jobs.{Cut, start, cut_all, jobs_of_input, last_or, UpToAnEnd}
+use Rattle.line_cutter.specs.Cutter.{after_handing, ends_after, place, last_place}
+use Rattle.batch_reader.specs.declared.reader.Paused.{Paused}
+use Rattle.batch_reader.specs.declared.reader.Paused.TheVariants.{Batch, End, Failed, Stopped, NoMemory}
+
+-- a reader: the cutting, the bytes that were taken and are not cut yet, and how many are taken at once at most
+pub record ReaderShape : Type 0 where
+  pub cut : Cut
+  pub pending : List ℕ
+  pub room : ℕ
+
+-- jobs for so many lanes with the ends of their batches, as they were handed over
+pub record Handed : Type 0 where
+  pub lanes : ℕ
+  pub jobs : List Job
+  pub batch_ends : List ℕ
+
+-- what is handed over, with one more batch
+abbrev pub handed_more : Handed → List Job → Handed
+handed_more h more =
+    record { lanes = h.lanes; jobs = h.jobs ++ more; batch_ends = ends_after h.batch_ends (length h.jobs) more }
+
+-- of what a source gave that had `before` left and has `after` left, all is cut but what is pending, and the rest is
+-- not handed over yet
+pub record HasRead (before after : Option (List ℕ)) (h : Handed) (r : ReaderShape) : Type 0 where
+  pub bytes : List ℕ
+  pub taken : HasTaken before after (bytes ++ r.pending)
+  pub cut : after_handing h.jobs h.batch_ends r.cut ≡ cut_all (start h.lanes) bytes
+  pub closed : last_or 0 h.batch_ends ≡ length h.jobs
+
+-- all is handed over up to the end of a batch, which the last byte that was cut has ended; less than one piece was
+-- taken ahead
+pub record HasPaused (before after : Option (List ℕ)) (room : ℕ) (h : Handed) : Type 0 where
+  pub front : List ℕ
+  pub last : ℕ
+  pub rest : List ℕ
+  pub taken : HasTaken before after ((front ++ last ∷ []) ++ rest)
+  pub jobs : h.jobs ≡ (cut_all (start h.lanes) (front ++ last ∷ [])).jobs
+  pub ends : h.batch_ends ≡ (cut_all (start h.lanes) (front ++ last ∷ [])).ends
+  pub before_last : length (cut_all (start h.lanes) front).ends < length h.batch_ends
+  pub ahead : length rest < room
+
+-- all that the source gave is handed over, to its end where the input has ended, and no limit was met
+pub record HasReadAll (before after : Option (List ℕ)) (ended : Bool) (h : Handed) : Type 0 where
+  pub bytes : List ℕ
+  pub taken : HasTaken before after bytes
+  pub at_end : ended ≡ true → IsAtEnd after
+  pub jobs : h.jobs ≡ (jobs_of_input bytes ended h.lanes).jobs
+  pub ends : h.batch_ends ≡ (jobs_of_input bytes ended h.lanes).ends
+  pub going : (jobs_of_input bytes ended h.lanes).stop ≡ None
+
+-- all is handed over up to where the cutting stopped; less than one piece was taken past that
+pub record HasStopped (before after : Option (List ℕ)) (room : ℕ) (stop : Stop) (h : Handed) : Type 0 where
+  pub bytes : List ℕ
+  pub rest : List ℕ
+  pub taken : HasTaken before after (bytes ++ rest)
+  pub jobs : h.jobs ≡ (jobs_of_input bytes false h.lanes).jobs
+  pub ends : h.batch_ends ≡ (jobs_of_input bytes false h.lanes).ends
+  pub stopped : (jobs_of_input bytes false h.lanes).stop ≡ Some stop
+  pub ahead : length rest < room
+
+-- jobs and ends that are those of what was taken, up to an end of a batch
+pub record IsReadUp (before after : Option (List ℕ)) (h : Handed) : Type 0 where
+  pub bytes : List ℕ
+  pub ended : Bool
+  pub taken : HasTaken before after bytes
+  pub at_end : ended ≡ true → IsAtEnd after
+  pub up : UpToAnEnd h.jobs h.batch_ends (jobs_of_input bytes ended h.lanes)
+
+-- what was read where reading paused so, at most so many bytes at once
+abbrev pub ReadsTo : Option (List ℕ) → Option (List ℕ) → ℕ → Handed → Paused → Type 0
+ReadsTo before after room h Batch = HasPaused before after room h
+ReadsTo before after room h End = HasReadAll before after true h
+ReadsTo before after room h Failed = HasReadAll before after false h
+ReadsTo before after room h (Stopped stop) = HasStopped before after room stop h
+ReadsTo before after room h NoMemory = IsReadUp before after h
+
+-- more can be read: the cutting has not stopped, and all batches that have ended are handed over
+pub record IsReady (r : ReaderShape) : Type 0 where
+  pub going : r.cut.stop ≡ None
+  pub handed : r.cut.ends ≡ []
+
+-- the count of faults of the source rose where reading paused at one; it stays where reading paused otherwise, but may
+-- have risen where memory was refused
+abbrev pub CountsAs : Paused → ℕ → ℕ → Type 0
+CountsAs Batch before after = after ≡ before
+CountsAs End before after = after ≡ before
+CountsAs Failed before after = (before ≤ after) × Rose before after
+CountsAs (Stopped stop) before after = after ≡ before
+CountsAs NoMemory before after = before ≤ after
+
+-- how far reading still has to go at most: less after each batch
+abbrev pub left_to_read : ReaderShape → ℕ
+left_to_read r = last_place - place r.cut

@@ -1,0 +1,243 @@
+//! Reading an input up to the end of each batch, and no further than the piece in which it ends.
+ghost use Rattle.std.specs.Prelude.{◌≡◌, ◌≢◌, ◌≤◌, ◌<◌, ◌+◌, ◌-◌, ◌*◌, ℕ, List, [], length, take, Option, None, Some, true, false, IfOk, OnOk, OnErr, Ok, MatchResult};
+ghost use Rattle.wf_outside.specs.Outside.{Rose, HasTaken, IsAtEnd};
+ghost use Rattle.line_cutter.specs.Jobs.{start};
+ghost use Rattle.line_cutter.specs.Cutter.{IsEnded};
+ghost use Rattle.batch_reader.specs.Reading.{ReaderShape, Handed, handed_more, HasRead, IsReadUp, ReadsTo, IsReady, CountsAs, left_to_read};
+ghost use Rattle.batch_reader.specs.Pausing.{HasCut, PausesBy, AdvancesTo, PausesAs, StepsAs, ClosesAs, FinishesAs, CountsStep};
+
+use line_cutter::{Cutter, Stop};
+use std::alloc::{AllocError, Global};
+use std::marker::Model;
+use wf_outside::{Failed, Source};
+use wf_talk::Jobs;
+
+/// Where reading paused.
+#[derive(Clone, Copy, Debug, PartialEq, Eq)]
+pub enum Paused {
+    /// At the end of a batch.
+    Batch,
+    /// At the end of the input.
+    End,
+    /// At a fault of the source.
+    Failed,
+    /// Where the cutting stopped.
+    Stopped(Stop),
+    /// Where an allocation was refused.
+    NoMemory,
+}
+
+/// The jobs that were read, and where reading paused behind them. Where an allocation was refused
+/// there are none.
+#[derive(Drop)]
+pub struct Reading {
+    pub jobs: Jobs,
+    pub paused: Paused,
+}
+
+/// A reader of an input: what is cut of it and not handed over, and the piece that is being cut.
+#[derive(Drop)]
+pub struct Reader {
+    alloc: Global,
+    cutter: Cutter,
+    piece: Vec<u8>,
+    // How many bytes of the piece are cut.
+    at: usize,
+    // How many bytes of the piece were taken.
+    filled: usize,
+}
+
+impl Model for Reader {
+    ghost use Rattle.std.specs.Prelude.{◌≤◌, ◌<◌, length, take, drop};
+    ghost use Rattle.line_cutter.specs.Cutter.{IsSound};
+    ghost use Rattle.batch_reader.specs.Reading.{ReaderShape};
+
+    ghost Value = { ReaderShape };
+
+    ghost view = { λ r. record { cut = r.cutter; pending = drop r.at (take r.filled r.piece.items); room = length r.piece.items } };
+
+    ghost invariant = { λ r. (r.at ≤ r.filled) × (r.filled ≤ length r.piece.items) × (0 < length r.piece.items) × IsSound r.cutter };
+}
+
+impl Reader {
+    /// A reader before the first byte, that takes at most so many bytes at once.
+    pub fn new(alloc: Global, lanes: u8, room: usize) -> Result<Reader, AllocError>
+        requires { 0 < room }
+        ensures { IfOk result (λ r. r ≡ record { cut = start lanes; pending = []; room = room }) }
+    {
+        Ok(Reader {
+            alloc,
+            cutter: Cutter::new(alloc, lanes),
+            piece: vec![in alloc; 0u8; room]?,
+            at: 0,
+            filled: 0,
+        })
+    }
+    /// Reads on up to the end of the next batch that has a job, and hands its jobs over. Where the
+    /// input ends, or no more of it can be read, so does the open batch.
+    pub fn next_batch<S: Source>(&mut self, source: &mut S) -> Reading
+        requires { IsReady self.old }
+        ensures reads { (before : Option (List ℕ)) (h : Handed) → HasRead before (S.left source.old) h self.old →
+            ReadsTo before (S.left source.new) self.new.room (handed_more h result.jobs) result.paused }
+        ensures up { (before : Option (List ℕ)) (h : Handed) → HasRead before (S.left source.old) h self.old →
+            IsReadUp before (S.left source.new) (handed_more h result.jobs) }
+        ensures up_before { (before : Option (List ℕ)) (h : Handed) → HasRead before (S.left source.old) h self.old →
+            IsReadUp before (S.left source.new) h }
+        ensures goes_on { result.paused ≡ Paused.Batch → (before : Option (List ℕ)) (h : Handed) → HasRead before (S.left source.old) h self.old →
+            HasRead before (S.left source.new) (handed_more h result.jobs) self.new }
+        ensures ready { result.paused ≡ Paused.Batch → IsReady self.new }
+        ensures less { result.paused ≡ Paused.Batch → left_to_read self.new < left_to_read self.old }
+        ensures room { self.new.room ≡ self.old.room }
+        ensures counts { CountsAs result.paused (S.faults source.old) (S.faults source.new) }
+    {
+        let paused = self.read_batch(source);
+        match self.close_batch(paused) {
+            Paused::NoMemory => Reading {
+                jobs: Jobs::new(self.alloc),
+                paused: Paused::NoMemory,
+            },
+            paused => Reading {
+                jobs: self.cutter.take_batch(),
+                paused,
+            },
+        }
+    }
+
+    // Reads up to the end of a batch that has a job, or of what can be read.
+    fn read_batch<S: Source>(&mut self, source: &mut S) -> Paused
+        requires { IsReady self.old }
+        ensures reads { (before : Option (List ℕ)) (h : Handed) → HasRead before (S.left source.old) h self.old →
+            PausesBy before (S.left source.new) h self.new result }
+        ensures pauses { PausesAs self.new (S.left source.new) result }
+        ensures less { result ≡ Paused.Batch → left_to_read self.new < left_to_read self.old }
+        ensures room { self.new.room ≡ self.old.room }
+        ensures counts { CountsAs result (S.faults source.old) (S.faults source.new) }
+    {
+        'reading: loop {
+            match self.advance(source) {
+                None => {}
+                Some(paused) => return paused,
+            }
+        }
+    }
+
+    // Cuts some of the piece, or takes the next one where all of it is cut.
+    fn advance<S: Source>(&mut self, source: &mut S) -> Option<Paused>
+        requires { IsReady self.old }
+        ensures reads { (before : Option (List ℕ)) (h : Handed) → HasRead before (S.left source.old) h self.old →
+            AdvancesTo before (S.left source.new) h self.new result }
+        ensures steps { StepsAs self.old self.new (S.left source.new) result }
+        ensures less { result ≡ Some Paused.Batch → left_to_read self.new < left_to_read self.old }
+        ensures room { self.new.room ≡ self.old.room }
+        ensures counts { CountsStep result (S.faults source.old) (S.faults source.new) }
+    {
+        if self.at < self.filled {
+            return self.cut_on();
+        }
+        match self.take_piece(source) {
+            Ok(true) => None,
+            Ok(false) => Some(Paused::End),
+            Err(_) => Some(Paused::Failed),
+        }
+    }
+    // Cuts some of what is left of the piece; reading pauses where that ends a batch or stops the cutting.
+    fn cut_on(&mut self) -> Option<Paused>
+        requires ready { IsReady self.old }
+        requires some { 0 < length self.old.pending }
+        ensures reads { (before after : Option (List ℕ)) (h : Handed) → HasRead before after h self.old → AdvancesTo before after h self.new result }
+        ensures steps { (left : Option (List ℕ)) → StepsAs self.old self.new left result }
+        ensures less { result ≡ Some Paused.Batch → left_to_read self.new < left_to_read self.old }
+        ensures room { self.new.room ≡ self.old.room }
+        ensures no_fault { result ≢ Some Paused.Failed }
+    {
+        match self.cut_some() {
+            Ok(()) => {}
+            Err(_) => return Some(Paused::NoMemory),
+        }
+        if let Some(stop) = self.cutter.stop() {
+            return Some(Paused::Stopped(stop));
+        }
+        if self.cutter.has_batch() {
+            return Some(Paused::Batch);
+        }
+        None
+    }
+
+    // Cuts some of what is left of the piece.
+    fn cut_some(&mut self) -> Result<(), AllocError>
+        requires ready { IsReady self.old }
+        requires some { 0 < length self.old.pending }
+        ensures reads { OnOk result ((before after : Option (List ℕ)) (h : Handed) → HasRead before after h self.old → HasCut before after h self.new) }
+        ensures ended { OnOk result (self.new.cut.ends ≢ [] → IsEnded self.new.cut) }
+        ensures stopped { OnOk result ((s : Stop) → self.new.cut.stop ≡ Some s → self.new.cut.ends ≡ []) }
+        ensures further { OnOk result (self.new.cut.stop ≡ None → left_to_read self.new < left_to_read self.old) }
+        ensures ahead { OnOk result (length self.new.pending < self.new.room) }
+        ensures room { self.new.room ≡ self.old.room }
+        ensures unchanged { OnErr result (self.new ≡ self.old) }
+    {
+        let count = self.cutter.feed(&self.piece[self.at..self.filled])?;
+        self.at += count;
+        Ok(())
+    }
+
+    // Takes the next piece, where the last one is cut. False is the end of the input.
+    fn take_piece<S: Source>(&mut self, source: &mut S) -> Result<bool, Failed>
+        requires { self.old.pending ≡ [] }
+        ensures cut { self.new.cut ≡ self.old.cut }
+        ensures reads { (before : Option (List ℕ)) (h : Handed) → HasRead before (S.left source.old) h self.old → HasRead before (S.left source.new) h self.new }
+        ensures more { result ≡ Ok true → 0 < length self.new.pending }
+        ensures ended { result ≡ Ok false → (self.new.pending ≡ []) × IsAtEnd (S.left source.new) }
+        ensures nothing { OnErr result (self.new.pending ≡ []) }
+        ensures room { self.new.room ≡ self.old.room }
+        ensures faults { S.faults source.old ≤ S.faults source.new }
+        ensures rose { OnErr result (Rose (S.faults source.old) (S.faults source.new)) }
+        ensures stays { OnOk result (S.faults source.new ≡ S.faults source.old) }
+    {
+        self.at = 0;
+        self.filled = 0;
+        self.filled = take_into(self.piece.as_mut_slice(), source)?;
+        Ok(self.filled > 0)
+    }
+
+    // Ends the open batch where reading paused otherwise than at the end of a batch.
+    fn close_batch(&mut self, paused: Paused) -> Paused
+        requires { (left : Option (List ℕ)) × PausesAs self.old left paused }
+        ensures closes { ClosesAs self.old.cut self.new.cut paused result }
+        ensures pending { self.new.pending ≡ self.old.pending }
+        ensures room { self.new.room ≡ self.old.room }
+    {
+        match paused {
+            Paused::Batch | Paused::NoMemory => paused,
+            Paused::End => self.finish(true, paused),
+            Paused::Failed | Paused::Stopped(_) => self.finish(false, paused),
+        }
+    }
+
+    // Ends the input, or what was read of it.
+    fn finish(&mut self, ended: bool, paused: Paused) -> Paused
+        requires { self.old.cut.ends ≡ [] }
+        ensures finishes { FinishesAs self.old.cut self.new.cut ended paused result }
+        ensures pending { self.new.pending ≡ self.old.pending }
+        ensures room { self.new.room ≡ self.old.room }
+    {
+        match self.cutter.finish(ended) {
+            Ok(()) => paused,
+            Err(_) => Paused::NoMemory,
+        }
+    }
+}
+
+// The next bytes, at the front of the piece; how many there are.
+fn take_into<S: Source>(piece: &mut [u8], source: &mut S) -> Result<usize, Failed>
+    requires { 0 < length piece.old }
+    ensures taken { IfOk result (λ n. HasTaken (S.left source.old) (S.left source.new) (take n piece.new)) }
+    ensures within { IfOk result (λ n. n ≤ length piece.new) }
+    ensures room { length piece.new ≡ length piece.old }
+    ensures ended { IfOk result (λ n. n ≡ 0 → IsAtEnd (S.left source.new)) }
+    ensures kept { OnErr result (S.left source.new ≡ S.left source.old) }
+    ensures faults { S.faults source.old ≤ S.faults source.new }
+    ensures rose { OnErr result (Rose (S.faults source.old) (S.faults source.new)) }
+    ensures stays { OnOk result (S.faults source.new ≡ S.faults source.old) }
+{
+    source.take(piece)
+}

@@ -1,0 +1,268 @@
+-- The jobs of every input are in order.
+use Rattle.std.proofs.Common.{refl, ap, subst, sym, ◌∙◌, arith}
+use Rattle.std.specs.Prelude.{◌≡◌, ℕ, ◌+◌, ◌==◌, ◌<◌, ◌≤◌, nat_lt, nat_le, Bool, true, false, List, [], ◌∷◌, ◌++◌, length, is_some, if◌then◌else◌}
+use Rattle.std.proofs.lemmas.Grind.{common_steps}
+use Rattle.std.proofs.lemmas.List.{length-append}
+use Rattle.wf_names.specs.declared.limits.TheConstants.{LINE_LIMIT, SESSION_LINE_LIMIT, BATCH_LINE_LIMIT}
+use Rattle.wf_talk.specs.declared.job.Job.{Job}
+use Rattle.line_cutter.specs.Jobs.{Cut, start, without_cr, job_of, end_batch, end_full_batch, next_line, with_job, end_line, step, cut_all, flush, jobs_of_input}
+use Rattle.line_cutter.specs.Laws.{AscendFrom, AreOfLanes, LeadTo, AreInOrder, JobsAreInOrder}
+
+-- the line after the last of the jobs
+abbrev after_lines : ℕ → List Job → ℕ
+after_lines number [] = number
+after_lines number (job ∷ jobs) = after_lines (job.line + 1) jobs
+
+ascend_push : (number : ℕ) (jobs : List Job) (job : Job) → AscendFrom number jobs → after_lines number jobs ≤ job.line → AscendFrom number (jobs ++ job ∷ [])
+ascend_push number [] job ascend below = (below, tt)
+ascend_push number (j ∷ js) job ascend below = (ascend.0, ascend_push (j.line + 1) js job ascend.1 below)
+
+after_push : (number : ℕ) (jobs : List Job) (job : Job) → after_lines number (jobs ++ job ∷ []) ≡ job.line + 1
+after_push number [] job = refl
+after_push number (j ∷ js) job = after_push (j.line + 1) js job
+
+lanes_push : (lanes : ℕ) (jobs : List Job) (job : Job) → AreOfLanes lanes jobs → job.lane < lanes → AreOfLanes lanes (jobs ++ job ∷ [])
+lanes_push lanes [] job all below = (below, tt)
+lanes_push lanes (j ∷ js) job all below = (all.0, lanes_push lanes js job all.1 below)
+
+lead_push : (before total end : ℕ) (ends : List ℕ) → LeadTo before ends total → total < end → end ≤ total + BATCH_LINE_LIMIT → LeadTo before (ends ++ end ∷ []) end
+lead_push before total end [] lead above within = (omega (arith, lead), omega (arith, lead), refl)
+lead_push before total end (e ∷ es) lead above within = (lead.0, lead.1, lead_push e total end es lead.2 above within)
+
+-- what the cutting keeps; within a step a batch may have one line more
+record Keeps (lanes spare : ℕ) (c : Cut) : Type 0 where
+  pub same : c.lanes ≡ lanes
+  pub number : c.number ≤ SESSION_LINE_LIMIT
+  pub within : 0 < length c.line → c.number < SESSION_LINE_LIMIT
+  pub few : length c.jobs ≤ c.number
+  pub lines : AscendFrom 0 c.jobs
+  pub next : after_lines 0 c.jobs ≤ c.number
+  pub of_lanes : AreOfLanes lanes c.jobs
+  pub ends : LeadTo 0 c.ends c.from
+  pub begins : c.from ≤ length c.jobs
+  pub batch : length c.jobs < c.from + BATCH_LINE_LIMIT + spare
+
+keeps_if : (lanes spare : ℕ) (b : Bool) (c d : Cut) → (b ≡ true → Keeps lanes spare c) → (b ≡ false → Keeps lanes spare d) → Keeps lanes spare (if b then c else d)
+keeps_if lanes spare true c d first second = first refl
+keeps_if lanes spare false c d first second = second refl
+
+keeps_end : (lanes : ℕ) (c : Cut) → Keeps lanes 1 c → Keeps lanes 0 (end_batch c)
+unfolding end_batch
+keeps_end lanes c k =
+    keeps_if lanes 0 (nat_lt c.from (length c.jobs)) (record c { from = length c.jobs; ends = c.ends ++ length c.jobs ∷ [] }) c
+    (λ more.
+    let above : c.from < length c.jobs = grind (arith, common_steps) in
+    record {
+      same = k.same;
+      number = k.number;
+      within = k.within;
+      few = k.few;
+      lines = k.lines;
+      next = k.next;
+      of_lanes = k.of_lanes;
+      ends = lead_push 0 c.from (length c.jobs) c.ends k.ends above (let h = k.batch in omega arith);
+      begins = omega arith;
+      batch = omega arith;
+    })
+    (λ none.
+    let same : length c.jobs ≤ c.from = grind (arith, common_steps) in
+    record {
+      same = k.same;
+      number = k.number;
+      within = k.within;
+      few = k.few;
+      lines = k.lines;
+      next = k.next;
+      of_lanes = k.of_lanes;
+      ends = k.ends;
+      begins = k.begins;
+      batch = omega arith;
+    })
+
+keeps_full : (lanes : ℕ) (c : Cut) → Keeps lanes 1 c → Keeps lanes 0 (end_full_batch c)
+unfolding end_full_batch
+keeps_full lanes c k =
+    keeps_if lanes 0 (nat_le (c.from + BATCH_LINE_LIMIT) (length c.jobs)) (end_batch c) c
+    (λ full. keeps_end lanes c k)
+    (λ room.
+    let below : length c.jobs < c.from + BATCH_LINE_LIMIT = grind (arith, common_steps) in
+    record {
+      same = k.same;
+      number = k.number;
+      within = k.within;
+      few = k.few;
+      lines = k.lines;
+      next = k.next;
+      of_lanes = k.of_lanes;
+      ends = k.ends;
+      begins = k.begins;
+      batch = omega arith;
+    })
+
+keeps_next : (lanes : ℕ) (c : Cut) → Keeps lanes 0 c → c.number < SESSION_LINE_LIMIT → Keeps lanes 1 (next_line c)
+keeps_next lanes c k within = record {
+  same = k.same;
+  number = omega arith;
+  within = λ some. absurd (omega (arith, some));
+  few = let h = k.few in omega arith;
+  lines = k.lines;
+  next = let h = k.next in omega arith;
+  of_lanes = k.of_lanes;
+  ends = k.ends;
+  begins = k.begins;
+  batch = let h = k.batch in omega arith;
+}
+
+keeps_job : (lanes : ℕ) (c : Cut) (job : Job) → Keeps lanes 0 c → c.number < SESSION_LINE_LIMIT → job.lane < lanes → job.line ≡ c.number → Keeps lanes 1 (with_job c job)
+keeps_job lanes c job k within lane line =
+    let size : length (c.jobs ++ job ∷ []) ≡ length c.jobs + 1 = length-append c.jobs (job ∷ []) in
+    record {
+      same = k.same;
+      number = omega arith;
+      within = λ some. absurd (omega (arith, some));
+      few = let h = k.few in omega arith;
+      lines = ascend_push 0 c.jobs job k.lines (let h = k.next in omega arith);
+      next = let e = after_push 0 c.jobs job in omega arith;
+      of_lanes = lanes_push lanes c.jobs job k.of_lanes lane;
+      ends = k.ends;
+      begins = let h = k.begins in omega arith;
+      batch = let h = k.batch in omega arith;
+    }
+
+keeps_line : (lanes : ℕ) (c : Cut) → 0 < lanes → Keeps lanes 0 c → c.number < SESSION_LINE_LIMIT → Keeps lanes 0 (end_line c)
+unfolding end_line
+keeps_line lanes c some k within =
+    keeps_if lanes 0 (length (without_cr c.line) == 0) (end_batch (next_line c)) (end_full_batch (with_job c (job_of c.lanes c.number (without_cr c.line))))
+    (λ empty. keeps_end lanes (next_line c) (keeps_next lanes c k within))
+    (λ full. keeps_full lanes (with_job c (job_of c.lanes c.number (without_cr c.line))) (keeps_job lanes c (job_of c.lanes c.number (without_cr c.line)) k within some refl))
+
+keeps_still : (lanes : ℕ) (c d : Cut) → Keeps lanes 0 c → d.lanes ≡ c.lanes → d.number ≡ c.number → d.jobs ≡ c.jobs → d.ends ≡ c.ends → d.from ≡ c.from
+    → (0 < length d.line → c.number < SESSION_LINE_LIMIT) → Keeps lanes 0 d
+keeps_still lanes c d k same number jobs ends from within =
+    let kept : Keeps lanes 0 (record c { line = d.line }) = record {
+      same = k.same;
+      number = k.number;
+      within = within;
+      few = k.few;
+      lines = k.lines;
+      next = k.next;
+      of_lanes = k.of_lanes;
+      ends = k.ends;
+      begins = k.begins;
+      batch = k.batch;
+    } in record {
+      same = same ∙ k.same;
+      number = rw number k.number;
+      within = rw number within;
+      few = rw (jobs, number) k.few;
+      lines = rw jobs k.lines;
+      next = rw (jobs, number) k.next;
+      of_lanes = rw jobs k.of_lanes;
+      ends = rw (ends, from) k.ends;
+      begins = rw (jobs, from) k.begins;
+      batch = rw (jobs, from) k.batch;
+    }
+
+keeps_step : (lanes : ℕ) (c : Cut) (b : ℕ) → 0 < lanes → Keeps lanes 0 c → Keeps lanes 0 (step c b)
+unfolding step
+keeps_step lanes c b some k =
+    keeps_if lanes 0 (is_some c.stop) c _ (λ stopped. k) (λ going.
+    keeps_if lanes 0 (nat_lt c.number SESSION_LINE_LIMIT) _ _ (λ below.
+    let within : c.number < SESSION_LINE_LIMIT = grind (arith, common_steps) in
+    keeps_if lanes 0 (b == 10) (end_line c) _ (λ lf. keeps_line lanes c some k within) (λ other.
+    keeps_if lanes 0 (nat_lt (length c.line) LINE_LIMIT) _ _
+    (λ short. keeps_still lanes c _ k refl refl refl refl refl (λ line. within))
+    (λ long. keeps_still lanes c _ k refl refl refl refl refl k.within)))
+    (λ above. keeps_still lanes c _ k refl refl refl refl refl k.within))
+
+keeps_all : (lanes : ℕ) (c : Cut) (bytes : List ℕ) → 0 < lanes → Keeps lanes 0 c → Keeps lanes 0 (cut_all c bytes)
+keeps_all lanes c [] some k = k
+keeps_all lanes c (b ∷ bs) some k = keeps_all lanes (step c b) bs some (keeps_step lanes c b some k)
+
+keeps_start : (lanes : ℕ) → Keeps lanes 0 (start lanes)
+keeps_start lanes = record {
+  same = refl;
+  number = omega arith;
+  within = λ line. omega arith;
+  few = omega arith;
+  lines = tt;
+  next = omega arith;
+  of_lanes = tt;
+  ends = refl;
+  begins = omega arith;
+  batch = omega arith;
+}
+
+-- what is kept to the end, where the last line may have a job too
+record IsDone (lanes : ℕ) (c : Cut) : Type 0 where
+  pub few : length c.jobs ≤ SESSION_LINE_LIMIT
+  pub lines : AscendFrom 0 c.jobs
+  pub of_lanes : AreOfLanes lanes c.jobs
+  pub ends : LeadTo 0 c.ends c.from
+  pub begins : c.from ≤ length c.jobs
+  pub batch : length c.jobs ≤ c.from + BATCH_LINE_LIMIT
+
+done_kept : (lanes : ℕ) (c : Cut) → Keeps lanes 0 c → IsDone lanes c
+done_kept lanes c k = record {
+  few = let h = k.few in let i = k.number in omega arith;
+  lines = k.lines;
+  of_lanes = k.of_lanes;
+  ends = k.ends;
+  begins = k.begins;
+  batch = let h = k.batch in omega arith;
+}
+
+done_if : (lanes : ℕ) (b : Bool) (c d : Cut) → (b ≡ true → IsDone lanes c) → (b ≡ false → IsDone lanes d) → IsDone lanes (if b then c else d)
+done_if lanes true c d first second = first refl
+done_if lanes false c d first second = second refl
+
+done_job : (lanes : ℕ) (c : Cut) (job : Job) → Keeps lanes 0 c → 0 < length c.line → job.lane < lanes → job.line ≡ c.number → IsDone lanes (record c { jobs = c.jobs ++ job ∷ [] })
+done_job lanes c job k some lane line =
+    let more : Keeps lanes 1 (with_job c job) = keeps_job lanes c job k (k.within some) lane line in
+    record {
+      few = let h = more.few in let i = more.number in omega arith;
+      lines = more.lines;
+      of_lanes = more.of_lanes;
+      ends = more.ends;
+      begins = more.begins;
+      batch = let h = more.batch in omega arith;
+    }
+
+done_flush : (lanes : ℕ) (c : Cut) (ended : Bool) → 0 < lanes → Keeps lanes 0 c → IsDone lanes (flush ended c)
+unfolding flush
+done_flush lanes c ended some k =
+    done_if lanes ended _ c (λ yes.
+    done_if lanes (is_some c.stop) c _ (λ stopped. done_kept lanes c k) (λ going.
+    done_if lanes (length c.line == 0) c _ (λ empty. done_kept lanes c k)
+    (λ full. done_job lanes c (job_of c.lanes c.number c.line) k (grind (arith, common_steps)) some refl)))
+    (λ no. done_kept lanes c k)
+
+in_order_if : (lanes : ℕ) (b : Bool) (c d : Cut) → (b ≡ true → AreInOrder lanes c.jobs c.ends) → (b ≡ false → AreInOrder lanes d.jobs d.ends)
+    → AreInOrder lanes (if b then c else d).jobs (if b then c else d).ends
+in_order_if lanes true c d first second = first refl
+in_order_if lanes false c d first second = second refl
+
+in_order_end : (lanes : ℕ) (c : Cut) → IsDone lanes c → AreInOrder lanes (end_batch c).jobs (end_batch c).ends
+unfolding end_batch
+in_order_end lanes c h =
+    in_order_if lanes (nat_lt c.from (length c.jobs)) (record c { from = length c.jobs; ends = c.ends ++ length c.jobs ∷ [] }) c
+    (λ more. record {
+      few = h.few;
+      lines = h.lines;
+      of_lanes = h.of_lanes;
+      ends = lead_push 0 c.from (length c.jobs) c.ends h.ends (grind (arith, common_steps)) h.batch;
+    })
+    (λ none.
+    let same : c.from ≡ length c.jobs = grind (arith, common_steps, h.begins) in
+    record {
+      few = h.few;
+      lines = h.lines;
+      of_lanes = h.of_lanes;
+      ends = subst (LeadTo 0 c.ends) same h.ends;
+    })
+
+pub jobs_are_in_order : (lanes : ℕ) → 0 < lanes → JobsAreInOrder lanes
+unfolding jobs_of_input
+jobs_are_in_order lanes some bytes ended =
+    in_order_end lanes (flush ended (cut_all (start lanes) bytes)) (done_flush lanes (cut_all (start lanes) bytes) ended some
+    (keeps_all lanes (start lanes) bytes some (keeps_start lanes)))

@@ -1,0 +1,32 @@
+-- What the jobs of every input meet.
+use Rattle.std.specs.Prelude.{◌≡◌, ℕ, ◌+◌, ◌<◌, ◌≤◌, Bool, List, [], ◌∷◌, length}
+use Rattle.wf_names.specs.declared.limits.TheConstants.{SESSION_LINE_LIMIT, BATCH_LINE_LIMIT}
+use Rattle.wf_talk.specs.declared.job.Job.{Job}
+use Rattle.line_cutter.specs.Jobs.{Cut, jobs_of_input}
+
+-- the lines of the jobs ascend strictly, from this number on
+abbrev pub AscendFrom : ℕ → List Job → Type 0
+AscendFrom number [] = Unit {0}
+AscendFrom number (job ∷ jobs) = (number ≤ job.line) × AscendFrom (job.line + 1) jobs
+
+-- each job is of one of the lanes
+abbrev pub AreOfLanes : ℕ → List Job → Type 0
+AreOfLanes lanes [] = Unit {0}
+AreOfLanes lanes (job ∷ jobs) = (job.lane < lanes) × AreOfLanes lanes jobs
+
+-- the ends of batches lead from a count of jobs to a total: each batch has a job, and at most so many as it may have lines
+abbrev pub LeadTo : ℕ → List ℕ → ℕ → Type 0
+LeadTo before [] total = before ≡ total
+LeadTo before (end ∷ ends) total = (before < end) × (end ≤ before + BATCH_LINE_LIMIT) × LeadTo end ends total
+
+-- jobs and ends of batches as those of an input are
+pub record AreInOrder (lanes : ℕ) (jobs : List Job) (batch_ends : List ℕ) : Type 0 where
+  pub few : length jobs ≤ SESSION_LINE_LIMIT
+  pub lines : AscendFrom 0 jobs
+  pub of_lanes : AreOfLanes lanes jobs
+  pub ends : LeadTo 0 batch_ends (length jobs)
+
+-- the jobs of every input are in order
+abbrev pub JobsAreInOrder : ℕ → Type 0
+JobsAreInOrder lanes =
+    (bytes : List ℕ) (ended : Bool) → AreInOrder lanes (jobs_of_input bytes ended lanes).jobs (jobs_of_input bytes ended lanes).ends

@@ -1,0 +1,4 @@
+pub mod Jobs
+pub mod Cutter
+pub mod CutLaws
+pub mod Laws

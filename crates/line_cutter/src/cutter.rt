@@ -1,0 +1,317 @@
+//! Cutting the input into lines, jobs and batches, in whatever pieces it comes.
+ghost use Rattle.std.specs.Prelude.{◌≡◌, ◌≢◌, ◌≤◌, ◌<◌, ◌+◌, ℕ, [], ◌∷◌, ◌++◌, length, take, slice_index, None, Some, IfOk, OnOk, OnErr, MatchBool};
+ghost use Rattle.wf_names.specs.declared.limits.TheConstants.{LINE_LIMIT, SESSION_LINE_LIMIT, BATCH_LINE_LIMIT};
+ghost use Rattle.line_cutter.specs.declared.stop.Stop.{Stop};
+ghost use Rattle.line_cutter.specs.Jobs as jobs;
+ghost use Rattle.line_cutter.specs.Cutter.{IsSound, IsEnded, Cuts, emptied, place, last_place};
+
+use crate::Stop;
+use memchr::memchr;
+use std::alloc::{AllocError, Global};
+use std::marker::Model;
+use std::mem;
+use wf_names::{BATCH_LINE_LIMIT, LINE_LIMIT, SESSION_LINE_LIMIT};
+use wf_talk::{Ask, Ends, Job, Jobs, Line};
+use wire_json::read_request;
+
+/// What is cut of an input and not handed over yet: the jobs of a batch, and the line that is open.
+#[derive(Drop)]
+pub struct Cutter {
+    alloc: Global,
+    // How many lanes serve the jobs.
+    lanes: u8,
+    // The bytes of the open line.
+    line: Line,
+    // The number of the open line, counted from 0.
+    number: u32,
+    jobs: Jobs,
+    // How many of the jobs stand before the open batch.
+    from: usize,
+    // The ends of the batches that have ended and have a job.
+    ends: Ends,
+    stop: Option<Stop>,
+}
+
+impl Model for Cutter {
+    ghost use Rattle.line_cutter.specs.Jobs.{Cut};
+
+    ghost Value = { Cut };
+
+    ghost view = { λ c. record { lanes = c.lanes; line = c.line; number = c.number; jobs = c.jobs; from = c.from; ends = c.ends; stop = c.stop } };
+}
+
+impl Cutter {
+    /// A cutter before the first byte.
+    pub fn new(alloc: Global, lanes: u8) -> Cutter
+        ensures start { result ≡ jobs.start lanes }
+        ensures sound { IsSound result }
+    {
+        Cutter {
+            alloc,
+            lanes,
+            line: Line::new(alloc),
+            number: 0,
+            jobs: Jobs::new(alloc),
+            from: 0,
+            ends: Ends::new(alloc),
+            stop: None,
+        }
+    }
+
+    /// Where the cutting stopped, if it has.
+    pub fn stop(&self) -> Option<Stop>
+        ensures { result ≡ self.now.stop }
+    {
+        self.stop
+    }
+
+    /// Whether a batch has ended that is not handed over yet.
+    pub fn has_batch(&self) -> bool
+        ensures { MatchBool result (self.now.ends ≢ []) (self.now.ends ≡ []) }
+    {
+        self.ends.len() != 0
+    }
+    /// Cuts the next bytes of a piece: a run of a line without its end, or one byte. Answers how many
+    /// bytes were cut. No end of a batch is passed over, and no byte after it is cut.
+    #[tactic(auto, using(crate::specs::CutLaws::one_cut, crate::specs::CutLaws::plain_cut, crate::specs::CutLaws::plain_sound))]
+    pub fn feed(&mut self, piece: &[u8]) -> Result<usize, AllocError>
+        requires some { 0 < length piece.now }
+        requires handed { self.old.ends ≡ [] }
+        requires going { self.old.stop ≡ None }
+        requires sound { IsSound self.old }
+        ensures within { IfOk result (λ n. n ≤ length piece.now) }
+        ensures cuts { IfOk result (λ n. Cuts self.old self.new (take n piece.now)) }
+        ensures ended { OnOk result (self.new.ends ≢ [] → IsEnded self.new) }
+        ensures stopped { OnOk result ((s : Stop) → self.new.stop ≡ Some s → self.new.ends ≡ []) }
+        ensures further { OnOk result (self.new.stop ≡ None → place self.old < place self.new) }
+        ensures sound { IsSound self.new }
+        ensures unchanged { OnErr result (self.new ≡ self.old) }
+    {
+        let run = self.plain_len(piece);
+        if run == 0 {
+            self.feed_byte(piece[0])?;
+            return Ok(1);
+        }
+        self.push_plain(&piece[..run])?;
+        Ok(run)
+    }
+
+    /// Ends the input, or what was read of it: where it has ended, what follows the last line end is a
+    /// line too, unless it is empty. The open batch ends.
+    #[tactic(auto, using(crate::specs::CutLaws::sound_finish, crate::specs::CutLaws::ended_finish))]
+    pub fn finish(&mut self, ended: bool) -> Result<(), AllocError>
+        requires handed { self.old.ends ≡ [] }
+        requires sound { IsSound self.old }
+        ensures finished { OnOk result (self.new ≡ jobs.end_batch (jobs.flush ended self.old)) }
+        ensures ended { OnOk result (IsEnded self.new) }
+        ensures sound { IsSound self.new }
+        ensures unchanged { OnErr result (self.new ≡ self.old) }
+    {
+        let count = self.jobs.len();
+        self.flush(ended)?;
+        match self.end_batch() {
+            Ok(()) => Ok(()),
+            Err(e) => {
+                self.jobs.truncate(count);
+                Err(e)
+            }
+        }
+    }
+
+    /// Hands the batch over that has ended.
+    pub fn take_batch(&mut self) -> Jobs
+        requires { IsEnded self.old }
+        ensures batch { result ≡ self.old.jobs }
+        ensures left { self.new ≡ emptied self.old }
+    {
+        self.from = 0;
+        self.ends.truncate(0);
+        mem::replace(&mut self.jobs, Jobs::new(self.alloc))
+    }
+
+    // How many bytes at the front of the piece are no LF and within the limits.
+    fn plain_len(&self, piece: &[u8]) -> usize
+        requires sound { IsSound self.now }
+        ensures within { result ≤ length piece.now }
+        ensures plain { (k : ℕ) → k < result → slice_index piece.now k ≢ 10 }
+        ensures lines { 0 < result → self.now.number < SESSION_LINE_LIMIT }
+        ensures short { length self.now.line + result ≤ LINE_LIMIT }
+    {
+        if self.number >= SESSION_LINE_LIMIT {
+            return 0;
+        }
+        let run = memchr(b'\n', piece).unwrap_or(piece.len());
+        run.min(LINE_LIMIT - self.line.len())
+    }
+
+    // Adds bytes to the open line.
+    fn push_plain(&mut self, bytes: &[u8]) -> Result<(), AllocError>
+        ensures pushed { OnOk result (self.new ≡ record self.old { line = self.old.line ++ bytes.now }) }
+        ensures unchanged { OnErr result (self.new ≡ self.old) }
+    {
+        self.line.push_all(bytes)
+    }
+
+    // The next byte, with the laws that a loop rests on.
+    #[tactic(auto, using(crate::specs::CutLaws::sound_step, crate::specs::CutLaws::further))]
+    fn feed_byte(&mut self, byte: u8) -> Result<(), AllocError>
+        requires handed { self.old.ends ≡ [] }
+        requires going { self.old.stop ≡ None }
+        requires sound { IsSound self.old }
+        ensures fed { OnOk result (self.new ≡ jobs.step self.old byte) }
+        ensures sound { IsSound self.new }
+        ensures further { OnOk result (self.new.stop ≡ None → place self.old < place self.new) }
+        ensures unchanged { OnErr result (self.new ≡ self.old) }
+    {
+        self.step(byte)
+    }
+
+    #[tactic(auto, unfolding(crate::specs::Jobs::step))]
+    fn step(&mut self, byte: u8) -> Result<(), AllocError>
+        requires handed { self.old.ends ≡ [] }
+        requires going { self.old.stop ≡ None }
+        requires sound { IsSound self.old }
+        ensures fed { OnOk result (self.new ≡ jobs.step self.old byte) }
+        ensures unchanged { OnErr result (self.new ≡ self.old) }
+    {
+        if self.number >= SESSION_LINE_LIMIT {
+            self.stop = Some(Stop::TooManyLines);
+            return Ok(());
+        }
+        if byte == b'\n' {
+            return self.end_line();
+        }
+        if self.line.len() >= LINE_LIMIT {
+            self.stop = Some(Stop::LineTooLong(self.number));
+            return Ok(());
+        }
+        self.line.push(byte)
+    }
+
+    #[tactic(auto, unfolding(crate::specs::Jobs::end_line))]
+    fn end_line(&mut self) -> Result<(), AllocError>
+        requires few { length self.old.jobs < BATCH_LINE_LIMIT }
+        requires begins { self.old.from ≤ length self.old.jobs }
+        requires within { self.old.number < SESSION_LINE_LIMIT }
+        ensures ended { OnOk result (self.new ≡ jobs.end_line self.old) }
+        ensures unchanged { OnErr result (self.new ≡ self.old) }
+    {
+        let line = without_cr(self.line.as_slice());
+        if line.is_empty() {
+            return self.end_empty_line();
+        }
+        match read_request(self.alloc, line) {
+            Ok(ask) => self.end_job_line(ask),
+            Err(e) => Err(e),
+        }
+    }
+
+    #[tactic(auto, unfolding(crate::specs::Jobs::end_batch))]
+    fn end_empty_line(&mut self) -> Result<(), AllocError>
+        requires few { length self.old.jobs ≤ BATCH_LINE_LIMIT }
+        requires within { self.old.number < SESSION_LINE_LIMIT }
+        ensures ended { OnOk result (self.new ≡ jobs.end_batch (jobs.next_line self.old)) }
+        ensures unchanged { OnErr result (self.new ≡ self.old) }
+    {
+        self.end_batch()?;
+        self.next_line();
+        Ok(())
+    }
+
+    #[tactic(auto, unfolding(crate::specs::Jobs::end_full_batch, crate::specs::Jobs::end_batch))]
+    fn end_job_line(&mut self, ask: Ask) -> Result<(), AllocError>
+        requires few { length self.old.jobs < BATCH_LINE_LIMIT }
+        requires begins { self.old.from ≤ length self.old.jobs }
+        requires within { self.old.number < SESSION_LINE_LIMIT }
+        ensures ended { OnOk result (self.new ≡ jobs.end_full_batch (jobs.with_job self.old (record { lane = 0; line = self.old.number; ask = ask }))) }
+        ensures unchanged { OnErr result (self.new ≡ self.old) }
+    {
+        let count = self.jobs.len();
+        self.add_job(ask)?;
+        match self.end_full_batch() {
+            Ok(()) => {
+                self.next_line();
+                Ok(())
+            }
+            Err(e) => {
+                self.jobs.truncate(count);
+                Err(e)
+            }
+        }
+    }
+
+    // Begins the next line.
+    fn next_line(&mut self)
+        requires { self.old.number < SESSION_LINE_LIMIT }
+        ensures { self.new ≡ jobs.next_line self.old }
+    {
+        self.line.truncate(0);
+        self.number += 1;
+    }
+
+    #[tactic(auto, unfolding(crate::specs::Jobs::end_full_batch))]
+    fn end_full_batch(&mut self) -> Result<(), AllocError>
+        requires few { length self.old.jobs ≤ BATCH_LINE_LIMIT }
+        requires begins { self.old.from ≤ length self.old.jobs }
+        ensures ended { OnOk result (self.new ≡ jobs.end_full_batch self.old) }
+        ensures unchanged { OnErr result (self.new ≡ self.old) }
+    {
+        if self.from + BATCH_LINE_LIMIT as usize <= self.jobs.len() {
+            return self.end_batch();
+        }
+        Ok(())
+    }
+
+    #[tactic(auto, unfolding(crate::specs::Jobs::end_batch))]
+    fn end_batch(&mut self) -> Result<(), AllocError>
+        requires few { length self.old.jobs ≤ BATCH_LINE_LIMIT }
+        ensures ended { OnOk result (self.new ≡ jobs.end_batch self.old) }
+        ensures unchanged { OnErr result (self.new ≡ self.old) }
+    {
+        let count = self.jobs.len();
+        if self.from < count {
+            self.ends.push(count as u32)?;
+            self.from = count;
+        }
+        Ok(())
+    }
+
+    #[tactic(auto, unfolding(crate::specs::Jobs::flush))]
+    fn flush(&mut self, ended: bool) -> Result<(), AllocError>
+        ensures flushed { OnOk result (self.new ≡ jobs.flush ended self.old) }
+        ensures one { length self.new.jobs ≤ length self.old.jobs + 1 }
+        ensures before { record self.new { jobs = take (length self.old.jobs) self.new.jobs } ≡ self.old }
+        ensures unchanged { OnErr result (self.new ≡ self.old) }
+    {
+        if !ended || self.stop.is_some() || self.line.len() == 0 {
+            return Ok(());
+        }
+        match read_request(self.alloc, self.line.as_slice()) {
+            Ok(ask) => self.add_job(ask),
+            Err(e) => Err(e),
+        }
+    }
+
+    // Adds the job of the open line; no request names a lane, and the first one serves all.
+    fn add_job(&mut self, ask: Ask) -> Result<(), AllocError>
+        ensures added { OnOk result (self.new ≡ record self.old { jobs = self.old.jobs ++ record { lane = 0; line = self.old.number; ask = ask } ∷ [] }) }
+        ensures unchanged { OnErr result (self.new ≡ self.old) }
+    {
+        self.jobs.push(Job {
+            lane: 0,
+            line: self.number,
+            ask,
+        })
+    }
+}
+
+// A line without one CR at its end.
+#[tactic(auto, unfolding(crate::specs::Jobs::without_cr))]
+fn without_cr(line: &[u8]) -> &[u8]
+    ensures { result.now ≡ jobs.without_cr line.now }
+{
+    match line {
+        [before @ .., b'\r'] => before,
+        _ => line,
+    }
+}

@@ -1,0 +1,13 @@
+//! Laws of the jobs of an input.
+ghost use Rattle.std.specs.Prelude.{◌<◌};
+ghost use Rattle.line_cutter.specs.Laws.{JobsAreInOrder};
+
+/// The jobs of every input: at most as many as a session may have lines, of lines that ascend
+/// strictly, each of one of the lanes; the ends of their batches ascend by at most what a batch may
+/// have, and the last one is the count of the jobs.
+pub fn jobs_are_in_order(lanes: u8)
+    requires { 0 < lanes }
+    ensures { JobsAreInOrder lanes }
+{
+    let _ = lanes;
+}

@@ -1,0 +1,47 @@
+-- The record of a run, and what every run keeps, whatever its command.
+use Rattle.std.specs.Prelude.{◌≡◌, ℕ, true, List, Option}
+use Rattle.wf_outside.specs.Outside.{Filed, told, missing, untold}
+use Rattle.run_record.specs.declared.fault.RunFault.{RunFault}
+use Rattle.run_record.specs.declared.fault.RunFault.TheVariants.{Load}
+use Rattle.run_record.specs.Fault.{is_before_input, CountsLoads, CountsReads, CountsWrites}
+use Rattle.run_record.specs.Report.{Told, nothing_told}
+
+-- the input that is left and the output so far, where the source and the sink tell, and how often
+-- each failed
+pub record Streams : Type 0 where
+  pub input : Option (List ℕ)
+  pub output : Option (List ℕ)
+  pub read_faults : ℕ
+  pub write_faults : ℕ
+
+-- a run: what is told of each file, how often loading failed before and after, the streams before
+-- and after, what the report tells, and how it ended
+pub record Run : Type 0 where
+  pub files : List ℕ → Filed
+  pub load_faults : ℕ
+  pub load_faults_after : ℕ
+  pub before : Streams
+  pub after : Streams
+  pub told : Told
+  pub fault : RunFault
+
+-- nothing is read, written or told
+pub record IsUntouched (r : Run) : Type 0 where
+  pub unread : r.after.input ≡ r.before.input
+  pub unwritten : r.after.output ≡ r.before.output
+  pub untold : r.told ≡ nothing_told
+
+-- what every run keeps: one that ends before its input touches nothing, and each fault of the outside
+-- is counted
+pub record IsOrderly (r : Run) : Type 0 where
+  pub early : is_before_input r.fault ≡ true → IsUntouched r
+  pub loads : CountsLoads r.fault r.load_faults r.load_faults_after
+  pub reads : CountsReads r.fault r.before.read_faults r.after.read_faults
+  pub writes : CountsWrites r.fault r.before.write_faults r.after.write_faults
+
+-- what the shelf tells of a file that the run loads decides how it ends: a missing one is a
+-- load fault
+abbrev pub OverFile : Filed → RunFault → (List ℕ → Type 0) → Type 0
+OverFile untold fault Ends = Unit {0}
+OverFile missing fault Ends = fault ≡ Load
+OverFile (told content) fault Ends = Ends content

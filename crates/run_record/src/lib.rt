@@ -1,0 +1,10 @@
+//! What came of a run: how it ended, what it tells, and the record that every command is judged by.
+#![tactic(auto)]
+
+mod fault;
+mod report;
+#[cfg(test)]
+mod tests;
+
+pub use fault::{InputFault, RunFault};
+pub use report::{Report, bare_report};

@@ -1,0 +1,4 @@
+pub mod Values
+pub mod Solving
+pub mod Loading
+pub mod Runs

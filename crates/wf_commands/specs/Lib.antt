@@ -1,0 +1,9 @@
+pub mod Input
+pub mod Once
+pub mod Plan
+pub mod Show
+pub mod Solve
+pub mod Questions
+pub mod Answer
+pub mod Load
+pub mod Judging

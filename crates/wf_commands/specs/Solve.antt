@@ -1,0 +1,44 @@
+-- The command `solve`: a line is written for each workflow of the policy.
+use Rattle.std.specs.Prelude.{◌≡◌, ℕ, zero, suc, List, [], ◌++◌, length, IsTrue}
+use Rattle.std.proofs.Common.{◌⊎◌}
+use Rattle.constraint_forms.specs.Assigned.{no_users, no_steps}
+use Rattle.refutation_tree.specs.Shapes.{Shape}
+use Rattle.policy_book.specs.Shapes.{PolicyShape}
+use Rattle.policy_book.specs.Policies.{problem_of}
+use Rattle.policy_book.specs.Plans.{IsValidPlan}
+use Rattle.policy_book.specs.Refuting.{refutes}
+use Rattle.wire_json.specs.Findings.{plan_line, tree_line}
+use Rattle.run_record.specs.declared.fault.RunFault.{RunFault}
+use Rattle.run_record.specs.declared.fault.RunFault.TheVariants.{Nothing}
+use Rattle.run_record.specs.Run.{Run, IsOrderly}
+use Rattle.wf_commands.specs.Once.{AnswersOnce}
+
+-- a line tells a valid plan of a workflow
+abbrev pub TellsPlan : PolicyShape → ℕ → List ℕ → Type 0
+TellsPlan p f line =
+    (plan : List ℕ) × IsValidPlan (problem_of p f) no_users no_steps plan × (line ≡ plan_line p f plan)
+
+-- a line tells a tree that refutes, so that the workflow has no valid plan
+abbrev pub TellsTree : PolicyShape → ℕ → List ℕ → Type 0
+TellsTree p f line =
+    (tree : Shape) × IsTrue (refutes (problem_of p f) no_users no_steps tree) × (line ≡ tree_line p f tree)
+
+-- a line tells what a search may find for a workflow
+abbrev pub TellsFlow : PolicyShape → ℕ → List ℕ → Type 0
+TellsFlow p f line = TellsPlan p f line ⊎ TellsTree p f line
+
+-- a text is such a line for each of the first n workflows, in their order
+abbrev pub TellsFirst : PolicyShape → ℕ → List ℕ → Type 0
+TellsFirst p zero text = text ≡ []
+TellsFirst p (suc n) text =
+    (front line : List ℕ) × TellsFirst p n front × TellsFlow p n line × (text ≡ front ++ line)
+
+-- the text tells of each workflow of the policy
+abbrev pub SolvesPolicy : PolicyShape → RunFault → List ℕ → Type 0
+SolvesPolicy p fault text = (fault ≡ Nothing) × TellsFirst p (length p.flows) text
+
+-- a run of `solve` with a policy file; it reads no input
+pub record Solves (policy : List ℕ) (r : Run) : Type 0 where
+  pub orderly : IsOrderly r
+  pub once : AnswersOnce policy SolvesPolicy r
+  pub unread : r.after.input ≡ r.before.input

@@ -1,0 +1,36 @@
+//! Loading the policy.
+ghost use Rattle.std.specs.Prelude.{◌≡◌, IfErr, IfOk};
+ghost use Rattle.policy_reader.specs.Printable.{IsPrintable};
+ghost use Rattle.run_record.specs.Fault.{fault_in, CountsLoads};
+ghost use Rattle.wf_commands.specs.Load.{GivesBytes, GivesPolicy, IsFileEnding, IsLoadEnding};
+
+use policy_book::Policy;
+use run_record::RunFault;
+use std::alloc::Global;
+use wf_names::POLICY_FILE_LIMIT;
+use wf_outside::{LoadFault, Loaded, Shelf};
+
+/// The policy in a file of the shelf, for a command that names one.
+pub fn load_policy<F: Shelf>(alloc: Global, shelf: &mut F, name: &str) -> Result<Policy, RunFault>
+    ensures policy { GivesPolicy (F.file shelf.old name.now) result }
+    ensures printable { IfOk result IsPrintable }
+    ensures ending { IfErr result IsLoadEnding }
+    ensures loads { CountsLoads (fault_in result) (F.faults shelf.old) (F.faults shelf.new) }
+{
+    let file = load_file(alloc, shelf, name)?;
+    Ok(policy_reader::read(alloc, file.as_bytes())?)
+}
+
+// The bytes of a policy file.
+fn load_file<F: Shelf>(alloc: Global, shelf: &mut F, name: &str) -> Result<Loaded, RunFault>
+    ensures bytes { GivesBytes (F.file shelf.old name.now) result }
+    ensures ending { IfErr result IsFileEnding }
+    ensures loads { CountsLoads (fault_in result) (F.faults shelf.old) (F.faults shelf.new) }
+{
+    match shelf.load(alloc, name, POLICY_FILE_LIMIT) {
+        Ok(file) => Ok(file),
+        Err(LoadFault::Failed) => Err(RunFault::Load),
+        Err(LoadFault::TooLong) => Err(RunFault::FileTooLong),
+        Err(LoadFault::NoMemory) => Err(RunFault::NoMemory),
+    }
+}

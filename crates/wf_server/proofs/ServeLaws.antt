@@ -1,0 +1,70 @@
+-- How a session stands over the file of its policy.
+use Rattle.std.proofs.Common.{◌≡◌, ℕ, List, false, Ok, Err, inl, inr, refl, arith}
+use Rattle.wf_outside.specs.Outside.{Filed, told, missing, untold}
+use Rattle.policy_book.specs.Shapes.{PolicyShape}
+use Rattle.run_record.specs.declared.fault.RunFault.{RunFault}
+use Rattle.run_record.specs.declared.fault.RunFault.TheVariants.{Nothing, Found, Usage, Policy, Read, Write, Load, NoMemory, FileTooLong, LineTooLong, TooManyLines, BadInput}
+use Rattle.run_record.specs.Fault.{is_before_input, CountsLoads, CountsReads, CountsWrites}
+use Rattle.run_record.specs.Run.{Run, IsUntouched, OverFile}
+use Rattle.wf_commands.specs.Load.{GivesPolicy, IsLoadEnding, PolicyOf}
+use Rattle.wf_server.specs.declared.serve.TheConstants.{PIECE}
+use Rattle.wf_server.specs.Sessions.{Served}
+use Rattle.wf_server.specs.Serving.{EndsBefore, ServesFile}
+
+ends_before : (file : List ℕ) (fault : RunFault) → PolicyOf file (Err fault) → IsLoadEnding fault → EndsBefore file fault
+ends_before file FileTooLong gives ending = gives
+ends_before file (Policy e) gives ending = gives
+ends_before file Load gives ending = tt
+ends_before file NoMemory gives ending = tt
+ends_before file Nothing gives ending = absurd ending
+ends_before file Found gives ending = absurd ending
+ends_before file Usage gives ending = absurd ending
+ends_before file Read gives ending = absurd ending
+ends_before file Write gives ending = absurd ending
+ends_before file (LineTooLong line) gives ending = absurd ending
+ends_before file TooManyLines gives ending = absurd ending
+ends_before file (BadInput e) gives ending = absurd ending
+
+-- no policy was there
+pub not_served : (f : Filed) (r : Run) → GivesPolicy f (Err r.fault) → IsLoadEnding r.fault → IsUntouched r
+    → OverFile f r.fault (λ file. ServesFile file r)
+not_served untold r gives ending nothing = tt
+not_served missing r gives ending nothing = cc
+not_served (told file) r gives ending nothing = inl (ends_before file r.fault gives ending, nothing)
+
+-- the policy was there, and was served
+pub is_served : (f : Filed) (p : PolicyShape) (r : Run) → GivesPolicy f (Ok p)
+    → Served p PIECE r.before r.after r.told r.fault → OverFile f r.fault (λ file. ServesFile file r)
+is_served untold p r gives served = tt
+is_served missing p r gives served = cc
+is_served (told file) p r gives served = inr (record { policy = p; within = gives.0; read = gives.1; served = served })
+
+-- a session does not end with a load fault
+pub loads_late : (fault : RunFault) (before after : ℕ) → is_before_input fault ≡ false → after ≡ before → CountsLoads fault before after
+loads_late Load before after late same = cc
+loads_late Nothing before after late same = same
+loads_late Found before after late same = same
+loads_late Usage before after late same = same
+loads_late (Policy e) before after late same = same
+loads_late Read before after late same = same
+loads_late Write before after late same = same
+loads_late NoMemory before after late same = same
+loads_late FileTooLong before after late same = same
+loads_late (LineTooLong line) before after late same = same
+loads_late TooManyLines before after late same = same
+loads_late (BadInput e) before after late same = same
+
+-- loading a policy reads and writes nothing
+pub unread_counts : (fault : RunFault) (count : ℕ) → IsLoadEnding fault → CountsReads fault count count × CountsWrites fault count count
+unread_counts FileTooLong count ending = (refl, refl)
+unread_counts (Policy e) count ending = (refl, refl)
+unread_counts Load count ending = (refl, refl)
+unread_counts NoMemory count ending = (omega arith, refl)
+unread_counts Nothing count ending = absurd ending
+unread_counts Found count ending = absurd ending
+unread_counts Usage count ending = absurd ending
+unread_counts Read count ending = absurd ending
+unread_counts Write count ending = absurd ending
+unread_counts (LineTooLong line) count ending = absurd ending
+unread_counts TooManyLines count ending = absurd ending
+unread_counts (BadInput e) count ending = absurd ending

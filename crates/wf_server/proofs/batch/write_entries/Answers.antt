@@ -1,0 +1,19 @@
+use Rattle.std.proofs.Common.{refl, sym, ◌∙◌}
+use Rattle.wf_outside.proofs.OutsideLaws.{nothing_put}
+use Rattle.wf_server.proofs.BatchLaws.{written_more, written_part}
+use Rattle.wf_server.proofs.batch.write_entries.Goals as goal
+
+pub writing-init : goal.writing-init
+writing-init g c = record { written = sym (nothing_put (g.K.Sink.held c.args.sink.now)); faults = refl }
+
+pub returns-in_err-write_one-clause-part : goal.returns-in_err-write_one-clause-part
+returns-in_err-write_one-clause-part g c =
+    written_part c.args.p.now (g.K.Sink.held c.args.sink.now) (g.K.Sink.held c.writing.sink) _ c.args.entries.now c.writing.entry-index c.entry-item.result c.writing-test.true c.entry-item.is
+    c.writing.invariant.written c.write_one.ensures.part
+
+pub writing-preserved : goal.writing-preserved
+writing-preserved g c = record {
+  written = written_more c.args.p.now (g.K.Sink.held c.args.sink.now) (g.K.Sink.held c.writing.sink) _ c.args.entries.now c.writing.entry-index c.entry-item.result c.writing-test.true c.entry-item.is
+      c.writing.invariant.written c.in_ok-write_one.ensures.all;
+  faults = c.in_ok-write_one.ensures.counts ∙ c.writing.invariant.faults;
+}

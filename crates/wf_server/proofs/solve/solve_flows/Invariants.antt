@@ -1,7 +1,0 @@
-use Rattle.std.proofs.Common.{◌≤◌, length}
-use Rattle.std.specs.Prelude.{string_bytes}
-use Rattle.wf_server.specs.Solving.{TellsFirst}
-use Rattle.wf_server.proofs.solve.solve_flows.Given as goal
-
-abbrev pub invariant-flows : goal.invariant-flows
-invariant-flows l = (l.f ≤ length l.p.flows) × TellsFirst l.p l.f (string_bytes l.text)
