@@ -297,7 +297,7 @@ impl Cutter {
         ensures added { OnOk result (self.new ≡ record self.old { jobs = self.old.jobs ++ record { lane = 0; line = self.old.number; ask = ask } ∷ [] }) }
         ensures unchanged { OnErr result (self.new ≡ self.old) }
     {
-        self.jobs.push(Job {
+        self.jobs.add(&Job {
             lane: 0,
             line: self.number,
             ask,

@@ -4,7 +4,7 @@ use Rattle.std.proofs.Common.{◌⊎◌}
 use Rattle.wf_outside.specs.Outside.{HasPart, with_bytes}
 use Rattle.wf_talk.specs.declared.entry.Entry.{Entry}
 use Rattle.wf_talk.specs.declared.job.Job.{Job}
-use Rattle.wf_talk.specs.Journals.{JournalShape}
+use Rattle.basics.specs.Logs.{LogShape}
 use Rattle.line_cutter.specs.Jobs.{last_or}
 use Rattle.line_cutter.specs.Cutter.{ends_after}
 use Rattle.line_cutter.specs.declared.stop.Stop.TheVariants as stop

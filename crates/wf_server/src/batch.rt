@@ -77,7 +77,7 @@ fn add_batch(told: &mut Answered, batch: &[Job]) -> Result<(), AllocError>
     ensures entries { told.new.entries.entries ≡ told.old.entries.entries }
     ensures unchanged { OnErr result (told_of told.new ≡ told_of told.old) }
 {
-    told.entries.reserve(batch.len())?;
+    told.entries.reserve(batch.len() as u32)?;
     let count = told.jobs.len();
     told.jobs.push_all(batch)?;
     match add_end(&mut told.batch_ends, count, batch.len()) {
@@ -139,7 +139,7 @@ fn answer_job(board: &mut Board, journal: &mut Journal, job: &Job)
         ask: job.ask,
         reply,
     };
-    journal.push(entry).unwrap();
+    journal.add(&entry).unwrap();
 }
 
 // Writes the lines of entries, one after the other.
