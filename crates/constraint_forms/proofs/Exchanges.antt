@@ -1,10 +1,7 @@
 -- Two users whom a relation treats alike, exchanged.
-use Rattle.std.proofs.Common.{◌≡◌, ◌≢◌, ℕ, ◌<◌, Bool, true, false, ◌==◌, cond, ◌⊎◌, inl, inr, nat_eq, refl, sym, ap, subst, ◌∙◌}
-use Rattle.std.specs.Bool.{IsTrue}
+use Rattle.std.proofs.Common.{◌≡◌, ℕ, ◌<◌, Bool, true, false, ◌==◌, ◌⊎◌, inl, inr, nat_eq, refl, sym, ◌∙◌}
 use Rattle.basics.proofs.Booleans.{bool_cases, eq_back, eq_is, eq_other, eq_same, same_by}
-use Rattle.constraint_forms.specs.declared.rule.Rule.{Rule}
-use Rattle.constraint_forms.specs.Rules.{Relating, is_satisfied, names, reads}
-use Rattle.constraint_forms.specs.Laws.{AreAlike, AreInterchangeable, AreTwinsFor, ExchangeDoesNotMatter, exchanged}
+use Rattle.constraint_forms.specs.Laws.{AreInterchangeable, ExchangeDoesNotMatter, exchanged}
 use Rattle.constraint_forms.proofs.RuleLaws.{sees_relatedness}
 
 -- where a user goes: the first to the second, the second to the first, and any other nowhere

@@ -1,10 +1,10 @@
 -- What is true of the tests over a set's members, and of rules by their forms.
-use Rattle.std.proofs.Common.{◌≡◌, ℕ, zero, suc, ◌+◌, Bool, true, false, not, ◌&&◌, ◌||◌, ◌==◌, List, [], ◌∷◌, Option, Some, None, is_some, refl, sym, subst, arith, add-zero, zero-add}
+use Rattle.std.proofs.Common.{◌≡◌, ℕ, zero, suc, ◌+◌, Bool, true, false, not, ◌&&◌, ◌||◌, List, [], ◌∷◌, Option, Some, None, is_some, refl, sym, subst, arith, add-zero, zero-add}
 use Rattle.std.specs.Bool.{IsTrue}
 use Rattle.basics.proofs.Booleans.{and_same, eq_same, or_left, or_right}
 use Rattle.constraint_forms.specs.declared.rule.Rule.TheVariants.{Pair, SomeOf, AllOf}
 use Rattle.constraint_forms.specs.Assigned.{is_member}
-use Rattle.constraint_forms.specs.Rules.{any_from, all_from, are_unrelated, names, reads, Relating}
+use Rattle.constraint_forms.specs.Rules.{any_from, all_from, are_unrelated, names, Relating}
 use Rattle.constraint_forms.specs.Laws.{TotalsDecide, StaysFalsified, FalsifiedByNamed, SatisfiedByNamed, SeesRelatedness}
 
 -- ---- what a rule names

@@ -1,5 +1,5 @@
 -- Where the row with a number stands in ascending rows.
-use Rattle.std.proofs.Common.{◌≡◌, ℕ, zero, suc, ◌+◌, ◌<◌, ◌≤◌, Bool, true, false, cond, ◌⊎◌, inl, inr, nat_eq, nat_lt, nat_le, List, [], ◌∷◌, length, drop, get_or, slice_index_or, slice_get, slice_set, Option, None, Some, refl, sym, ap, subst, ◌∙◌, arith}
+use Rattle.std.proofs.Common.{◌≡◌, ℕ, zero, suc, ◌+◌, ◌<◌, ◌≤◌, Bool, true, false, cond, nat_lt, nat_le, List, [], ◌∷◌, length, drop, get_or, slice_index_or, slice_get, slice_set, Option, None, Some, refl, sym, ap, subst, ◌∙◌, arith}
 use Rattle.std.specs.List.{prefix_len, AllWithin}
 use Rattle.std.specs.List.Sorted.{IsPartitionedBy}
 use Rattle.std.proofs.Math.Seq.{drop-cons}
@@ -7,7 +7,7 @@ use Rattle.wf_names.specs.States.{is_live}
 use Rattle.grant_table.specs.declared.rows.Row.{Row}
 use Rattle.grant_table.specs.Tables.{row_at, change_row, next_open}
 use Rattle.grant_table.specs.Kept.{AscendFrom, IsPlace}
-use Rattle.basics.proofs.Booleans.{bool_cases, eq_above, eq_below, eq_is, lt_back, lt_back_no}
+use Rattle.basics.proofs.Booleans.{eq_above, eq_below, eq_is, lt_back, lt_back_no}
 
 -- the place at which a test turns is the length of the front part that passes
 pub prefix_is : {X : Type 0} (p : X → Bool) (xs : List X) (i : ℕ) → i ≤ length xs → AllWithin (λ y. p y ≡ true) xs 0 i → AllWithin (λ y. p y ≡ false) xs i (length xs) → i ≡ prefix_len p xs

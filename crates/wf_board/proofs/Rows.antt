@@ -1,5 +1,5 @@
 -- Rows of a table where one changes, and where one is added.
-use Rattle.std.proofs.Common.{◌≡◌, ℕ, Bool, true, false, nat_eq, List, [], ◌∷◌, ◌++◌, Option, None, Some, is_some, if◌then◌else◌, refl, ap, subst, ◌∙◌, arith}
+use Rattle.std.proofs.Common.{◌≡◌, ℕ, Bool, true, false, nat_eq, List, [], ◌∷◌, ◌++◌, Option, None, Some, is_some, if◌then◌else◌, refl, ap, subst, ◌∙◌}
 use Rattle.std.specs.Option.{option_map}
 use Rattle.case_record.specs.Cases.{CaseShape}
 use Rattle.grant_table.specs.declared.rows.Row.{Row}
