@@ -7,7 +7,7 @@ use Rattle.wf_outside.specs.Outside.{HasTaken, IsAtEnd, bytes_before}
 use Rattle.wf_outside.proofs.OutsideLaws.{more_taken}
 use Rattle.wf_talk.specs.declared.job.Job.{Job}
 use Rattle.line_cutter.specs.declared.stop.Stop.{Stop}
-use Rattle.line_cutter.specs.Jobs.{Cut, start, cut_all, flush, end_batch, jobs_of_input, last_or, UpToAnEnd}
+use Rattle.line_cutter.specs.Jobs.{Cut, start, cut_all, flush, end_batch, jobs_of_input, UpToAnEnd}
 use Rattle.line_cutter.specs.Cutter.{Cuts, IsEnded, after_handing, ends_after, emptied}
 use Rattle.line_cutter.specs.CutLaws.{cut_all-append, handed_all, handed_finish, handed_over, closed_after, up_to_end, stopped, finished_stop}
 use Rattle.batch_reader.specs.declared.reader.Paused.{Paused}

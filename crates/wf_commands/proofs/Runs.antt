@@ -1,5 +1,5 @@
 -- How the steps of a command that answers once compose.
-use Rattle.std.proofs.Common.{◌≡◌, ℕ, ◌≤◌, true, List, [], Option, Result, Ok, Err, refl, sym, ◌∙◌, arith}
+use Rattle.std.proofs.Common.{◌≡◌, ℕ, true, List, [], Option, Result, Ok, Err, refl, sym, ◌∙◌, arith}
 use Rattle.std.specs.Prelude.{IsErrAnd}
 use Rattle.wf_outside.specs.Outside.{Filed, told, missing, untold}
 use Rattle.wf_outside.proofs.OutsideLaws.{nothing_put, nothing_at_most}

@@ -1,5 +1,5 @@
 -- The command `plan`: the plan in the input is judged.
-use Rattle.std.specs.Prelude.{◌≡◌, ℕ, ◌+◌, ◌≤◌, List, [], ◌++◌, length, Option, Ok, Err, IfSome, MatchOption, MatchResult, MatchBool, nat_lt, codes, decimal, slice_index_or}
+use Rattle.std.specs.Prelude.{◌≡◌, ℕ, ◌+◌, ◌≤◌, List, [], ◌++◌, length, Option, Err, IfSome, MatchOption, MatchResult, MatchBool, nat_lt, codes, decimal, slice_index_or}
 use Rattle.wf_names.specs.declared.limits.TheConstants.{LINE_LIMIT}
 use Rattle.wf_outside.specs.Outside.{HasTaken, HasTakenCount, HasTakenAtMost, IsAtEnd}
 use Rattle.constraint_forms.specs.Assigned.{no_users, no_steps}

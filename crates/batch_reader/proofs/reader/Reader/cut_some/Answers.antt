@@ -1,4 +1,4 @@
-use Rattle.std.proofs.Common.{◌≡◌, ◌+◌, ◌-◌, ◌++◌, ℕ, List, take, drop, ap, sym, subst, ◌∙◌}
+use Rattle.std.proofs.Common.{◌+◌, ◌-◌, ◌++◌, ℕ, List, take, drop, ap, sym, subst, ◌∙◌}
 use Rattle.line_cutter.specs.Jobs.{Cut}
 use Rattle.line_cutter.specs.Cutter.{Cuts}
 use Rattle.batch_reader.specs.Reading.{ReaderShape}

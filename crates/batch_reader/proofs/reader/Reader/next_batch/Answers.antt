@@ -1,8 +1,8 @@
-use Rattle.std.proofs.Common.{◌≡◌, ◌∙◌, ap, length, take, drop}
+use Rattle.std.proofs.Common.{◌∙◌, ap, length}
 use Rattle.line_cutter.specs.Jobs.{Cut}
-use Rattle.line_cutter.specs.Cutter.{emptied, place}
+use Rattle.line_cutter.specs.Cutter.{emptied}
 use Rattle.batch_reader.specs.Reading.{ReaderShape}
-use Rattle.batch_reader.proofs.ReadingLaws.{closed_at, closed_on, closed_none, closed_batch, up_before, batch_going, closed_counts}
+use Rattle.batch_reader.proofs.ReadingLaws.{closed_at, closed_on, closed_none, closed_batch, up_before, closed_counts}
 use Rattle.batch_reader.proofs.reader.Reader.next_batch.Goals as goal
 
 pub returns-in-NoMemory-clause-up : goal.returns-in-NoMemory-clause-up
