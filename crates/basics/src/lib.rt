@@ -4,8 +4,10 @@
 
 mod list;
 mod log;
+mod same;
 #[cfg(test)]
 mod tests;
 
 pub use list::List;
 pub use log::Log;
+pub use same::Same;

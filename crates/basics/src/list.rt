@@ -107,6 +107,14 @@ impl<T: Copy> List<T> {
     }
 }
 
+impl<T: Copy> Clone for List<T> {
+    ghost is_clone = { λ x y. y ≡ x };
+
+    fn clone(&self) -> Result<List<T>, AllocError> {
+        self.copy()
+    }
+}
+
 impl List<u8> {
     /// All of the bytes, in order.
     pub fn as_bytes(&self) -> &[u8]

@@ -1,6 +1,7 @@
 //! A list that only grows, with the room that is left in it.
 ghost use Rattle.std.specs.Prelude.{◌≡◌, ◌<◌, ◌≤◌, ◌+◌, [], ◌∷◌, ◌++◌, length, slice_get, Some, IfOk, IsOk, OnOk, OnErr};
 
+use crate::Same;
 use std::alloc::{AllocError, Global};
 use std::marker::Model;
 
@@ -75,6 +76,19 @@ impl<T: Drop> Log<T> {
     {
         self.items.push(entry)?;
         Ok(())
+    }
+}
+
+impl<T: Same> Log<T> {
+    /// A log with equal entries.
+    pub fn copy_each(&self) -> Result<Log<T>, AllocError>
+        ensures { IfOk result (λ l. l.entries ≡ self.now.entries) }
+    {
+        let mut items = Vec::with_capacity(*self.items.allocator(), self.items.len())?;
+        'entries: for entry in &self.items {
+            items.push(entry.same()?)?;
+        }
+        Ok(Log { items })
     }
 }
 

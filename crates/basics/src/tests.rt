@@ -1,6 +1,7 @@
 //! What no clause shows: that the lists take what they are given while there is memory.
 
-use crate::{List, Log};
+use crate::{List, Log, Same};
+use std::alloc::AllocError;
 use std::test::Fail;
 
 #[test]
@@ -32,5 +33,32 @@ fn a_log_with_room_takes_its_entries(rt: HostRuntime) -> Result<(), Fail> {
 fn a_list_of_given_values_has_them(rt: HostRuntime) -> Result<(), Fail> {
     let list = List::from_vec(vec![in rt.alloc(); 7u8, 9]?);
     assert!(rt; list.as_bytes() == [7, 9].as_slice());
+    Ok(())
+}
+
+/// A value that is copied as any other.
+#[derive(Drop)]
+struct Noted(u32);
+
+impl Same for Noted {
+    fn same(&self) -> Result<Noted, AllocError> {
+        Ok(Noted(self.0))
+    }
+}
+
+#[test]
+fn a_log_copies_each_of_its_entries(rt: HostRuntime) -> Result<(), Fail> {
+    let mut log = Log::new(rt.alloc());
+    log.push(Noted(3))?;
+    log.push(Noted(5))?;
+    let copy = log.copy_each()?;
+    assert!(rt; (copy.len(), copy.get(0).0, copy.get(1).0) == (2, 3, 5));
+    Ok(())
+}
+
+#[test]
+fn a_clone_of_a_list_has_its_values(rt: HostRuntime) -> Result<(), Fail> {
+    let list = List::from_vec(vec![in rt.alloc(); 7u8, 9]?);
+    assert!(rt; list.clone()?.as_bytes() == [7, 9].as_slice());
     Ok(())
 }
