@@ -6,13 +6,13 @@ mod job;
 mod lists;
 mod reply;
 mod request;
+mod states;
 #[cfg(test)]
 mod tests;
-mod user_names;
 
 pub use entry::Entry;
 pub use job::Job;
-pub use lists::{Ends, Jobs, Journal, Line};
-pub use reply::{Denial, Reply};
+pub use lists::{Ends, Jobs, Journal, Line, RoleList};
+pub use reply::{Denial, Face, Reply};
 pub use request::{Ask, Bad, Request};
-pub use user_names::UserNames;
+pub use states::States;

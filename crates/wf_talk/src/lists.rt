@@ -1,12 +1,16 @@
 //! The lists of what is asked and answered.
 use crate::{Entry, Job};
 use basics::{List, Log};
+use wf_names::RoleId;
 
 /// Jobs in the order of their lines.
 pub type Jobs = List<Job>;
 
 /// For each batch that has a job, the count of jobs up to its end.
 pub type Ends = List<u32>;
+
+/// Roles, by ascending number.
+pub type RoleList = List<RoleId>;
 
 /// The bytes of a line.
 pub type Line = List<u8>;

@@ -1,35 +1,57 @@
 //! What the server answers.
 
-use crate::Bad;
+use crate::{Bad, RoleList, States};
 use constraint_forms::Plan;
-use wf_names::{CaseId, FlowId, StepId, StepState, UserId};
+use refutation_tree::Tree;
+use wf_names::{CaseId, FlowId, Phase, StepId, StepState, UserId};
 
 /// The answer to what a line asks.
-#[derive(Clone, Copy, Debug, PartialEq, Eq)]
+#[derive(Clone, Drop)]
 pub enum Reply {
     /// The step is held by the caller; the plan is the one that is kept for the case.
     Granted(Plan),
     /// The step is done; `done` tells whether it was the case's last.
     Finished { done: bool },
+    /// The step is free again.
+    Returned,
+    /// The step was taken from its holder, and is free again.
+    Released,
     /// The case is open, with the plan that is kept for it.
     Opened { case: CaseId, plan: Plan },
+    /// The case was ended.
+    Withdrawn,
+    /// Where the case and its steps stand.
+    Shown(Face),
     /// The request was denied, and nothing has changed.
     Denied(Denial),
+    /// The request could not be decided, since what it rests on changed so many times while it
+    /// was being decided, for the last time by the entry at this place; nothing has changed.
+    Again { rounds: u8, at: u32 },
     /// An allocation was refused, and nothing has changed.
     NoMemory,
     /// The line is no request, and nothing has changed.
     Bad(Bad),
 }
 
+/// What is to be seen of a case.
+#[derive(Clone, Copy)]
+pub struct Face {
+    pub flow: FlowId,
+    pub phase: Phase,
+    pub states: States,
+}
+
 /// Why a request was denied.
-#[derive(Clone, Copy, Debug, PartialEq, Eq)]
+#[derive(Clone, Drop)]
 pub enum Denial {
     /// The policy has no workflow of that name.
     NoFlow,
+    /// No case of the workflow is opened any more.
+    Retired,
     /// No more cases can be opened.
     Full,
-    /// The plan of the request is no valid plan.
-    Invalid,
+    /// The workflow has no valid plan, as the tree shows.
+    Unsatisfiable { flow: FlowId, tree: Tree },
     /// There is no case of that number.
     NoCase,
     /// The case is not open.
@@ -38,12 +60,18 @@ pub enum Denial {
     NoStep,
     /// The policy has no user of that name.
     NoUser,
-    /// The step has been taken by this user.
+    /// The step is held or finished by this user.
     Taken(UserId),
     /// This step of the workflow comes before and is not finished.
     Order { flow: FlowId, step: StepId },
-    /// The kept plan gives the step to this other user.
-    OffPlan(UserId),
-    /// The caller does not hold the step, which stands so.
+    /// The user is not authorised for the step; the roles that are, by ascending number.
+    Role(RoleList),
+    /// The claim would falsify the rule with this number.
+    Rule(u8),
+    /// The claim would leave the case without a valid plan, as the tree shows.
+    Stranded { flow: FlowId, tree: Tree },
+    /// The step is not held by the user, or by nobody at all; it stands so.
     NotHeld(StepState),
+    /// No user of that name holds the admin role.
+    NotAdmin,
 }

@@ -1,19 +1,12 @@
 //! What a caller asks.
 
-use crate::UserNames;
 use wf_names::{CaseId, Name};
 
 /// A request. The names in it may be unknown to the policy.
 #[derive(Clone, Copy, PartialEq, Eq)]
 pub enum Request {
-    /// To open a case of a workflow with a plan of the caller's own: the users in the order of
-    /// the steps.
-    OpenWith {
-        flow: Name,
-        plan: UserNames,
-    },
-    /// To open a case with a plan of more users than any workflow has steps.
-    OpenWithTooMany {
+    /// To open a case of a workflow.
+    OpenCase {
         flow: Name,
     },
     /// To perform a step of a case.
@@ -28,13 +21,44 @@ pub enum Request {
         step: Name,
         user: Name,
     },
+    /// To let go of a step that is held.
+    GiveBack {
+        case: CaseId,
+        step: Name,
+        user: Name,
+    },
+    /// An administrator takes a step from whoever holds it.
+    Release {
+        by: Name,
+        case: CaseId,
+        step: Name,
+    },
+    /// An administrator ends a case before its steps are finished.
+    Withdraw {
+        by: Name,
+        case: CaseId,
+    },
+    /// To see where a case and its steps stand.
+    Show {
+        case: CaseId,
+    },
 }
 
 /// Why a line is no request.
-#[derive(Clone, Copy, Debug, PartialEq, Eq)]
+#[derive(Clone, Copy, PartialEq, Eq)]
 pub enum Bad {
-    /// The line is not of the form of any request.
+    /// The line is no JSON.
     Syntax,
+    /// The line is no JSON object.
+    Object,
+    /// There is no word of a request at the key `do`.
+    Do,
+    /// The lane is no number of a lane.
+    Lane,
+    /// The value at this key is missing, or not of its form.
+    Key(Name),
+    /// There is a key that the request does not have.
+    Extra,
 }
 
 /// What a line asks.

@@ -1,70 +1,96 @@
-//! What no clause shows: that the lists take what they are given while there is memory.
+//! What no clause shows: that values are taken and copied while there is memory.
 
-use crate::{Ask, Bad, Ends, Entry, Job, Jobs, Journal, Line, Reply, Request, UserNames};
-use std::alloc::AllocError;
+use crate::{
+    Ask, Bad, Denial, Ends, Entry, Job, Jobs, Journal, Line, Reply, Request, RoleList, States,
+};
+use refutation_tree::Tree;
+use std::alloc::{AllocError, Global};
 use std::test::Fail;
-use wf_names::{CaseId, Name};
+use wf_names::{CaseId, FlowId, Name, RoleId, StepState, UserId};
 
 #[test]
 fn a_journal_with_room_takes_its_entries(rt: HostRuntime) -> Result<(), Fail> {
     let mut journal = Journal::new(rt.alloc());
-    write_two(&mut journal)?;
+    journal.reserve(2)?;
+    add_entry(&mut journal, roles(rt.alloc())?)?;
+    add_entry(&mut journal, stranded())?;
     assert!(rt; copies_the_entries(&journal)?);
     Ok(())
 }
 
-fn write_two(journal: &mut Journal) -> Result<(), AllocError> {
-    journal.reserve(2)?;
-    for at in 0..2 {
-        let entry = Entry {
-            at,
-            lane: 0,
-            line: 7 + at,
-            ask: Ask::Bad(Bad::Syntax),
-            reply: Reply::Finished { done: at == 1 },
-        };
-        journal.add(&entry)?;
-    }
-    Ok(())
+fn add_entry(journal: &mut Journal, reply: Reply) -> Result<(), AllocError> {
+    let at = journal.len() as u32;
+    let ask = Ask::Bad(Bad::Syntax);
+    journal.push(Entry {
+        at,
+        lane: 0,
+        line: 7,
+        ask,
+        reply,
+    })
+}
+
+fn roles(alloc: Global) -> Result<Reply, AllocError> {
+    let mut roles = RoleList::new(alloc);
+    roles.add(&RoleId(4))?;
+    Ok(Reply::Denied(Denial::Role(roles)))
+}
+
+fn stranded() -> Reply {
+    let tree = Tree::Rule(2);
+    Reply::Denied(Denial::Stranded {
+        flow: FlowId(3),
+        tree,
+    })
 }
 
 fn copies_the_entries(journal: &Journal) -> Result<bool, AllocError> {
-    let copy = journal.copy()?;
+    let copy = journal.copy_each()?;
     Ok(match copy.as_slice() {
-        [_, last] => last.at == 1 && last.line == 8 && last.reply == Reply::Finished { done: true },
+        [first, last] => has_roles(first) && has_tree(last),
         _ => false,
     })
+}
+
+fn has_roles(entry: &Entry) -> bool {
+    match &entry.reply {
+        Reply::Denied(Denial::Role(roles)) => roles.as_slice() == [RoleId(4)].as_slice(),
+        _ => false,
+    }
+}
+
+fn has_tree(entry: &Entry) -> bool {
+    match &entry.reply {
+        Reply::Denied(
+            Denial::Stranded {
+                flow,
+                tree: Tree::Rule(2),
+            },
+        ) => flow.0 == 3 && entry.at == 1,
+        _ => false,
+    }
 }
 
 #[test]
 fn jobs_keep_what_they_take(rt: HostRuntime) -> Result<(), Fail> {
     let mut jobs = Jobs::new(rt.alloc());
-    add_a_claim(&mut jobs)?;
-    assert!(rt; copies_the_claim(&jobs)?);
+    jobs.add(&claim_job()?)?;
+    let job = claim_job()?;
+    assert!(rt; matches!(jobs.copy()?.as_slice(), [only] if only.line == 5 && only.ask == job.ask));
     Ok(())
 }
 
-fn add_a_claim(jobs: &mut Jobs) -> Result<(), Fail> {
-    jobs.add(&Job {
-        lane: 0,
-        line: 5,
-        ask: Ask::Request(claim()?),
-    })?;
-    Ok(())
-}
-
-fn claim() -> Result<Request, Fail> {
-    Ok(Request::Claim {
+fn claim_job() -> Result<Job, Fail> {
+    let claim = Request::Claim {
         case: CaseId(3),
         step: read("prepare")?,
         user: read("ann")?,
+    };
+    Ok(Job {
+        lane: 0,
+        line: 5,
+        ask: Ask::Request(claim),
     })
-}
-
-fn copies_the_claim(jobs: &Jobs) -> Result<bool, Fail> {
-    let copy = jobs.copy()?;
-    let claim = claim()?;
-    Ok(matches!(copy.as_slice(), [job] if job.line == 5 && job.ask == Ask::Request(claim)))
 }
 
 #[test]
@@ -79,12 +105,10 @@ fn ends_and_lines_keep_what_they_take(rt: HostRuntime) -> Result<(), Fail> {
 }
 
 #[test]
-fn plans_of_requests_are_told_apart(rt: HostRuntime) -> Result<(), Fail> {
-    let (ann, cyd) = (read("ann")?, read("cyd")?);
-    let plan = UserNames::of(&[ann, cyd]);
-    assert!(rt; plan.len() == 2 && plan == UserNames::of(&[ann, cyd]));
-    assert!(rt; plan != UserNames::of(&[ann]) && plan != UserNames::of(&[cyd, ann]));
-    Ok(())
+fn states_keep_what_they_are_of(rt: HostRuntime) {
+    let given = [StepState::Free, StepState::Held(UserId(7))];
+    let states = States::of(given.as_slice());
+    assert!(rt; states.len() == 2 && states.as_slice() == given.as_slice());
 }
 
 fn read(text: &str) -> Result<Name, Fail> {
