@@ -1,6 +1,7 @@
 //! Where the steps of a case stand, as a short list.
-ghost use Rattle.std.specs.Prelude.{◌≡◌, ◌≤◌, length};
+ghost use Rattle.std.specs.Prelude.{◌≡◌, ◌≤◌, length, replicate};
 ghost use Rattle.wf_names.specs.declared.limits.TheConstants.{STEP_LIMIT};
+ghost use Rattle.wf_names.specs.declared.states.StepState.TheVariants.{Free};
 
 use std::marker::Model;
 use wf_names::{STEP_LIMIT, StepState};
@@ -36,7 +37,7 @@ impl States {
         requires { length states.now ≤ STEP_LIMIT }
         ensures { result ≡ states.now }
     {
-        let mut cells = [StepState::Free; STEP_LIMIT];
+        let mut cells = free_steps();
         let len = states.len();
         cells[..len].copy_from_slice(states);
         States {
@@ -60,4 +61,10 @@ impl States {
     {
         &self.cells[..self.len as usize]
     }
+}
+
+fn free_steps() -> [StepState; STEP_LIMIT]
+    ensures { result ≡ replicate STEP_LIMIT Free }
+{
+    [StepState::Free; STEP_LIMIT]
 }
