@@ -1,9 +1,11 @@
 pub mod States
-pub mod Answers
+pub mod Resolved
+pub mod Decisions
+pub mod Refusals
 pub mod Steps
-pub mod Kept
+pub mod Counting
 pub mod Histories
+pub mod Kept
 pub mod Boards
-pub mod HistoryLaws
+pub mod Verdicts
 pub mod Laws
-pub mod Named
