@@ -1,11 +1,12 @@
 //! The board: a policy and its cases.
 ghost use Rattle.std.specs.Prelude.{◌≡◌, ◌≤◌, ◌+◌, true, IfOk, OnErr, OnOk};
+ghost use Rattle.std.proofs.Common.{◌⊎◌};
 ghost use Rattle.wf_board.specs.Boards.{state_on};
-ghost use Rattle.wf_board.specs.Decisions.{decision_of, needs_verdict};
+ghost use Rattle.wf_board.specs.Decisions.{decision_of, needs_verdict, takes_memory};
 ghost use Rattle.wf_board.specs.Kept.{AreNumbered, ArePlanned, IsSoundState, KeepsCompletable};
 ghost use Rattle.wf_board.specs.States.{opening_state};
 ghost use Rattle.wf_board.specs.Steps.{IsStep, state_after_step};
-ghost use Rattle.wf_board.specs.Verdicts.{HasAnswered, HasUsed, IsRight, MayLackMemory, snap_of, takes_memory};
+ghost use Rattle.wf_board.specs.Verdicts.{HasAnswered, HasUsed, IsRight, MayLackMemory, snap_of};
 
 use crate::{Answered, Decider, Snap, Verdict};
 use grant_table::Cases;
