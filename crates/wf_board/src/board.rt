@@ -27,10 +27,14 @@ pub struct Board {
 
 impl Model for Board {
     ghost use Rattle.std.specs.Arc.{arc_value};
+    ghost use Rattle.std.specs.Coded.{codes};
+    ghost use Rattle.policy_book.specs.Shapes.{policy_code};
     ghost use Rattle.wf_board.specs.Boards.{BoardShape};
     ghost use Rattle.wf_board.specs.Kept.{AreNumbered, ArePlanned};
 
     ghost Value = { BoardShape };
+
+    ghost coded = { Prim.hlevel (codes, policy_code) };
 
     ghost view = { λ b. record { policy = arc_value b.policy; cases = b.cases; edits = b.edits } };
 
