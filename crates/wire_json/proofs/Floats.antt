@@ -12,7 +12,7 @@ use Rattle.wf_talk.specs.declared.reply.Denial.{Denial}
 use Rattle.wf_talk.specs.declared.reply.Denial.TheVariants as denial
 use Rattle.wf_talk.specs.declared.request.Bad.TheVariants as bad
 use Rattle.policy_book.specs.Shapes.{PolicyShape}
-use Rattle.refutation_tree.specs.Shapes.{Shape, Kids, holder, rule, node, no_kids, tree_kid}
+use Rattle.refutation_tree.specs.Shapes.{Shape, Kids, holder, rule, node, no_kids, tree_kid, twin_kid}
 use Rattle.wire_json.specs.Entries.{named, state_data, denial_data, reply_data, entry_data}
 use Rattle.wire_json.specs.Trees.{tree_data, branches_data}
 use Rattle.wire_json.specs.Findings.{plan_found, tree_found}
@@ -62,6 +62,7 @@ mutual
   branches_without_float : (p : PolicyShape) (f : ℕ) (kids : Kids) → items_have_float (items_of (branches_data p f kids)) ≡ false
   branches_without_float p f no_kids = refl
   branches_without_float p f (tree_kid u t kids) = rw (shape_without_float p f t, branches_without_float p f kids) refl
+  branches_without_float p f (twin_kid u v kids) = rw (branches_without_float p f kids) refl
 
 pub tree_without_float : (p : PolicyShape) (f : ℕ) (t : Shape) → has_float (tree_found p f t) ≡ false
 tree_without_float p f t = rw (shape_without_float p f t) refl
