@@ -9,3 +9,4 @@ pub mod Kept
 pub mod Boards
 pub mod Verdicts
 pub mod Laws
+pub mod HistoryLaws
