@@ -47,3 +47,9 @@ first_cause p c s u = first_of
     ∷ unless (is_authorised p c.flow s u) (Role (permitted_roles p c.flow s))
     ∷ option_map denial.Rule (first_falsified (problem_of p c.flow).related (user_at (assigned_with c s u)) 0 (flow_at p c.flow).rules)
     ∷ [])
+
+-- a cause that takes memory: it has a list of roles
+abbrev pub takes_memory : Option Denial → Bool
+takes_memory None = false
+takes_memory (Some (Role roles)) = true
+takes_memory (Some d) = false

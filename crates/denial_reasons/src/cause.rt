@@ -1,7 +1,7 @@
 //! The first cause of a denied claim.
-ghost use Rattle.std.specs.Prelude.{◌≡◌, ◌<◌, length, IfOk};
+ghost use Rattle.std.specs.Prelude.{◌≡◌, ◌<◌, true, length, IfOk, OnErr};
 ghost use Rattle.policy_book.specs.Policies.{flow_at};
-ghost use Rattle.denial_reasons.specs.Causes.{first_cause};
+ghost use Rattle.denial_reasons.specs.Causes.{first_cause, takes_memory};
 
 use case_record::Case;
 use policy_book::Policy;
@@ -22,7 +22,8 @@ pub fn first_cause(
     requires steps { length c.now.states ≡ length (flow_at p.now c.now.flow).flow.steps }
     requires step { s < length c.now.states }
     requires user { u < length p.now.roster.users }
-    ensures { IfOk result (λ cause. cause ≡ first_cause p.now c.now s u) }
+    ensures cause { IfOk result (λ cause. cause ≡ first_cause p.now c.now s u) }
+    ensures memory { OnErr result (takes_memory (first_cause p.now c.now s u) ≡ true) }
 {
     Ok(None)
 }
