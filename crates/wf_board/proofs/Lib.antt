@@ -3,3 +3,4 @@ pub mod Told
 pub mod Valid
 pub mod Keeping
 pub mod Exact
+pub mod Within

@@ -20,7 +20,7 @@ use Rattle.wf_board.specs.Histories.{IsLegal, state_after}
 use Rattle.wf_board.specs.declared.verdict.Verdict.{Verdict}
 use Rattle.wf_board.specs.Boards.{BoardShape, book_on, state_on}
 use Rattle.wf_board.specs.Verdicts.{IsRight, snap_of}
-use Rattle.wf_board.specs.Kept.{IsOfPolicy, IsSoundState, KeepsCompletable}
+use Rattle.wf_board.specs.Kept.{IsSoundState, KeepsCompletable}
 
 -- every step keeps each open case completable
 abbrev pub StepsKeepCompletable : Type 0
@@ -45,7 +45,7 @@ ClaimsAreExact =
 -- when a held step is finished or given back, a valid plan stays valid
 abbrev pub PlansStayValid : Type 0
 PlansStayValid =
-    (p : PolicyShape) (c : CaseShape) (t u : ℕ) (plan : List ℕ) → IsOfPolicy p c → state_at c t ≡ Held u →
+    (p : PolicyShape) (c : CaseShape) (t u : ℕ) (plan : List ℕ) → state_at c t ≡ Held u →
     IsValidPlan (problem_of p c.flow) (assigned_of c) (finished_of c) plan →
     IsValidPlan (problem_of p c.flow) (assigned_of (finished_case c t)) (finished_of (finished_case c t)) plan
     × IsValidPlan (problem_of p c.flow) (assigned_of (with_state c t Free)) (finished_of (with_state c t Free)) plan
