@@ -1,5 +1,6 @@
 pub mod Values
 pub mod Requests
+pub mod RequestLaws
 pub mod Words
 pub mod Entries
 pub mod Trees
