@@ -47,3 +47,8 @@ first_cause p c s u = first_of
     ∷ unless (is_authorised p c.flow s u) (Role (permitted_roles p c.flow s))
     ∷ option_map denial.Rule (first_falsified (problem_of p c.flow).related (user_at (assigned_with c s u)) 0 (flow_at p c.flow).rules)
     ∷ [])
+
+-- a cause that has a list
+abbrev pub lists_roles : Option Denial → Bool
+lists_roles (Some (Role roles)) = true
+lists_roles cause = false
