@@ -48,7 +48,8 @@ first_cause p c s u = first_of
     ∷ option_map denial.Rule (first_falsified (problem_of p c.flow).related (user_at (assigned_with c s u)) 0 (flow_at p c.flow).rules)
     ∷ [])
 
--- a cause that has a list
-abbrev pub lists_roles : Option Denial → Bool
-lists_roles (Some (Role roles)) = true
-lists_roles cause = false
+-- a cause that takes memory: it has a list of roles
+abbrev pub takes_memory : Option Denial → Bool
+takes_memory None = false
+takes_memory (Some (Role roles)) = true
+takes_memory (Some d) = false

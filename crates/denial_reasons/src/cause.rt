@@ -2,7 +2,7 @@
 ghost use Rattle.std.specs.Prelude.{◌≡◌, ◌<◌, true, length, IfOk, OnErr};
 ghost use Rattle.constraint_forms.specs.Assigned.{user_at};
 ghost use Rattle.policy_book.specs.Policies.{flow_at, problem_of};
-ghost use Rattle.denial_reasons.specs.Causes.{assigned_with, first_cause, first_falsified, lists_roles, permitted_roles};
+ghost use Rattle.denial_reasons.specs.Causes.{assigned_with, first_cause, first_falsified, permitted_roles, takes_memory};
 
 use case_record::Case;
 use constraint_forms::{Assign, falsified};
@@ -25,7 +25,7 @@ pub fn first_cause(
     requires step { s < length c.now.states }
     requires user { u < length p.now.roster.users }
     ensures cause { IfOk result (λ cause. cause ≡ first_cause p.now c.now s u) }
-    ensures memory { OnErr result (lists_roles (first_cause p.now c.now s u) ≡ true) }
+    ensures memory { OnErr result (takes_memory (first_cause p.now c.now s u) ≡ true) }
 {
     let f = c.flow();
     if let Some(user) = c.state(s).user() {

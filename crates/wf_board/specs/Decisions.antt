@@ -8,7 +8,7 @@ use Rattle.policy_book.specs.Policies.{flow_at}
 use Rattle.case_record.specs.Cases.{state_at}
 use Rattle.wf_talk.specs.declared.request.Ask.{Ask}
 use Rattle.wf_talk.specs.declared.reply.Denial.{Denial}
-use Rattle.wf_talk.specs.declared.reply.Denial.TheVariants.{Retired, Full, NotHeld}
+use Rattle.wf_talk.specs.declared.reply.Denial.TheVariants.{Retired, Full, NotHeld, Role}
 use Rattle.denial_reasons.specs.Causes.{first_cause, unless}
 use Rattle.wf_board.specs.declared.deed.Deed.{Deed}
 use Rattle.wf_board.specs.declared.deed.Deed.TheVariants as deed
@@ -62,3 +62,8 @@ needs_plan given = false
 abbrev pub needs_verdict : Result Deed Denial → Bool
 needs_verdict (Ok given) = needs_plan given
 needs_verdict (Err d) = false
+
+-- a denial that takes memory
+abbrev pub takes_memory : Result Deed Denial → Bool
+takes_memory (Err (Role roles)) = true
+takes_memory given = false

@@ -25,7 +25,7 @@ EachAfter P earlier (e ∷ es) = P earlier e × EachAfter P (earlier ++ e ∷ []
 -- completed is left to decide, n entries that count for it stand behind the lane's last one, and the last that counts
 -- stands at this place
 pub record MayRetry (s : State) (earlier : List Entry) (rounds lane : ℕ) (what : Ask) (n place : ℕ) : Type 0 where
-  pub open : needs_verdict (decision_of (state_after s earlier).book what) ≡ true
+  pub undecided : needs_verdict (decision_of (state_after s earlier).book what) ≡ true
   pub positive : 1 ≤ rounds
   pub all : n ≡ rounds
   pub enough : rounds ≤ counted what (drop (lane_end lane earlier) earlier)

@@ -6,6 +6,7 @@ pub mod Steps
 pub mod Counting
 pub mod Histories
 pub mod Kept
+pub mod Found
 pub mod Boards
 pub mod Verdicts
 pub mod Laws

@@ -26,7 +26,7 @@ use Rattle.wf_board.specs.declared.verdict.Answered.{Answered}
 use Rattle.wf_board.specs.declared.verdict.Answered.TheVariants.{Done, Needs}
 use Rattle.wf_board.specs.States.{Book, State}
 use Rattle.wf_board.specs.Boards.{BoardShape, SnapShape, book_of, state_on}
-use Rattle.wf_board.specs.Decisions.{decision_aside, decision_of, needs_verdict}
+use Rattle.wf_board.specs.Decisions.{decision_aside, decision_of, needs_verdict, takes_memory}
 use Rattle.wf_board.specs.Steps.{IsStep, state_after_step}
 
 -- a plan by which the case of a deed can be completed
@@ -68,11 +68,6 @@ IsMadeOf v given = ⊥
 abbrev pub HasUsed : Verdict → Answered → Type 0
 HasUsed v Needs = v ≡ verdict.Nothing
 HasUsed v (Done given) = IsMadeOf v given
-
--- a denial that takes memory
-abbrev pub takes_memory : Result Deed Denial → Bool
-takes_memory (Err (denial.Role roles)) = true
-takes_memory given = false
 
 -- an opening, where nothing stands against it
 abbrev pub is_opening : Result Deed Denial → Bool

@@ -1,11 +1,12 @@
 //! The board: a policy and its cases.
 ghost use Rattle.std.specs.Prelude.{◌≡◌, ◌≤◌, ◌+◌, true, IfOk, OnErr, OnOk};
+ghost use Rattle.std.proofs.Common.{◌⊎◌};
 ghost use Rattle.wf_board.specs.Boards.{state_on};
-ghost use Rattle.wf_board.specs.Decisions.{decision_of, needs_verdict};
+ghost use Rattle.wf_board.specs.Decisions.{decision_of, needs_verdict, takes_memory};
 ghost use Rattle.wf_board.specs.Kept.{AreNumbered, ArePlanned, IsSoundState, KeepsCompletable};
 ghost use Rattle.wf_board.specs.States.{opening_state};
 ghost use Rattle.wf_board.specs.Steps.{IsStep, state_after_step};
-ghost use Rattle.wf_board.specs.Verdicts.{HasAnswered, HasUsed, IsRight, MayLackMemory, snap_of, takes_memory};
+ghost use Rattle.wf_board.specs.Verdicts.{HasAnswered, HasUsed, IsRight, MayLackMemory, snap_of};
 
 use crate::{Answered, Decider, Snap, Verdict};
 use grant_table::Cases;
@@ -26,10 +27,14 @@ pub struct Board {
 
 impl Model for Board {
     ghost use Rattle.std.specs.Arc.{arc_value};
+    ghost use Rattle.std.specs.Coded.{codes};
+    ghost use Rattle.policy_book.specs.Shapes.{policy_code};
     ghost use Rattle.wf_board.specs.Boards.{BoardShape};
     ghost use Rattle.wf_board.specs.Kept.{AreNumbered, ArePlanned};
 
     ghost Value = { BoardShape };
+
+    ghost coded = { Prim.hlevel (codes, policy_code) };
 
     ghost view = { λ b. record { policy = arc_value b.policy; cases = b.cases; edits = b.edits } };
 

@@ -1,9 +1,10 @@
 //! What a line asks, or the first cause against it.
-ghost use Rattle.std.specs.Prelude.{◌≡◌};
+ghost use Rattle.std.specs.Prelude.{◌≡◌, true, IfErr, IfOk};
 ghost use Rattle.first_fault.specs.Reading.{Gives};
 ghost use Rattle.wf_board.specs.Boards.{book_of};
 ghost use Rattle.wf_board.specs.Kept.{ArePlanned};
-ghost use Rattle.wf_board.specs.Decisions.{decision_aside};
+ghost use Rattle.wf_board.specs.Found.{IsFound};
+ghost use Rattle.wf_board.specs.Decisions.{decision_aside, takes_memory};
 ghost use Rattle.wf_board.specs.Refusals.{denial_in};
 
 use crate::Deed;
@@ -36,7 +37,10 @@ pub fn decision_aside(
     ask: &Ask,
 ) -> Result<Deed, Refused>
     requires { ArePlanned p.now cases.now.rows }
-    ensures { Gives denial_in (λ deed. deed) result (decision_aside (book_of p.now cases.now) ask.now) }
+    ensures decision { Gives denial_in (λ deed. deed) result (decision_aside (book_of p.now cases.now) ask.now) }
+    ensures found { IfOk result (IsFound p.now cases.now.rows) }
+    ensures memory { IfErr result (λ e. e ≡ Refused.NoMemory
+        → takes_memory (decision_aside (book_of p.now cases.now) ask.now) ≡ true) }
 {
     Err(Refused::NoMemory)
 }

@@ -17,10 +17,14 @@ pub struct Snap {
 
 impl Model for Snap {
     ghost use Rattle.std.specs.Arc.{arc_value};
+    ghost use Rattle.std.specs.Coded.{codes};
+    ghost use Rattle.policy_book.specs.Shapes.{policy_code};
     ghost use Rattle.wf_board.specs.Boards.{SnapShape};
     ghost use Rattle.wf_board.specs.Kept.{ArePlanned};
 
     ghost Value = { SnapShape };
+
+    ghost coded = { Prim.hlevel (codes, policy_code) };
 
     ghost view = { λ s. record { policy = arc_value s.policy; cases = s.cases } };
 

@@ -1,5 +1,0 @@
-pub mod Rows
-pub mod Valid
-pub mod Told
-pub mod Keeping
-pub mod Sessions
