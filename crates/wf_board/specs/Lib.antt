@@ -10,3 +10,4 @@ pub mod Found
 pub mod Boards
 pub mod Verdicts
 pub mod Laws
+pub mod Taking
