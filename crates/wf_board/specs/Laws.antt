@@ -34,11 +34,11 @@ HistoriesKeepCompletable =
     (p : PolicyShape) (rounds : ℕ) (entries : List Entry) → IsSoundPolicy p → IsLegal (opening_state p) rounds entries →
     (n : ℕ) → KeepsCompletable (state_after (opening_state p) (take n entries))
 
--- a claim against which there is no cause and for which there is memory is granted exactly where its case can then be
--- completed
+-- in a state of one policy, a claim against which there is no cause and for which there is memory is granted exactly
+-- where its case can then be completed
 abbrev pub ClaimsAreExact : Type 0
 ClaimsAreExact =
-    (s : State) (what : Ask) (given : Reply) (n : ℕ) (c : CaseShape) (t u : ℕ) →
+    (s : State) (what : Ask) (given : Reply) (n : ℕ) (c : CaseShape) (t u : ℕ) → IsSoundState s →
     decision_of s.book what ≡ Ok (deed.Claim n c t u) → IsStep s what given → ¬ (given ≡ reply.NoMemory) →
     ((plan : List ℕ) × (given ≡ reply.Granted plan)) ↔ IsCompletable (problem_of s.book.policy c.flow) (assigned_with c t u) (finished_of c)
 

@@ -11,3 +11,4 @@ pub mod Boards
 pub mod Verdicts
 pub mod Laws
 pub mod Taking
+pub mod HistoryLaws

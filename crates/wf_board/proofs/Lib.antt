@@ -1,0 +1,5 @@
+pub mod Snaps
+pub mod Told
+pub mod Valid
+pub mod Keeping
+pub mod Exact
