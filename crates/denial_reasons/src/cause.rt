@@ -1,8 +1,8 @@
 //! The first cause of a denied claim.
-ghost use Rattle.std.specs.Prelude.{◌≡◌, ◌<◌, length, IfOk};
+ghost use Rattle.std.specs.Prelude.{◌≡◌, ◌<◌, true, length, IfOk, OnErr};
 ghost use Rattle.constraint_forms.specs.Assigned.{user_at};
 ghost use Rattle.policy_book.specs.Policies.{flow_at, problem_of};
-ghost use Rattle.denial_reasons.specs.Causes.{assigned_with, first_cause, first_falsified, permitted_roles};
+ghost use Rattle.denial_reasons.specs.Causes.{assigned_with, first_cause, first_falsified, permitted_roles, takes_memory};
 
 use case_record::Case;
 use constraint_forms::{Assign, falsified};
@@ -24,7 +24,8 @@ pub fn first_cause(
     requires steps { length c.now.states ≡ length (flow_at p.now c.now.flow).flow.steps }
     requires step { s < length c.now.states }
     requires user { u < length p.now.roster.users }
-    ensures { IfOk result (λ cause. cause ≡ first_cause p.now c.now s u) }
+    ensures cause { IfOk result (λ cause. cause ≡ first_cause p.now c.now s u) }
+    ensures memory { OnErr result (takes_memory (first_cause p.now c.now s u) ≡ true) }
 {
     let f = c.flow();
     if let Some(user) = c.state(s).user() {
