@@ -20,7 +20,7 @@ use Rattle.wf_board.specs.Histories.{IsLegal, state_after}
 use Rattle.wf_board.specs.declared.verdict.Verdict.{Verdict}
 use Rattle.wf_board.specs.Boards.{BoardShape, book_on, state_on}
 use Rattle.wf_board.specs.Verdicts.{IsRight, snap_of}
-use Rattle.wf_board.specs.Kept.{IsOfPolicy, IsSoundState, KeepsCompletable}
+use Rattle.wf_board.specs.Kept.{IsSoundState, KeepsCompletable}
 
 -- every step keeps each open case completable
 abbrev pub StepsKeepCompletable : Type 0
@@ -34,18 +34,18 @@ HistoriesKeepCompletable =
     (p : PolicyShape) (rounds : ℕ) (entries : List Entry) → IsSoundPolicy p → IsLegal (opening_state p) rounds entries →
     (n : ℕ) → KeepsCompletable (state_after (opening_state p) (take n entries))
 
--- a claim against which there is no cause and for which there is memory is granted exactly where its case can then be
--- completed
+-- in a state of one policy, a claim against which there is no cause and for which there is memory is granted exactly
+-- where its case can then be completed
 abbrev pub ClaimsAreExact : Type 0
 ClaimsAreExact =
-    (s : State) (what : Ask) (given : Reply) (n : ℕ) (c : CaseShape) (t u : ℕ) →
+    (s : State) (what : Ask) (given : Reply) (n : ℕ) (c : CaseShape) (t u : ℕ) → IsSoundState s →
     decision_of s.book what ≡ Ok (deed.Claim n c t u) → IsStep s what given → ¬ (given ≡ reply.NoMemory) →
     ((plan : List ℕ) × (given ≡ reply.Granted plan)) ↔ IsCompletable (problem_of s.book.policy c.flow) (assigned_with c t u) (finished_of c)
 
 -- when a held step is finished or given back, a valid plan stays valid
 abbrev pub PlansStayValid : Type 0
 PlansStayValid =
-    (p : PolicyShape) (c : CaseShape) (t u : ℕ) (plan : List ℕ) → IsOfPolicy p c → state_at c t ≡ Held u →
+    (p : PolicyShape) (c : CaseShape) (t u : ℕ) (plan : List ℕ) → state_at c t ≡ Held u →
     IsValidPlan (problem_of p c.flow) (assigned_of c) (finished_of c) plan →
     IsValidPlan (problem_of p c.flow) (assigned_of (finished_case c t)) (finished_of (finished_case c t)) plan
     × IsValidPlan (problem_of p c.flow) (assigned_of (with_state c t Free)) (finished_of (with_state c t Free)) plan

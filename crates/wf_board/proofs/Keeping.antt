@@ -1,0 +1,226 @@
+-- What every step of a session keeps.
+use Rattle.std.proofs.Common.{◌≡◌, ℕ, zero, suc, ◌<◌, ◌⊎◌, inl, inr, Bool, true, false, nat_eq, List, [], ◌∷◌, ◌++◌, length, take, None, Some, Result, Ok, Err, if◌then◌else◌, refl, sym, ap, subst, ◌∙◌}
+use Rattle.std.specs.Option.{option_map}
+use Rattle.std.proofs.lemmas.List.{length-replicate, length-set}
+use Rattle.wf_names.specs.States.{is_held}
+use Rattle.wf_names.specs.declared.states.StepState.TheVariants.{Free, Held}
+use Rattle.wf_names.specs.declared.states.Phase.TheVariants.{Withdrawn}
+use Rattle.constraint_forms.specs.Assigned.{no_steps, no_users}
+use Rattle.policy_book.specs.Shapes.{PolicyShape}
+use Rattle.policy_book.specs.Facts.{IsSoundPolicy}
+use Rattle.policy_book.specs.Policies.{flow_at, problem_of}
+use Rattle.policy_book.specs.Plans.{IsCompletable, IsValidPlan}
+use Rattle.case_record.specs.Cases.{CaseShape, as_finished, assigned_of, finished_case, finished_of, fresh_case, is_open, state_at, with_phase, with_state}
+use Rattle.grant_table.specs.Lookup.{look_up}
+use Rattle.wf_talk.specs.declared.entry.Entry.{Entry}
+use Rattle.wf_talk.specs.declared.request.Ask.{Ask}
+use Rattle.wf_talk.specs.declared.reply.Reply.{Reply}
+use Rattle.wf_talk.specs.declared.reply.Reply.TheVariants as reply
+use Rattle.wf_talk.specs.declared.reply.Denial.{Denial}
+use Rattle.wf_board.specs.declared.deed.Deed.{Deed}
+use Rattle.wf_board.specs.declared.deed.Deed.TheVariants as deed
+use Rattle.wf_board.specs.States.{Numbered, State, case_at, opening_state, with_case_changed}
+use Rattle.wf_board.specs.Decisions.{decision_of}
+use Rattle.wf_board.specs.Steps.{Answers, IsReplyTo, IsStep, state_after_decision, state_after_deed, state_after_step, with_changed, with_opened}
+use Rattle.wf_board.specs.Histories.{EachAfter, IsRetry, IsRightAfter, state_after}
+use Rattle.wf_board.specs.HistoryLaws.{after_more}
+use Rattle.wf_board.specs.Kept.{IsOfPolicy, IsSoundState, KeepsCompletable}
+use Rattle.wf_board.specs.Laws.{HistoriesKeepCompletable, PlansStayValid, StepsKeepCompletable}
+use Rattle.wf_board.proofs.Told.{HasStep, HoldsOf, IsTold, claim_free, held_by, told}
+use Rattle.wf_board.proofs.Valid.{valid_claimed, valid_finished, valid_freed, valid_fresh}
+
+-- P holds of each case that is found
+abbrev AllCases : (CaseShape → Type 0) → List Numbered → Type 0
+AllCases P cases = (n : ℕ) (c : CaseShape) → case_at cases n ≡ Some c → P c
+
+same_case : (c d : CaseShape) → Some c ≡ Some d → c ≡ d
+same_case c d h = cc
+
+-- the case at a number after a change: the one that was changed, or one from before
+record IsChanged (n : ℕ) (change : CaseShape → CaseShape) (cases : List Numbered) (d : CaseShape) : Type 0 where
+  before : CaseShape
+  found : case_at cases n ≡ Some before
+  changed : d ≡ change before
+
+read_changed : (m n : ℕ) (change : CaseShape → CaseShape) (cases : List Numbered) (d : CaseShape) → case_at (with_case_changed n change cases) m ≡ Some d →
+    IsChanged n change cases d ⊎ (case_at cases m ≡ Some d)
+read_changed m n change [] d h = inr h
+read_changed m n change (x ∷ xs) d h = at_first (nat_eq x.number n) (nat_eq x.number m) refl refl h (read_changed m n change xs d)
+  where
+    at_first : (b e : Bool) → nat_eq x.number n ≡ b → nat_eq x.number m ≡ e →
+        case_at (if b then record x { case = change x.case } ∷ xs else x ∷ with_case_changed n change xs) m ≡ Some d →
+        (case_at (with_case_changed n change xs) m ≡ Some d → IsChanged n change xs d ⊎ (case_at xs m ≡ Some d)) →
+        IsChanged n change (x ∷ xs) d ⊎ (case_at (x ∷ xs) m ≡ Some d)
+    at_first true true here there found rest = inl record { before = x.case; found = rw here refl; changed = sym (same_case _ _ (rw there at found)) }
+    at_first true false here there found rest = inr (rw there (rw there at found))
+    at_first false true here there found rest = inr (rw there (rw there at found))
+    at_first false false here there found rest = lifted here there (rest (rw there at found))
+      where
+        lifted : nat_eq x.number n ≡ false → nat_eq x.number m ≡ false → IsChanged n change xs d ⊎ (case_at xs m ≡ Some d) → IsChanged n change (x ∷ xs) d ⊎ (case_at (x ∷ xs) m ≡ Some d)
+        lifted no_n no_m (inl is) = inl record { before = is.before; found = rw no_n is.found; changed = is.changed }
+        lifted no_n no_m (inr is) = inr (rw no_m is)
+
+all_changed : (P : CaseShape → Type 0) (n : ℕ) (change : CaseShape → CaseShape) (cases : List Numbered) → AllCases P cases →
+    ((c : CaseShape) → case_at cases n ≡ Some c → P c → P (change c)) → AllCases P (with_case_changed n change cases)
+all_changed P n change cases all kept m d h = by_read (read_changed m n change cases d h)
+  where
+    by_read : IsChanged n change cases d ⊎ (case_at cases m ≡ Some d) → P d
+    by_read (inl is) = subst P (sym is.changed) (kept is.before is.found (all n is.before is.found))
+    by_read (inr is) = all m d is
+
+read_added : (m : ℕ) (cases : List Numbered) (new : Numbered) (d : CaseShape) → case_at (cases ++ new ∷ []) m ≡ Some d → (d ≡ new.case) ⊎ (case_at cases m ≡ Some d)
+read_added m [] new d h = at_new (nat_eq new.number m) h
+  where
+    at_new : (b : Bool) → option_map (λ (e : Numbered). e.case) (if b then Some new else None) ≡ Some d → (d ≡ new.case) ⊎ (case_at [] m ≡ Some d)
+    at_new true found = inl (sym (same_case _ _ found))
+    at_new false found = inr found
+read_added m (x ∷ xs) new d h = at_first (nat_eq x.number m) h (read_added m xs new d)
+  where
+    at_first : (b : Bool) → option_map (λ (e : Numbered). e.case) (if b then Some x else look_up (λ (e : Numbered). e.number) m (xs ++ new ∷ [])) ≡ Some d →
+        (case_at (xs ++ new ∷ []) m ≡ Some d → (d ≡ new.case) ⊎ (case_at xs m ≡ Some d)) →
+        (d ≡ new.case) ⊎ (option_map (λ (e : Numbered). e.case) (if b then Some x else look_up (λ (e : Numbered). e.number) m xs) ≡ Some d)
+    at_first true found rest = inr found
+    at_first false found rest = rest found
+
+all_added : (P : CaseShape → Type 0) (cases : List Numbered) (new : Numbered) → AllCases P cases → P new.case → AllCases P (cases ++ new ∷ [])
+all_added P cases new all last m d h = by_read (read_added m cases new d h)
+  where
+    by_read : (d ≡ new.case) ⊎ (case_at cases m ≡ Some d) → P d
+    by_read (inl is) = subst P (sym is) last
+    by_read (inr is) = all m d is
+
+-- ---- one step
+
+-- a case can be completed, if it is open
+abbrev MayEnd : PolicyShape → CaseShape → Type 0
+MayEnd p c = is_open c ≡ true → IsCompletable (problem_of p c.flow) (assigned_of c) (finished_of c)
+
+-- what is kept of each case
+abbrev IsKept : PolicyShape → CaseShape → Type 0
+IsKept p c = IsOfPolicy p c × MayEnd p c
+
+-- what is kept of a state
+abbrev Keeps : State → Type 0
+Keeps s = IsSoundState s × KeepsCompletable s
+
+-- a case that keeps its workflow and its number of steps is of the policy
+of_policy_still : (p : PolicyShape) (c : CaseShape) (d : CaseShape) → d.flow ≡ c.flow → length d.states ≡ length c.states → IsOfPolicy p c → IsOfPolicy p d
+of_policy_still p c d flow steps known = record {
+  flow = subst (λ f. f < length p.flows) (sym flow) known.flow;
+  steps = steps ∙ known.steps ∙ ap (λ f. length (flow_at p f).flow.steps) (sym flow);
+}
+
+changed_keeps : (s : State) (n : ℕ) (change : CaseShape → CaseShape) → Keeps s → ((c : CaseShape) → case_at s.book.cases n ≡ Some c → IsKept s.book.policy c → IsKept s.book.policy (change c)) →
+    Keeps (with_changed s n change)
+changed_keeps s n change keeps kept =
+    let all = all_changed (IsKept s.book.policy) n change s.book.cases (λ m c found. (keeps.0.cases m c found, keeps.1 m c found)) kept in
+    (record { policy = keeps.0.policy; cases = λ m c found. (all m c found).0 }, λ m c found. (all m c found).1)
+
+-- the change of the one case that a deed names
+named_keeps : (s : State) (n : ℕ) (c : CaseShape) (t : ℕ) (change : CaseShape → CaseShape) → Keeps s → HasStep s.book n c t →
+    (IsOfPolicy s.book.policy c → t < length c.states → IsCompletable (problem_of s.book.policy c.flow) (assigned_of c) (finished_of c) → IsKept s.book.policy (change c)) →
+    Keeps (with_changed s n change)
+named_keeps s n c t change keeps there kept = changed_keeps s n change keeps
+    (λ d found is. subst (λ (x : CaseShape). IsKept s.book.policy (change x)) (same_case c d (sym there.case.found ∙ found)) known)
+  where
+    known : IsKept s.book.policy (change c)
+    known =
+        let of_policy = keeps.0.cases n c there.case.found in
+        kept of_policy (subst (λ k. t < k) (sym of_policy.steps) there.step) (keeps.1 n c there.case.found there.case.live)
+
+opened_keeps : (s : State) (f : ℕ) (plan : List ℕ) → Keeps s → f < length s.book.policy.flow_names → IsValidPlan (problem_of s.book.policy f) no_users no_steps plan → Keeps (with_opened s f)
+opened_keeps s f plan keeps known valid =
+    let steps = length (flow_at s.book.policy f).flow.steps in
+    let new : Numbered = record { number = s.book.ever; case = fresh_case f steps } in
+    let all = all_added (IsKept s.book.policy) s.book.cases new (λ m c found. (keeps.0.cases m c found, keeps.1 m c found))
+    (record { flow = subst (λ k. f < k) keeps.0.policy.named known; steps = length-replicate steps Free }, λ live. (plan, valid_fresh (problem_of s.book.policy f) f steps plan valid)) in
+    (record { policy = keeps.0.policy; cases = λ m c found. (all m c found).0 }, λ m c found. (all m c found).1)
+
+claimed_keeps : (s : State) (n : ℕ) (c : CaseShape) (t u : ℕ) (plan : List ℕ) → Keeps s → IsTold s.book (deed.Claim n c t u) → IsReplyTo s (deed.Claim n c t u) (reply.Granted plan) →
+    Keeps (with_changed s n (λ d. with_state d t (Held u)))
+claimed_keeps s n c t u plan keeps known valid = named_keeps s n c t (λ d. with_state d t (Held u)) keeps known.0 (λ of_policy below complete. (
+  of_policy_still s.book.policy c (with_state c t (Held u)) refl (length-set c.states t (Held u)) of_policy,
+  λ live. (plan, valid_claimed (problem_of s.book.policy c.flow) c t u plan below (claim_free s.book n c t u known.1) valid),
+))
+
+finished_keeps : (s : State) (n : ℕ) (c : CaseShape) (t : ℕ) → Keeps s → HasStep s.book n c t → is_held (state_at c t) ≡ true → Keeps (with_changed s n (λ d. finished_case d t))
+finished_keeps s n c t keeps there held = named_keeps s n c t (λ d. finished_case d t) keeps there (λ of_policy below complete. (
+  of_policy_still s.book.policy c (finished_case c t) refl (length-set c.states t (as_finished (state_at c t))) of_policy,
+  λ live. (complete.0, valid_finished (problem_of s.book.policy c.flow) c t complete.0 held complete.1),
+))
+
+freed_keeps : (s : State) (n : ℕ) (c : CaseShape) (t : ℕ) → Keeps s → HasStep s.book n c t → is_held (state_at c t) ≡ true → Keeps (with_changed s n (λ d. with_state d t Free))
+freed_keeps s n c t keeps there held = named_keeps s n c t (λ d. with_state d t Free) keeps there (λ of_policy below complete. (
+  of_policy_still s.book.policy c (with_state c t Free) refl (length-set c.states t Free) of_policy,
+  λ live. (complete.0, valid_freed (problem_of s.book.policy c.flow) c t complete.0 held complete.1),
+))
+
+withdrawn_keeps : (s : State) (n : ℕ) → Keeps s → Keeps (with_changed s n (λ d. with_phase d Withdrawn))
+withdrawn_keeps s n keeps = changed_keeps s n (λ d. with_phase d Withdrawn) keeps (λ c found is. (of_policy_still s.book.policy c (with_phase c Withdrawn) refl refl is.0, λ live. cc))
+
+deed_keeps : (s : State) (given : Deed) (answer : Reply) → Keeps s → IsTold s.book given → IsReplyTo s given answer → Keeps (state_after_deed s given answer)
+deed_keeps s (deed.Open f) (reply.Opened n plan) keeps known is = opened_keeps s f plan keeps known.0 is.1
+deed_keeps s (deed.Claim n c t u) (reply.Granted plan) keeps known is = claimed_keeps s n c t u plan keeps known is
+deed_keeps s (deed.Finish n c t u) (reply.Finished done) keeps known is = finished_keeps s n c t keeps known.0 (held_by u (state_at c t) known.1)
+deed_keeps s (deed.GiveBack n c t u) reply.Returned keeps known is = freed_keeps s n c t keeps known.0 (held_by u (state_at c t) known.1)
+deed_keeps s (deed.Release n c t) reply.Released keeps known is = freed_keeps s n c t keeps known.0 known.1
+deed_keeps s (deed.Withdraw n) reply.Withdrawn keeps known is = withdrawn_keeps s n keeps
+deed_keeps s given answer keeps known is = keeps
+
+decision_keeps : (s : State) (decision : Result Deed Denial) (answer : Reply) → Keeps s → HoldsOf (IsTold s.book) decision → Answers s decision answer → Keeps (state_after_decision s decision answer)
+decision_keeps s (Ok given) answer keeps known is = deed_keeps s given answer keeps known is
+decision_keeps s (Err d) answer keeps known is = keeps
+
+pub step_keeps : (s : State) (what : Ask) (given : Reply) → Keeps s → IsStep s what given → Keeps (state_after_step s what given)
+step_keeps s what given keeps step = decision_keeps s (decision_of s.book what) given keeps (told s.book what) step
+
+pub steps_keep_completable : StepsKeepCompletable
+steps_keep_completable s what given sound complete step = step_keeps s what given (sound, complete) step
+
+-- ---- histories
+
+again_stays : (s : State) (decision : Result Deed Denial) (n place : ℕ) → state_after_decision s decision (reply.Again n place) ≡ s
+again_stays s (Ok (deed.Open f)) n place = refl
+again_stays s (Ok (deed.Claim m c t u)) n place = refl
+again_stays s (Ok (deed.Finish m c t u)) n place = refl
+again_stays s (Ok (deed.GiveBack m c t u)) n place = refl
+again_stays s (Ok (deed.Release m c t)) n place = refl
+again_stays s (Ok (deed.Withdraw m)) n place = refl
+again_stays s (Ok (deed.Show c)) n place = refl
+again_stays s (Ok (deed.TurnAway bad)) n place = refl
+again_stays s (Err d) n place = refl
+
+entry_keeps : (start : State) (rounds : ℕ) (earlier : List Entry) (e : Entry) → Keeps (state_after start earlier) → IsRightAfter start rounds earlier e →
+    Keeps (state_after start (earlier ++ e ∷ []))
+entry_keeps start rounds earlier e keeps right = subst Keeps (sym (after_more start earlier e)) (by_reply right.1)
+  where
+    by_reply : IsStep (state_after start earlier) e.ask e.reply ⊎ IsRetry start rounds earlier e → Keeps (state_after_step (state_after start earlier) e.ask e.reply)
+    by_reply (inl step) = step_keeps (state_after start earlier) e.ask e.reply keeps step
+    by_reply (inr retry) =
+        let s = state_after start earlier in
+        subst (λ r. Keeps (state_after_step s e.ask r)) (sym retry.1.1.0) (subst Keeps (sym (again_stays s (decision_of s.book e.ask) retry.0 retry.1.0)) keeps)
+
+history_keeps : (start : State) (rounds : ℕ) (earlier entries : List Entry) → Keeps (state_after start earlier) → EachAfter (IsRightAfter start rounds) earlier entries → (n : ℕ) →
+    Keeps (state_after (state_after start earlier) (take n entries))
+history_keeps start rounds earlier entries keeps legal zero = keeps
+history_keeps start rounds earlier [] keeps legal (suc n) = keeps
+history_keeps start rounds earlier (e ∷ es) keeps legal (suc n) =
+    subst (λ s. Keeps (state_after s (take n es))) (after_more start earlier e)
+    (history_keeps start rounds (earlier ++ e ∷ []) es (entry_keeps start rounds earlier e keeps legal.0) legal.1 n)
+
+opening_keeps : (p : PolicyShape) → IsSoundPolicy p → Keeps (opening_state p)
+opening_keeps p sound = (record { policy = sound; cases = λ n c found. cc }, λ n c found live. cc)
+
+pub histories_keep_completable : HistoriesKeepCompletable
+histories_keep_completable p rounds entries sound legal n = (history_keeps (opening_state p) rounds [] entries (opening_keeps p sound) legal n).1
+
+-- ---- plans
+
+holder_holds : (c : CaseShape) (t u : ℕ) → state_at c t ≡ Held u → is_held (state_at c t) ≡ true
+holder_holds c t u held = ap is_held held
+
+pub plans_stay_valid : PlansStayValid
+plans_stay_valid p c t u plan held valid = (
+  valid_finished (problem_of p c.flow) c t plan (holder_holds c t u held) valid,
+  valid_freed (problem_of p c.flow) c t plan (holder_holds c t u held) valid,
+)

@@ -1,0 +1,6 @@
+pub mod Snaps
+pub mod Told
+pub mod Valid
+pub mod Keeping
+pub mod Exact
+pub mod Within

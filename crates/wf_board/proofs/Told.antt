@@ -1,0 +1,147 @@
+-- What a decision tells of the state in which it is made.
+use Rattle.std.proofs.Common.{◌≡◌, ℕ, ◌<◌, Bool, true, false, List, [], ◌∷◌, length, Option, None, Some, option_map, Result, Ok, Err, refl}
+use Rattle.std.specs.Prelude.{nat_eq}
+use Rattle.std.specs.Cmp.Lexicographic.{pointwise}
+use Rattle.std.proofs.lemmas.List.Quantifiers.{position-Some}
+use Rattle.first_fault.specs.Reading.{◌>>=◌, or_fault, check}
+use Rattle.wf_names.specs.States.{is_held, user_of}
+use Rattle.wf_names.specs.Table.{place_of}
+use Rattle.wf_names.specs.declared.states.StepState.{StepState}
+use Rattle.wf_names.specs.declared.states.StepState.TheVariants.{Free, Held, Finished}
+use Rattle.policy_book.specs.Policies.{flow_at}
+use Rattle.case_record.specs.Cases.{CaseShape, is_open, state_at}
+use Rattle.wf_talk.specs.declared.request.Request.TheVariants as request
+use Rattle.wf_talk.specs.declared.request.Ask.{Ask}
+use Rattle.wf_talk.specs.declared.request.Ask.TheVariants as ask
+use Rattle.wf_talk.specs.declared.reply.Denial.{Denial}
+use Rattle.wf_talk.specs.declared.reply.Denial.TheVariants.{Closed, NoCase, NoFlow, NoStep, NoUser, NotAdmin}
+use Rattle.denial_reasons.specs.Causes.{first_cause, first_of, unless}
+use Rattle.wf_board.specs.declared.deed.Deed.{Deed}
+use Rattle.wf_board.specs.declared.deed.Deed.TheVariants as deed
+use Rattle.wf_board.specs.States.{Book, case_at, flow_named, is_admin, step_named, user_named}
+use Rattle.wf_board.specs.Resolved.{on_step, open_case_at, resolve}
+use Rattle.wf_board.specs.Decisions.{cause_aside, cause_full, decision_aside, decision_of, is_held_by, unless_denied}
+
+-- P holds of what was read, if it was
+abbrev pub HoldsOf : {A F : Type 0} → (A → Type 0) → Result A F → Type 0
+HoldsOf P (Ok x) = P x
+HoldsOf P (Err fault) = Unit {0}
+
+then_holds : {A B F : Type 0} (P : A → Type 0) (Q : B → Type 0) (r : Result A F) (f : A → Result B F) → HoldsOf P r → ((x : A) → P x → HoldsOf Q (f x)) → HoldsOf Q (r >>= f)
+then_holds P Q (Ok x) f holds each = each x holds
+then_holds P Q (Err d) f holds each = tt
+
+there_holds : {A F : Type 0} (o : Option A) (fault : F) → HoldsOf (λ x. o ≡ Some x) (or_fault o fault)
+there_holds (Some x) fault = refl
+there_holds None fault = tt
+
+passed_holds : {F : Type 0} (b : Bool) (fault : F) → HoldsOf (λ _. b ≡ true) (check b fault)
+passed_holds true fault = refl
+passed_holds false fault = tt
+
+-- a name stands at one of the places
+pub place_within : (names : List (List ℕ)) (name : List ℕ) (i : ℕ) → place_of names name ≡ Some i → i < length names
+place_within names name i h = (position-Some (pointwise nat_eq name) names i [] h).0
+
+-- the case with a number is open
+pub record IsOpenCase (b : Book) (n : ℕ) (c : CaseShape) : Type 0 where
+  pub found : case_at b.cases n ≡ Some c
+  pub live : is_open c ≡ true
+
+-- and has the step
+pub record HasStep (b : Book) (n : ℕ) (c : CaseShape) (t : ℕ) : Type 0 where
+  pub case : IsOpenCase b n c
+  pub step : t < length (flow_at b.policy c.flow).flow.steps
+
+-- what a deed names is there
+abbrev pub IsThere : Book → Deed → Type 0
+IsThere b (deed.Open f) = f < length b.policy.flow_names
+IsThere b (deed.Claim n c t u) = HasStep b n c t
+IsThere b (deed.Finish n c t u) = HasStep b n c t
+IsThere b (deed.GiveBack n c t u) = HasStep b n c t
+IsThere b (deed.Release n c t) = HasStep b n c t
+IsThere b given = Unit {0}
+
+open_there : (b : Book) (n : ℕ) → HoldsOf (IsOpenCase b n) (open_case_at b n)
+open_there b n =
+    then_holds (λ c. case_at b.cases n ≡ Some c) (IsOpenCase b n) (or_fault (case_at b.cases n) NoCase) _ (there_holds (case_at b.cases n) NoCase)
+    (λ c found. then_holds (λ _. is_open c ≡ true) (IsOpenCase b n) (check (is_open c) Closed) _ (passed_holds (is_open c) Closed)
+    (λ _ live. record { found = found; live = live }))
+
+step_there : (b : Book) (make : ℕ → CaseShape → ℕ → ℕ → Deed) (n : ℕ) (step user : List ℕ) →
+    ((c : CaseShape) (t u : ℕ) → HasStep b n c t → IsThere b (make n c t u)) → HoldsOf (IsThere b) (on_step make b n step user)
+step_there b make n step user made =
+    then_holds (IsOpenCase b n) (IsThere b) (open_case_at b n) _ (open_there b n)
+    (λ c there. then_holds (λ t. step_named b c.flow step ≡ Some t) (IsThere b) (or_fault (step_named b c.flow step) NoStep) _ (there_holds (step_named b c.flow step) NoStep)
+    (λ t named. then_holds (λ u. user_named b user ≡ Some u) (IsThere b) (or_fault (user_named b user) NoUser) _ (there_holds (user_named b user) NoUser)
+    (λ u known. made c t u record { case = there; step = place_within (flow_at b.policy c.flow).flow.steps step t named })))
+
+resolve_there : (b : Book) (what : Ask) → HoldsOf (IsThere b) (resolve b what)
+resolve_there b (ask.Request (request.OpenCase flow)) =
+    then_holds (λ f. flow_named b flow ≡ Some f) (IsThere b) (or_fault (flow_named b flow) NoFlow) _ (there_holds (flow_named b flow) NoFlow)
+    (λ f named. place_within b.policy.flow_names flow f named)
+resolve_there b (ask.Request (request.Claim n step user)) = step_there b deed.Claim n step user (λ c t u there. there)
+resolve_there b (ask.Request (request.Finish n step user)) = step_there b deed.Finish n step user (λ c t u there. there)
+resolve_there b (ask.Request (request.GiveBack n step user)) = step_there b deed.GiveBack n step user (λ c t u there. there)
+resolve_there b (ask.Request (request.Release by n step)) =
+    then_holds (λ _. is_admin b by ≡ true) (IsThere b) (check (is_admin b by) NotAdmin) _ (passed_holds (is_admin b by) NotAdmin)
+    (λ _ may. then_holds (IsOpenCase b n) (IsThere b) (open_case_at b n) _ (open_there b n)
+    (λ c there. then_holds (λ t. step_named b c.flow step ≡ Some t) (IsThere b) (or_fault (step_named b c.flow step) NoStep) _ (there_holds (step_named b c.flow step) NoStep)
+    (λ t named. record { case = there; step = place_within (flow_at b.policy c.flow).flow.steps step t named })))
+resolve_there b (ask.Request (request.Withdraw by n)) =
+    then_holds (λ _. is_admin b by ≡ true) (IsThere b) (check (is_admin b by) NotAdmin) _ (passed_holds (is_admin b by) NotAdmin)
+    (λ _ may. then_holds (IsOpenCase b n) (IsThere b) (open_case_at b n) _ (open_there b n) (λ c there. tt))
+resolve_there b (ask.Request (request.Show n)) =
+    then_holds (λ c. case_at b.cases n ≡ Some c) (IsThere b) (or_fault (case_at b.cases n) NoCase) _ (there_holds (case_at b.cases n) NoCase) (λ c found. tt)
+resolve_there b (ask.Bad bad) = tt
+
+-- no cause is against a deed
+abbrev pub IsAllowed : Book → Deed → Type 0
+IsAllowed b (deed.Claim n c t u) = first_cause b.policy c t u ≡ None
+IsAllowed b (deed.Finish n c t u) = is_held_by u (state_at c t) ≡ true
+IsAllowed b (deed.GiveBack n c t u) = is_held_by u (state_at c t) ≡ true
+IsAllowed b (deed.Release n c t) = is_held (state_at c t) ≡ true
+IsAllowed b given = Unit {0}
+
+-- what is known of a deed that is decided on
+abbrev pub IsTold : Book → Deed → Type 0
+IsTold b given = IsThere b given × IsAllowed b given
+
+unless_tells : (b : Bool) (d : Denial) → unless b d ≡ None → b ≡ true
+unless_tells true d h = refl
+unless_tells false d h = cc
+
+unless_holds : (P : Deed → Type 0) (given : Deed) (o : Option Denial) → (o ≡ None → P given) → HoldsOf P (unless_denied given o)
+unless_holds P given None allowed = allowed refl
+unless_holds P given (Some d) allowed = tt
+
+allowed_told : (b : Book) (given : Deed) → IsThere b given → HoldsOf (IsTold b) (unless_denied given (cause_aside b given))
+allowed_told b (deed.Open f) there = unless_holds (IsTold b) (deed.Open f) (cause_aside b (deed.Open f)) (λ none. (there, tt))
+allowed_told b (deed.Claim n c t u) there = unless_holds (IsTold b) (deed.Claim n c t u) (cause_aside b (deed.Claim n c t u)) (λ none. (there, none))
+allowed_told b (deed.Finish n c t u) there = unless_holds (IsTold b) (deed.Finish n c t u) (cause_aside b (deed.Finish n c t u)) (λ none. (there, unless_tells _ _ none))
+allowed_told b (deed.GiveBack n c t u) there = unless_holds (IsTold b) (deed.GiveBack n c t u) (cause_aside b (deed.GiveBack n c t u)) (λ none. (there, unless_tells _ _ none))
+allowed_told b (deed.Release n c t) there = unless_holds (IsTold b) (deed.Release n c t) (cause_aside b (deed.Release n c t)) (λ none. (there, unless_tells _ _ none))
+allowed_told b (deed.Withdraw n) there = (tt, tt)
+allowed_told b (deed.Show c) there = (tt, tt)
+allowed_told b (deed.TurnAway bad) there = (tt, tt)
+
+pub aside_told : (b : Book) (what : Ask) → HoldsOf (IsTold b) (decision_aside b what)
+aside_told b what = then_holds (IsThere b) (IsTold b) (resolve b what) _ (resolve_there b what) (allowed_told b)
+
+-- what is decided on is there, and no cause is against it
+pub told : (b : Book) (what : Ask) → HoldsOf (IsTold b) (decision_of b what)
+told b what = then_holds (IsTold b) (IsTold b) (decision_aside b what) _ (aside_told b what) (λ given known. unless_holds (IsTold b) given (cause_full b given) (λ none. known))
+
+no_user_free : (x : StepState) (rest : List (Option Denial)) (make : ℕ → Denial) → first_of (option_map make (user_of x) ∷ rest) ≡ None → x ≡ Free
+no_user_free Free rest make h = refl
+no_user_free (Held v) rest make h = cc
+no_user_free (Finished v) rest make h = cc
+
+-- a step that may be claimed is free
+pub claim_free : (b : Book) (n : ℕ) (c : CaseShape) (t u : ℕ) → IsAllowed b (deed.Claim n c t u) → state_at c t ≡ Free
+claim_free b n c t u allowed = no_user_free (state_at c t) _ _ allowed
+
+pub held_by : (u : ℕ) (x : StepState) → is_held_by u x ≡ true → is_held x ≡ true
+held_by u Free h = cc
+held_by u (Held v) h = refl
+held_by u (Finished v) h = cc
