@@ -18,7 +18,7 @@ use Rattle.wf_board.specs.States.{State, opening_state}
 use Rattle.wf_talk.specs.declared.entry.Entry.{Entry}
 use Rattle.wf_board.specs.Steps.{state_after_step}
 use Rattle.wf_board.specs.Histories.{FillsJobs, state_after}
-use Rattle.wf_board.specs.HistoryLaws.{policy_stays, rests_once}
+use Rattle.wf_board.specs.HistoryLaws.{batch_rests, policy_stays}
 use Rattle.policy_book.specs.Facts.{IsSoundPolicy}
 use Rattle.wf_board.specs.Laws.{HistoriesKeepCompletable}
 use Rattle.run_record.specs.declared.fault.RunFault.{RunFault}
@@ -235,7 +235,7 @@ pub serves_kept : (p : PolicyShape) (room : ℕ) (before after : Streams) (told 
 serves_kept p room before after told ending sound keeps h = record {
   reads = h.reads;
   legal = h.legal;
-  fills = record { whole = h.fills.whole; batches = h.fills.batches; rests = λ k lt. rests_once told.entries told.batch_ends k h.once };
+  fills = record { whole = h.fills.whole; batches = h.fills.batches; rests = λ k lt. batch_rests told.batch_ends k told.entries h.once };
   writes = writes_for p before.output after.output told ending h.writes;
   kept = keeps p DEFAULT_ROUNDS told.entries sound h.legal;
   read_faults = h.read_faults;

@@ -24,10 +24,10 @@ pub(crate) struct PlainDecider;
 
 impl Decider for PlainDecider {
     fn decide(&self, alloc: Global, snap: &Snap, ask: &Ask) -> Verdict {
-        match decision_aside(alloc, snap.policy(), snap.cases(), ask) {
-            Ok(deed) => verdict_on(alloc, snap, &deed),
-            Err(_) => Verdict::Nothing,
-        }
+        let Ok(deed) = decision_aside(alloc, snap.policy(), snap.cases(), ask) else {
+            return Verdict::Nothing;
+        };
+        verdict_on(alloc, snap, &deed)
     }
 }
 
