@@ -3,6 +3,8 @@ use Rattle.std.specs.Prelude.{◌≡◌, ◌≢◌, ℕ, Bool, true, false, List
 use Rattle.refutation_tree.specs.Views.{shape_of}
 use Rattle.policy_book.specs.Plans.{Problem, IsValidPlan}
 use Rattle.policy_book.specs.Refuting.{refutes}
+use Rattle.wsp_solver.specs.declared.search.Outcome.{Outcome}
+use Rattle.wsp_solver.specs.declared.search.Outcome.TheVariants as outcome
 use Rattle.wf_board.specs.declared.deed.Deed.{Deed}
 use Rattle.wf_board.specs.declared.verdict.Verdict.{Verdict}
 use Rattle.wf_board.specs.declared.verdict.Verdict.TheVariants as verdict
@@ -29,3 +31,8 @@ pub record DecidesDeed (b : Book) (deed : Deed) (v : Verdict) : Type 0 where
   pub fits : FitsDeed b deed v
   pub nothing : needs_plan deed ≡ false → v ≡ verdict.Nothing
   pub something : needs_plan deed ≡ true → v ≢ verdict.Nothing
+
+-- what a search found, as a verdict
+abbrev pub IsVerdictOf : Outcome → Verdict → Type 0
+IsVerdictOf (outcome.Plan plan) v = v ≡ verdict.Plan plan
+IsVerdictOf (outcome.Refuted tree) v = v ≡ verdict.Refuted tree

@@ -1,19 +1,19 @@
 //! The decider on one thread.
-ghost use Rattle.std.specs.Prelude.{◌≡◌, ◌<◌, true, length, Some};
-ghost use Rattle.policy_book.specs.Policies.{flow_at, problem_of};
+ghost use Rattle.std.specs.Prelude.{◌≡◌, ◌<◌, length};
+ghost use Rattle.policy_book.specs.Policies.{problem_of};
 ghost use Rattle.policy_book.specs.Plans.{AreAssigned, IsWithin};
-ghost use Rattle.case_record.specs.Cases.{CaseShape, finished_of};
+ghost use Rattle.wf_names.specs.declared.limits.TheConstants.{STEP_LIMIT};
+ghost use Rattle.case_record.specs.Cases.{assigned_of, finished_of};
 ghost use Rattle.denial_reasons.specs.Causes.{assigned_with};
 ghost use Rattle.wf_board.specs.Boards.{book_on};
-ghost use Rattle.wf_board.specs.Decisions.{decision_aside};
 ghost use Rattle.wf_board.specs.Found.{AreFound, IsFound};
-ghost use Rattle.wf_server.specs.Deciding.{DecidesDeed, DecidesFor};
+ghost use Rattle.wf_server.specs.Deciding.{DecidesDeed, DecidesFor, IsVerdictOf};
 
 use case_record::Case;
 use constraint_forms::{Assign, StepSet};
 use policy_book::Policy;
 use std::alloc::Global;
-use wf_board::{Decider, Deed, Snap, Verdict, decision_aside};
+use wf_board::{Decider, Deed, Refused, Snap, Verdict, decision_aside};
 use wf_names::{CaseId, FlowId, StepId, UserId};
 use wf_talk::Ask;
 use wsp_solver::{Outcome, solve};
@@ -24,11 +24,18 @@ pub(crate) struct PlainDecider;
 
 impl Decider for PlainDecider {
     fn decide(&self, alloc: Global, snap: &Snap, ask: &Ask) -> Verdict {
-        let Ok(deed) = decision_aside(alloc, snap.policy(), snap.cases(), ask) else {
-            return Verdict::Nothing;
-        };
-        verdict_on(alloc, snap, &deed)
+        match decision_aside(alloc, snap.policy(), snap.cases(), ask) {
+            Ok(deed) => verdict_on(alloc, snap, &deed),
+            Err(refused) => no_verdict(refused),
+        }
     }
+}
+
+// None is needed where an earlier check denies what is asked.
+fn no_verdict(_: Refused) -> Verdict
+    ensures { result ≡ Verdict.Nothing }
+{
+    Verdict::Nothing
 }
 
 // The verdict on a deed that no earlier check denies.
@@ -68,8 +75,19 @@ fn claim_verdict(
             return Verdict::Plan(plan);
         }
     }
-    let assigned = case.assigned().with(step, user);
+    let assigned = assigned_with(case, step, user);
     searched(alloc, snap.policy(), case.flow(), &assigned, &case.finished())
+}
+
+// What is assigned in a case, with one of its steps given to a user.
+fn assigned_with(case: &Case, step: StepId, user: UserId) -> Assign
+    requires { step < length case.now.states }
+    ensures given { result ≡ assigned_with case.now step user }
+    ensures len { length (assigned_of case.now) ≡ STEP_LIMIT }
+    ensures within { step < STEP_LIMIT }
+{
+    let _ = case.steps();
+    case.assigned().with(step, user)
 }
 
 // The verdict that a search finds.
@@ -80,8 +98,17 @@ fn searched(alloc: Global, p: &Policy, f: FlowId, a: &Assign, done: &StepSet) ->
     ensures { DecidesFor (problem_of p.now f) a.now done.now result }
 {
     match solve(alloc, p, f, a, done) {
-        Ok(Outcome::Plan(plan)) => Verdict::Plan(plan),
-        Ok(Outcome::Refuted(tree)) => Verdict::Refuted(tree),
+        Ok(outcome) => verdict_of(outcome),
         Err(_) => Verdict::NoMemory,
+    }
+}
+
+// What a search found, as a verdict.
+fn verdict_of(outcome: Outcome) -> Verdict
+    ensures { IsVerdictOf outcome result }
+{
+    match outcome {
+        Outcome::Plan(plan) => Verdict::Plan(plan),
+        Outcome::Refuted(tree) => Verdict::Refuted(tree),
     }
 }
