@@ -4,3 +4,4 @@ pub mod Valid
 pub mod Keeping
 pub mod Exact
 pub mod Within
+pub mod Grants
