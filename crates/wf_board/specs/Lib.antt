@@ -10,4 +10,5 @@ pub mod Found
 pub mod Boards
 pub mod Verdicts
 pub mod Laws
+pub mod Taking
 pub mod HistoryLaws

@@ -1,5 +1,5 @@
 //! The board: a policy and its cases.
-ghost use Rattle.std.specs.Prelude.{◌≡◌, ◌≤◌, ◌+◌, true, IfOk, OnErr, OnOk};
+ghost use Rattle.std.specs.Prelude.{◌≡◌, ◌≢◌, ◌≤◌, ◌+◌, true, IfOk, OnErr, OnOk};
 ghost use Rattle.std.proofs.Common.{◌⊎◌};
 ghost use Rattle.wf_board.specs.Boards.{state_on};
 ghost use Rattle.wf_board.specs.Decisions.{decision_of, needs_verdict, takes_memory};
@@ -8,13 +8,14 @@ ghost use Rattle.wf_board.specs.States.{opening_state};
 ghost use Rattle.wf_board.specs.Steps.{IsStep, state_after_step};
 ghost use Rattle.wf_board.specs.Verdicts.{HasAnswered, HasUsed, IsRight, MayLackMemory, snap_of};
 
+use crate::taking::answer;
 use crate::{Answered, Decider, Snap, Verdict};
 use grant_table::Cases;
 use policy_book::Policy;
 use std::alloc::{AllocError, Global};
 use std::marker::Model;
 use std::sync::Arc;
-use wf_talk::{Ask, Reply};
+use wf_talk::{Ask, Reply, Request};
 
 /// The policy with its cases and the count of accepted edits. Each open case has a plan by which
 /// it can be completed, and there is a case at each number below the next.
@@ -77,10 +78,21 @@ impl Board {
         ensures memory { result ≡ Answered.Done Reply.NoMemory
             → MayLackMemory self.old ask.now verdict }
         ensures room { self.old.cases.spare ≤ self.new.cases.spare + 1 }
+    {
+        let policy: &Policy = &self.policy;
+        answer(alloc, policy, &mut self.cases, ask, verdict)
+    }
 
     /// What has to be known to find a verdict on what is asked: the one case of a claim.
     pub fn snap(&self, alloc: Global, ask: &Ask) -> Result<Snap, AllocError>
         ensures { IfOk result (λ s. s ≡ snap_of self.now ask.now s.cases.spare) }
+    {
+        let cases = match *ask {
+            Ask::Request(Request::Claim { case, .. }) => self.cases.copy_one(alloc, case)?,
+            _ => self.cases.copy_none(alloc),
+        };
+        Ok(Snap::of(Arc::try_clone(&self.policy)?, cases))
+    }
 
     /// Answers what a line asks, with a verdict of the decider where one is needed, and takes the
     /// step. No finish, return, release, withdrawal, view or bad line is answered with want of
@@ -92,6 +104,29 @@ impl Board {
         ensures memory { result ≡ Reply.NoMemory
             → (needs_verdict (decision_of (state_on self.old).book ask.now) ≡ true)
             ⊎ (takes_memory (decision_of (state_on self.old).book ask.now) ≡ true) }
+    {
+        let verdict = match self.answer(alloc, ask, Verdict::Nothing) {
+            Answered::Done(reply) => return reply,
+            Answered::Needs => self.verdict(alloc, decider, ask),
+        };
+        match self.answer(alloc, ask, verdict) {
+            Answered::Done(reply) => reply,
+            Answered::Needs => unreachable!(),
+        }
+    }
+
+    /// The verdict of a decider on what is asked.
+    fn verdict<V: Decider>(&self, alloc: Global, decider: &V, ask: &Ask) -> Verdict
+        requires ready { V.ready decider.now }
+        requires needed { needs_verdict (decision_of (state_on self.now).book ask.now) ≡ true }
+        ensures right { IsRight (state_on self.now).book ask.now result }
+        ensures given { result ≢ Verdict.Nothing }
+    {
+        match self.snap(alloc, ask) {
+            Ok(snap) => decider.decide(alloc, &snap, ask),
+            Err(_) => Verdict::NoMemory,
+        }
+    }
 
     /// The policy.
     pub fn policy(&self) -> &Policy
@@ -121,4 +156,11 @@ impl Board {
     /// A board with the same policy, cases and plans.
     pub fn copy(&self) -> Result<Board, AllocError>
         ensures { IfOk result (λ b. b ≡ record self.now { cases = record self.now.cases { spare = b.cases.spare } }) }
+    {
+        Ok(Board {
+            policy: Arc::try_clone(&self.policy)?,
+            cases: self.cases.copy()?,
+            edits: self.edits,
+        })
+    }
 }

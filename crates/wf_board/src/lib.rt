@@ -6,8 +6,10 @@ mod board;
 mod decider;
 mod decision;
 mod deed;
+mod resolve;
 pub mod laws;
 mod snap;
+mod taking;
 mod verdict;
 
 pub use board::Board;

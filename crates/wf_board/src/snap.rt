@@ -1,5 +1,6 @@
 //! Snapshots of a board.
 ghost use Rattle.std.specs.Prelude.{◌≡◌};
+ghost use Rattle.std.specs.Arc.{arc_value};
 ghost use Rattle.wf_board.specs.Kept.{ArePlanned};
 
 use grant_table::Cases;
@@ -32,6 +33,14 @@ impl Model for Snap {
 }
 
 impl Snap {
+    /// A policy with some of its cases.
+    pub(crate) fn of(policy: Arc<Policy, Global>, cases: Cases) -> Snap
+        requires { ArePlanned (arc_value policy) cases.rows }
+        ensures { result ≡ record { policy = arc_value policy; cases = cases } }
+    {
+        Snap { policy, cases }
+    }
+
     /// The policy.
     pub fn policy(&self) -> &Policy
         ensures policy { result.now ≡ self.now.policy }
