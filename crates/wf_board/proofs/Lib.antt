@@ -5,3 +5,4 @@ pub mod Keeping
 pub mod Exact
 pub mod Within
 pub mod Grants
+pub mod Rows
