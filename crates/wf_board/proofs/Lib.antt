@@ -4,3 +4,5 @@ pub mod Valid
 pub mod Keeping
 pub mod Exact
 pub mod Within
+pub mod Grants
+pub mod Rows
