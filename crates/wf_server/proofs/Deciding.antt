@@ -122,7 +122,7 @@ decides_same p q f g a b d e v policy flow assigned done h =
 -- what a search found is a verdict
 pub verdict_decides : (p : Problem) (a : List (Option ℕ)) (d : List Bool) (o : Outcome) (v : Verdict) → Decides p a d o → IsVerdictOf o v → DecidesFor p a d v
 verdict_decides p a d (outcome.Plan plan) v found is = subst (DecidesFor p a d) (sym is) found
-verdict_decides p a d (outcome.Refuted tree) v found is = subst (DecidesFor p a d) (sym is) found.0
+verdict_decides p a d (outcome.Refuted tree) v found is = subst (DecidesFor p a d) (sym is) found.refutes
 
 -- a verdict on an opening
 pub decides_open : (b : Book) (f : ℕ) (v : Verdict) → DecidesFor (problem_of b.policy f) no_users no_steps v → DecidesDeed b (deed.Open f) v
