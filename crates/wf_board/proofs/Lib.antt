@@ -3,3 +3,6 @@ pub mod Told
 pub mod Valid
 pub mod Keeping
 pub mod Exact
+pub mod Rows
+pub mod Planned
+pub mod Answering
