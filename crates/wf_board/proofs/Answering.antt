@@ -1,5 +1,5 @@
 -- What a board answers is a step of its state.
-use Rattle.std.proofs.Common.{◌≡◌, ℕ, zero, ◌+◌, ◌-◌, ◌<◌, ◌≤◌, ◌⊎◌, inl, inr, ◌||◌, nat_le, Bool, true, false, not, List, length, is_err, OnErr, Option, None, Some, Result, Ok, Err, refl, sym, ap, subst, ◌∙◌, arith}
+use Rattle.std.proofs.Common.{◌≡◌, ℕ, ◌+◌, ◌<◌, ◌≤◌, inl, inr, ◌||◌, nat_le, Bool, true, false, not, List, length, is_err, OnErr, Option, None, Some, Result, Ok, Err, refl, sym, ap, subst, ◌∙◌, arith}
 use Rattle.std.proofs.lemmas.Bool.Decides.{nat_tests}
 use Rattle.first_fault.specs.Reading.{◌>>=◌}
 use Rattle.constraint_forms.specs.Assigned.{no_steps, no_users}
@@ -23,12 +23,12 @@ use Rattle.wf_board.specs.declared.verdict.Verdict.TheVariants as verdict
 use Rattle.wf_board.specs.declared.verdict.Answered.{Answered}
 use Rattle.wf_board.specs.declared.verdict.Answered.TheVariants.{Done, Needs}
 use Rattle.wf_board.specs.Boards.{book_of, state_on}
-use Rattle.wf_board.specs.Decisions.{cause_aside, cause_full, decision_aside, decision_of, needs_plan, needs_verdict, takes_memory, unless_denied}
+use Rattle.wf_board.specs.Decisions.{cause_aside, decision_aside, decision_of, needs_plan, needs_verdict, takes_memory, unless_denied}
 use Rattle.wf_board.specs.Resolved.{resolve}
 use Rattle.wf_board.specs.States.{Book, State, is_full}
 use Rattle.wf_board.specs.Steps.{Answers, state_after_decision, with_changed}
 use Rattle.wf_board.specs.Taking.{board_of, full_or, HasAnsweredAlone, HasAnsweredBy, HasChanged, HasTaken, IsKept}
-use Rattle.wf_board.specs.Verdicts.{is_opening, HasUsed, IsMadeOf, IsPlanFor, IsTreeFor}
+use Rattle.wf_board.specs.Verdicts.{is_opening, IsMadeOf, IsPlanFor, IsTreeFor}
 use Rattle.wf_board.proofs.Rows.{case_numbered, open_numbered}
 use Rattle.wf_board.proofs.Planned.{known_case, opened_keeps, opened_state, plan_kept}
 use Rattle.policy_book.specs.Facts.{IsSoundPolicy}
@@ -208,7 +208,7 @@ short_answers p before after what given alone = record {
   answered = λ edits. (alone.0.step edits, alone.0.next edits);
   needs = λ needed none. cc;
   made = λ needed. apart needed;
-  memory = λ edits short. inl refl;
+  memory = λ edits short. inr (inl (alone.1.1 (reply_of given reply.NoMemory short)));
   room = alone.0.room;
 }
   where
@@ -220,6 +220,7 @@ short_step p t (Ok d) needed kept = same_taken p t (Ok d) reply.NoMemory kept (�
   where
     no_memory_replies : (s : State) (d : Deed) → Answers s (Ok d) reply.NoMemory
     no_memory_replies s d = tt
+
     no_memory_stays : (s : State) (d : Deed) → state_after_decision s (Ok d) reply.NoMemory ≡ s
     no_memory_stays s (deed.Open f) = refl
     no_memory_stays s (deed.Claim n c t u) = refl
@@ -240,7 +241,7 @@ memory_answers p before after what kept alone =
       answered = λ edits. (taken.step edits, taken.next edits);
       needs = λ needed none. cc;
       made = λ needed. tt;
-      memory = λ edits short. inl refl;
+      memory = λ edits short. inl (refl, alone.0);
       room = omega arith;
     }
 

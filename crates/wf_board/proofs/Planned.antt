@@ -1,5 +1,5 @@
 -- What a board keeps of its table, row by row.
-use Rattle.std.proofs.Common.{◌≡◌, ◌≢◌, eqb, ℕ, ◌+◌, ◌<◌, ◌⊎◌, inl, inr, Bool, true, false, List, [], ◌∷◌, ◌++◌, length, map, Option, None, Some, is_some, IsSomeAnd, refl, sym, ap, subst, ◌∙◌, arith}
+use Rattle.std.proofs.Common.{◌≡◌, ◌≢◌, eqb, ℕ, ◌+◌, ◌<◌, ◌⊎◌, inl, inr, Bool, true, false, List, [], ◌∷◌, ◌++◌, length, Option, None, Some, is_some, IsSomeAnd, refl, sym, ap, subst, ◌∙◌, arith}
 use Rattle.std.specs.Option.{option_map}
 use Rattle.std.proofs.lemmas.Bool.Decides.{eqb_tells}
 use Rattle.std.proofs.lemmas.List.{length-replicate, length-set}
@@ -12,12 +12,11 @@ use Rattle.policy_book.specs.Policies.{flow_at, problem_of}
 use Rattle.policy_book.specs.Plans.{IsCompletable, IsValidPlan}
 use Rattle.case_record.specs.Cases.{CaseShape, as_finished, assigned_of, finished_case, finished_of, fresh_case, is_open, state_at, with_phase, with_state}
 use Rattle.grant_table.specs.declared.rows.Row.{Row}
-use Rattle.grant_table.specs.Tables.{CasesShape, case_at, case_in, only, change_row, finished_row, freed_row, held_row, plan_while, row_at, with_case, with_row, withdrawn_row, HasFreeStep, HasHeldStep}
+use Rattle.grant_table.specs.Tables.{CasesShape, case_in, only, change_row, finished_row, freed_row, held_row, plan_while, row_at, with_case, with_row, withdrawn_row}
 use Rattle.denial_reasons.specs.Causes.{assigned_with}
-use Rattle.wf_board.specs.Boards.{numbered, state_on}
+use Rattle.wf_board.specs.Boards.{state_on}
 use Rattle.wf_board.specs.Found.{AreFound, IsOpenAt}
-use Rattle.wf_board.specs.Kept.{AreNumbered, ArePlanned, EachRow, IsOfPolicy, IsPlanned}
-use Rattle.wf_board.specs.States.{with_case_changed}
+use Rattle.wf_board.specs.Kept.{ArePlanned, IsOfPolicy, IsPlanned}
 use Rattle.wf_board.specs.Steps.{with_changed, with_opened}
 use Rattle.wf_board.specs.Taking.{board_of, HasChanged, IsKept}
 use Rattle.wf_board.specs.Verdicts.{snap_rows}

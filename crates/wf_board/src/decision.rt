@@ -42,12 +42,7 @@ impl From<AllocError> for Refused {
 
 /// The deed that a line asks for, or the first cause against it but `full` of an opening and what
 /// needs a verdict. Only the roles of a denied claim take memory.
-pub fn decision_aside(
-    alloc: Global,
-    p: &Policy,
-    cases: &Cases,
-    ask: &Ask,
-) -> Result<Deed, Refused>
+pub fn decision_aside(alloc: Global, p: &Policy, cases: &Cases, ask: &Ask) -> Result<Deed, Refused>
     requires { ArePlanned p.now cases.now.rows }
     ensures decision { Gives denial_in (λ deed. deed) result (decision_aside (book_of p.now cases.now) ask.now) }
     ensures found { IfOk result (IsFound p.now cases.now.rows) }
@@ -111,10 +106,24 @@ fn cause_aside(
     let _ = cases;
     match deed {
         Deed::Open { flow } if p.retired(*flow) => Ok(Some(Denial::Retired)),
-        Deed::Claim { case, step, user, .. } => first_cause(alloc, p, case, *step, *user),
-        Deed::Finish { case, step, user, .. } | Deed::GiveBack { case, step, user, .. } => {
-            Ok(unless_holding(case, *step, *user))
+        Deed::Claim {
+            case,
+            step,
+            user,
+            ..
+        } => first_cause(alloc, p, case, *step, *user),
+        Deed::Finish {
+            case,
+            step,
+            user,
+            ..
         }
+        | Deed::GiveBack {
+            case,
+            step,
+            user,
+            ..
+        } => { Ok(unless_holding(case, *step, *user)) }
         Deed::Release { case, step, .. } => Ok(unless_held(case, *step)),
         _ => Ok(None),
     }

@@ -55,12 +55,7 @@ pub(crate) fn answer(
 }
 
 /// Answers what needs no verdict.
-pub(crate) fn without_verdict(
-    alloc: Global,
-    p: &Policy,
-    cases: &mut Cases,
-    ask: &Ask,
-) -> Answered
+pub(crate) fn without_verdict(alloc: Global, p: &Policy, cases: &mut Cases, ask: &Ask) -> Answered
     requires { IsKept p.now cases.old }
     ensures { HasAnsweredAlone p.now cases.old cases.new (decision_of (book_of p.now cases.old) ask.now) result }
 {
@@ -100,9 +95,12 @@ fn plan_for(p: &Policy, cases: &mut Cases, deed: Deed, plan: Plan) -> Reply
 {
     match deed {
         Deed::Open { flow } => open(p, cases, flow, plan),
-        Deed::Claim { number, case, step, user } => {
-            claim(p, cases, number, &case, step, user, plan)
-        }
+        Deed::Claim {
+            number,
+            case,
+            step,
+            user,
+        } => { claim(p, cases, number, &case, step, user, plan) }
         _ => unreachable!(),
     }
 }
@@ -163,8 +161,18 @@ fn perform(p: &Policy, cases: &mut Cases, deed: Deed) -> Reply
     ensures memory { result ≢ replies.NoMemory }
 {
     match deed {
-        Deed::Finish { number, case, step, user } => finish(p, cases, number, &case, step, user),
-        Deed::GiveBack { number, case, step, .. } => {
+        Deed::Finish {
+            number,
+            case,
+            step,
+            user,
+        } => finish(p, cases, number, &case, step, user),
+        Deed::GiveBack {
+            number,
+            case,
+            step,
+            ..
+        } => {
             give_back(p, cases, number, &case, step);
             Reply::Returned
         }
@@ -239,14 +247,7 @@ fn claim(
 }
 
 /// Finishes a step that a user holds.
-fn finish(
-    p: &Policy,
-    cases: &mut Cases,
-    n: CaseId,
-    case: &Case,
-    s: StepId,
-    u: UserId,
-) -> Reply
+fn finish(p: &Policy, cases: &mut Cases, n: CaseId, case: &Case, s: StepId, u: UserId) -> Reply
     requires kept { IsKept p.now cases.old }
     requires found { IsOpenAt p.now cases.old.rows n case.now }
     requires held { is_held (state_at case.now s) ≡ true }

@@ -1,9 +1,8 @@
-use Rattle.std.proofs.Common.{◌≡◌, ◌<◌, true, false, refl, sym, ap, subst, ◌∙◌}
+use Rattle.std.proofs.Common.{◌≡◌, ◌<◌, true, false, sym, subst, ◌∙◌}
 use Rattle.wf_names.specs.declared.limits.TheConstants.{CASE_LIMIT, OPEN_CASE_LIMIT}
 use Rattle.grant_table.specs.Tables.{open_count}
 use Rattle.wf_talk.specs.declared.reply.Reply.TheVariants as replies
 use Rattle.wf_talk.specs.declared.reply.Denial.TheVariants.{Full}
-use Rattle.wf_board.specs.declared.deed.Deed.TheVariants as deeds
 use Rattle.wf_board.specs.Boards.{book_of}
 use Rattle.wf_board.specs.Taking.{HasTaken}
 use Rattle.wf_board.proofs.Answering.{below_limits, denied_taken, full_denied, on_err, opened_taken}
