@@ -5,6 +5,7 @@ use Rattle.std.proofs.lemmas.Grind.{common_steps}
 use Rattle.std.proofs.lemmas.List.{length-append}
 use Rattle.wf_names.specs.declared.limits.TheConstants.{LINE_LIMIT, SESSION_LINE_LIMIT, BATCH_LINE_LIMIT}
 use Rattle.wf_talk.specs.declared.job.Job.{Job}
+use Rattle.wire_json.specs.RequestLaws.{lane_below}
 use Rattle.line_cutter.specs.Jobs.{Cut, start, without_cr, job_of, end_batch, end_full_batch, next_line, with_job, end_line, step, cut_all, flush, jobs_of_input}
 use Rattle.line_cutter.specs.Laws.{AscendFrom, AreOfLanes, LeadTo, AreInOrder, JobsAreInOrder}
 
@@ -129,12 +130,16 @@ keeps_job lanes c job k within lane line =
       batch = let h = k.batch in omega arith;
     }
 
+-- a job is of one of the lanes
+job_below : (lanes : ℕ) (c : Cut) (line : List ℕ) → c.lanes ≡ lanes → 0 < lanes → (job_of c.lanes c.number line).lane < lanes
+job_below lanes c line same some = rw same (lane_below lanes line some)
+
 keeps_line : (lanes : ℕ) (c : Cut) → 0 < lanes → Keeps lanes 0 c → c.number < SESSION_LINE_LIMIT → Keeps lanes 0 (end_line c)
 unfolding end_line
 keeps_line lanes c some k within =
     keeps_if lanes 0 (length (without_cr c.line) == 0) (end_batch (next_line c)) (end_full_batch (with_job c (job_of c.lanes c.number (without_cr c.line))))
     (λ empty. keeps_end lanes (next_line c) (keeps_next lanes c k within))
-    (λ full. keeps_full lanes (with_job c (job_of c.lanes c.number (without_cr c.line))) (keeps_job lanes c (job_of c.lanes c.number (without_cr c.line)) k within some refl))
+    (λ full. keeps_full lanes (with_job c (job_of c.lanes c.number (without_cr c.line))) (keeps_job lanes c (job_of c.lanes c.number (without_cr c.line)) k within (job_below lanes c (without_cr c.line) k.same some) refl))
 
 keeps_still : (lanes : ℕ) (c d : Cut) → Keeps lanes 0 c → d.lanes ≡ c.lanes → d.number ≡ c.number → d.jobs ≡ c.jobs → d.ends ≡ c.ends → d.from ≡ c.from
     → (0 < length d.line → c.number < SESSION_LINE_LIMIT) → Keeps lanes 0 d
@@ -234,7 +239,7 @@ done_flush lanes c ended some k =
     done_if lanes ended _ c (λ yes.
     done_if lanes (is_some c.stop) c _ (λ stopped. done_kept lanes c k) (λ going.
     done_if lanes (length c.line == 0) c _ (λ empty. done_kept lanes c k)
-    (λ full. done_job lanes c (job_of c.lanes c.number c.line) k (grind (arith, common_steps)) some refl)))
+    (λ full. done_job lanes c (job_of c.lanes c.number c.line) k (grind (arith, common_steps)) (job_below lanes c c.line k.same some) refl)))
     (λ no. done_kept lanes c k)
 
 in_order_if : (lanes : ℕ) (b : Bool) (c d : Cut) → (b ≡ true → AreInOrder lanes c.jobs c.ends) → (b ≡ false → AreInOrder lanes d.jobs d.ends)

@@ -2,7 +2,7 @@
 use Rattle.std.specs.Prelude.{◌≡◌, ℕ, ◌+◌, ◌-◌, ◌==◌, nat_lt, nat_le, Bool, List, [], ◌∷◌, ◌++◌, length, take, slice_index_or, Option, None, Some, is_some, if◌then◌else◌}
 use Rattle.wf_names.specs.declared.limits.TheConstants.{LINE_LIMIT, SESSION_LINE_LIMIT, BATCH_LINE_LIMIT}
 use Rattle.wf_talk.specs.declared.job.Job.{Job}
-use Rattle.wire_json.specs.Requests.{ask_of}
+use Rattle.wire_json.specs.Requests.{asked_of}
 use Rattle.line_cutter.specs.declared.stop.Stop.{Stop}
 use Rattle.line_cutter.specs.declared.stop.Stop.TheVariants.{LineTooLong, TooManyLines}
 
@@ -25,9 +25,9 @@ start lanes = record { lanes = lanes; line = []; number = 0; jobs = []; from = 0
 unfoldable pub without_cr : List ℕ → List ℕ
 without_cr line = if slice_index_or line (length line - 1) 0 == 13 then take (length line - 1) line else line
 
--- the job of a line with its number: no request names a lane, and the first lane serves all
+-- the job of a line with its number: what it asks, of which of so many lanes
 abbrev pub job_of : ℕ → ℕ → List ℕ → Job
-job_of lanes number line = record { lane = 0; line = number; ask = ask_of line }
+job_of lanes number line = record { lane = (asked_of lanes line).lane; line = number; ask = (asked_of lanes line).ask }
 
 -- the open batch ends, if it has a job
 unfoldable pub end_batch : Cut → Cut

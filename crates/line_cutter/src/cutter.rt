@@ -11,8 +11,8 @@ use std::alloc::{AllocError, Global};
 use std::marker::Model;
 use std::mem;
 use wf_names::{BATCH_LINE_LIMIT, LINE_LIMIT, SESSION_LINE_LIMIT};
-use wf_talk::{Ask, Ends, Job, Jobs, Line};
-use wire_json::read_request;
+use wf_talk::{Ends, Job, Jobs, Line};
+use wire_json::{Asked, read_request};
 
 /// What is cut of an input and not handed over yet: the jobs of a batch, and the line that is open.
 #[derive(Drop)]
@@ -200,8 +200,8 @@ impl Cutter {
         if line.is_empty() {
             return self.end_empty_line();
         }
-        match read_request(self.alloc, line) {
-            Ok(ask) => self.end_job_line(ask),
+        match read_request(self.alloc, line, self.lanes) {
+            Ok(asked) => self.end_job_line(asked),
             Err(e) => Err(e),
         }
     }
@@ -219,15 +219,15 @@ impl Cutter {
     }
 
     #[tactic(auto, unfolding(crate::specs::Jobs::end_full_batch, crate::specs::Jobs::end_batch))]
-    fn end_job_line(&mut self, ask: Ask) -> Result<(), AllocError>
+    fn end_job_line(&mut self, asked: Asked) -> Result<(), AllocError>
         requires few { length self.old.jobs < BATCH_LINE_LIMIT }
         requires begins { self.old.from ≤ length self.old.jobs }
         requires within { self.old.number < SESSION_LINE_LIMIT }
-        ensures ended { OnOk result (self.new ≡ jobs.end_full_batch (jobs.with_job self.old (record { lane = 0; line = self.old.number; ask = ask }))) }
+        ensures ended { OnOk result (self.new ≡ jobs.end_full_batch (jobs.with_job self.old (record { lane = asked.lane; line = self.old.number; ask = asked.ask }))) }
         ensures unchanged { OnErr result (self.new ≡ self.old) }
     {
         let count = self.jobs.len();
-        self.add_job(ask)?;
+        self.add_job(asked)?;
         match self.end_full_batch() {
             Ok(()) => {
                 self.next_line();
@@ -286,21 +286,21 @@ impl Cutter {
         if !ended || self.stop.is_some() || self.line.len() == 0 {
             return Ok(());
         }
-        match read_request(self.alloc, self.line.as_slice()) {
-            Ok(ask) => self.add_job(ask),
+        match read_request(self.alloc, self.line.as_slice(), self.lanes) {
+            Ok(asked) => self.add_job(asked),
             Err(e) => Err(e),
         }
     }
 
-    // Adds the job of the open line; no request names a lane, and the first one serves all.
-    fn add_job(&mut self, ask: Ask) -> Result<(), AllocError>
-        ensures added { OnOk result (self.new ≡ record self.old { jobs = self.old.jobs ++ record { lane = 0; line = self.old.number; ask = ask } ∷ [] }) }
+    // Adds the job of the open line.
+    fn add_job(&mut self, asked: Asked) -> Result<(), AllocError>
+        ensures added { OnOk result (self.new ≡ record self.old { jobs = self.old.jobs ++ record { lane = asked.lane; line = self.old.number; ask = asked.ask } ∷ [] }) }
         ensures unchanged { OnErr result (self.new ≡ self.old) }
     {
         self.jobs.add(&Job {
-            lane: 0,
+            lane: asked.lane,
             line: self.number,
-            ask,
+            ask: asked.ask,
         })
     }
 }

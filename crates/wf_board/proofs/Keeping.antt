@@ -220,7 +220,7 @@ holder_holds : (c : CaseShape) (t u : ℕ) → state_at c t ≡ Held u → is_he
 holder_holds c t u held = ap is_held held
 
 pub plans_stay_valid : PlansStayValid
-plans_stay_valid p c t u plan known held valid = (
+plans_stay_valid p c t u plan held valid = (
   valid_finished (problem_of p c.flow) c t plan (holder_holds c t u held) valid,
   valid_freed (problem_of p c.flow) c t plan (holder_holds c t u held) valid,
 )

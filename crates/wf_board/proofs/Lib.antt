@@ -3,6 +3,8 @@ pub mod Told
 pub mod Valid
 pub mod Keeping
 pub mod Exact
+pub mod Within
+pub mod Grants
 pub mod Rows
 pub mod Planned
 pub mod Answering

@@ -12,7 +12,7 @@ use Rattle.wf_board.specs.declared.deed.Deed.TheVariants as deed
 use Rattle.wf_board.specs.States.{State}
 use Rattle.wf_board.specs.Decisions.{decision_of}
 use Rattle.wf_board.specs.Steps.{Answers, IsReplyTo, IsStep, state_after_decision, state_after_deed, state_after_step}
-use Rattle.wf_board.specs.Histories.{AreAnsweredOnce, EachAfter, FillsJobs, IsAnsweredOnce, IsLegal, IsRightAfter, RestsFrom, batch_end, batch_jobs, batch_start, job_of_entry, lane_jobs, state_after}
+use Rattle.wf_board.specs.Histories.{AreAnsweredOnce, BatchRests, EachAfter, FillsJobs, IsAnsweredOnce, IsLegal, IsRightAfter, RestsFrom, batch_end, batch_jobs, batch_start, job_of_entry, lane_jobs, state_after}
 
 -- the state after one more entry
 pub after_more : (s : State) (entries : List Entry) (e : Entry) → state_after s (entries ++ e ∷ []) ≡ state_after_step (state_after s entries) e.ask e.reply
@@ -55,6 +55,11 @@ pub once_more : (entries : List Entry) (e : Entry) → AreAnsweredOnce entries �
 once_more [] e once last = (last, tt)
 once_more (x ∷ xs) e once last = (once.0, once_more xs e once.1 last)
 
+-- nor with several more
+pub once_all : (entries more : List Entry) → AreAnsweredOnce entries → AreAnsweredOnce more → AreAnsweredOnce (entries ++ more)
+once_all [] more once later = later
+once_all (x ∷ xs) more once later = (once.0, once_all xs more once.1 later)
+
 once_first : (n : ℕ) (entries : List Entry) → AreAnsweredOnce entries → AreAnsweredOnce (take n entries)
 once_first zero entries once = tt
 once_first (suc n) [] once = tt
@@ -69,14 +74,20 @@ once_rests : (start : ℕ) (earlier entries : List Entry) → AreAnsweredOnce en
 once_rests start earlier [] once = tt
 once_rests start earlier (x ∷ xs) once = (λ n place again. absurd (once.0 n place again), once_rests start (earlier ++ x ∷ []) xs once.1)
 
+-- where no entry is answered again, none has to rest on others of its batch
+pub batch_rests : (batch_ends : List ℕ) (k : ℕ) (entries : List Entry) → AreAnsweredOnce entries → BatchRests batch_ends k entries
+batch_rests batch_ends k entries once =
+    let start = batch_start batch_ends k in
+    let end = batch_end batch_ends k in
+    once_rests start (take start entries) (drop start (take end entries)) (once_last start (take end entries) (once_first end entries once))
+
 -- entries that are the jobs in order, none of them answered again, fill them
 pub in_order_fills : (entries : List Entry) (jobs : List Job) (batch_ends : List ℕ) → map job_of_entry entries ≡ jobs → AreAnsweredOnce entries →
     FillsJobs entries jobs batch_ends
 in_order_fills entries jobs batch_ends same once = record {
   whole = sym (length-map entries job_of_entry) ∙ ap length same;
   batches = λ k known lane. ap (λ js. lane_jobs lane (batch_jobs batch_ends k js)) same;
-  rests = λ k known. once_rests (batch_start batch_ends k) (take (batch_start batch_ends k) entries) (drop (batch_start batch_ends k) (take (batch_end batch_ends k) entries))
-      (once_last (batch_start batch_ends k) (take (batch_end batch_ends k) entries) (once_first (batch_end batch_ends k) entries once));
+  rests = λ k known. batch_rests batch_ends k entries once;
 }
 
 deed_policy : (s : State) (given : Deed) (answer : Reply) → (state_after_deed s given answer).book.policy ≡ s.book.policy

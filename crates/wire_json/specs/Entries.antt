@@ -1,15 +1,11 @@
--- What is written for an entry, with the names of users and steps.
+-- What is written for the parts of an entry, with the names of users, roles and steps.
 use Rattle.std.specs.Prelude.{ℕ, List, [], ◌∷◌, ◌++◌, codes, map, slice_index_or}
-use Rattle.serde_json.specs.Data.{Data, string, boolean, number, unsigned, array, object, no_members, member}
+use Rattle.serde_json.specs.Data.{Data, string, array, object, no_members, member}
 use Rattle.serde_json.specs.View.{items_of}
-use Rattle.serde_json.specs.Written.{compact_text}
 use Rattle.wf_names.specs.declared.states.StepState.{StepState}
 use Rattle.wf_names.specs.declared.states.StepState.TheVariants.{Free, Held, Finished}
-use Rattle.wf_talk.specs.declared.entry.Entry.{Entry}
-use Rattle.wf_talk.specs.declared.reply.Reply.{Reply}
-use Rattle.wf_talk.specs.declared.reply.Reply.TheVariants as reply
-use Rattle.wf_talk.specs.declared.reply.Denial.{Denial}
-use Rattle.wf_talk.specs.declared.reply.Denial.TheVariants as denial
+use Rattle.wf_names.specs.declared.states.Phase.{Phase}
+use Rattle.wf_names.specs.declared.states.Phase.TheVariants.{Live, Done, Withdrawn}
 use Rattle.wf_talk.specs.declared.request.Bad.{Bad}
 use Rattle.wf_talk.specs.declared.request.Bad.TheVariants as bad
 use Rattle.policy_book.specs.Shapes.{PolicyShape}
@@ -35,9 +31,13 @@ user_data p u = named p.roster.users u
 abbrev pub step_data : PolicyShape → ℕ → ℕ → Data
 step_data p f s = named (flow_at p f).flow.steps s
 
+-- the names with some numbers, in order
+abbrev pub names_data : List (List ℕ) → List ℕ → Data
+names_data names ns = array (items_of (map (named names) ns))
+
 -- the names of a plan's users, in the order of the steps
 abbrev pub plan_data : List (List ℕ) → List ℕ → Data
-plan_data users plan = array (items_of (map (named users) plan))
+plan_data users plan = names_data users plan
 
 -- where a step stands
 abbrev pub state_data : PolicyShape → StepState → Data
@@ -45,51 +45,23 @@ state_data p Free = word (codes "free")
 state_data p (Held u) = single (codes "held") (user_data p u)
 state_data p (Finished u) = single (codes "finished") (user_data p u)
 
--- why a request was denied
-abbrev pub denial_data : PolicyShape → Denial → Data
-denial_data p denial.NoFlow = word (codes "no_flow")
-denial_data p denial.Full = word (codes "full")
-denial_data p denial.Invalid = word (codes "invalid")
-denial_data p denial.NoCase = word (codes "no_case")
-denial_data p denial.Closed = word (codes "closed")
-denial_data p denial.NoStep = word (codes "no_step")
-denial_data p denial.NoUser = word (codes "no_user")
-denial_data p (denial.Taken u) = single (codes "taken") (user_data p u)
-denial_data p (denial.Order f s) = single (codes "order") (step_data p f s)
-denial_data p (denial.OffPlan u) = single (codes "off_plan") (user_data p u)
-denial_data p (denial.NotHeld state) = single (codes "not_held") (state_data p state)
+-- where a step stands, as a view shows it
+abbrev pub seen_data : PolicyShape → StepState → Data
+seen_data p Free = array (items_of (word (codes "free") ∷ []))
+seen_data p (Held u) = array (items_of (word (codes "held") ∷ user_data p u ∷ []))
+seen_data p (Finished u) = array (items_of (word (codes "finished") ∷ user_data p u ∷ []))
+
+-- where a case stands
+abbrev pub phase_data : Phase → Data
+phase_data Live = word (codes "open")
+phase_data Done = word (codes "done")
+phase_data Withdrawn = word (codes "withdrawn")
 
 -- why a line is no request
 abbrev pub bad_data : Bad → Data
 bad_data bad.Syntax = word (codes "syntax")
-
--- the case and the plan of an opened case
-abbrev pub opened_data : PolicyShape → ℕ → List ℕ → Data
-opened_data p c plan =
-    object (member (codes "case") (number (unsigned c)) (member (codes "plan") (plan_data p.roster.users plan) no_members))
-
--- a reply
-abbrev pub reply_data : PolicyShape → Reply → Data
-reply_data p (reply.Granted plan) = single (codes "granted") (single (codes "plan") (plan_data p.roster.users plan))
-reply_data p (reply.Finished done) = single (codes "finished") (single (codes "done") (boolean done))
-reply_data p (reply.Opened c plan) = single (codes "opened") (opened_data p c plan)
-reply_data p (reply.Denied d) = single (codes "denied") (denial_data p d)
-reply_data p reply.NoMemory = word (codes "no_memory")
-reply_data p (reply.Bad b) = single (codes "bad") (bad_data b)
-
--- an entry: its place, its lane, its line and the reply
-abbrev pub entry_data : PolicyShape → Entry → Data
-entry_data p e = object
-    (member (codes "at") (number (unsigned e.at))
-    (member (codes "lane") (number (unsigned e.lane))
-    (member (codes "line") (number (unsigned e.line))
-    (member (codes "reply") (reply_data p e.reply) no_members))))
-
--- the text of an entry: JSON without blanks, and LF
-unfoldable pub entry_text : PolicyShape → Entry → List ℕ
-entry_text p e = compact_text (entry_data p e) ++ 10 ∷ []
-
--- the texts of all entries, in order
-abbrev pub transcript_text : PolicyShape → List Entry → List ℕ
-transcript_text p [] = []
-transcript_text p (e ∷ es) = entry_text p e ++ transcript_text p es
+bad_data bad.Object = word (codes "object")
+bad_data bad.Do = word (codes "do")
+bad_data bad.Lane = word (codes "lane")
+bad_data (bad.Key key) = single (codes "key") (string key)
+bad_data bad.Extra = word (codes "extra")

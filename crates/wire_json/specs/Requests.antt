@@ -1,102 +1,119 @@
--- What a line asks.
-use Rattle.std.specs.Prelude.{ℕ, nat_le, nat_eq, List, [], ◌∷◌, ◌++◌, length, codes, option_and_then, Result, Ok, Err, if◌then◌else◌}
+-- What a line asks, and which lane serves it.
+use Rattle.std.specs.Prelude.{ℕ, nat_le, nat_lt, nat_eq, Bool, true, ◌&&◌, List, [], ◌∷◌, codes, Option, Some, None, is_some, unwrap_or, option_and_then, Result, Ok, Err, if◌then◌else◌}
+use Rattle.std.specs.List.{list_any, find}
 use Rattle.std.specs.Cmp.Lexicographic.{pointwise}
-use Rattle.serde_json.specs.Data.{Data}
-use Rattle.serde_json.specs.Find.{get, as_str, as_array, as_number, as_u64}
+use Rattle.serde_json.specs.Data.{Data, Members, no_members, member}
+use Rattle.serde_json.specs.Find.{get, as_str, as_object, as_number, as_u64}
 use Rattle.first_fault.specs.Reading.{◌>>=◌, or_fault, check, each}
-use Rattle.wf_names.specs.declared.limits.TheConstants.{CASE_NUMBER_LIMIT, STEP_LIMIT}
+use Rattle.wf_names.specs.declared.limits.TheConstants.{CASE_NUMBER_LIMIT}
 use Rattle.wf_names.specs.Names.{is_name}
 use Rattle.wf_talk.specs.declared.request.Request.{Request}
-use Rattle.wf_talk.specs.declared.request.Request.TheVariants.{OpenWith, OpenWithTooMany, Claim, Finish}
+use Rattle.wf_talk.specs.declared.request.Request.TheVariants.{OpenCase, Claim, Finish, GiveBack, Release, Withdraw, Show}
 use Rattle.wf_talk.specs.declared.request.Bad.{Bad}
-use Rattle.wf_talk.specs.declared.request.Bad.TheVariants.{Syntax}
-use Rattle.wf_talk.specs.declared.request.Ask.{Ask}
+use Rattle.wf_talk.specs.declared.request.Bad.TheVariants.{Syntax, Object, Do, Lane, Key, Extra}
 use Rattle.wf_talk.specs.declared.request.Ask.TheVariants as ask
-use Rattle.wire_json.specs.Values.{value_of, listed_items, has_keys}
+use Rattle.wire_json.specs.declared.request.Asked.{Asked}
+use Rattle.wire_json.specs.Values.{value_of}
 
--- the value at a key
-abbrev pub value_at : List ℕ → Data → Result Data Bad
-value_at key d = or_fault (get key d) Syntax
+-- the unsigned whole number at a key
+abbrev pub number_at : List ℕ → Data → Option ℕ
+number_at key d = option_and_then as_u64 (option_and_then as_number (get key d))
 
--- the name that a value is
-unfoldable pub name_of : Data → Result (List ℕ) Bad
-name_of d = do
-  text ← or_fault (as_str d) Syntax
-  _ ← check (is_name text) Syntax
-  Ok text
+-- the text at a key
+abbrev pub text_at : List ℕ → Data → Option (List ℕ)
+text_at key d = option_and_then as_str (get key d)
 
--- the name at a key
-unfoldable pub name_at : List ℕ → Data → Result (List ℕ) Bad
-name_at key d = value_at key d >>= name_of
+-- the name at a key: a text of a name's form
+abbrev pub name_at : List ℕ → Data → Option (List ℕ)
+name_at key d = option_and_then (λ text. if is_name text then Some text else None) (text_at key d)
 
 -- the number of a case, at the key case
-unfoldable pub case_in : Data → Result ℕ Bad
-case_in d = do
-  value ← value_at (codes "case") d
-  n ← or_fault (option_and_then as_u64 (as_number value)) Syntax
-  _ ← check (nat_le n CASE_NUMBER_LIMIT) Syntax
-  Ok n
+abbrev pub case_at : Data → Option ℕ
+case_at d = option_and_then (λ n. if nat_le n CASE_NUMBER_LIMIT then Some n else None) (number_at (codes "case") d)
 
--- the next name of a plan
-unfoldable pub next_name : List (List ℕ) → Data → Result (List (List ℕ)) Bad
-next_name so_far d = do
-  name ← name_of d
-  Ok (so_far ++ name ∷ [])
+-- what a request needs at a key is there: the number of a case, or a name at any other key
+abbrev pub has_form : Data → List ℕ → Bool
+has_form d key = if pointwise nat_eq key (codes "case") then is_some (case_at d) else is_some (name_at key d)
 
--- the names of a plan, at the key plan
-unfoldable pub plan_in : Data → Result (List (List ℕ)) Bad
-plan_in d = do
-  value ← value_at (codes "plan") d
-  items ← or_fault (as_array value) Syntax
-  each next_name [] (listed_items items)
+-- a request that is served: its word, its further keys in the order in which they are checked, and what it is where
+-- each of them has its form
+pub record Row : Type 0 where
+  pub word : List ℕ
+  pub keys : List (List ℕ)
+  pub request : Data → Request
 
--- to open a case with a plan, or with one of more users than any workflow has steps
-abbrev pub open_with : List ℕ → List (List ℕ) → Request
-open_with flow plan = if nat_le (length plan) STEP_LIMIT then OpenWith flow plan else OpenWithTooMany flow
+abbrev pub row : List ℕ → List (List ℕ) → (Data → Request) → Row
+row word keys request = record { word = word; keys = keys; request = request }
 
--- the request to open a case, with the keys do, flow and plan
-unfoldable pub open_with_in : Data → Result Request Bad
-open_with_in d = do
-  _ ← check (has_keys 3 d) Syntax
-  flow ← name_at (codes "flow") d
-  plan ← plan_in d
-  Ok (open_with flow plan)
+abbrev pub the_case : Data → ℕ
+the_case d = unwrap_or (case_at d) 0
 
--- a request on a step of a case, with the keys do, case, step and user
-unfoldable pub on_step_in : (ℕ → List ℕ → List ℕ → Request) → Data → Result Request Bad
-on_step_in request d = do
-  _ ← check (has_keys 4 d) Syntax
-  number ← case_in d
-  step ← name_at (codes "step") d
-  user ← name_at (codes "user") d
-  Ok (request number step user)
+abbrev pub the_name : List ℕ → Data → List ℕ
+the_name key d = unwrap_or (name_at key d) []
 
--- the request of a word
-unfoldable pub request_named : List ℕ → Data → Result Request Bad
-request_named word d =
-    if pointwise nat_eq word (codes "open_with") then open_with_in d else
-    if pointwise nat_eq word (codes "claim") then on_step_in Claim d else
-    if pointwise nat_eq word (codes "finish") then on_step_in Finish d else
-    Err Syntax
+abbrev pub case : List ℕ
+case = codes "case"
 
--- the word at the key do
-unfoldable pub word_in : Data → Result (List ℕ) Bad
-word_in d = do
-  value ← value_at (codes "do") d
-  or_fault (as_str value) Syntax
+abbrev pub step : List ℕ
+step = codes "step"
 
--- the request that a line is, which is named by its key do
-unfoldable pub request_of : List ℕ → Result Request Bad
-request_of line = do
-  d ← or_fault (value_of line) Syntax
-  word ← word_in d
-  request_named word d
+abbrev pub user : List ℕ
+user = codes "user"
 
--- what was read, or why the line is no request
-abbrev pub asked : Result Request Bad → Ask
-asked (Ok request) = ask.Request request
-asked (Err bad) = ask.Bad bad
+abbrev pub flow : List ℕ
+flow = codes "flow"
 
--- what a line asks
-unfoldable pub ask_of : List ℕ → Ask
-ask_of line = asked (request_of line)
+abbrev pub by : List ℕ
+by = codes "by"
+
+-- the requests that are served
+abbrev pub rows : List Row
+rows =
+    row (codes "open") (flow ∷ []) (λ d. OpenCase (the_name flow d))
+    ∷ row (codes "claim") (case ∷ step ∷ user ∷ []) (λ d. Claim (the_case d) (the_name step d) (the_name user d))
+    ∷ row (codes "finish") (case ∷ step ∷ user ∷ []) (λ d. Finish (the_case d) (the_name step d) (the_name user d))
+    ∷ row (codes "give_back") (case ∷ step ∷ user ∷ []) (λ d. GiveBack (the_case d) (the_name step d) (the_name user d))
+    ∷ row (codes "release") (by ∷ case ∷ step ∷ []) (λ d. Release (the_name by d) (the_case d) (the_name step d))
+    ∷ row (codes "withdraw") (by ∷ case ∷ []) (λ d. Withdraw (the_name by d) (the_case d))
+    ∷ row (codes "view") (case ∷ []) (λ d. Show (the_case d))
+    ∷ []
+
+-- the row of a word
+abbrev pub row_of : List ℕ → Option Row
+row_of word = find (λ r. pointwise nat_eq word r.word) rows
+
+-- the lane at the key lane, which is below their number; the first one where there is no such key
+abbrev pub lane_at : ℕ → Data → Option ℕ
+lane_at lanes d =
+    if is_some (get (codes "lane") d) then option_and_then (λ n. if nat_lt n lanes then Some n else None) (number_at (codes "lane") d)
+    else Some 0
+
+-- each key of an object is one of these
+abbrev pub has_only : List (List ℕ) → Members → Bool
+has_only keys no_members = true
+has_only keys (member key d ms) = list_any (pointwise nat_eq key) keys && has_only keys ms
+
+-- a request by its row: the further keys in their order, and then no other key
+unfoldable pub request_by : Row → Data → Members → Result Request Bad
+request_by r d ms = do
+  _ ← each (λ _ key. check (has_form d key) (Key key)) tt r.keys
+  _ ← check (has_only (codes "do" ∷ codes "lane" ∷ r.keys) ms) Extra
+  Ok (r.request d)
+
+-- a value that is a request of a lane; the faults in the order in which they are checked
+unfoldable pub request_in : ℕ → Data → Result Asked Bad
+request_in lanes d = do
+  ms ← or_fault (as_object d) Object
+  r ← or_fault (option_and_then row_of (text_at (codes "do") d)) Do
+  lane ← or_fault (lane_at lanes d) Lane
+  request ← request_by r d ms
+  Ok (record { lane = lane; ask = ask.Request request })
+
+-- a bad line is of the first lane
+abbrev pub asked : Result Asked Bad → Asked
+asked (Ok a) = a
+asked (Err bad) = record { lane = 0; ask = ask.Bad bad }
+
+-- what a line asks, and of which of so many lanes
+unfoldable pub asked_of : ℕ → List ℕ → Asked
+asked_of lanes line = asked (or_fault (value_of line) Syntax >>= request_in lanes)

@@ -2,14 +2,14 @@
 #![tactic(auto)]
 
 mod entry;
-mod fault;
 mod finding;
 mod request;
 #[cfg(test)]
 mod tests;
 mod tree;
+mod word;
 
 pub use entry::write_entry;
 pub use finding::{write_plan, write_tree};
-pub use request::read_request;
+pub use request::{Asked, read_request};
 pub use tree::tree_value;

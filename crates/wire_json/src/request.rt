@@ -1,212 +1,279 @@
 //! Reading a line as a request.
-ghost use Rattle.std.specs.Prelude.{◌≡◌, ℕ, List, [], IfOk};
-ghost use Rattle.serde_json.specs.View.{view, items_view};
-ghost use Rattle.first_fault.specs.Reading.{Gives, or_fault, each};
-ghost use Rattle.wf_talk.specs.declared.request.Bad.TheVariants.{Syntax};
-ghost use Rattle.wf_talk.specs.declared.request.Request.TheVariants.{Claim, Finish};
-ghost use Rattle.wire_json.specs.Values.{value_of, listed_items, has_keys};
+ghost use Rattle.std.specs.Prelude.{◌≡◌, IsTrue, IfOk, Some, Err, option_map, option_and_then, map, codes, nat_eq};
+ghost use Rattle.std.specs.List.{list_any};
+ghost use Rattle.std.specs.Cmp.Lexicographic.{pointwise};
+ghost use Rattle.serde_json.specs.View.{view, members_view};
+ghost use Rattle.serde_json.specs.Find.{as_object};
+ghost use Rattle.first_fault.specs.Reading.{Gives, or_fault, check};
+ghost use Rattle.wf_names.specs.Names.{is_name};
+ghost use Rattle.wf_talk.specs.declared.request.Bad.TheVariants as bad;
+ghost use Rattle.wire_json.specs.Values.{value_of};
 ghost use Rattle.wire_json.specs.Requests as read;
-ghost use Rattle.wire_json.specs.Faults.{bad_of};
+ghost use Rattle.wire_json.specs.Words.{row_of_word};
 
-use crate::fault::{ReadFault, SYNTAX};
-use serde_json::Value;
+use crate::word::Word;
+use serde_json::{Map, Value};
 use std::alloc::{AllocError, Global};
 use std::str;
-use wf_names::{CASE_NUMBER_LIMIT, CaseId, Name, STEP_LIMIT};
-use wf_talk::{Ask, Request, UserNames};
+use wf_names::{CASE_NUMBER_LIMIT, CaseId, Name};
+use wf_talk::{Ask, Bad, Request};
 
-/// What a line asks. A line that is not exactly of the form of a request is bad.
-#[tactic(auto, unfolding(crate::specs::Requests::ask_of))]
-pub fn read_request(alloc: Global, line: &[u8]) -> Result<Ask, AllocError>
-    ensures { IfOk result (λ ask. ask ≡ read.ask_of line.now) }
-{
-    match request_of(alloc, line) {
-        Ok(request) => Ok(Ask::Request(request)),
-        Err(ReadFault::Bad(bad)) => Ok(Ask::Bad(bad)),
-        Err(ReadFault::NoMemory) => Err(AllocError),
-    }
+/// What a line asks, and the lane that serves it. A bad line is of the first lane.
+#[derive(Clone, Copy, PartialEq, Eq)]
+pub struct Asked {
+    pub lane: u8,
+    pub ask: Ask,
 }
 
-#[tactic(auto, unfolding(crate::specs::Requests::request_of))]
-fn request_of(alloc: Global, line: &[u8]) -> Result<Request, ReadFault>
-    ensures { Gives bad_of (λ r. r) result (read.request_of line.now) }
+/// What a line asks, and of which of so many lanes. A line that is not exactly of the form of a
+/// request is bad, for the first cause in the order in which its parts are checked.
+#[tactic(auto, unfolding(crate::specs::Requests::asked_of))]
+pub fn read_request(alloc: Global, line: &[u8], lanes: u8) -> Result<Asked, AllocError>
+    ensures { IfOk result (λ asked. asked ≡ read.asked_of lanes line.now) }
 {
-    let value = read_value(alloc, line)?;
-    let word = word_in(&value)?;
-    request_named(alloc, word, &value)
+    let Some(value) = read_value(alloc, line)? else {
+        return Ok(bad_line(Bad::Syntax));
+    };
+    Ok(asked_in(&value, lanes))
 }
 
-// The JSON value of a line.
+// The JSON value of a line, where it is one.
 #[tactic(auto, unfolding(crate::specs::Values::value_of))]
-fn read_value(alloc: Global, line: &[u8]) -> Result<Value, ReadFault>
-    ensures { Gives bad_of view result (or_fault (value_of line.now) Syntax) }
+fn read_value(alloc: Global, line: &[u8]) -> Result<Option<Value>, AllocError>
+    ensures { IfOk result (λ o. option_map view o ≡ value_of line.now) }
 {
     let Ok(text) = str::from_utf8(line) else {
-        return Err(SYNTAX);
+        return Ok(None);
     };
     match Value::from_str(alloc, text) {
-        Ok(value) => Ok(value),
-        Err(e) if e.is_memory() => Err(ReadFault::NoMemory),
-        Err(_) => Err(SYNTAX),
+        Ok(value) => Ok(Some(value)),
+        Err(e) if e.is_memory() => Err(AllocError),
+        Err(_) => Ok(None),
     }
 }
 
-#[tactic(auto, unfolding(crate::specs::Requests::word_in))]
-fn word_in(value: &Value) -> Result<&str, ReadFault>
-    ensures { Gives bad_of (λ t. t.now) result (read.word_in (view value.now)) }
+fn asked_in(value: &Value, lanes: u8) -> Asked
+    ensures { result ≡ read.asked (read.request_in lanes (view value.now)) }
 {
-    match value_at(value, "do")?.as_str() {
+    match request_in(value, lanes) {
+        Ok(asked) => asked,
+        Err(bad) => bad_line(bad),
+    }
+}
+
+fn bad_line(bad: Bad) -> Asked
+    ensures { result ≡ read.asked (Err bad) }
+{
+    Asked {
+        lane: 0,
+        ask: Ask::Bad(bad),
+    }
+}
+
+#[tactic(auto, unfolding(crate::specs::Requests::request_in))]
+fn request_in(value: &Value, lanes: u8) -> Result<Asked, Bad>
+    ensures { Gives Some (λ a. a) result (read.request_in lanes (view value.now)) }
+{
+    let members = members_of(value)?;
+    let word = word_in(value)?;
+    let lane = lane_in(value, lanes)?;
+    let request = request_named(word, value, members)?;
+    Ok(Asked {
+        lane,
+        ask: Ask::Request(request),
+    })
+}
+
+fn members_of(value: &Value) -> Result<&Map<String, Value>, Bad>
+    ensures { Gives Some (λ m. members_view m.now.entries) result (or_fault (as_object (view value.now)) bad.Object) }
+{
+    match value.as_object() {
+        Some(members) => Ok(members),
+        None => Err(Bad::Object),
+    }
+}
+
+// The word at the key do.
+fn word_in(value: &Value) -> Result<Word, Bad>
+    ensures { Gives Some row_of_word result (or_fault (option_and_then read.row_of (read.text_at (codes "do") (view value.now))) bad.Do) }
+{
+    let Some(text) = text_at(value, "do") else {
+        return Err(Bad::Do);
+    };
+    match Word::read(text) {
         Some(word) => Ok(word),
-        None => Err(SYNTAX),
+        None => Err(Bad::Do),
     }
 }
 
-fn value_at<'v>(value: &'v Value, key: &str) -> Result<&'v Value, ReadFault>
-    ensures { Gives bad_of (λ v. view v.now) result (read.value_at key.now (view value.now)) }
+// The lane at the key lane, or the first one.
+fn lane_in(value: &Value, lanes: u8) -> Result<u8, Bad>
+    ensures { Gives Some (λ n. n) result (or_fault (read.lane_at lanes (view value.now)) bad.Lane) }
 {
-    match value.get(key) {
-        Some(found) => Ok(found),
-        None => Err(SYNTAX),
+    if value.get("lane").is_none() {
+        return Ok(0);
+    }
+    match number_at(value, "lane") {
+        Some(n) if n < lanes as u64 => Ok(n as u8),
+        _ => Err(Bad::Lane),
     }
 }
 
-#[tactic(auto, unfolding(crate::specs::Requests::request_named))]
-fn request_named(alloc: Global, word: &str, value: &Value) -> Result<Request, ReadFault>
-    ensures { Gives bad_of (λ r. r) result (read.request_named word.now (view value.now)) }
+fn request_named(
+    word: Word,
+    value: &Value,
+    members: &Map<String, Value>,
+) -> Result<Request, Bad>
+    ensures { Gives Some (λ r. r) result (read.request_by (row_of_word word) (view value.now) (members_view members.now.entries)) }
 {
-    if word == "open_with" {
-        return open_with_in(alloc, value);
+    match word {
+        Word::Open => open_in(value, members),
+        Word::Claim => claim_in(value, members),
+        Word::Finish => finish_in(value, members),
+        Word::GiveBack => give_back_in(value, members),
+        Word::Release => release_in(value, members),
+        Word::Withdraw => withdraw_in(value, members),
+        Word::View => view_in(value, members),
     }
-    if word == "claim" {
-        return claim_in(value);
-    }
-    if word == "finish" {
-        return finish_in(value);
-    }
-    Err(SYNTAX)
 }
 
-#[tactic(auto, unfolding(crate::specs::Requests::open_with_in))]
-fn open_with_in(alloc: Global, value: &Value) -> Result<Request, ReadFault>
-    ensures { Gives bad_of (λ r. r) result (read.open_with_in (view value.now)) }
+#[tactic(auto, unfolding(crate::specs::Requests::request_by, wf_names::specs::Names::is_name))]
+fn open_in(value: &Value, members: &Map<String, Value>) -> Result<Request, Bad>
+    ensures { Gives Some (λ r. r) result (read.request_by (row_of_word Word.Open) (view value.now) (members_view members.now.entries)) }
 {
-    if !has_keys(value, 3) {
-        return Err(SYNTAX);
-    }
     let flow = name_at(value, "flow")?;
-    let plan = plan_in(alloc, value)?;
-    Ok(open_with(flow, &plan))
+    no_others(members, &["do", "lane", "flow"])?;
+    Ok(Request::OpenCase { flow })
 }
 
-fn open_with(flow: Name, plan: &[Name]) -> Request
-    ensures { result ≡ read.open_with flow plan.now }
+#[tactic(auto, unfolding(crate::specs::Requests::request_by, wf_names::specs::Names::is_name))]
+fn claim_in(value: &Value, members: &Map<String, Value>) -> Result<Request, Bad>
+    ensures { Gives Some (λ r. r) result (read.request_by (row_of_word Word.Claim) (view value.now) (members_view members.now.entries)) }
 {
-    if plan.len() <= STEP_LIMIT {
-        Request::OpenWith {
-            flow,
-            plan: UserNames::of(plan),
-        }
-    } else {
-        Request::OpenWithTooMany { flow }
-    }
-}
-
-#[tactic(auto, unfolding(crate::specs::Requests::on_step_in))]
-fn claim_in(value: &Value) -> Result<Request, ReadFault>
-    ensures { Gives bad_of (λ r. r) result (read.on_step_in Claim (view value.now)) }
-{
-    if !has_keys(value, 4) {
-        return Err(SYNTAX);
-    }
-    let case = case_in(value)?;
+    let case = case_at(value)?;
     let step = name_at(value, "step")?;
     let user = name_at(value, "user")?;
+    no_others(members, &["do", "lane", "case", "step", "user"])?;
     Ok(Request::Claim { case, step, user })
 }
 
-#[tactic(auto, unfolding(crate::specs::Requests::on_step_in))]
-fn finish_in(value: &Value) -> Result<Request, ReadFault>
-    ensures { Gives bad_of (λ r. r) result (read.on_step_in Finish (view value.now)) }
+#[tactic(auto, unfolding(crate::specs::Requests::request_by, wf_names::specs::Names::is_name))]
+fn finish_in(value: &Value, members: &Map<String, Value>) -> Result<Request, Bad>
+    ensures { Gives Some (λ r. r) result (read.request_by (row_of_word Word.Finish) (view value.now) (members_view members.now.entries)) }
 {
-    if !has_keys(value, 4) {
-        return Err(SYNTAX);
-    }
-    let case = case_in(value)?;
+    let case = case_at(value)?;
     let step = name_at(value, "step")?;
     let user = name_at(value, "user")?;
+    no_others(members, &["do", "lane", "case", "step", "user"])?;
     Ok(Request::Finish { case, step, user })
 }
 
-// Whether a value is an object with so many keys.
-#[tactic(auto, unfolding(crate::specs::Values::has_keys), using(crate::proofs::Values::count_keys_length))]
-fn has_keys(value: &Value, count: usize) -> bool
-    ensures { result ≡ has_keys count (view value.now) }
+#[tactic(auto, unfolding(crate::specs::Requests::request_by, wf_names::specs::Names::is_name))]
+fn give_back_in(value: &Value, members: &Map<String, Value>) -> Result<Request, Bad>
+    ensures { Gives Some (λ r. r) result (read.request_by (row_of_word Word.GiveBack) (view value.now) (members_view members.now.entries)) }
 {
-    match value.as_object() {
-        Some(members) => members.len() == count,
-        None => false,
-    }
+    let case = case_at(value)?;
+    let step = name_at(value, "step")?;
+    let user = name_at(value, "user")?;
+    no_others(members, &["do", "lane", "case", "step", "user"])?;
+    Ok(Request::GiveBack { case, step, user })
 }
 
-#[tactic(auto, unfolding(crate::specs::Requests::case_in))]
-fn case_in(value: &Value) -> Result<CaseId, ReadFault>
-    ensures { Gives bad_of (λ n. n) result (read.case_in (view value.now)) }
+#[tactic(auto, unfolding(crate::specs::Requests::request_by, wf_names::specs::Names::is_name))]
+fn release_in(value: &Value, members: &Map<String, Value>) -> Result<Request, Bad>
+    ensures { Gives Some (λ r. r) result (read.request_by (row_of_word Word.Release) (view value.now) (members_view members.now.entries)) }
 {
-    match value_at(value, "case")?.as_u64() {
+    let by = name_at(value, "by")?;
+    let case = case_at(value)?;
+    let step = name_at(value, "step")?;
+    no_others(members, &["do", "lane", "by", "case", "step"])?;
+    Ok(Request::Release { by, case, step })
+}
+
+#[tactic(auto, unfolding(crate::specs::Requests::request_by, wf_names::specs::Names::is_name))]
+fn withdraw_in(value: &Value, members: &Map<String, Value>) -> Result<Request, Bad>
+    ensures { Gives Some (λ r. r) result (read.request_by (row_of_word Word.Withdraw) (view value.now) (members_view members.now.entries)) }
+{
+    let by = name_at(value, "by")?;
+    let case = case_at(value)?;
+    no_others(members, &["do", "lane", "by", "case"])?;
+    Ok(Request::Withdraw { by, case })
+}
+
+#[tactic(auto, unfolding(crate::specs::Requests::request_by, wf_names::specs::Names::is_name))]
+fn view_in(value: &Value, members: &Map<String, Value>) -> Result<Request, Bad>
+    ensures { Gives Some (λ r. r) result (read.request_by (row_of_word Word.View) (view value.now) (members_view members.now.entries)) }
+{
+    let case = case_at(value)?;
+    no_others(members, &["do", "lane", "case"])?;
+    Ok(Request::Show { case })
+}
+
+// The number of the case, at the key case.
+#[tactic(auto, unfolding(wf_names::specs::Names::is_name))]
+fn case_at(value: &Value) -> Result<CaseId, Bad>
+    ensures { Gives Some (λ n. n) result (or_fault (read.case_at (view value.now)) (bad.Key read.case)) }
+{
+    match number_at(value, "case") {
         Some(n) if n <= CASE_NUMBER_LIMIT as u64 => Ok(CaseId(n as u16)),
-        _ => Err(SYNTAX),
+        _ => Err(key_fault("case")),
     }
 }
 
-#[tactic(auto, unfolding(crate::specs::Requests::name_at))]
-fn name_at(value: &Value, key: &str) -> Result<Name, ReadFault>
-    ensures { Gives bad_of (λ n. n) result (read.name_at key.now (view value.now)) }
+// The name at a key.
+fn name_at(value: &Value, key: &str) -> Result<Name, Bad>
+    requires { IsTrue (is_name key.now) }
+    ensures { Gives Some (λ n. n) result (or_fault (read.name_at key.now (view value.now)) (bad.Key key.now)) }
 {
-    name_of(value_at(value, key)?)
-}
-
-#[tactic(auto, unfolding(crate::specs::Requests::name_of))]
-fn name_of(value: &Value) -> Result<Name, ReadFault>
-    ensures { Gives bad_of (λ n. n) result (read.name_of (view value.now)) }
-{
-    let Some(text) = value.as_str() else {
-        return Err(SYNTAX);
+    let Some(text) = text_at(value, key) else {
+        return Err(key_fault(key));
     };
     match Name::read(text) {
         Some(name) => Ok(name),
-        None => Err(SYNTAX),
+        None => Err(key_fault(key)),
     }
 }
 
-#[tactic(auto, unfolding(crate::specs::Requests::plan_in))]
-fn plan_in(alloc: Global, value: &Value) -> Result<Vec<Name>, ReadFault>
-    ensures { Gives bad_of (λ names. names.items) result (read.plan_in (view value.now)) }
+// The fault of a key.
+fn key_fault(key: &str) -> Bad
+    requires { IsTrue (is_name key.now) }
+    ensures { result ≡ bad.Key key.now }
 {
-    match value_at(value, "plan")?.as_array() {
-        Some(items) => names_of(alloc, items),
-        None => Err(SYNTAX),
-    }
+    Bad::Key(Name::read(key).unwrap())
 }
 
-// The names that the items of an array are.
-fn names_of(alloc: Global, items: &[Value]) -> Result<Vec<Name>, ReadFault>
-    ensures { Gives bad_of (λ names. names.items) result (each read.next_name [] (listed_items (items_view items.now))) }
+fn number_at(value: &Value, key: &str) -> Option<u64>
+    ensures { result ≡ read.number_at key.now (view value.now) }
 {
-    let mut names = Vec::new(alloc);
-    'names: for item in items {
-        read_next(&mut names, item)?;
-    }
-    Ok(names)
+    value.get(key).and_then(Value::as_u64)
 }
 
-// The name that an item is, behind those before.
-#[tactic(auto, unfolding(crate::specs::Requests::next_name))]
-fn read_next(names: &mut Vec<Name>, item: &Value) -> Result<(), ReadFault>
-    ensures { Gives bad_of (λ _. names.new.items) result (read.next_name names.old.items (view item.now)) }
+fn text_at<'v>(value: &'v Value, key: &str) -> Option<&'v str>
+    ensures { option_map (λ t. t.now) result ≡ read.text_at key.now (view value.now) }
 {
-    let name = name_of(item)?;
-    match names.push(name) {
-        Ok(()) => Ok(()),
-        Err(_) => Err(ReadFault::NoMemory),
+    value.get(key).and_then(Value::as_str)
+}
+
+// Refuses an object with another key than these.
+fn no_others(members: &Map<String, Value>, known: &[&str]) -> Result<(), Bad>
+    ensures { Gives Some (λ u. u) result (check (read.has_only (map (λ k. k.now) known.now) (members_view members.now.entries)) bad.Extra) }
+{
+    'members: for (key, _value) in members {
+        if !is_among(known, key.as_str()) {
+            return Err(Bad::Extra);
+        }
     }
+    Ok(())
+}
+
+// Whether a text is one of some texts.
+fn is_among(texts: &[&str], text: &str) -> bool
+    ensures { result ≡ list_any (pointwise nat_eq text.now) (map (λ t. t.now) texts.now) }
+{
+    'texts: for word in texts {
+        if text == *word {
+            return true;
+        }
+    }
+    false
 }

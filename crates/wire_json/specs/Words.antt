@@ -1,0 +1,18 @@
+-- Inside: the rows of requests by the words that the code knows.
+use Rattle.std.specs.Prelude.{ℕ, [], slice_index_or}
+use Rattle.wf_talk.specs.declared.request.Request.TheVariants.{Show}
+use Rattle.wire_json.specs.declared.word.Word.{Word}
+use Rattle.wire_json.specs.declared.word.Word.TheVariants as word
+use Rattle.wire_json.specs.Requests.{Row, rows, row}
+
+abbrev row_at : ℕ → Row
+row_at n = slice_index_or rows n (row [] [] (λ d. Show 0))
+
+abbrev pub row_of_word : Word → Row
+row_of_word word.Open = row_at 0
+row_of_word word.Claim = row_at 1
+row_of_word word.Finish = row_at 2
+row_of_word word.GiveBack = row_at 3
+row_of_word word.Release = row_at 4
+row_of_word word.Withdraw = row_at 5
+row_of_word word.View = row_at 6
