@@ -6,3 +6,5 @@ pub mod Exact
 pub mod Within
 pub mod Grants
 pub mod Rows
+pub mod Planned
+pub mod Answering
