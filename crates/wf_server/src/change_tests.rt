@@ -126,7 +126,7 @@ fn opens(alloc: Global, board: &mut Board) -> bool {
     }
 }
 
-// Whether a user's claim to prepare the payment is granted, by a valid plan, which is kept.
+// Whether a user's claim to prepare the payment is granted, by a valid plan.
 fn is_granted(alloc: Global, board: &mut Board, user: &str) -> bool {
     let (Some(step), Some(user)) = (Name::read("prepare"), Name::read(user)) else {
         return false;
