@@ -4,3 +4,7 @@ pub mod Valid
 pub mod Keeping
 pub mod Exact
 pub mod Within
+pub mod Grants
+pub mod Rows
+pub mod Planned
+pub mod Answering

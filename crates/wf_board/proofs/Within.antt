@@ -1,14 +1,14 @@
 -- What a search needs of a case: its steps are those of its workflow, and its users those of the policy.
-use Rattle.std.proofs.Common.{◌≡◌, ℕ, zero, suc, ◌<◌, ◌⊎◌, inl, inr, List, [], ◌∷◌, length, Some, slice_index_or, refl, sym, ap, subst, ◌∙◌, arith}
+use Rattle.std.proofs.Common.{◌≡◌, ℕ, zero, suc, ◌<◌, ◌⊎◌, inl, inr, List, [], ◌∷◌, length, Some, slice_index_or, sym, subst, ◌∙◌, arith}
 use Rattle.wf_names.specs.States.{user_of}
 use Rattle.wf_names.specs.declared.states.StepState.{StepState}
 use Rattle.wf_names.specs.declared.states.StepState.TheVariants.{Free}
-use Rattle.constraint_forms.specs.Assigned.{planned, user_at}
+use Rattle.constraint_forms.specs.Assigned.{user_at}
 use Rattle.policy_book.specs.Shapes.{PolicyShape}
 use Rattle.policy_book.specs.Policies.{problem_of}
 use Rattle.policy_book.specs.Plans.{IsValidPlan, IsWithin}
 use Rattle.certificate_check.proofs.Assigned.{given, same_some}
-use Rattle.case_record.specs.Cases.{CaseShape, assigned_of, finished_of, state_at}
+use Rattle.case_record.specs.Cases.{CaseShape, assigned_of, finished_of}
 use Rattle.case_record.proofs.Laws.{assigned_of-at}
 use Rattle.denial_reasons.specs.Causes.{assigned_with}
 use Rattle.wf_board.specs.Kept.{IsOfPolicy}

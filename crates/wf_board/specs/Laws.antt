@@ -1,19 +1,21 @@
 -- Laws of sessions.
-use Rattle.std.specs.Prelude.{◌≡◌, ◌↔◌, ℕ, List, take, Result, Ok, Err}
+use Rattle.std.specs.Prelude.{◌≡◌, ◌↔◌, ℕ, true, List, take, Some, Ok, IsTrue}
 use Rattle.policy_book.specs.Shapes.{PolicyShape}
 use Rattle.policy_book.specs.Facts.{IsSoundPolicy}
-use Rattle.policy_book.specs.Policies.{problem_of}
+use Rattle.policy_book.specs.Policies.{flow_at, is_authorised, problem_of}
 use Rattle.policy_book.specs.Plans.{IsCompletable, IsValidPlan}
-use Rattle.case_record.specs.Cases.{CaseShape, assigned_of, finished_case, finished_of, state_at, with_state}
+use Rattle.case_record.specs.Cases.{CaseShape, assigned_of, finished_case, finished_of, is_open, state_at, with_state}
+use Rattle.case_record.specs.Ready.{is_ready}
 use Rattle.wf_names.specs.declared.states.StepState.TheVariants.{Free, Held}
 use Rattle.denial_reasons.specs.Causes.{assigned_with}
 use Rattle.wf_talk.specs.declared.entry.Entry.{Entry}
+use Rattle.wf_talk.specs.declared.request.Request.TheVariants as request
 use Rattle.wf_talk.specs.declared.request.Ask.{Ask}
+use Rattle.wf_talk.specs.declared.request.Ask.TheVariants as ask
 use Rattle.wf_talk.specs.declared.reply.Reply.{Reply}
 use Rattle.wf_talk.specs.declared.reply.Reply.TheVariants as reply
-use Rattle.wf_talk.specs.declared.reply.Denial.TheVariants as denial
 use Rattle.wf_board.specs.declared.deed.Deed.TheVariants as deed
-use Rattle.wf_board.specs.States.{State, opening_state}
+use Rattle.wf_board.specs.States.{Book, State, case_at, opening_state, step_named, user_named}
 use Rattle.wf_board.specs.Decisions.{decision_of}
 use Rattle.wf_board.specs.Steps.{IsStep, state_after_step}
 use Rattle.wf_board.specs.Histories.{IsLegal, state_after}
@@ -41,6 +43,27 @@ ClaimsAreExact =
     (s : State) (what : Ask) (given : Reply) (n : ℕ) (c : CaseShape) (t u : ℕ) → IsSoundState s →
     decision_of s.book what ≡ Ok (deed.Claim n c t u) → IsStep s what given → ¬ (given ≡ reply.NoMemory) →
     ((plan : List ℕ) × (given ≡ reply.Granted plan)) ↔ IsCompletable (problem_of s.book.policy c.flow) (assigned_with c t u) (finished_of c)
+
+-- the case of a claim is open, and its step and its user are there
+pub record AreNamed (b : Book) (n : ℕ) (step user : List ℕ) (c : CaseShape) (t u : ℕ) : Type 0 where
+  pub its_case : case_at b.cases n ≡ Some c
+  pub live : is_open c ≡ true
+  pub its_step : step_named b c.flow step ≡ Some t
+  pub its_user : user_named b user ≡ Some u
+
+-- a user is authorised for a step of a case, the step is ready, and the case can be completed with the step given to the user
+pub record MayBeGranted (p : PolicyShape) (c : CaseShape) (t u : ℕ) : Type 0 where
+  pub authorised : IsTrue (is_authorised p c.flow t u)
+  pub ready : IsTrue (is_ready c (flow_at p c.flow).flow.order t)
+  pub completable : IsCompletable (problem_of p c.flow) (assigned_with c t u) (finished_of c)
+
+-- in a state of one policy, a claim for which there is memory is granted exactly where its user is authorised, its step is
+-- ready, and its case can then be completed
+abbrev pub GrantsAreExact : Type 0
+GrantsAreExact =
+    (s : State) (n : ℕ) (step user : List ℕ) (c : CaseShape) (t u : ℕ) (given : Reply) → IsSoundState s →
+    AreNamed s.book n step user c t u → IsStep s (ask.Request (request.Claim n step user)) given → ¬ (given ≡ reply.NoMemory) →
+    ((plan : List ℕ) × (given ≡ reply.Granted plan)) ↔ MayBeGranted s.book.policy c t u
 
 -- when a held step is finished or given back, a valid plan stays valid
 abbrev pub PlansStayValid : Type 0

@@ -1,5 +1,5 @@
 -- What is asked, with the case as it stands and numbers in place of names.
-use Rattle.std.specs.Prelude.{ℕ, List, Result, Ok, Err}
+use Rattle.std.specs.Prelude.{ℕ, List, Result, Ok}
 use Rattle.first_fault.specs.Reading.{◌>>=◌, or_fault, check}
 use Rattle.case_record.specs.Cases.{CaseShape, is_open}
 use Rattle.wf_talk.specs.declared.request.Request.{Request}

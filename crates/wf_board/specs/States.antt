@@ -1,5 +1,5 @@
 -- The state of a session.
-use Rattle.std.specs.Prelude.{ℕ, ◌||◌, nat_le, nat_eq, Bool, false, List, [], ◌∷◌, Option, None, Some, option_map}
+use Rattle.std.specs.Prelude.{ℕ, ◌||◌, nat_le, Bool, false, List, [], Option, None, Some, option_map}
 use Rattle.std.specs.List.{count_by}
 use Rattle.wf_names.specs.Table.{place_of}
 use Rattle.wf_names.specs.declared.limits.TheConstants.{OPEN_CASE_LIMIT, CASE_LIMIT}

@@ -1,5 +1,5 @@
 -- One step of a session: an ask, its reply, and the state after them.
-use Rattle.std.specs.Prelude.{◌≡◌, ℕ, ◌+◌, List, [], ◌∷◌, ◌++◌, length, Result, Ok, Err, IsTrue}
+use Rattle.std.specs.Prelude.{◌≡◌, ℕ, ◌+◌, [], ◌∷◌, ◌++◌, length, Result, Ok, Err, IsTrue}
 use Rattle.std.proofs.Common.{◌⊎◌}
 use Rattle.wf_names.specs.States.{is_done}
 use Rattle.wf_names.specs.declared.states.StepState.TheVariants.{Free, Held}

@@ -1,5 +1,5 @@
 -- Verdicts on whether a case can be completed.
-use Rattle.std.specs.Prelude.{◌≡◌, ◌≢◌, ℕ, Bool, false, true, List, [], length, Option, None, Some, Result, Ok, Err, IsTrue}
+use Rattle.std.specs.Prelude.{◌≡◌, ◌≢◌, ℕ, Bool, false, true, List, [], Result, Ok, IsTrue}
 use Rattle.std.proofs.Common.{◌⊎◌}
 use Rattle.constraint_forms.specs.Assigned.{no_users, no_steps}
 use Rattle.refutation_tree.specs.Views.{shape_of}
@@ -24,8 +24,8 @@ use Rattle.wf_board.specs.declared.verdict.Verdict.{Verdict}
 use Rattle.wf_board.specs.declared.verdict.Verdict.TheVariants as verdict
 use Rattle.wf_board.specs.declared.verdict.Answered.{Answered}
 use Rattle.wf_board.specs.declared.verdict.Answered.TheVariants.{Done, Needs}
-use Rattle.wf_board.specs.States.{Book, State}
-use Rattle.wf_board.specs.Boards.{BoardShape, SnapShape, book_of, state_on}
+use Rattle.wf_board.specs.States.{Book}
+use Rattle.wf_board.specs.Boards.{BoardShape, SnapShape, state_on}
 use Rattle.wf_board.specs.Decisions.{decision_aside, decision_of, needs_verdict, takes_memory}
 use Rattle.wf_board.specs.Steps.{IsStep, state_after_step}
 
@@ -74,11 +74,11 @@ abbrev pub is_opening : Result Deed Denial → Bool
 is_opening (Ok (deed.Open f)) = true
 is_opening given = false
 
--- where want of memory may be answered: it is the verdict, or there was none for the list of roles of a denial, or for
--- an opening without room
+-- where want of memory may be answered: it is the verdict, where one is needed, or there was none for the list of roles
+-- of a denial, or for an opening without room
 abbrev pub MayLackMemory : BoardShape → Ask → Verdict → Type 0
 MayLackMemory b what v =
-    (v ≡ verdict.NoMemory)
+    ((v ≡ verdict.NoMemory) × (needs_verdict (decision_of (state_on b).book what) ≡ true))
     ⊎ ((takes_memory (decision_of (state_on b).book what) ≡ true)
     ⊎ ((is_opening (decision_of (state_on b).book what) ≡ true) × (b.cases.spare ≡ 0)))
 

@@ -6,7 +6,7 @@ ghost use Rattle.wf_board.specs.Decisions.{decision_of, needs_verdict, takes_mem
 ghost use Rattle.wf_board.specs.Kept.{AreNumbered, ArePlanned, IsSoundState, KeepsCompletable};
 ghost use Rattle.wf_board.specs.States.{opening_state};
 ghost use Rattle.wf_board.specs.Steps.{IsStep, state_after_step};
-ghost use Rattle.wf_board.specs.Verdicts.{HasAnswered, HasUsed, IsRight, MayLackMemory, snap_of};
+ghost use Rattle.wf_board.specs.Verdicts.{HasAnswered, HasUsed, IsRight, MayLackMemory, snap_of, snap_rows};
 
 use crate::taking::answer;
 use crate::{Answered, Decider, Snap, Verdict};
@@ -87,10 +87,7 @@ impl Board {
     pub fn snap(&self, alloc: Global, ask: &Ask) -> Result<Snap, AllocError>
         ensures { IfOk result (λ s. s ≡ snap_of self.now ask.now s.cases.spare) }
     {
-        let cases = match *ask {
-            Ask::Request(Request::Claim { case, .. }) => self.cases.copy_one(alloc, case)?,
-            _ => self.cases.copy_none(alloc),
-        };
+        let cases = cases_for(alloc, &self.cases, ask)?;
         Ok(Snap::of(Arc::try_clone(&self.policy)?, cases))
     }
 
@@ -134,7 +131,9 @@ impl Board {
         ensures sound { IsSoundState (state_on self.now) }
         ensures kept { KeepsCompletable (state_on self.now) }
     {
-        &self.policy
+        let policy: &Policy = &self.policy;
+        let _sound = policy.admin();
+        policy
     }
 
     /// The cases with their kept plans.
@@ -162,5 +161,15 @@ impl Board {
             cases: self.cases.copy()?,
             edits: self.edits,
         })
+    }
+}
+
+/// The one case of a claim, and else none.
+fn cases_for(alloc: Global, cases: &Cases, ask: &Ask) -> Result<Cases, AllocError>
+    ensures { IfOk result (λ t. t ≡ record cases.now { rows = snap_rows cases.now.rows ask.now; spare = t.spare }) }
+{
+    match *ask {
+        Ask::Request(Request::Claim { case, .. }) => cases.copy_one(alloc, case),
+        _ => Ok(cases.copy_none(alloc)),
     }
 }

@@ -1,14 +1,13 @@
 //! What a line asks, or the first cause against it.
 ghost use Rattle.std.specs.Prelude.{◌≡◌, Ok, true, IfErr, IfOk, OnErr};
 ghost use Rattle.wf_names.specs.States.{is_held};
-ghost use Rattle.policy_book.specs.Shapes.{PolicyShape};
 ghost use Rattle.first_fault.specs.Reading.{Gives};
 ghost use Rattle.case_record.specs.Cases.{state_at};
 ghost use Rattle.denial_reasons.specs.Causes as causes;
 ghost use Rattle.wf_board.specs.Boards.{book_of};
 ghost use Rattle.wf_board.specs.Kept.{ArePlanned};
 ghost use Rattle.wf_board.specs.Found.{IsFound};
-ghost use Rattle.wf_board.specs.Decisions.{cause_aside, decision_aside, decision_of, is_held_by, needs_plan, takes_memory};
+ghost use Rattle.wf_board.specs.Decisions.{cause_aside, cause_full, decision_aside, decision_of, is_held_by, needs_plan, takes_memory};
 ghost use Rattle.wf_board.specs.Refusals.{denial_in};
 ghost use Rattle.wf_board.specs.States.{is_full};
 
@@ -43,12 +42,7 @@ impl From<AllocError> for Refused {
 
 /// The deed that a line asks for, or the first cause against it but `full` of an opening and what
 /// needs a verdict. Only the roles of a denied claim take memory.
-pub fn decision_aside(
-    alloc: Global,
-    p: &Policy,
-    cases: &Cases,
-    ask: &Ask,
-) -> Result<Deed, Refused>
+pub fn decision_aside(alloc: Global, p: &Policy, cases: &Cases, ask: &Ask) -> Result<Deed, Refused>
     requires { ArePlanned p.now cases.now.rows }
     ensures decision { Gives denial_in (λ deed. deed) result (decision_aside (book_of p.now cases.now) ask.now) }
     ensures found { IfOk result (IsFound p.now cases.now.rows) }
@@ -80,9 +74,20 @@ pub(crate) fn decision_of(
     ensures memory { IfErr result (λ e. e ≡ Refused.NoMemory
         → takes_memory (decision_of (book_of p.now cases.now) ask.now) ≡ true) }
 {
-    match decision_aside(alloc, p, cases, ask) {
-        Ok(Deed::Open { .. }) if is_full(cases) => Err(Refused::Denied(Denial::Full)),
-        decision => decision,
+    let deed = decision_aside(alloc, p, cases, ask)?;
+    match cause_full(p, cases, &deed) {
+        None => Ok(deed),
+        Some(denial) => Err(Refused::Denied(denial)),
+    }
+}
+
+/// That no more cases can be opened, of an opening.
+fn cause_full(p: &Policy, cases: &Cases, deed: &Deed) -> Option<Denial>
+    ensures { result ≡ cause_full (book_of p.now cases.now) deed.now }
+{
+    match deed {
+        Deed::Open { .. } if is_full(p, cases) => Some(Denial::Full),
+        _ => None,
     }
 }
 
@@ -101,10 +106,24 @@ fn cause_aside(
     let _ = cases;
     match deed {
         Deed::Open { flow } if p.retired(*flow) => Ok(Some(Denial::Retired)),
-        Deed::Claim { case, step, user, .. } => first_cause(alloc, p, case, *step, *user),
-        Deed::Finish { case, step, user, .. } | Deed::GiveBack { case, step, user, .. } => {
-            Ok(unless_holding(case, *step, *user))
+        Deed::Claim {
+            case,
+            step,
+            user,
+            ..
+        } => first_cause(alloc, p, case, *step, *user),
+        Deed::Finish {
+            case,
+            step,
+            user,
+            ..
         }
+        | Deed::GiveBack {
+            case,
+            step,
+            user,
+            ..
+        } => { Ok(unless_holding(case, *step, *user)) }
         Deed::Release { case, step, .. } => Ok(unless_held(case, *step)),
         _ => Ok(None),
     }
@@ -114,11 +133,10 @@ fn cause_aside(
 fn unless_holding(case: &Case, s: StepId, u: UserId) -> Option<Denial>
     ensures { result ≡ causes.unless (is_held_by u (state_at case.now s)) (Denial.NotHeld (state_at case.now s)) }
 {
-    let state = case.state(s);
-    if holds(state, u) {
+    if holds(case.state(s), u) {
         None
     } else {
-        Some(Denial::NotHeld(state))
+        Some(not_held(case, s))
     }
 }
 
@@ -126,12 +144,18 @@ fn unless_holding(case: &Case, s: StepId, u: UserId) -> Option<Denial>
 fn unless_held(case: &Case, s: StepId) -> Option<Denial>
     ensures { result ≡ causes.unless (is_held (state_at case.now s)) (Denial.NotHeld (state_at case.now s)) }
 {
-    let state = case.state(s);
-    if state.is_held() {
+    if case.state(s).is_held() {
         None
     } else {
-        Some(Denial::NotHeld(state))
+        Some(not_held(case, s))
     }
+}
+
+/// How a step stands that is not held.
+fn not_held(case: &Case, s: StepId) -> Denial
+    ensures { result ≡ Denial.NotHeld (state_at case.now s) }
+{
+    Denial::NotHeld(case.state(s))
 }
 
 /// Whether a user holds a step that stands so.
@@ -145,9 +169,11 @@ fn holds(state: StepState, u: UserId) -> bool
 }
 
 /// Whether no more cases can be opened.
-pub(crate) fn is_full(cases: &Cases) -> bool
-    ensures { (p : PolicyShape) → result ≡ is_full (book_of p cases.now) }
+#[tactic(auto, using(crate::proofs::Rows::open_numbered))]
+pub(crate) fn is_full(p: &Policy, cases: &Cases) -> bool
+    ensures { result ≡ is_full (book_of p.now cases.now) }
 {
+    let _ = p;
     cases.live() >= OPEN_CASE_LIMIT || cases.ever() >= CASE_LIMIT
 }
 

@@ -8,19 +8,46 @@ use wf_talk::Bad;
 #[derive(Clone, Copy)]
 pub enum Deed {
     /// To open a case of a workflow.
-    Open { flow: FlowId },
+    Open {
+        flow: FlowId,
+    },
     /// To perform a step of an open case.
-    Claim { number: CaseId, case: Case, step: StepId, user: UserId },
+    Claim {
+        number: CaseId,
+        case: Case,
+        step: StepId,
+        user: UserId,
+    },
     /// To report that a step of an open case is done.
-    Finish { number: CaseId, case: Case, step: StepId, user: UserId },
+    Finish {
+        number: CaseId,
+        case: Case,
+        step: StepId,
+        user: UserId,
+    },
     /// To let go of a step of an open case.
-    GiveBack { number: CaseId, case: Case, step: StepId, user: UserId },
+    GiveBack {
+        number: CaseId,
+        case: Case,
+        step: StepId,
+        user: UserId,
+    },
     /// To take a step of an open case from its holder.
-    Release { number: CaseId, case: Case, step: StepId },
+    Release {
+        number: CaseId,
+        case: Case,
+        step: StepId,
+    },
     /// To end an open case.
-    Withdraw { number: CaseId },
+    Withdraw {
+        number: CaseId,
+    },
     /// To see a case.
-    Show { case: Case },
+    Show {
+        case: Case,
+    },
     /// Nothing: the line is no request.
-    TurnAway { bad: Bad },
+    TurnAway {
+        bad: Bad,
+    },
 }

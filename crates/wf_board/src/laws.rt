@@ -1,5 +1,5 @@
 //! Laws of sessions. Each function changes nothing; its contract is the law.
-ghost use Rattle.wf_board.specs.Laws.{ClaimsAreExact, HistoriesKeepCompletable, PlansStayValid, SnapsSuffice, StepsKeepCompletable};
+ghost use Rattle.wf_board.specs.Laws.{ClaimsAreExact, GrantsAreExact, HistoriesKeepCompletable, PlansStayValid, SnapsSuffice, StepsKeepCompletable};
 
 /// Whatever is asked and answered, each open case can still be completed.
 pub fn steps_keep_completable()
@@ -14,6 +14,12 @@ pub fn histories_keep_completable()
 /// A claim is granted exactly where no cause is against it and its case can still be completed.
 pub fn claims_are_exact()
     ensures { ClaimsAreExact }
+{}
+
+/// A claim is granted exactly where its user is authorised, its step is ready, and its case can
+/// then be completed.
+pub fn grants_are_exact()
+    ensures { GrantsAreExact }
 {}
 
 /// When a held step is finished or given back, a valid plan stays valid.

@@ -41,19 +41,50 @@ fn resolve_request(p: &Policy, cases: &Cases, request: &Request) -> Result<Deed,
             Some(flow) => Ok(Deed::Open { flow }),
             None => Err(Denial::NoFlow),
         },
-        Request::Claim { case: number, step, user } => {
+        Request::Claim {
+            case: number,
+            step,
+            user,
+        } => {
             let (case, step, user) = on_step(p, cases, number, &step, &user)?;
-            Ok(Deed::Claim { number, case, step, user })
+            Ok(Deed::Claim {
+                number,
+                case,
+                step,
+                user,
+            })
         }
-        Request::Finish { case: number, step, user } => {
+        Request::Finish {
+            case: number,
+            step,
+            user,
+        } => {
             let (case, step, user) = on_step(p, cases, number, &step, &user)?;
-            Ok(Deed::Finish { number, case, step, user })
+            Ok(Deed::Finish {
+                number,
+                case,
+                step,
+                user,
+            })
         }
-        Request::GiveBack { case: number, step, user } => {
+        Request::GiveBack {
+            case: number,
+            step,
+            user,
+        } => {
             let (case, step, user) = on_step(p, cases, number, &step, &user)?;
-            Ok(Deed::GiveBack { number, case, step, user })
+            Ok(Deed::GiveBack {
+                number,
+                case,
+                step,
+                user,
+            })
         }
-        Request::Release { by, case: number, step } => {
+        Request::Release {
+            by,
+            case: number,
+            step,
+        } => {
             check_admin(p, &by)?;
             let case = open_case(p, cases, number)?;
             let step = step_named(p, &case, &step)?;

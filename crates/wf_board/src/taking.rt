@@ -55,12 +55,7 @@ pub(crate) fn answer(
 }
 
 /// Answers what needs no verdict.
-pub(crate) fn without_verdict(
-    alloc: Global,
-    p: &Policy,
-    cases: &mut Cases,
-    ask: &Ask,
-) -> Answered
+pub(crate) fn without_verdict(alloc: Global, p: &Policy, cases: &mut Cases, ask: &Ask) -> Answered
     requires { IsKept p.now cases.old }
     ensures { HasAnsweredAlone p.now cases.old cases.new (decision_of (book_of p.now cases.old) ask.now) result }
 {
@@ -82,10 +77,30 @@ pub(crate) fn by_plan(p: &Policy, cases: &mut Cases, ask: &Ask, plan: Plan) -> R
         → (is_opening (decision_of (book_of p.now cases.old) ask.now) ≡ true) × (cases.old.spare ≡ 0) }
 {
     match resolve(p, cases, ask) {
-        Ok(Deed::Open { flow }) => open(p, cases, flow, plan),
-        Ok(Deed::Claim { number, case, step, user }) => {
-            claim(p, cases, number, &case, step, user, plan)
-        }
+        Ok(deed) => plan_for(p, cases, deed, plan),
+        Err(_) => unreachable!(),
+    }
+}
+
+/// Does a deed by a plan that shows that its case can be completed.
+fn plan_for(p: &Policy, cases: &mut Cases, deed: Deed, plan: Plan) -> Reply
+    requires kept { IsKept p.now cases.old }
+    requires found { IsFound p.now cases.old.rows deed }
+    requires cause { cause_aside (book_of p.now cases.old) deed ≡ None }
+    requires plan { IsPlanFor (book_of p.now cases.old) (Ok deed) plan }
+    ensures taken { HasTaken p.now cases.old cases.new (full_or (book_of p.now cases.old) deed) result }
+    ensures made { needs_verdict (full_or (book_of p.now cases.old) deed) ≡ true → IsMadeOf (verdicts.Plan plan) result }
+    ensures memory { result ≡ replies.NoMemory
+        → (is_opening (full_or (book_of p.now cases.old) deed) ≡ true) × (cases.old.spare ≡ 0) }
+{
+    match deed {
+        Deed::Open { flow } => open(p, cases, flow, plan),
+        Deed::Claim {
+            number,
+            case,
+            step,
+            user,
+        } => { claim(p, cases, number, &case, step, user, plan) }
         _ => unreachable!(),
     }
 }
@@ -99,14 +114,41 @@ pub(crate) fn by_tree(p: &Policy, cases: &Cases, ask: &Ask, tree: Tree) -> Reply
     ensures memory { result ≢ replies.NoMemory }
 {
     match resolve(p, cases, ask) {
-        Ok(Deed::Open { .. }) if is_full(cases) => Reply::Denied(Denial::Full),
-        Ok(Deed::Open { flow }) => Reply::Denied(Denial::Unsatisfiable { flow, tree }),
-        Ok(Deed::Claim { case, .. }) => Reply::Denied(Denial::Stranded {
+        Ok(deed) => tree_for(p, cases, deed, tree),
+        Err(_) => unreachable!(),
+    }
+}
+
+/// Denies a deed by a tree that shows that its case cannot be completed.
+fn tree_for(p: &Policy, cases: &Cases, deed: Deed, tree: Tree) -> Reply
+    requires kept { IsKept p.now cases.now }
+    requires tree { IsTreeFor (book_of p.now cases.now) (Ok deed) tree }
+    ensures taken { HasTaken p.now cases.now cases.now (full_or (book_of p.now cases.now) deed) result }
+    ensures made { needs_verdict (full_or (book_of p.now cases.now) deed) ≡ true → IsMadeOf (verdicts.Refuted tree) result }
+    ensures memory { result ≢ replies.NoMemory }
+{
+    match deed {
+        Deed::Open { flow } => unsatisfiable(p, cases, flow, tree),
+        Deed::Claim { case, .. } => Reply::Denied(Denial::Stranded {
             flow: case.flow(),
             tree,
         }),
         _ => unreachable!(),
     }
+}
+
+/// Denies to open a case of a workflow that has no valid plan.
+fn unsatisfiable(p: &Policy, cases: &Cases, flow: FlowId, tree: Tree) -> Reply
+    requires kept { IsKept p.now cases.now }
+    requires tree { IsTreeFor (book_of p.now cases.now) (Ok (deeds.Open flow)) tree }
+    ensures taken { HasTaken p.now cases.now cases.now (full_or (book_of p.now cases.now) (deeds.Open flow)) result }
+    ensures made { is_full (book_of p.now cases.now) ≡ false → IsMadeOf (verdicts.Refuted tree) result }
+    ensures memory { result ≢ replies.NoMemory }
+{
+    if is_full(p, cases) {
+        return Reply::Denied(Denial::Full);
+    }
+    Reply::Denied(Denial::Unsatisfiable { flow, tree })
 }
 
 /// Does a deed that needs no verdict.
@@ -119,8 +161,18 @@ fn perform(p: &Policy, cases: &mut Cases, deed: Deed) -> Reply
     ensures memory { result ≢ replies.NoMemory }
 {
     match deed {
-        Deed::Finish { number, case, step, user } => finish(p, cases, number, &case, step, user),
-        Deed::GiveBack { number, case, step, .. } => {
+        Deed::Finish {
+            number,
+            case,
+            step,
+            user,
+        } => finish(p, cases, number, &case, step, user),
+        Deed::GiveBack {
+            number,
+            case,
+            step,
+            ..
+        } => {
             give_back(p, cases, number, &case, step);
             Reply::Returned
         }
@@ -148,7 +200,7 @@ fn open(p: &Policy, cases: &mut Cases, flow: FlowId, plan: Plan) -> Reply
     ensures memory { result ≡ replies.NoMemory
         → (is_full (book_of p.now cases.old) ≡ false) × (cases.old.spare ≡ 0) }
 {
-    if is_full(cases) {
+    if is_full(p, cases) {
         return Reply::Denied(Denial::Full);
     }
     if make_room(cases).is_err() {
@@ -195,21 +247,16 @@ fn claim(
 }
 
 /// Finishes a step that a user holds.
-fn finish(
-    p: &Policy,
-    cases: &mut Cases,
-    n: CaseId,
-    case: &Case,
-    s: StepId,
-    u: UserId,
-) -> Reply
+fn finish(p: &Policy, cases: &mut Cases, n: CaseId, case: &Case, s: StepId, u: UserId) -> Reply
     requires kept { IsKept p.now cases.old }
     requires found { IsOpenAt p.now cases.old.rows n case.now }
     requires held { is_held (state_at case.now s) ≡ true }
     ensures taken { HasTaken p.now cases.old cases.new (Ok (deeds.Finish n case.now s u)) result }
     ensures memory { result ≢ replies.NoMemory }
 {
-    let _ = (p, case, u);
+    let _ = p;
+    let _ = case;
+    let _ = u;
     let done = cases.finish(n, s);
     Reply::Finished { done }
 }
@@ -221,7 +268,8 @@ fn give_back(p: &Policy, cases: &mut Cases, n: CaseId, case: &Case, s: StepId)
     requires held { is_held (state_at case.now s) ≡ true }
     ensures { HasChanged p.now cases.old cases.new n (λ c. with_state c s FreeStep) }
 {
-    let _ = (p, case);
+    let _ = p;
+    let _ = case;
     cases.give_back(n, s);
 }
 
