@@ -29,6 +29,18 @@ rules = [
 ]
 "#;
 
+// A policy under which a case is opened at once.
+const SMALL: &str = r#"
+format = 1
+admin = "chief"
+roles = ["chief"]
+users = { eve = ["chief"] }
+
+[flows.pay]
+steps = ["pay"]
+permit = { pay = ["chief"] }
+"#;
+
 const OPEN: &str = "{\"do\":\"open\",\"flow\":\"pay\"}\n";
 
 // Printing succeeds; that what is written reads as the policy is proved.
@@ -119,7 +131,7 @@ fn numbers_end(rt: HostRuntime) -> Result<(), Fail> {
         full: 1,
         ..telling(0, 131_071, &[])
     };
-    assert!(rt; serves(rt.alloc(), input.as_bytes(), ample(), &told)?);
+    assert!(rt; ends(rt.alloc(), &["serve", "small"], input.as_bytes(), ample(), &told)?);
     Ok(())
 }
 
@@ -244,7 +256,7 @@ fn serves(
     ends(alloc, &["serve", "policy"], input, outside, told)
 }
 
-// Whether a run under the policy of payments tells this.
+// Whether a run over the two policies tells this.
 fn ends(
     alloc: Global,
     given: &[&str],
@@ -317,11 +329,16 @@ fn words_of(alloc: Global, given: &[&str]) -> Result<Vec<String>, AllocError> {
 
 fn shelf_of(alloc: Global, outside: Outside) -> Result<MemShelf, AllocError> {
     let mut files = Vec::new(alloc);
-    files.push(MemFile {
-        name: String::from_str(alloc, "policy")?,
-        bytes: PAY.as_bytes().to_vec(alloc)?,
-    })?;
+    files.push(file_of(alloc, "policy", PAY)?)?;
+    files.push(file_of(alloc, "small", SMALL)?)?;
     Ok(MemShelf::new(files, [outside.failing_load].to_vec(alloc)?))
+}
+
+fn file_of(alloc: Global, name: &str, text: &str) -> Result<MemFile, AllocError> {
+    Ok(MemFile {
+        name: String::from_str(alloc, name)?,
+        bytes: text.as_bytes().to_vec(alloc)?,
+    })
 }
 
 fn source_of(alloc: Global, input: &[u8], outside: Outside) -> Result<MemSource, AllocError> {
