@@ -109,7 +109,10 @@ fn plans_are_valid(rt: HostRuntime) -> Result<(), Fail> {
     for user in ["ann", "bob"] {
         let p = policy_reader::read(rt.alloc(), PAY.as_bytes())?;
         let mut board = Board::new(rt.alloc(), p)?;
-        assert!(rt; opens(rt.alloc(), &mut board) && is_granted(rt.alloc(), &mut board, user), "{user}");
+        assert!(rt;
+            opens(rt.alloc(), &mut board) && is_granted(rt.alloc(), &mut board, user),
+            "{user}"
+        );
     }
     Ok(())
 }

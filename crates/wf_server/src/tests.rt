@@ -131,7 +131,15 @@ fn numbers_end(rt: HostRuntime) -> Result<(), Fail> {
         full: 1,
         ..telling(0, 131_071, &[])
     };
-    assert!(rt; ends(rt.alloc(), &["serve", "small"], input.as_bytes(), ample(), &told)?);
+    assert!(rt;
+        ends(
+            rt.alloc(),
+            &["serve", "small"],
+            input.as_bytes(),
+            ample(),
+            &told
+        )?
+    );
     Ok(())
 }
 
@@ -240,7 +248,9 @@ fn turns(alloc: Global, count: u16) -> Result<String, AllocError> {
     let mut all = String::new(alloc);
     for case in 0..count {
         all.push_str(OPEN)?;
-        let withdraw = format!(in alloc; "{{\"do\":\"withdraw\",\"by\":\"eve\",\"case\":{case}}}\n")?;
+        let withdraw = format!(in alloc;
+            "{{\"do\":\"withdraw\",\"by\":\"eve\",\"case\":{case}}}\n"
+        )?;
         all.push_str(withdraw.as_str())?;
     }
     all.push_str(OPEN)?;
