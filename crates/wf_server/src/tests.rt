@@ -146,16 +146,7 @@ fn numbers_end(rt: HostRuntime) -> Result<(), Fail> {
 // No case is opened beside 1,024 others, and one again where one of them was withdrawn.
 #[test]
 fn open_cases_are_limited(rt: HostRuntime) -> Result<(), Fail> {
-    let mut input = repeated(rt.alloc(), OPEN, 1_025)?;
-    let told = Told {
-        opened: 1_024,
-        last: 1_023,
-        full: 1,
-        ..telling(0, 1_025, &[1_024, 1_025])
-    };
-    assert!(rt; serves(rt.alloc(), input.as_bytes(), ample(), &told)?);
-    input.push_str("{\"do\":\"withdraw\",\"by\":\"eve\",\"case\":7}\n")?;
-    input.push_str(OPEN)?;
+    let input = crowd(rt.alloc())?;
     let told = Told {
         opened: 1_025,
         last: 1_024,
@@ -253,6 +244,14 @@ fn turns(alloc: Global, count: u16) -> Result<String, AllocError> {
         )?;
         all.push_str(withdraw.as_str())?;
     }
+    all.push_str(OPEN)?;
+    Ok(all)
+}
+
+// One case too many is opened, one is withdrawn, and one is opened.
+fn crowd(alloc: Global) -> Result<String, AllocError> {
+    let mut all = repeated(alloc, OPEN, 1_025)?;
+    all.push_str("{\"do\":\"withdraw\",\"by\":\"eve\",\"case\":7}\n")?;
     all.push_str(OPEN)?;
     Ok(all)
 }
