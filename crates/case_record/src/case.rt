@@ -97,6 +97,14 @@ impl Case {
         }
     }
 
+    /// Where each step stands, in the order of their numbers.
+    pub fn states(&self) -> &[StepState]
+        ensures states { result.now ≡ self.now.states }
+        ensures within { length self.now.states ≤ STEP_LIMIT }
+    {
+        &self.cells[..self.steps as usize]
+    }
+
     /// Whether a step is free, and every step that comes before it finished.
     pub fn ready(&self, f: &Flow, s: StepId) -> bool
         requires steps { length self.now.states ≡ length f.now.steps }

@@ -7,11 +7,13 @@ use Rattle.constraint_forms.specs.declared.rule.Rule.{Rule}
 use Rattle.constraint_forms.specs.Assigned.{user_at}
 use Rattle.constraint_forms.specs.Rules.{names}
 use Rattle.constraint_forms.proofs.RuleLaws.{falsified_by_named}
-use Rattle.refutation_tree.specs.Shapes.{Shape, Kids, holder, rule, node, no_kids, tree_kid}
+use Rattle.refutation_tree.specs.Shapes.{Shape, Kids, holder, rule, node, no_kids, tree_kid, twin_kid}
 use Rattle.policy_book.specs.Plans.{Problem}
+use Rattle.policy_book.specs.Twins.{are_twins, is_one_of}
 use Rattle.policy_book.specs.Refuting.{refutes, all_refute, have_users, authorised_users, is_misheld, is_broken, is_unassigned, is_rule_naming, mentions, any_mentions}
 use Rattle.certificate_check.specs.Laws.{UnmentionedStepDrops}
 use Rattle.basics.proofs.Booleans.{and_both, or_false}
+use Rattle.certificate_check.proofs.TwinLaws.{mean_twins, twins_mean}
 use Rattle.certificate_check.proofs.Assigned.{not_some, none_not_some, given_other, given_same, given_past}
 
 -- two assignments are the same but that the first gives a step to a user, and the second to nobody
@@ -45,6 +47,21 @@ broken_without p a b s u w None h = refl
 broken_without p a b s u w (Some r) h =
     falsified_by_named p.related r (user_at b) (user_at a) (λ t named. sym (w.others t (λ same. false≢true (sym h ∙ ap (names r) (sym same) ∙ named))))
 
+-- twins stay twins where a step is given to nobody
+twins_without : (p : Problem) (a b : List (Option ℕ)) (s u : ℕ) → IsWithout a b s u → (v w : ℕ) → are_twins p a v w ≡ true → are_twins p b v w ≡ true
+twins_without p a b s u without v w h =
+    let twins = twins_mean p a v w h in
+    mean_twins p b v w record {
+      first = λ t is. twins.first t (before t v is (eqb_tells t s));
+      second = λ t is. twins.second t (before t w is (eqb_tells t s));
+      steps = twins.steps;
+      rules = twins.rules;
+    }
+  where
+    before : (t x : ℕ) → user_at b t ≡ Some x → ((eqb t s ≡ true) × (t ≡ s)) ⊎ ((eqb t s ≡ false) × (t ≢ s)) → user_at a t ≡ Some x
+    before t x is (inl same) = none_not_some x (sym without.gone ∙ ap (user_at b) (sym same.1) ∙ is)
+    before t x is (inr apart) = without.others t apart.1 ∙ is
+
 mutual
   dropped : (p : Problem) (a b : List (Option ℕ)) (finished : List Bool) (s u : ℕ) → IsWithout a b s u → (tree : Shape) → mentions p.rules s tree ≡ false → refutes p a finished tree ≡ true → refutes p b finished tree ≡ true
   dropped p a b finished s u w (holder k) silent h =
@@ -71,6 +88,12 @@ mutual
       and_from (refutes p (slice_set b k (Some v)) finished t) (all_refute p b finished k (v ∷ earlier) kids)
       (dropped p (slice_set a k (Some v)) (slice_set b k (Some v)) finished s u (without_given a b s u k v w apart) t quiet.0 both.0)
       (kids_dropped p a b finished s u w k apart (v ∷ earlier) kids quiet.1 both.1)
+  kids_dropped p a b finished s u w k apart earlier (twin_kid v x kids) silent h =
+      let both = and_both (is_one_of earlier x && are_twins p a v x) (all_refute p a finished k earlier kids) h in
+      let twin = and_both (is_one_of earlier x) (are_twins p a v x) both.0 in
+      and_from (is_one_of earlier x && are_twins p b v x) (all_refute p b finished k earlier kids)
+      (and_from (is_one_of earlier x) (are_twins p b v x) twin.0 (twins_without p a b s u w v x twin.1))
+      (kids_dropped p a b finished s u w k apart earlier kids silent both.1)
 
 pub unmentioned_step_drops : UnmentionedStepDrops
 unmentioned_step_drops p assigned finished s u tree below free silent h =

@@ -1,20 +1,21 @@
 -- The walk over a tree's branches.
-use Rattle.std.proofs.Common.{◌≡◌, refl, sym, ap, subst, ◌∙◌, ℕ, zero, suc, ◌+◌, ◌-◌, ◌<◌, ◌≤◌, Bool, true, false, not, ◌&&◌, ◌||◌, ◌==◌, List, [], ◌∷◌, length, get_or, drop, Option, Some, is_some, slice_set, arith, nat_lt, if◌then◌else◌}
+use Rattle.std.proofs.Common.{◌≡◌, refl, sym, ap, subst, ◌∙◌, ℕ, zero, suc, ◌+◌, ◌-◌, ◌<◌, ◌≤◌, Bool, true, false, not, ◌&&◌, ◌||◌, ◌==◌, List, [], ◌∷◌, length, get_or, take, drop, ◌++◌, Option, Some, is_some, slice_set, arith, nat_lt, if◌then◌else◌, ◌⊎◌, inl, inr}
 use Rattle.std.proofs.lemmas.Bool.{false≢true, ltb-true, eqb-true, ne_eqb}
 use Rattle.std.proofs.lemmas.Bool.Decides.{nat_tests}
-use Rattle.std.proofs.lemmas.List.{drop-drop, length-drop}
+use Rattle.std.proofs.lemmas.List.{drop-drop, length-drop, take_more}
 use Rattle.constraint_forms.specs.declared.rule.Rule.{Rule}
 use Rattle.constraint_forms.specs.Assigned.{user_at}
-use Rattle.refutation_tree.specs.Shapes.{Kids, no_kids, tree_kid, kids_from, kid_count, nodes_of_kids}
+use Rattle.refutation_tree.specs.Shapes.{Kids, no_kids, tree_kid, twin_kid, kids_from, kid_count, nodes_of_kids}
 use Rattle.refutation_tree.specs.Views.{kid_onto, branch_onto, kids_of_items, shape_of}
 use Rattle.refutation_tree.specs.declared.tree.Branch.{Branch}
 use Rattle.refutation_tree.specs.declared.tree.Kid.{Kid}
-use Rattle.refutation_tree.specs.declared.tree.Kid.TheVariants.{Tree as Tree_kid}
+use Rattle.refutation_tree.specs.declared.tree.Kid.TheVariants.{Tree as Tree_kid, Twin}
 use Rattle.refutation_tree.proofs.ShapeLaws.{kids_of_items-drop, kids_from-items, kid_count-items, nodes-drop}
 use Rattle.policy_book.specs.Plans.{Problem, IsWithin}
+use Rattle.policy_book.specs.Twins.{are_twins, is_one_of}
 use Rattle.policy_book.specs.Refuting.{refutes, all_refute, have_users, authorised_users, passing, mentions, any_mentions, is_unassigned}
-use Rattle.certificate_check.specs.Walks.{begins_with}
-use Rattle.basics.proofs.Booleans.{and_both}
+use Rattle.certificate_check.specs.Walks.{AreUsersBelow, begins_with, tree_users, user_onto}
+use Rattle.basics.proofs.Booleans.{and_both, or_cases, or_right}
 use Rattle.certificate_check.proofs.Assigned.{given, either}
 
 -- ---- mentions
@@ -25,6 +26,7 @@ or_none false c = refl
 
 onto_mentions : (rules : List Rule) (s : ℕ) (kid : Kid) (u : ℕ) (rest : Kids) → any_mentions rules s (kid_onto kid u rest) ≡ (any_mentions rules s (kid_onto kid u no_kids) || any_mentions rules s rest)
 onto_mentions rules s (Tree_kid t) u rest = or_none (mentions rules s (shape_of t)) (any_mentions rules s rest)
+onto_mentions rules s (Twin v) u rest = refl
 
 -- the branches from a place on mention a step: the one there or one behind it
 pub mentions_at : (rules : List Rule) (s : ℕ) (bs : List Branch) (i : ℕ) (b : Branch) → i < length bs → b ≡ get_or bs i b → any_mentions rules s (kids_of_items (drop i bs)) ≡ (any_mentions rules s (branch_onto b no_kids) || any_mentions rules s (kids_of_items (drop (i + 1) bs)))
@@ -32,26 +34,82 @@ mentions_at rules s bs i b below is = ap (any_mentions rules s) (kids_of_items-d
 
 -- ---- all refute
 
--- which users the earlier branches have does not matter while every branch has a tree
-all_refute-earlier : (p : Problem) (a : List (Option ℕ)) (done : List Bool) (s : ℕ) (kids : Kids) (one two : List ℕ) → all_refute p a done s one kids ≡ all_refute p a done s two kids
-all_refute-earlier p a done s no_kids one two = refl
-all_refute-earlier p a done s (tree_kid u t kids) one two = ap (λ b. refutes p (slice_set a s (Some u)) done t && b) (all_refute-earlier p a done s kids (u ∷ one) (u ∷ two))
+and_all : (b d : Bool) → (b && d) ≡ ((b && true) && d)
+and_all true d = refl
+and_all false d = refl
 
-and_all : (b c d : Bool) → c ≡ d → (b && c) ≡ ((b && true) && d)
-and_all true c d same = same
-and_all false c d same = refl
+onto_refutes : (p : Problem) (a : List (Option ℕ)) (done : List Bool) (s : ℕ) (earlier : List ℕ) (kid : Kid) (u : ℕ) (rest : Kids) → all_refute p a done s earlier (kid_onto kid u rest) ≡ (all_refute p a done s earlier (kid_onto kid u no_kids) && all_refute p a done s (user_onto kid u earlier) rest)
+onto_refutes p a done s earlier (Tree_kid t) u rest = and_all (refutes p (slice_set a s (Some u)) done (shape_of t)) (all_refute p a done s (u ∷ earlier) rest)
+onto_refutes p a done s earlier (Twin v) u rest = and_all (is_one_of earlier v && are_twins p a u v) (all_refute p a done s earlier rest)
 
-onto_refutes : (p : Problem) (a : List (Option ℕ)) (done : List Bool) (s : ℕ) (kid : Kid) (u : ℕ) (rest : Kids) → all_refute p a done s [] (kid_onto kid u rest) ≡ (all_refute p a done s [] (kid_onto kid u no_kids) && all_refute p a done s [] rest)
-onto_refutes p a done s (Tree_kid t) u rest = and_all (refutes p (slice_set a s (Some u)) done (shape_of t)) _ _ (all_refute-earlier p a done s rest (u ∷ []) [])
+tree_users-push : (users : List ℕ) (bs : List Branch) (b : Branch) → tree_users users (bs ++ b ∷ []) ≡ user_onto b.kid b.user (tree_users users bs)
+tree_users-push users [] b = refl
+tree_users-push users (x ∷ bs) b = tree_users-push (user_onto x.kid x.user users) bs b
 
-pub refutes_at : (p : Problem) (a : List (Option ℕ)) (done : List Bool) (s : ℕ) (bs : List Branch) (i : ℕ) (b : Branch) → i < length bs → b ≡ get_or bs i b → all_refute p a done s [] (kids_of_items (drop i bs)) ≡ (all_refute p a done s [] (branch_onto b no_kids) && all_refute p a done s [] (kids_of_items (drop (i + 1) bs)))
-refutes_at p a done s bs i b below is = ap (all_refute p a done s []) (kids_of_items-drop bs i b below is) ∙ onto_refutes p a done s b.kid b.user (kids_of_items (drop (i + 1) bs))
+pub tree_users-more : (bs : List Branch) (i : ℕ) (b : Branch) → i < length bs → b ≡ get_or bs i b → tree_users [] (take (i + 1) bs) ≡ user_onto b.kid b.user (tree_users [] (take i bs))
+tree_users-more bs i b below is =
+    ap (tree_users []) (take_more bs i b below ∙ ap (λ x. take i bs ++ x ∷ []) (sym is)) ∙ tree_users-push [] (take i bs) b
+
+-- the branches from a place on refute: the one there, and those behind it
+pub refutes_at : (p : Problem) (a : List (Option ℕ)) (done : List Bool) (s : ℕ) (bs : List Branch) (i : ℕ) (b : Branch) → i < length bs → b ≡ get_or bs i b →
+    all_refute p a done s (tree_users [] (take i bs)) (kids_of_items (drop i bs))
+    ≡ (all_refute p a done s (tree_users [] (take i bs)) (branch_onto b no_kids) && all_refute p a done s (tree_users [] (take (i + 1) bs)) (kids_of_items (drop (i + 1) bs)))
+refutes_at p a done s bs i b below is =
+    ap (all_refute p a done s (tree_users [] (take i bs))) (kids_of_items-drop bs i b below is)
+    ∙ onto_refutes p a done s (tree_users [] (take i bs)) b.kid b.user (kids_of_items (drop (i + 1) bs))
+    ∙ ap (λ users. all_refute p a done s (tree_users [] (take i bs)) (branch_onto b no_kids) && all_refute p a done s users (kids_of_items (drop (i + 1) bs))) (sym (tree_users-more bs i b below is))
+
+-- ---- users with trees
+
+onto_one : (kid : Kid) (u : ℕ) (users : List ℕ) (x : ℕ) → is_one_of (user_onto kid u users) x ≡ (is_one_of (user_onto kid u []) x || is_one_of users x)
+onto_one (Tree_kid t) u users x = or_none (u == x) (is_one_of users x)
+onto_one (Twin v) u users x = refl
+
+-- one more branch: it is the user's and has a tree, or one before it
+pub one_of_more : (bs : List Branch) (i : ℕ) (b : Branch) (x : ℕ) → i < length bs → b ≡ get_or bs i b → is_one_of (tree_users [] (take (i + 1) bs)) x ≡ (is_one_of (user_onto b.kid b.user []) x || is_one_of (tree_users [] (take i bs)) x)
+one_of_more bs i b x below is = ap (λ users. is_one_of users x) (tree_users-more bs i b below is) ∙ onto_one b.kid b.user (tree_users [] (take i bs)) x
+
+onto_keeps : (kid : Kid) (u : ℕ) (users : List ℕ) (x : ℕ) → is_one_of users x ≡ true → is_one_of (user_onto kid u users) x ≡ true
+onto_keeps kid u users x h = onto_one kid u users x ∙ or_right (is_one_of (user_onto kid u []) x) (is_one_of users x) h
+
+tree_users-keep : (bs : List Branch) (users : List ℕ) (x : ℕ) → is_one_of users x ≡ true → is_one_of (tree_users users bs) x ≡ true
+tree_users-keep [] users x h = h
+tree_users-keep (b ∷ bs) users x h = tree_users-keep bs (user_onto b.kid b.user users) x (onto_keeps b.kid b.user users x h)
+
+tree_users-take : (n : ℕ) (bs : List Branch) (users : List ℕ) (x : ℕ) → is_one_of (tree_users users (take n bs)) x ≡ true → is_one_of (tree_users users bs) x ≡ true
+tree_users-take zero bs users x h = tree_users-keep bs users x h
+tree_users-take (suc n) [] users x h = h
+tree_users-take (suc n) (b ∷ bs) users x h = tree_users-take n bs (user_onto b.kid b.user users) x h
+
+-- a user among the first branches with trees is among all
+pub one_of_all : (n : ℕ) (bs : List Branch) (x : ℕ) → is_one_of (tree_users [] (take n bs)) x ≡ true → is_one_of (tree_users [] bs) x ≡ true
+one_of_all n bs x h = tree_users-take n bs [] x h
+
+onto_below : (n : ℕ) (kid : Kid) (u : ℕ) (rest : Kids) → AreUsersBelow n (kid_onto kid u rest) → (u < n) × AreUsersBelow n rest
+onto_below n (Tree_kid t) u rest h = h
+onto_below n (Twin v) u rest h = h
+
+-- a user whose branch has a tree is a user of the branches
+tree_users-below : (n : ℕ) (bs : List Branch) (users : List ℕ) (x : ℕ) → AreUsersBelow n (kids_of_items bs) → (is_one_of users x ≡ true → x < n) → is_one_of (tree_users users bs) x ≡ true → x < n
+tree_users-below n [] users x known before h = before h
+tree_users-below n (b ∷ bs) users x known before h =
+    let parts = onto_below n b.kid b.user (kids_of_items bs) known in
+    tree_users-below n bs (user_onto b.kid b.user users) x parts.1 (λ e. onto_known b.kid parts.0 (or_cases (is_one_of (user_onto b.kid b.user []) x) (is_one_of users x) (sym (onto_one b.kid b.user users x) ∙ e))) h
+  where
+    onto_known : (kid : Kid) → b.user < n → (is_one_of (user_onto kid b.user []) x ≡ true) ⊎ (is_one_of users x ≡ true) → x < n
+    onto_known kid known (inr old) = before old
+    onto_known (Tree_kid t) known (inl own) = subst (λ y. y < n) (either (or_cases (b.user == x) false own) (λ e. eqb-true b.user x e) (λ e. absurd (false≢true e))) known
+    onto_known (Twin v) known (inl own) = absurd (false≢true own)
+
+pub tree_user_below : (n : ℕ) (bs : List Branch) (x : ℕ) → AreUsersBelow n (kids_of_items bs) → is_one_of (tree_users [] bs) x ≡ true → x < n
+tree_user_below n bs x known h = tree_users-below n bs [] x known (λ e. absurd (false≢true e)) h
 
 -- ---- users
 
 pub have_users-begin : (u : ℕ) (us : List ℕ) (kids : Kids) → have_users (u ∷ us) kids ≡ (begins_with u kids && have_users us (kids_from 1 kids))
 have_users-begin u us no_kids = refl
 have_users-begin u us (tree_kid v t kids) = refl
+have_users-begin u us (twin_kid v w kids) = refl
 
 -- a user's branch comes next, or not, and the others have theirs behind it
 pub users_next : (u : ℕ) (us : List ℕ) (bs : List Branch) (i : ℕ) (b : Bool) → b ≡ begins_with u (kids_of_items (drop i bs)) → have_users (u ∷ us) (kids_of_items (drop i bs)) ≡ (b && have_users us (kids_of_items (drop (i + 1) bs)))
@@ -62,6 +120,7 @@ users_next u us bs i b is =
 have_none : (kids : Kids) → have_users [] kids ≡ (kid_count kids == 0)
 have_none no_kids = refl
 have_none (tree_kid u t kids) = sym (ne_eqb (kid_count kids + 1) 0 (λ e. omega (arith, e)))
+have_none (twin_kid u v kids) = sym (ne_eqb (kid_count kids + 1) 0 (λ e. omega (arith, e)))
 
 -- no user is left where no branch is
 pub none_next : (bs : List Branch) (i : ℕ) → i ≤ length bs → have_users [] (kids_of_items (drop i bs)) ≡ (i == length bs)
@@ -74,27 +133,35 @@ passing_at test k n below =
     let more : n - k ≡ suc (n - (k + 1)) = omega arith in
     ap (passing test k) more
 
--- each user of the branches is below n
-abbrev pub UsersBelow : ℕ → Kids → Type 0
-UsersBelow n no_kids = Unit {0}
-UsersBelow n (tree_kid u t kids) = (u < n) × UsersBelow n kids
-
-pub passing_below : (test : ℕ → Bool) (k n most : ℕ) → k + n ≤ most → (kids : Kids) → have_users (passing test k n) kids ≡ true → UsersBelow most kids
+pub passing_below : (test : ℕ → Bool) (k n most : ℕ) → k + n ≤ most → (kids : Kids) → have_users (passing test k n) kids ≡ true → AreUsersBelow most kids
 passing_below test k zero most few no_kids h = tt
 passing_below test k zero most few (tree_kid v t kids) h = absurd (false≢true h)
+passing_below test k zero most few (twin_kid v w kids) h = absurd (false≢true h)
 passing_below test k (suc n) most few kids h = at (test k) kids h (λ rest e. passing_below test (k + 1) n most (omega arith) rest e)
   where
-    at : (b : Bool) (left : Kids) → have_users (if b then k ∷ passing test (k + 1) n else passing test (k + 1) n) left ≡ true → ((rest : Kids) → have_users (passing test (k + 1) n) rest ≡ true → UsersBelow most rest) → UsersBelow most left
+    at : (b : Bool) (left : Kids) → have_users (if b then k ∷ passing test (k + 1) n else passing test (k + 1) n) left ≡ true → ((rest : Kids) → have_users (passing test (k + 1) n) rest ≡ true → AreUsersBelow most rest) → AreUsersBelow most left
     at true no_kids e later = absurd (false≢true e)
     at true (tree_kid v t rest) e later =
         let both = and_both (k == v) (have_users (passing test (k + 1) n) rest) e in
         (omega (arith, few, eqb-true k v both.0), later rest both.1)
+    at true (twin_kid v w rest) e later =
+        let both = and_both (k == v) (have_users (passing test (k + 1) n) rest) e in
+        (omega (arith, few, eqb-true k v both.0), later rest both.1)
     at false left e later = later left e
 
-onto_below : (n : ℕ) (kid : Kid) (u : ℕ) (rest : Kids) → UsersBelow n (kid_onto kid u rest) → (u < n) × UsersBelow n rest
-onto_below n (Tree_kid t) u rest h = h
+below_onto : (n : ℕ) (kid : Kid) (u : ℕ) (rest : Kids) → u < n → AreUsersBelow n rest → AreUsersBelow n (kid_onto kid u rest)
+below_onto n (Tree_kid t) u rest known h = (known, h)
+below_onto n (Twin v) u rest known h = (known, h)
 
-pub user_below : (n : ℕ) (bs : List Branch) (i : ℕ) → i < length bs → (b : Branch) → b ≡ get_or bs i b → UsersBelow n (kids_of_items bs) → b.user < n
+-- the first branches are of users as all are
+pub first_below : (n i : ℕ) (bs : List Branch) → AreUsersBelow n (kids_of_items bs) → AreUsersBelow n (kids_of_items (take i bs))
+first_below n zero bs h = tt
+first_below n (suc i) [] h = tt
+first_below n (suc i) (b ∷ bs) h =
+    let parts = onto_below n b.kid b.user (kids_of_items bs) h in
+    below_onto n b.kid b.user (kids_of_items (take i bs)) parts.0 (first_below n i bs parts.1)
+
+pub user_below : (n : ℕ) (bs : List Branch) (i : ℕ) → i < length bs → (b : Branch) → b ≡ get_or bs i b → AreUsersBelow n (kids_of_items bs) → b.user < n
 user_below n [] i below b is h = absurd (omega arith)
 user_below n (x ∷ bs) zero below b is h = subst (λ (y : Branch). y.user < n) (sym is) (onto_below n x.kid x.user (kids_of_items bs) h).0
 user_below n (x ∷ bs) (suc i) below b is h = user_below n bs i (omega arith) b is (onto_below n x.kid x.user (kids_of_items bs) h).1
@@ -107,6 +174,7 @@ branch_user p s bs users i below b is = user_below p.users bs i below b is (pass
 
 onto_nodes : (kid : Kid) (u : ℕ) (rest : Kids) → nodes_of_kids rest ≤ nodes_of_kids (kid_onto kid u rest)
 onto_nodes (Tree_kid t) u rest = omega arith
+onto_nodes (Twin v) u rest = omega arith
 
 nodes_left : (i : ℕ) (bs : List Branch) → nodes_of_kids (kids_of_items (drop i bs)) ≤ nodes_of_kids (kids_of_items bs)
 nodes_left zero bs = omega arith

@@ -1,9 +1,11 @@
 //! Checks of plans and of the trees that refute, simple enough to be trusted by reading.
 #![tactic(auto)]
 
+mod alike;
 pub mod laws;
 mod plan;
 mod tree;
 
+pub use alike::twins;
 pub use plan::{PlanFault, check_plan};
 pub use tree::{check_tree, mentions};

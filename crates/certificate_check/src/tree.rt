@@ -6,9 +6,11 @@ ghost use Rattle.refutation_tree.specs.Shapes.{no_kids, Kids};
 ghost use Rattle.refutation_tree.specs.Views.{branch_onto, kids_of_items, shape_of};
 ghost use Rattle.policy_book.specs.Plans.{IsWithin};
 ghost use Rattle.policy_book.specs.Policies.{problem_of};
-ghost use Rattle.certificate_check.specs.Walks.{begins_with};
+ghost use Rattle.certificate_check.specs.Walks.{AreUsersBelow, begins_with, tree_users, user_onto};
+ghost use Rattle.policy_book.specs.Twins.{are_twins, is_one_of};
 ghost use Rattle.policy_book.specs.Refuting.{all_refute, any_mentions, authorised_users, have_users, is_broken, is_unassigned, is_misheld, is_rule_naming, mentions, refutes};
 
+use crate::alike::twins;
 use constraint_forms::falsified;
 use policy_book::{Assign, Policy, Rules, StepSet};
 use refutation_tree::{Branch, Kid, Tree};
@@ -55,15 +57,16 @@ fn all_refute(
     requires users { IsTrue (have_users (authorised_users (problem_of p.now f) s) (kids_of_items branches.now)) }
     ensures { result ≡ all_refute (problem_of p.now f) a.now done.now s [] (kids_of_items branches.now) }
 {
-    'branches: for branch in branches {
-        if !branch_refutes(p, f, a, done, s, branch) {
+    'branches: for i in 0..branches.len() {
+        if !branch_refutes(p, f, a, done, s, &branches[..i], &branches[i]) {
             return false;
         }
     }
     true
 }
 
-/// Whether a branch refutes, once its step is given to its user.
+/// Whether a branch refutes: by its tree, once its step is given to its user, or as that of a twin
+/// of a user whose branch stands earlier and has a tree.
 #[cycle(check)]
 fn branch_refutes(
     p: &Policy,
@@ -71,17 +74,58 @@ fn branch_refutes(
     a: &Assign,
     done: &StepSet,
     s: StepId,
+    earlier: &[Branch],
     branch: &Branch,
 ) -> bool
     requires flow { f < length p.now.flows }
     requires within { IsWithin (problem_of p.now f) a.now }
     requires room { s < STEP_LIMIT }
     requires free { IsTrue (is_unassigned (problem_of p.now f) a.now s) }
+    requires users { AreUsersBelow (problem_of p.now f).users (kids_of_items earlier.now) }
     requires user { branch.now.user < (problem_of p.now f).users }
-    ensures { result ≡ all_refute (problem_of p.now f) a.now done.now s [] (branch_onto branch.now no_kids) }
+    ensures { result ≡ all_refute (problem_of p.now f) a.now done.now s (tree_users [] earlier.now) (branch_onto branch.now no_kids) }
 {
     match &branch.kid {
         Kid::Tree(tree) => check_tree(p, f, &a.with(s, branch.user), done, tree),
+        Kid::Twin(twin) => is_twin_of_one(p, f, a, earlier, branch.user, *twin),
+    }
+}
+
+// Whether a user is a twin of this one, whose branch is one of some that have trees.
+fn is_twin_of_one(
+    p: &Policy,
+    f: FlowId,
+    a: &Assign,
+    branches: &[Branch],
+    u: UserId,
+    twin: UserId,
+) -> bool
+    requires flow { f < length p.now.flows }
+    requires users { AreUsersBelow (problem_of p.now f).users (kids_of_items branches.now) }
+    requires user { u < (problem_of p.now f).users }
+    ensures { result ≡ (is_one_of (tree_users [] branches.now) twin && are_twins (problem_of p.now f) a.now u twin) }
+{
+    has_tree(branches, twin) && twins(p, f, a, u, twin)
+}
+
+// Whether one of the branches is of a user and has a tree.
+fn has_tree(branches: &[Branch], u: UserId) -> bool
+    ensures { result ≡ is_one_of (tree_users [] branches.now) u }
+{
+    'branches: for branch in branches {
+        if is_tree_of(branch, u) {
+            return true;
+        }
+    }
+    false
+}
+
+fn is_tree_of(branch: &Branch, u: UserId) -> bool
+    ensures { result ≡ is_one_of (user_onto branch.now.kid branch.now.user []) u }
+{
+    match &branch.kid {
+        Kid::Tree(_) => branch.user == u,
+        Kid::Twin(_) => false,
     }
 }
 
@@ -177,6 +221,7 @@ fn branch_mentions(branch: &Branch, rules: &Rules, s: StepId) -> bool
 {
     match &branch.kid {
         Kid::Tree(tree) => mentions(tree, rules, s),
+        Kid::Twin(_) => false,
     }
 }
 

@@ -194,6 +194,17 @@ impl Cases {
         })
     }
 
+    /// A table with none of the cases, which goes on at the same number.
+    pub fn copy_none(&self, alloc: Global) -> Cases
+        ensures { result ≡ record self.now { rows = []; spare = result.spare } }
+    {
+        Cases {
+            rows: Vec::new(alloc),
+            ever: self.ever,
+            live: 0,
+        }
+    }
+
     /// A table with the open cases alone, each at its number.
     pub fn copy_open(&self, alloc: Global) -> Result<Cases, AllocError>
         ensures { IfOk result (λ t. t ≡ record self.now { rows = open_rows self.now.rows; spare = t.spare }) }

@@ -3,8 +3,9 @@ use Rattle.std.specs.Prelude.{ℕ, zero, suc, ◌+◌, Bool, true, false, not, �
 use Rattle.constraint_forms.specs.declared.rule.Rule.{Rule}
 use Rattle.constraint_forms.specs.Assigned.{user_at, is_member}
 use Rattle.constraint_forms.specs.Rules.{is_falsified, names}
-use Rattle.refutation_tree.specs.Shapes.{Shape, Kids, holder, rule, node, no_kids, tree_kid}
+use Rattle.refutation_tree.specs.Shapes.{Shape, Kids, holder, rule, node, no_kids, tree_kid, twin_kid}
 use Rattle.policy_book.specs.Plans.{Problem}
+use Rattle.policy_book.specs.Twins.{are_twins, is_one_of}
 
 -- a step that is not finished has this user, who is not authorised for it
 abbrev pub is_misheld : Problem → List Bool → ℕ → Option ℕ → Bool
@@ -33,8 +34,10 @@ authorised_users p s = passing (p.authorised s) 0 p.users
 abbrev pub have_users : List ℕ → Kids → Bool
 have_users [] no_kids = true
 have_users [] (tree_kid v t kids) = false
+have_users [] (twin_kid v w kids) = false
 have_users (u ∷ us) no_kids = false
 have_users (u ∷ us) (tree_kid v t kids) = (u == v) && have_users us kids
+have_users (u ∷ us) (twin_kid v w kids) = (u == v) && have_users us kids
 
 abbrev mutual
   -- a tree refutes an assignment with these finished steps
@@ -47,11 +50,14 @@ abbrev mutual
   refutes p assigned finished (node s kids) =
       is_unassigned p assigned s && (have_users (authorised_users p s) kids && all_refute p assigned finished s [] kids)
 
-  -- each branch of a step refutes, where earlier branches of these users have trees
+  -- each branch of a step refutes, where earlier branches of these users have trees: by its own
+  -- tree, or as that of a twin of one of these users
   pub all_refute : Problem → List (Option ℕ) → List Bool → ℕ → List ℕ → Kids → Bool
   all_refute p assigned finished s earlier no_kids = true
   all_refute p assigned finished s earlier (tree_kid u t kids) =
       refutes p (slice_set assigned s (Some u)) finished t && all_refute p assigned finished s (u ∷ earlier) kids
+  all_refute p assigned finished s earlier (twin_kid u v kids) =
+      (is_one_of earlier v && are_twins p assigned u v) && all_refute p assigned finished s earlier kids
 
 -- there is a rule, and it names a step
 abbrev pub is_rule_naming : ℕ → Option Rule → Bool
@@ -69,3 +75,4 @@ abbrev mutual
   pub any_mentions : List Rule → ℕ → Kids → Bool
   any_mentions rules s no_kids = false
   any_mentions rules s (tree_kid u t kids) = mentions rules s t || any_mentions rules s kids
+  any_mentions rules s (twin_kid u v kids) = any_mentions rules s kids

@@ -1,7 +1,7 @@
 -- Inside: trees as data that can stand in values.
 use base.Stored.{Coded, Gv, gnil, gnum, gcons}
 use Rattle.std.proofs.Common.{◌≡◌, refl, sym, ap, ◌∙◌, zero, suc}
-use Rattle.refutation_tree.specs.Shapes.{Shape, Kids, holder, rule, node, no_kids, tree_kid}
+use Rattle.refutation_tree.specs.Shapes.{Shape, Kids, holder, rule, node, no_kids, tree_kid, twin_kid}
 
 abbrev mutual
   pub code_tree : Shape → Gv
@@ -12,6 +12,7 @@ abbrev mutual
   pub code_kids : Kids → Gv
   code_kids no_kids = gnil
   code_kids (tree_kid u t rest) = gcons (gnum u) (gcons (code_tree t) (code_kids rest))
+  code_kids (twin_kid u v rest) = gcons (gcons (gnum u) (gnum v)) (code_kids rest)
 
 abbrev mutual
   pub tree_back : Gv → Shape
@@ -28,7 +29,11 @@ abbrev mutual
   kids_back gnil = no_kids
   kids_back (gnum n) = no_kids
   kids_back (gcons gnil rest) = no_kids
-  kids_back (gcons (gcons x y) rest) = no_kids
+  kids_back (gcons (gcons gnil y) rest) = no_kids
+  kids_back (gcons (gcons (gcons w x) y) rest) = no_kids
+  kids_back (gcons (gcons (gnum u) gnil) rest) = no_kids
+  kids_back (gcons (gcons (gnum u) (gcons x y)) rest) = no_kids
+  kids_back (gcons (gcons (gnum u) (gnum v)) rest) = twin_kid u v (kids_back rest)
   kids_back (gcons (gnum u) gnil) = no_kids
   kids_back (gcons (gnum u) (gnum n)) = no_kids
   kids_back (gcons (gnum u) (gcons t rest)) = tree_kid u (tree_back t) (kids_back rest)
@@ -41,6 +46,7 @@ mutual
 
   pub kids_same : (k : Kids) → kids_back (code_kids k) ≡ k
   kids_same no_kids = refl
+  kids_same (twin_kid u v rest) = ap (twin_kid u v) (kids_same rest)
   kids_same (tree_kid u t rest) = ap (λ x. tree_kid u x (kids_back (code_kids rest))) (tree_same t) ∙ ap (tree_kid u t) (kids_same rest)
 
 pub kids_inj : (x y : Kids) → code_kids x ≡ code_kids y → x ≡ y

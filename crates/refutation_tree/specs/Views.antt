@@ -1,11 +1,11 @@
 -- The pure data that trees and branches are.
 use Rattle.std.specs.Prelude.{ℕ, List, [], ◌∷◌}
-use Rattle.refutation_tree.specs.Shapes.{Shape, Kids, holder, rule, node, no_kids, tree_kid}
+use Rattle.refutation_tree.specs.Shapes.{Shape, Kids, holder, rule, node, no_kids, tree_kid, twin_kid}
 use Rattle.refutation_tree.specs.declared.tree.Tree.{Tree}
 use Rattle.refutation_tree.specs.declared.tree.Tree.TheVariants.{Holder, Rule, Step}
 use Rattle.refutation_tree.specs.declared.tree.Branch.{Branch}
 use Rattle.refutation_tree.specs.declared.tree.Kid.{Kid}
-use Rattle.refutation_tree.specs.declared.tree.Kid.TheVariants.{Tree as Tree_kid}
+use Rattle.refutation_tree.specs.declared.tree.Kid.TheVariants.{Tree as Tree_kid, Twin}
 
 -- the data that a tree is
 abbrev pub shape_of : Tree → Shape
@@ -16,6 +16,7 @@ shape_of (Step s kids) = node s kids
 -- a user's branch, and the others behind it
 abbrev pub kid_onto : Kid → ℕ → Kids → Kids
 kid_onto (Tree_kid t) u rest = tree_kid u (shape_of t) rest
+kid_onto (Twin v) u rest = twin_kid u v rest
 
 -- a branch, and the others behind it
 abbrev pub branch_onto : Branch → Kids → Kids

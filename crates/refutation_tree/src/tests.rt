@@ -15,19 +15,27 @@ fn a_copy_has_the_same_branches(rt: HostRuntime) -> Result<(), Fail> {
         user: UserId(7),
         kid: Kid::Tree(Tree::Holder(StepId(1))),
     })?;
+    branches.push(Branch {
+        user: UserId(9),
+        kid: Kid::Twin(UserId(4)),
+    })?;
     let copy = Tree::Step(StepId(3), branches).copy()?;
     let seen = match &copy {
         Tree::Step(step, branches) => Some((
             *step,
             branches.len(),
             user_at(branches, 1),
-            user_at(branches, 2),
+            twin_at(branches, 2),
+            user_at(branches, 3),
         )),
         _ => None,
     };
     assert_eq!(rt;
         (copy.nodes(), seen),
-        (3, Some((StepId(3), 2, Some(UserId(7)), None)))
+        (
+            4,
+            Some((StepId(3), 3, Some(UserId(7)), Some(UserId(4)), None))
+        )
     );
     Ok(())
 }
@@ -35,6 +43,16 @@ fn a_copy_has_the_same_branches(rt: HostRuntime) -> Result<(), Fail> {
 fn user_at(branches: &Branches, place: usize) -> Option<UserId> {
     match branches.get(place) {
         Some(branch) => Some(branch.user),
+        None => None,
+    }
+}
+
+fn twin_at(branches: &Branches, place: usize) -> Option<UserId> {
+    match branches.get(place) {
+        Some(branch) => match &branch.kid {
+            Kid::Twin(twin) => Some(*twin),
+            Kid::Tree(_) => None,
+        },
         None => None,
     }
 }

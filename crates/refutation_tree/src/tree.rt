@@ -33,6 +33,8 @@ pub struct Branch {
 pub enum Kid {
     /// A tree over the assignment with the step given to the user.
     Tree(Tree),
+    /// The user can be exchanged with this one, whose branch stands earlier and has a tree.
+    Twin(UserId),
 }
 
 /// The branches of a node, in the order in which they were added. Contracts see pure data.
@@ -101,12 +103,10 @@ impl Branch {
     pub fn copy(&self) -> Result<Branch, AllocError>
         ensures { IfOk result (λ b. b ≡ self.now) }
     {
-        match &self.kid {
-            Kid::Tree(tree) => Ok(Branch {
-                user: self.user,
-                kid: Kid::Tree(tree.copy()?),
-            }),
-        }
+        Ok(Branch {
+            user: self.user,
+            kid: self.kid.copy()?,
+        })
     }
 
     #[cycle(nodes)]
@@ -115,6 +115,19 @@ impl Branch {
     {
         match &self.kid {
             Kid::Tree(tree) => tree.nodes(),
+            Kid::Twin(_) => 1,
+        }
+    }
+}
+
+impl Kid {
+    #[cycle(copy)]
+    fn copy(&self) -> Result<Kid, AllocError>
+        ensures { IfOk result (λ k. k ≡ self.now) }
+    {
+        match self {
+            Kid::Tree(tree) => Ok(Kid::Tree(tree.copy()?)),
+            Kid::Twin(twin) => Ok(Kid::Twin(*twin)),
         }
     }
 }

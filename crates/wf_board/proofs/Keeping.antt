@@ -1,184 +1,226 @@
--- What a session keeps, step by step.
-use Rattle.std.proofs.Common.{◌≡◌, ◌≢◌, eqb, ℕ, ◌+◌, ◌<◌, ◌⊎◌, inl, inr, Bool, true, false, List, [], ◌∷◌, ◌++◌, length, Option, None, Some, is_some, IsSomeAnd, unwrap_or, slice_set, refl, sym, ap, subst, ◌∙◌, arith}
+-- What every step of a session keeps.
+use Rattle.std.proofs.Common.{◌≡◌, ℕ, zero, suc, ◌<◌, ◌⊎◌, inl, inr, Bool, true, false, nat_eq, List, [], ◌∷◌, ◌++◌, length, take, None, Some, Result, Ok, Err, if◌then◌else◌, refl, sym, ap, subst, ◌∙◌}
 use Rattle.std.specs.Option.{option_map}
-use Rattle.std.proofs.lemmas.Bool.Decides.{eqb_tells}
 use Rattle.std.proofs.lemmas.List.{length-replicate, length-set}
+use Rattle.wf_names.specs.States.{is_held}
 use Rattle.wf_names.specs.declared.states.StepState.TheVariants.{Free, Held}
-use Rattle.wf_names.specs.States.{is_done, is_held}
-use Rattle.constraint_forms.specs.Assigned.{no_steps, no_users, planned}
+use Rattle.wf_names.specs.declared.states.Phase.TheVariants.{Withdrawn}
+use Rattle.constraint_forms.specs.Assigned.{no_steps, no_users}
 use Rattle.policy_book.specs.Shapes.{PolicyShape}
+use Rattle.policy_book.specs.Facts.{IsSoundPolicy}
 use Rattle.policy_book.specs.Policies.{flow_at, problem_of}
-use Rattle.policy_book.specs.Plans.{IsValidPlan}
-use Rattle.case_record.specs.Cases.{CaseShape, as_finished, assigned_of, finished_case, finished_of, fresh_case, is_open, state_at, with_state}
-use Rattle.grant_table.specs.declared.rows.Row.{Row}
-use Rattle.grant_table.specs.Tables.{case_in, change_row, finished_row, held_row, plan_of, plan_while, row_at, HasFreeStep}
+use Rattle.policy_book.specs.Plans.{IsCompletable, IsValidPlan}
+use Rattle.case_record.specs.Cases.{CaseShape, as_finished, assigned_of, finished_case, finished_of, fresh_case, is_open, state_at, with_phase, with_state}
+use Rattle.grant_table.specs.Lookup.{look_up}
+use Rattle.wf_talk.specs.declared.entry.Entry.{Entry}
+use Rattle.wf_talk.specs.declared.request.Ask.{Ask}
+use Rattle.wf_talk.specs.declared.reply.Reply.{Reply}
 use Rattle.wf_talk.specs.declared.reply.Reply.TheVariants as reply
-use Rattle.wf_board.specs.States.{State}
-use Rattle.wf_board.specs.Answers.{claim_step, finish_step, kept_plan}
-use Rattle.wf_board.specs.Steps.{with_changed, with_opened}
-use Rattle.wf_board.specs.Kept.{IsSoundState, IsOfPolicy, IsPlanned, KeepsCompletable, KeepsPlans}
-use Rattle.wf_board.specs.Named.{AreNamed}
-use Rattle.wf_board.proofs.Rows.{changed_case, each_added, each_at, each_changed, row_of_case, there_added, there_changed, there_last}
-use Rattle.wf_board.proofs.Told.{grant_tells, finish_tells, place_within}
-use Rattle.wf_board.proofs.Valid.{valid_claimed, valid_finished, valid_fresh, valid_given}
+use Rattle.wf_talk.specs.declared.reply.Denial.{Denial}
+use Rattle.wf_board.specs.declared.deed.Deed.{Deed}
+use Rattle.wf_board.specs.declared.deed.Deed.TheVariants as deed
+use Rattle.wf_board.specs.States.{Numbered, State, case_at, opening_state, with_case_changed}
+use Rattle.wf_board.specs.Decisions.{decision_of}
+use Rattle.wf_board.specs.Steps.{Answers, IsReplyTo, IsStep, state_after_decision, state_after_deed, state_after_step, with_changed, with_opened}
+use Rattle.wf_board.specs.Histories.{EachAfter, IsRetry, IsRightAfter, state_after}
+use Rattle.wf_board.specs.HistoryLaws.{after_more}
+use Rattle.wf_board.specs.Kept.{IsOfPolicy, IsSoundState, KeepsCompletable}
+use Rattle.wf_board.specs.Laws.{HistoriesKeepCompletable, PlansStayValid, StepsKeepCompletable}
+use Rattle.wf_board.proofs.Told.{HasStep, HoldsOf, IsTold, claim_free, held_by, told}
+use Rattle.wf_board.proofs.Valid.{valid_claimed, valid_finished, valid_freed, valid_fresh}
 
-live_apart : {X : Type 0} (c : CaseShape) → is_open c ≡ true → is_open c ≡ false → X
-live_apart c live closed = let is : true ≡ false = sym live ∙ closed in cc
+-- P holds of each case that is found
+abbrev AllCases : (CaseShape → Type 0) → List Numbered → Type 0
+AllCases P cases = (n : ℕ) (c : CaseShape) → case_at cases n ≡ Some c → P c
 
--- an open case's plan is valid
-planned_open : (p : PolicyShape) (c : CaseShape) (o : Option (List ℕ)) → is_open c ≡ true → IsPlanned p c o →
-    (plan : List ℕ) × ((o ≡ Some plan) × IsValidPlan (problem_of p c.flow) (assigned_of c) (finished_of c) plan)
-planned_open p c None live planned = live_apart c live planned
-planned_open p c (Some plan) live planned = (plan, (refl, planned))
+same_case : (c d : CaseShape) → Some c ≡ Some d → c ≡ d
+same_case c d h = cc
 
--- ---- opening
+-- the case at a number after a change: the one that was changed, or one from before
+record IsChanged (n : ℕ) (change : CaseShape → CaseShape) (cases : List Numbered) (d : CaseShape) : Type 0 where
+  before : CaseShape
+  found : case_at cases n ≡ Some before
+  changed : d ≡ change before
 
-opened_case : (p : PolicyShape) (f : ℕ) → f < length p.flows → IsOfPolicy p (fresh_case f (length (flow_at p f).flow.steps))
-opened_case p f known = record { flow = known; steps = length-replicate (length (flow_at p f).flow.steps) Free }
-
-pub opened_keeps : (s : State) (f : ℕ) (plan : List ℕ) → IsSoundState s → f < length s.policy.flows → IsValidPlan (problem_of s.policy f) no_users no_steps plan → IsSoundState (with_opened s f plan)
-opened_keeps s f plan kept known valid =
-    let steps = length (flow_at s.policy f).flow.steps in
-    let new : Row = record { number = s.ever; case = fresh_case f steps; plan = Some plan } in
-    record {
-      cases = each_added (λ r. IsOfPolicy s.policy r.case) s.rows new kept.cases (opened_case s.policy f known);
-      plans = each_added (λ r. IsPlanned s.policy r.case r.plan) s.rows new kept.plans (valid_fresh (problem_of s.policy f) f steps plan valid);
-      numbered = λ n below. at_number new n below refl (eqb_tells n s.ever);
-    }
+read_changed : (m n : ℕ) (change : CaseShape → CaseShape) (cases : List Numbered) (d : CaseShape) → case_at (with_case_changed n change cases) m ≡ Some d →
+    IsChanged n change cases d ⊎ (case_at cases m ≡ Some d)
+read_changed m n change [] d h = inr h
+read_changed m n change (x ∷ xs) d h = at_first (nat_eq x.number n) (nat_eq x.number m) refl refl h (read_changed m n change xs d)
   where
-    at_number : (new : Row) (n : ℕ) → n < s.ever + 1 → new.number ≡ s.ever → ((eqb n s.ever ≡ true) × (n ≡ s.ever)) ⊎ ((eqb n s.ever ≡ false) × (n ≢ s.ever)) → is_some (case_in n (s.rows ++ new ∷ [])) ≡ true
-    at_number new n below number (inl last) = there_last n s.rows new (number ∙ sym last.1)
-    at_number new n below number (inr other) = there_added n s.rows new (kept.numbered n (omega (arith, below, other.1)))
+    at_first : (b e : Bool) → nat_eq x.number n ≡ b → nat_eq x.number m ≡ e →
+        case_at (if b then record x { case = change x.case } ∷ xs else x ∷ with_case_changed n change xs) m ≡ Some d →
+        (case_at (with_case_changed n change xs) m ≡ Some d → IsChanged n change xs d ⊎ (case_at xs m ≡ Some d)) →
+        IsChanged n change (x ∷ xs) d ⊎ (case_at (x ∷ xs) m ≡ Some d)
+    at_first true true here there found rest = inl record { before = x.case; found = rw here refl; changed = sym (same_case _ _ (rw there at found)) }
+    at_first true false here there found rest = inr (rw there (rw there at found))
+    at_first false true here there found rest = inr (rw there (rw there at found))
+    at_first false false here there found rest = lifted here there (rest (rw there at found))
+      where
+        lifted : nat_eq x.number n ≡ false → nat_eq x.number m ≡ false → IsChanged n change xs d ⊎ (case_at xs m ≡ Some d) → IsChanged n change (x ∷ xs) d ⊎ (case_at (x ∷ xs) m ≡ Some d)
+        lifted no_n no_m (inl is) = inl record { before = is.before; found = rw no_n is.found; changed = is.changed }
+        lifted no_n no_m (inr is) = inr (rw no_m is)
 
--- ---- claiming
+all_changed : (P : CaseShape → Type 0) (n : ℕ) (change : CaseShape → CaseShape) (cases : List Numbered) → AllCases P cases →
+    ((c : CaseShape) → case_at cases n ≡ Some c → P c → P (change c)) → AllCases P (with_case_changed n change cases)
+all_changed P n change cases all kept m d h = by_read (read_changed m n change cases d h)
+  where
+    by_read : IsChanged n change cases d ⊎ (case_at cases m ≡ Some d) → P d
+    by_read (inl is) = subst P (sym is.changed) (kept is.before is.found (all n is.before is.found))
+    by_read (inr is) = all m d is
 
--- what is known of the row of an open case
-record IsRow (s : State) (n : ℕ) (c : CaseShape) : Type 0 where
-  pub row : Row
-  pub there : row_at n s.rows ≡ Some row
-  pub its_case : row.case ≡ c
-  pub of_policy : IsOfPolicy s.policy c
-  pub planned : IsPlanned s.policy c row.plan
+read_added : (m : ℕ) (cases : List Numbered) (new : Numbered) (d : CaseShape) → case_at (cases ++ new ∷ []) m ≡ Some d → (d ≡ new.case) ⊎ (case_at cases m ≡ Some d)
+read_added m [] new d h = at_new (nat_eq new.number m) h
+  where
+    at_new : (b : Bool) → option_map (λ (e : Numbered). e.case) (if b then Some new else None) ≡ Some d → (d ≡ new.case) ⊎ (case_at [] m ≡ Some d)
+    at_new true found = inl (sym (same_case _ _ found))
+    at_new false found = inr found
+read_added m (x ∷ xs) new d h = at_first (nat_eq x.number m) h (read_added m xs new d)
+  where
+    at_first : (b : Bool) → option_map (λ (e : Numbered). e.case) (if b then Some x else look_up (λ (e : Numbered). e.number) m (xs ++ new ∷ [])) ≡ Some d →
+        (case_at (xs ++ new ∷ []) m ≡ Some d → (d ≡ new.case) ⊎ (case_at xs m ≡ Some d)) →
+        (d ≡ new.case) ⊎ (option_map (λ (e : Numbered). e.case) (if b then Some x else look_up (λ (e : Numbered). e.number) m xs) ≡ Some d)
+    at_first true found rest = inr found
+    at_first false found rest = rest found
 
-row_known : (s : State) (n : ℕ) (c : CaseShape) → IsSoundState s → case_in n s.rows ≡ Some c → IsRow s n c
-row_known s n c kept here =
-    let found = row_of_case n s.rows c here in
-    record {
-      row = found.0;
-      there = found.1.0;
-      its_case = found.1.1;
-      of_policy = subst (IsOfPolicy s.policy) found.1.1 (each_at (λ r. IsOfPolicy s.policy r.case) n s.rows found.0 kept.cases found.1.0);
-      planned = subst (λ d. IsPlanned s.policy d found.0.plan) found.1.1 (each_at (λ r. IsPlanned s.policy r.case r.plan) n s.rows found.0 kept.plans found.1.0);
-    }
+all_added : (P : CaseShape → Type 0) (cases : List Numbered) (new : Numbered) → AllCases P cases → P new.case → AllCases P (cases ++ new ∷ [])
+all_added P cases new all last m d h = by_read (read_added m cases new d h)
+  where
+    by_read : (d ≡ new.case) ⊎ (case_at cases m ≡ Some d) → P d
+    by_read (inl is) = subst P (sym is) last
+    by_read (inr is) = all m d is
 
--- a case is of a workflow of the policy
-pub case_of_policy : (s : State) (n : ℕ) (c : CaseShape) → IsSoundState s → case_in n s.rows ≡ Some c → IsOfPolicy s.policy c
-case_of_policy s n c kept here = (row_known s n c kept here).of_policy
+-- ---- one step
 
--- a step with a name is one of the case's
-pub step_within : (s : State) (n : ℕ) (step user : List ℕ) (c : CaseShape) (t u : ℕ) → IsSoundState s → AreNamed s n step user c t u → t < length c.states
-step_within s n step user c t u kept named =
-    let known = row_known s n c kept named.its_case in
-    subst (λ m. t < m) (sym known.of_policy.steps) (place_within (flow_at s.policy c.flow).flow.steps step t named.its_step)
+-- a case can be completed, if it is open
+abbrev MayEnd : PolicyShape → CaseShape → Type 0
+MayEnd p c = is_open c ≡ true → IsCompletable (problem_of p c.flow) (assigned_of c) (finished_of c)
 
--- the plan that is kept for an open case is valid
-pub kept_valid : (s : State) (n : ℕ) (c : CaseShape) → IsSoundState s → case_in n s.rows ≡ Some c → is_open c ≡ true →
-    IsValidPlan (problem_of s.policy c.flow) (assigned_of c) (finished_of c) (kept_plan s n)
-kept_valid s n c kept here live =
-    let known = row_known s n c kept here in
-    let has = planned_open s.policy c known.row.plan live known.planned in
-    let is : kept_plan s n ≡ has.0 = ap (λ o. unwrap_or (plan_of o) []) known.there ∙ ap (λ o. unwrap_or o []) has.1.0 in
-    subst (IsValidPlan (problem_of s.policy c.flow) (assigned_of c) (finished_of c)) (sym is) has.1.1
+-- what is kept of each case
+abbrev IsKept : PolicyShape → CaseShape → Type 0
+IsKept p c = IsOfPolicy p c × MayEnd p c
 
--- the plan that is kept for an open case has a user for each of its steps
-pub plan_whole : (s : State) (n : ℕ) (c : CaseShape) → IsSoundState s → case_in n s.rows ≡ Some c → is_open c ≡ true → length (kept_plan s n) ≡ length c.states
-plan_whole s n c kept here live = (kept_valid s n c kept here live).whole ∙ sym (case_of_policy s n c kept here).steps
+-- what is kept of a state
+abbrev Keeps : State → Type 0
+Keeps s = IsSoundState s × KeepsCompletable s
 
-same_row : (a b : Row) → Some a ≡ Some b → a ≡ b
-same_row a b h = cc
-
--- a changed row is of the policy where it keeps the workflow and the number of steps
-of_policy_still : (p : PolicyShape) (c d : CaseShape) → d.flow ≡ c.flow → length d.states ≡ length c.states → IsOfPolicy p c → IsOfPolicy p d
+-- a case that keeps its workflow and its number of steps is of the policy
+of_policy_still : (p : PolicyShape) (c : CaseShape) (d : CaseShape) → d.flow ≡ c.flow → length d.states ≡ length c.states → IsOfPolicy p c → IsOfPolicy p d
 of_policy_still p c d flow steps known = record {
   flow = subst (λ f. f < length p.flows) (sym flow) known.flow;
   steps = steps ∙ known.steps ∙ ap (λ f. length (flow_at p f).flow.steps) (sym flow);
 }
 
--- the row of one case changes, and the others stay
-changed_keeps : (s : State) (n : ℕ) (c : CaseShape) (f : Row → Row) → IsSoundState s → case_in n s.rows ≡ Some c → ((r : Row) → (f r).number ≡ r.number) →
-    ((r : Row) → r.case ≡ c → IsOfPolicy s.policy c → IsPlanned s.policy c r.plan → IsOfPolicy s.policy (f r).case × IsPlanned s.policy (f r).case (f r).plan) →
-    IsSoundState (with_changed s n f)
-changed_keeps s n c f kept here same change = record {
-  cases = each_changed (λ r. IsOfPolicy s.policy r.case) n f s.rows kept.cases (λ r there known. (both r there).0);
-  plans = each_changed (λ r. IsPlanned s.policy r.case r.plan) n f s.rows kept.plans (λ r there known. (both r there).1);
-  numbered = λ m below. there_changed m n f s.rows same (kept.numbered m below);
-}
+changed_keeps : (s : State) (n : ℕ) (change : CaseShape → CaseShape) → Keeps s → ((c : CaseShape) → case_at s.book.cases n ≡ Some c → IsKept s.book.policy c → IsKept s.book.policy (change c)) →
+    Keeps (with_changed s n change)
+changed_keeps s n change keeps kept =
+    let all = all_changed (IsKept s.book.policy) n change s.book.cases (λ m c found. (keeps.0.cases m c found, keeps.1 m c found)) kept in
+    (record { policy = keeps.0.policy; cases = λ m c found. (all m c found).0 }, λ m c found. (all m c found).1)
+
+-- the change of the one case that a deed names
+named_keeps : (s : State) (n : ℕ) (c : CaseShape) (t : ℕ) (change : CaseShape → CaseShape) → Keeps s → HasStep s.book n c t →
+    (IsOfPolicy s.book.policy c → t < length c.states → IsCompletable (problem_of s.book.policy c.flow) (assigned_of c) (finished_of c) → IsKept s.book.policy (change c)) →
+    Keeps (with_changed s n change)
+named_keeps s n c t change keeps there kept = changed_keeps s n change keeps
+    (λ d found is. subst (λ (x : CaseShape). IsKept s.book.policy (change x)) (same_case c d (sym there.case.found ∙ found)) known)
   where
-    both : (r : Row) → row_at n s.rows ≡ Some r → IsOfPolicy s.policy (f r).case × IsPlanned s.policy (f r).case (f r).plan
-    both r there =
-        let known = row_known s n c kept here in
-        let is : known.row ≡ r = same_row known.row r (sym known.there ∙ there) in
-        change r (ap (λ (x : Row). x.case) (sym is) ∙ known.its_case) known.of_policy (subst (λ (x : Row). IsPlanned s.policy c x.plan) is known.planned)
+    known : IsKept s.book.policy (change c)
+    known =
+        let of_policy = keeps.0.cases n c there.case.found in
+        kept of_policy (subst (λ k. t < k) (sym of_policy.steps) there.step) (keeps.1 n c there.case.found there.case.live)
 
-pub claimed_keeps : (s : State) (n : ℕ) (step user : List ℕ) (c : CaseShape) (t u : ℕ) (plan : List ℕ) → IsSoundState s → AreNamed s n step user c t u →
-    claim_step s n c t u (state_at c t) ≡ reply.Granted plan → IsSoundState (with_changed s n (held_row t u plan))
-claimed_keeps s n step user c t u plan kept named granted =
-    changed_keeps s n c (held_row t u plan) kept named.its_case (λ r. refl)
-    (λ r is known before. subst (λ d. IsOfPolicy s.policy (with_state d t (Held u)) × IsPlanned s.policy (with_state d t (Held u)) (Some plan)) (sym is) (held_now known))
+opened_keeps : (s : State) (f : ℕ) (plan : List ℕ) → Keeps s → f < length s.book.policy.flow_names → IsValidPlan (problem_of s.book.policy f) no_users no_steps plan → Keeps (with_opened s f)
+opened_keeps s f plan keeps known valid =
+    let steps = length (flow_at s.book.policy f).flow.steps in
+    let new : Numbered = record { number = s.book.ever; case = fresh_case f steps } in
+    let all = all_added (IsKept s.book.policy) s.book.cases new (λ m c found. (keeps.0.cases m c found, keeps.1 m c found))
+    (record { flow = subst (λ k. f < k) keeps.0.policy.named known; steps = length-replicate steps Free }, λ live. (plan, valid_fresh (problem_of s.book.policy f) f steps plan valid)) in
+    (record { policy = keeps.0.policy; cases = λ m c found. (all m c found).0 }, λ m c found. (all m c found).1)
+
+claimed_keeps : (s : State) (n : ℕ) (c : CaseShape) (t u : ℕ) (plan : List ℕ) → Keeps s → IsTold s.book (deed.Claim n c t u) → IsReplyTo s (deed.Claim n c t u) (reply.Granted plan) →
+    Keeps (with_changed s n (λ d. with_state d t (Held u)))
+claimed_keeps s n c t u plan keeps known valid = named_keeps s n c t (λ d. with_state d t (Held u)) keeps known.0 (λ of_policy below complete. (
+  of_policy_still s.book.policy c (with_state c t (Held u)) refl (length-set c.states t (Held u)) of_policy,
+  λ live. (plan, valid_claimed (problem_of s.book.policy c.flow) c t u plan below (claim_free s.book n c t u known.1) valid),
+))
+
+finished_keeps : (s : State) (n : ℕ) (c : CaseShape) (t : ℕ) → Keeps s → HasStep s.book n c t → is_held (state_at c t) ≡ true → Keeps (with_changed s n (λ d. finished_case d t))
+finished_keeps s n c t keeps there held = named_keeps s n c t (λ d. finished_case d t) keeps there (λ of_policy below complete. (
+  of_policy_still s.book.policy c (finished_case c t) refl (length-set c.states t (as_finished (state_at c t))) of_policy,
+  λ live. (complete.0, valid_finished (problem_of s.book.policy c.flow) c t complete.0 held complete.1),
+))
+
+freed_keeps : (s : State) (n : ℕ) (c : CaseShape) (t : ℕ) → Keeps s → HasStep s.book n c t → is_held (state_at c t) ≡ true → Keeps (with_changed s n (λ d. with_state d t Free))
+freed_keeps s n c t keeps there held = named_keeps s n c t (λ d. with_state d t Free) keeps there (λ of_policy below complete. (
+  of_policy_still s.book.policy c (with_state c t Free) refl (length-set c.states t Free) of_policy,
+  λ live. (complete.0, valid_freed (problem_of s.book.policy c.flow) c t complete.0 held complete.1),
+))
+
+withdrawn_keeps : (s : State) (n : ℕ) → Keeps s → Keeps (with_changed s n (λ d. with_phase d Withdrawn))
+withdrawn_keeps s n keeps = changed_keeps s n (λ d. with_phase d Withdrawn) keeps (λ c found is. (of_policy_still s.book.policy c (with_phase c Withdrawn) refl refl is.0, λ live. cc))
+
+deed_keeps : (s : State) (given : Deed) (answer : Reply) → Keeps s → IsTold s.book given → IsReplyTo s given answer → Keeps (state_after_deed s given answer)
+deed_keeps s (deed.Open f) (reply.Opened n plan) keeps known is = opened_keeps s f plan keeps known.0 is.1
+deed_keeps s (deed.Claim n c t u) (reply.Granted plan) keeps known is = claimed_keeps s n c t u plan keeps known is
+deed_keeps s (deed.Finish n c t u) (reply.Finished done) keeps known is = finished_keeps s n c t keeps known.0 (held_by u (state_at c t) known.1)
+deed_keeps s (deed.GiveBack n c t u) reply.Returned keeps known is = freed_keeps s n c t keeps known.0 (held_by u (state_at c t) known.1)
+deed_keeps s (deed.Release n c t) reply.Released keeps known is = freed_keeps s n c t keeps known.0 known.1
+deed_keeps s (deed.Withdraw n) reply.Withdrawn keeps known is = withdrawn_keeps s n keeps
+deed_keeps s given answer keeps known is = keeps
+
+decision_keeps : (s : State) (decision : Result Deed Denial) (answer : Reply) → Keeps s → HoldsOf (IsTold s.book) decision → Answers s decision answer → Keeps (state_after_decision s decision answer)
+decision_keeps s (Ok given) answer keeps known is = deed_keeps s given answer keeps known is
+decision_keeps s (Err d) answer keeps known is = keeps
+
+pub step_keeps : (s : State) (what : Ask) (given : Reply) → Keeps s → IsStep s what given → Keeps (state_after_step s what given)
+step_keeps s what given keeps step = decision_keeps s (decision_of s.book what) given keeps (told s.book what) step
+
+pub steps_keep_completable : StepsKeepCompletable
+steps_keep_completable s what given sound complete step = step_keeps s what given (sound, complete) step
+
+-- ---- histories
+
+again_stays : (s : State) (decision : Result Deed Denial) (n place : ℕ) → state_after_decision s decision (reply.Again n place) ≡ s
+again_stays s (Ok (deed.Open f)) n place = refl
+again_stays s (Ok (deed.Claim m c t u)) n place = refl
+again_stays s (Ok (deed.Finish m c t u)) n place = refl
+again_stays s (Ok (deed.GiveBack m c t u)) n place = refl
+again_stays s (Ok (deed.Release m c t)) n place = refl
+again_stays s (Ok (deed.Withdraw m)) n place = refl
+again_stays s (Ok (deed.Show c)) n place = refl
+again_stays s (Ok (deed.TurnAway bad)) n place = refl
+again_stays s (Err d) n place = refl
+
+entry_keeps : (start : State) (rounds : ℕ) (earlier : List Entry) (e : Entry) → Keeps (state_after start earlier) → IsRightAfter start rounds earlier e →
+    Keeps (state_after start (earlier ++ e ∷ []))
+entry_keeps start rounds earlier e keeps right = subst Keeps (sym (after_more start earlier e)) (by_reply right.1)
   where
-    held_now : IsOfPolicy s.policy c → IsOfPolicy s.policy (with_state c t (Held u)) × IsPlanned s.policy (with_state c t (Held u)) (Some plan)
-    held_now known =
-        let tells = grant_tells s n c t u (state_at c t) plan granted in
-        let valid = subst (IsValidPlan (problem_of s.policy c.flow) (assigned_of c) (finished_of c)) tells.kept (kept_valid s n c kept named.its_case named.open_case) in (
-          of_policy_still s.policy c (with_state c t (Held u)) refl (length-set c.states t (Held u)) known,
-          valid_claimed (problem_of s.policy c.flow) c t u plan (step_within s n step user c t u kept named) tells.free tells.gives valid,
-        )
+    by_reply : IsStep (state_after start earlier) e.ask e.reply ⊎ IsRetry start rounds earlier e → Keeps (state_after_step (state_after start earlier) e.ask e.reply)
+    by_reply (inl step) = step_keeps (state_after start earlier) e.ask e.reply keeps step
+    by_reply (inr retry) =
+        let s = state_after start earlier in
+        subst (λ r. Keeps (state_after_step s e.ask r)) (sym retry.1.1.0) (subst Keeps (sym (again_stays s (decision_of s.book e.ask) retry.0 retry.1.0)) keeps)
 
--- a claim that is granted is of a free step of an open case
-pub grant_free : (s : State) (n : ℕ) (step user : List ℕ) (c : CaseShape) (t u : ℕ) (plan : List ℕ) → IsSoundState s → AreNamed s n step user c t u →
-    claim_step s n c t u (state_at c t) ≡ reply.Granted plan → IsSomeAnd (case_in n s.rows) (λ k. HasFreeStep k t)
-grant_free s n step user c t u plan kept named granted =
-    subst (λ o. IsSomeAnd o (λ k. HasFreeStep k t)) (sym named.its_case)
-    record { open_case = named.open_case; step = step_within s n step user c t u kept named; free = (grant_tells s n c t u (state_at c t) plan granted).free }
+history_keeps : (start : State) (rounds : ℕ) (earlier entries : List Entry) → Keeps (state_after start earlier) → EachAfter (IsRightAfter start rounds) earlier entries → (n : ℕ) →
+    Keeps (state_after (state_after start earlier) (take n entries))
+history_keeps start rounds earlier entries keeps legal zero = keeps
+history_keeps start rounds earlier [] keeps legal (suc n) = keeps
+history_keeps start rounds earlier (e ∷ es) keeps legal (suc n) =
+    subst (λ s. Keeps (state_after s (take n es))) (after_more start earlier e)
+    (history_keeps start rounds (earlier ++ e ∷ []) es (entry_keeps start rounds earlier e keeps legal.0) legal.1 n)
 
--- and the kept plan is valid with the user there
-pub grant_valid : (s : State) (n : ℕ) (step user : List ℕ) (c : CaseShape) (t u : ℕ) (plan : List ℕ) → IsSoundState s → AreNamed s n step user c t u →
-    claim_step s n c t u (state_at c t) ≡ reply.Granted plan →
-    IsSomeAnd (case_in n s.rows) (λ k. IsValidPlan (problem_of s.policy k.flow) (slice_set (assigned_of k) t (Some u)) (finished_of k) plan)
-grant_valid s n step user c t u plan kept named granted =
-    let tells = grant_tells s n c t u (state_at c t) plan granted in
-    subst (λ o. IsSomeAnd o (λ k. IsValidPlan (problem_of s.policy k.flow) (slice_set (assigned_of k) t (Some u)) (finished_of k) plan)) (sym named.its_case)
-    (valid_given (problem_of s.policy c.flow) c t u plan tells.gives (subst (IsValidPlan (problem_of s.policy c.flow) (assigned_of c) (finished_of c)) tells.kept (kept_valid s n c kept named.its_case named.open_case)))
+opening_keeps : (p : PolicyShape) → IsSoundPolicy p → Keeps (opening_state p)
+opening_keeps p sound = (record { policy = sound; cases = λ n c found. cc }, λ n c found live. cc)
 
--- ---- finishing
+pub histories_keep_completable : HistoriesKeepCompletable
+histories_keep_completable p rounds entries sound legal n = (history_keeps (opening_state p) rounds [] entries (opening_keeps p sound) legal n).1
 
-finished_planned : (p : PolicyShape) (c : CaseShape) (t : ℕ) (o : Option (List ℕ)) → is_open c ≡ true → is_held (state_at c t) ≡ true → IsPlanned p c o →
-    (b : Bool) → is_open (finished_case c t) ≡ b → IsPlanned p (finished_case c t) (plan_while b o)
-finished_planned p c t o live held planned false closed = closed
-finished_planned p c t None live held planned true still = live_apart c live planned
-finished_planned p c t (Some plan) live held planned true still = valid_finished (problem_of p c.flow) c t plan held planned
+-- ---- plans
 
-pub finished_keeps : (s : State) (n : ℕ) (step user : List ℕ) (c : CaseShape) (t u : ℕ) (done : Bool) → IsSoundState s → AreNamed s n step user c t u →
-    finish_step c t u (state_at c t) ≡ reply.Finished done → IsSoundState (with_changed s n (finished_row t))
-finished_keeps s n step user c t u done kept named finished =
-    changed_keeps s n c (finished_row t) kept named.its_case (λ r. refl)
-    (λ r is known before. subst (λ d. IsOfPolicy s.policy (finished_case d t) × IsPlanned s.policy (finished_case d t) (plan_while (is_open (finished_case d t)) r.plan)) (sym is) (
-      of_policy_still s.policy c (finished_case c t) refl (length-set c.states t (as_finished (state_at c t))) known,
-      finished_planned s.policy c t r.plan named.open_case (ap is_held (finish_tells c t u (state_at c t) done finished)) before (is_open (finished_case c t)) refl,
-    ))
+holder_holds : (c : CaseShape) (t u : ℕ) → state_at c t ≡ Held u → is_held (state_at c t) ≡ true
+holder_holds c t u held = ap is_held held
 
--- whether a case is done once a step of it is finished
-pub done_is : (rows : List Row) (n t : ℕ) (c : CaseShape) (done : Bool) → case_in n rows ≡ Some c →
-    IsSomeAnd (case_in n (change_row n (finished_row t) rows)) (λ k. done ≡ is_done k.phase) → done ≡ is_done (finished_case c t).phase
-done_is rows n t c done here after =
-    subst (λ o. IsSomeAnd o (λ k. done ≡ is_done k.phase))
-    (changed_case n (finished_row t) (λ k. finished_case k t) rows (λ r. refl) (λ r. refl) ∙ ap (option_map (λ k. finished_case k t)) here) after
-
--- ---- completing
-
-pub plans_complete : (s : State) → KeepsPlans s → KeepsCompletable s
-plans_complete s plans n c here live =
-    let found = row_of_case n s.rows c here in
-    let planned = subst (λ d. IsPlanned s.policy d found.0.plan) found.1.1 (each_at (λ r. IsPlanned s.policy r.case r.plan) n s.rows found.0 plans found.1.0) in
-    let has = planned_open s.policy c found.0.plan live planned in
-    (has.0, has.1.1)
+pub plans_stay_valid : PlansStayValid
+plans_stay_valid p c t u plan held valid = (
+  valid_finished (problem_of p c.flow) c t plan (holder_holds c t u held) valid,
+  valid_freed (problem_of p c.flow) c t plan (holder_holds c t u held) valid,
+)

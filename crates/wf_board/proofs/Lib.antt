@@ -1,5 +1,10 @@
-pub mod Rows
-pub mod Valid
+pub mod Snaps
 pub mod Told
+pub mod Valid
 pub mod Keeping
-pub mod Sessions
+pub mod Exact
+pub mod Within
+pub mod Grants
+pub mod Rows
+pub mod Planned
+pub mod Answering

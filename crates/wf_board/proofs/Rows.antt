@@ -1,10 +1,16 @@
 -- Rows of a table where one changes, and where one is added.
-use Rattle.std.proofs.Common.{◌≡◌, ℕ, Bool, true, false, nat_eq, List, [], ◌∷◌, ◌++◌, Option, None, Some, is_some, if◌then◌else◌, refl, ap, subst, ◌∙◌}
+use Rattle.std.proofs.Common.{◌≡◌, ℕ, ◌+◌, cond, Bool, true, false, nat_eq, List, [], ◌∷◌, ◌++◌, map, Option, None, Some, is_some, if◌then◌else◌, refl, ap, subst, ◌∙◌}
+use Rattle.std.specs.List.{fold}
 use Rattle.std.specs.Option.{option_map}
-use Rattle.case_record.specs.Cases.{CaseShape}
+use Rattle.case_record.specs.Cases.{CaseShape, is_open}
 use Rattle.grant_table.specs.declared.rows.Row.{Row}
-use Rattle.grant_table.specs.Tables.{case_in, change_row, row_at}
+use Rattle.grant_table.specs.Lookup.{look_up}
+use Rattle.grant_table.specs.Tables.{case_in, change_row, only, row_at}
+use Rattle.grant_table.specs.Tables as Tables
 use Rattle.basics.proofs.Booleans.{eq_is}
+use Rattle.wf_board.specs.States.{Numbered, case_at, with_case_changed}
+use Rattle.wf_board.specs.States as States
+use Rattle.wf_board.specs.Boards.{numbered}
 use Rattle.wf_board.specs.Kept.{EachRow}
 
 -- a case with a number has a row
@@ -36,6 +42,14 @@ each_changed P n f (x ∷ xs) each h = at_first (nat_eq x.number n) h (each_chan
 pub each_added : (P : Row → Type 0) (rows : List Row) (new : Row) → EachRow P rows → P new → EachRow P (rows ++ new ∷ [])
 each_added P [] new each h = (h, tt)
 each_added P (r ∷ rs) new each h = (each.0, each_added P rs new each.1 h)
+
+pub each_only : (P : Row → Type 0) (n : ℕ) (rows : List Row) → EachRow P rows → EachRow P (only n rows)
+each_only P n [] each = tt
+each_only P n (r ∷ rs) each = at_first (nat_eq r.number n) (each_only P n rs each.1)
+  where
+    at_first : (b : Bool) → EachRow P (only n rs) → EachRow P (if b then r ∷ only n rs else only n rs)
+    at_first true rest = (each.0, rest)
+    at_first false rest = rest
 
 found_first : (m : ℕ) (x : Row) (xs : List Row) → nat_eq x.number m ≡ true → is_some (case_in m (x ∷ xs)) ≡ true
 found_first m x xs hit = rw hit refl
@@ -81,3 +95,39 @@ changed_case n f g (x ∷ xs) same changes = at_first (nat_eq x.number n) refl (
         case_in n (if b then f x ∷ xs else x ∷ change_row n f xs) ≡ option_map g (option_map (λ (r : Row). r.case) (if b then Some x else row_at n xs))
     at_first true here rest = rw (ap (λ k. nat_eq k n) (same x) ∙ here) (ap Some (changes x))
     at_first false here rest = rw here rest
+
+-- ---- rows of a table as cases of a book
+
+-- a table has the cases of its book
+pub case_numbered : (n : ℕ) (rows : List Row) → case_at (map numbered rows) n ≡ case_in n rows
+case_numbered n [] = refl
+case_numbered n (r ∷ rs) = at_first (nat_eq r.number n) (case_numbered n rs)
+  where
+    at_first : (b : Bool) → case_at (map numbered rs) n ≡ case_in n rs →
+        option_map (λ (e : Numbered). e.case) (if b then Some (numbered r) else look_up (λ (e : Numbered). e.number) n (map numbered rs)) ≡ option_map (λ (x : Row). x.case) (if b then Some r else row_at n rs)
+    at_first true rest = refl
+    at_first false rest = rest
+
+counted : (rows : List Row) (so_far : ℕ) → fold (λ (a : ℕ) (e : Numbered). a + cond (is_open e.case) 1 0) so_far (map numbered rows) ≡ fold (λ (a : ℕ) (r : Row). a + cond (is_open r.case) 1 0) so_far rows
+counted [] so_far = refl
+counted (r ∷ rs) so_far = counted rs (so_far + cond (is_open r.case) 1 0)
+
+-- and as many open ones
+pub open_numbered : (rows : List Row) → States.open_count (map numbered rows) ≡ Tables.open_count rows
+open_numbered rows = counted rows 0
+
+-- a changed row is a changed case
+pub numbered_changed : (n : ℕ) (f : Row → Row) (g : CaseShape → CaseShape) (rows : List Row) → ((r : Row) → (f r).number ≡ r.number) → ((r : Row) → (f r).case ≡ g r.case) →
+    map numbered (change_row n f rows) ≡ with_case_changed n g (map numbered rows)
+numbered_changed n f g [] same changes = refl
+numbered_changed n f g (x ∷ xs) same changes = at_first (nat_eq x.number n) (numbered_changed n f g xs same changes)
+  where
+    at_first : (b : Bool) → map numbered (change_row n f xs) ≡ with_case_changed n g (map numbered xs) →
+        map numbered (if b then f x ∷ xs else x ∷ change_row n f xs) ≡ (if b then record (numbered x) { case = g x.case } ∷ map numbered xs else numbered x ∷ with_case_changed n g (map numbered xs))
+    at_first true rest = λ i. record { number = same x i; case = changes x i } ∷ map numbered xs
+    at_first false rest = ap (λ es. numbered x ∷ es) rest
+
+-- an added row is an added case
+pub numbered_added : (rows : List Row) (new : Row) → map numbered (rows ++ new ∷ []) ≡ map numbered rows ++ numbered new ∷ []
+numbered_added [] new = refl
+numbered_added (r ∷ rs) new = ap (λ es. numbered r ∷ es) (numbered_added rs new)

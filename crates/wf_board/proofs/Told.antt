@@ -1,191 +1,147 @@
--- What an answer tells of the state in which it is given.
-use Rattle.std.proofs.Common.{◌≡◌, ℕ, zero, suc, ◌<◌, Bool, true, false, ◌==◌, List, [], ◌∷◌, length, Option, None, Some, is_ok, if◌then◌else◌, refl, sym, ap, subst, ◌∙◌, arith}
-use Rattle.std.specs.Option.{option_map, option_and_then}
-use Rattle.std.proofs.lemmas.Bool.{eqb-true}
-use Rattle.std.proofs.lemmas.List.Quantifiers.{position-Some}
+-- What a decision tells of the state in which it is made.
+use Rattle.std.proofs.Common.{◌≡◌, ℕ, ◌<◌, Bool, true, false, List, [], ◌∷◌, length, Option, None, Some, option_map, Result, Ok, Err, refl}
 use Rattle.std.specs.Prelude.{nat_eq}
 use Rattle.std.specs.Cmp.Lexicographic.{pointwise}
-use Rattle.wf_names.specs.States.{is_done}
+use Rattle.std.proofs.lemmas.List.Quantifiers.{position-Some}
+use Rattle.first_fault.specs.Reading.{◌>>=◌, or_fault, check}
+use Rattle.wf_names.specs.States.{is_held, user_of}
 use Rattle.wf_names.specs.Table.{place_of}
 use Rattle.wf_names.specs.declared.states.StepState.{StepState}
 use Rattle.wf_names.specs.declared.states.StepState.TheVariants.{Free, Held, Finished}
-use Rattle.constraint_forms.specs.Assigned.{no_steps, no_users, planned}
-use Rattle.policy_book.specs.Shapes.{PolicyShape}
-use Rattle.policy_book.specs.Policies.{flow_at, problem_of}
-use Rattle.policy_book.specs.Plans.{IsValidPlan}
-use Rattle.certificate_check.specs.Faults.{plan_verdict}
-use Rattle.basics.proofs.Booleans.{and_both}
-use Rattle.certificate_check.proofs.Verdicts.{verdict_tells}
-use Rattle.case_record.specs.Cases.{CaseShape, finished_case, is_open}
-use Rattle.case_record.specs.Ready.{first_missing}
-use Rattle.grant_table.specs.Tables.{case_in}
-use Rattle.wf_talk.specs.declared.reply.Reply.{Reply}
-use Rattle.wf_talk.specs.declared.reply.Reply.TheVariants as reply
+use Rattle.policy_book.specs.Policies.{flow_at}
+use Rattle.case_record.specs.Cases.{CaseShape, is_open, state_at}
+use Rattle.wf_talk.specs.declared.request.Request.TheVariants as request
+use Rattle.wf_talk.specs.declared.request.Ask.{Ask}
+use Rattle.wf_talk.specs.declared.request.Ask.TheVariants as ask
 use Rattle.wf_talk.specs.declared.reply.Denial.{Denial}
-use Rattle.wf_talk.specs.declared.reply.Denial.TheVariants as denial
-use Rattle.wf_board.specs.States.{State, is_full, step_named, user_named}
-use Rattle.wf_board.specs.Answers.{claim_in_order, claim_on_plan, claim_step, finish_step, if_valid, is_held_by, is_valid_plan, kept_plan, on_case, on_names, on_step, on_user, open_answer, opened_with, plan_named, users_named}
-use Rattle.wf_board.specs.Named.{AreNamed}
-use Rattle.wf_board.proofs.Valid.{nobody_within}
+use Rattle.wf_talk.specs.declared.reply.Denial.TheVariants.{Closed, NoCase, NoFlow, NoStep, NoUser, NotAdmin}
+use Rattle.denial_reasons.specs.Causes.{first_cause, first_of, unless}
+use Rattle.wf_board.specs.declared.deed.Deed.{Deed}
+use Rattle.wf_board.specs.declared.deed.Deed.TheVariants as deed
+use Rattle.wf_board.specs.States.{Book, case_at, flow_named, is_admin, step_named, user_named}
+use Rattle.wf_board.specs.Resolved.{on_step, open_case_at, resolve}
+use Rattle.wf_board.specs.Decisions.{cause_aside, cause_full, decision_aside, decision_of, is_held_by, unless_denied}
 
--- ---- names
+-- P holds of what was read, if it was
+abbrev pub HoldsOf : {A F : Type 0} → (A → Type 0) → Result A F → Type 0
+HoldsOf P (Ok x) = P x
+HoldsOf P (Err fault) = Unit {0}
 
+then_holds : {A B F : Type 0} (P : A → Type 0) (Q : B → Type 0) (r : Result A F) (f : A → Result B F) → HoldsOf P r → ((x : A) → P x → HoldsOf Q (f x)) → HoldsOf Q (r >>= f)
+then_holds P Q (Ok x) f holds each = each x holds
+then_holds P Q (Err d) f holds each = tt
+
+there_holds : {A F : Type 0} (o : Option A) (fault : F) → HoldsOf (λ x. o ≡ Some x) (or_fault o fault)
+there_holds (Some x) fault = refl
+there_holds None fault = tt
+
+passed_holds : {F : Type 0} (b : Bool) (fault : F) → HoldsOf (λ _. b ≡ true) (check b fault)
+passed_holds true fault = refl
+passed_holds false fault = tt
+
+-- a name stands at one of the places
 pub place_within : (names : List (List ℕ)) (name : List ℕ) (i : ℕ) → place_of names name ≡ Some i → i < length names
 place_within names name i h = (position-Some (pointwise nat_eq name) names i [] h).0
 
--- each of some users is among the first so many
-abbrev pub UsersBelow : ℕ → List ℕ → Type 0
-UsersBelow n us = (s : ℕ) → s < length us → planned us s < n
+-- the case with a number is open
+pub record IsOpenCase (b : Book) (n : ℕ) (c : CaseShape) : Type 0 where
+  pub found : case_at b.cases n ≡ Some c
+  pub live : is_open c ≡ true
 
-below_cons : (n u : ℕ) (us : List ℕ) → u < n → UsersBelow n us → UsersBelow n (u ∷ us)
-below_cons n u us first rest zero h = first
-below_cons n u us first rest (suc s) h = rest s (omega arith)
+-- and has the step
+pub record HasStep (b : Book) (n : ℕ) (c : CaseShape) (t : ℕ) : Type 0 where
+  pub case : IsOpenCase b n c
+  pub step : t < length (flow_at b.policy c.flow).flow.steps
 
-same_list : (a b : List ℕ) → Some a ≡ Some b → a ≡ b
-same_list a b h = cc
+-- what a deed names is there
+abbrev pub IsThere : Book → Deed → Type 0
+IsThere b (deed.Open f) = f < length b.policy.flow_names
+IsThere b (deed.Claim n c t u) = HasStep b n c t
+IsThere b (deed.Finish n c t u) = HasStep b n c t
+IsThere b (deed.GiveBack n c t u) = HasStep b n c t
+IsThere b (deed.Release n c t) = HasStep b n c t
+IsThere b given = Unit {0}
 
-pub named_below : (users names : List (List ℕ)) (us : List ℕ) → users_named users names ≡ Some us → UsersBelow (length users) us
-named_below users [] us h = subst (UsersBelow (length users)) (same_list [] us h) (λ s below. absurd (omega (arith, below)))
-named_below users (name ∷ names) us h = first (place_of users name) refl (users_named users names) refl h (named_below users names)
-  where
-    first : (o : Option ℕ) → place_of users name ≡ o → (rest : Option (List ℕ)) → users_named users names ≡ rest →
-        option_and_then (λ u. option_map (λ vs. u ∷ vs) rest) o ≡ Some us → ((vs : List ℕ) → users_named users names ≡ Some vs → UsersBelow (length users) vs) → UsersBelow (length users) us
-    first None there rest later e below = cc
-    first (Some u) there None later e below = cc
-    first (Some u) there (Some vs) later e below = subst (UsersBelow (length users)) (same_list (u ∷ vs) us e) (below_cons (length users) u vs (place_within users name u there) (below vs later))
+open_there : (b : Book) (n : ℕ) → HoldsOf (IsOpenCase b n) (open_case_at b n)
+open_there b n =
+    then_holds (λ c. case_at b.cases n ≡ Some c) (IsOpenCase b n) (or_fault (case_at b.cases n) NoCase) _ (there_holds (case_at b.cases n) NoCase)
+    (λ c found. then_holds (λ _. is_open c ≡ true) (IsOpenCase b n) (check (is_open c) Closed) _ (passed_holds (is_open c) Closed)
+    (λ _ live. record { found = found; live = live }))
 
--- ---- opening
+step_there : (b : Book) (make : ℕ → CaseShape → ℕ → ℕ → Deed) (n : ℕ) (step user : List ℕ) →
+    ((c : CaseShape) (t u : ℕ) → HasStep b n c t → IsThere b (make n c t u)) → HoldsOf (IsThere b) (on_step make b n step user)
+step_there b make n step user made =
+    then_holds (IsOpenCase b n) (IsThere b) (open_case_at b n) _ (open_there b n)
+    (λ c there. then_holds (λ t. step_named b c.flow step ≡ Some t) (IsThere b) (or_fault (step_named b c.flow step) NoStep) _ (there_holds (step_named b c.flow step) NoStep)
+    (λ t named. then_holds (λ u. user_named b user ≡ Some u) (IsThere b) (or_fault (user_named b user) NoUser) _ (there_holds (user_named b user) NoUser)
+    (λ u known. made c t u record { case = there; step = place_within (flow_at b.policy c.flow).flow.steps step t named })))
 
-record IsPlanFor (p : PolicyShape) (f : ℕ) (plan : List ℕ) : Type 0 where
-  pub whole : length plan ≡ length (flow_at p f).flow.steps
-  pub passes : is_ok (plan_verdict (problem_of p f) no_users no_steps plan) ≡ true
+resolve_there : (b : Book) (what : Ask) → HoldsOf (IsThere b) (resolve b what)
+resolve_there b (ask.Request (request.OpenCase flow)) =
+    then_holds (λ f. flow_named b flow ≡ Some f) (IsThere b) (or_fault (flow_named b flow) NoFlow) _ (there_holds (flow_named b flow) NoFlow)
+    (λ f named. place_within b.policy.flow_names flow f named)
+resolve_there b (ask.Request (request.Claim n step user)) = step_there b deed.Claim n step user (λ c t u there. there)
+resolve_there b (ask.Request (request.Finish n step user)) = step_there b deed.Finish n step user (λ c t u there. there)
+resolve_there b (ask.Request (request.GiveBack n step user)) = step_there b deed.GiveBack n step user (λ c t u there. there)
+resolve_there b (ask.Request (request.Release by n step)) =
+    then_holds (λ _. is_admin b by ≡ true) (IsThere b) (check (is_admin b by) NotAdmin) _ (passed_holds (is_admin b by) NotAdmin)
+    (λ _ may. then_holds (IsOpenCase b n) (IsThere b) (open_case_at b n) _ (open_there b n)
+    (λ c there. then_holds (λ t. step_named b c.flow step ≡ Some t) (IsThere b) (or_fault (step_named b c.flow step) NoStep) _ (there_holds (step_named b c.flow step) NoStep)
+    (λ t named. record { case = there; step = place_within (flow_at b.policy c.flow).flow.steps step t named })))
+resolve_there b (ask.Request (request.Withdraw by n)) =
+    then_holds (λ _. is_admin b by ≡ true) (IsThere b) (check (is_admin b by) NotAdmin) _ (passed_holds (is_admin b by) NotAdmin)
+    (λ _ may. then_holds (IsOpenCase b n) (IsThere b) (open_case_at b n) _ (open_there b n) (λ c there. tt))
+resolve_there b (ask.Request (request.Show n)) =
+    then_holds (λ c. case_at b.cases n ≡ Some c) (IsThere b) (or_fault (case_at b.cases n) NoCase) _ (there_holds (case_at b.cases n) NoCase) (λ c found. tt)
+resolve_there b (ask.Bad bad) = tt
 
-if_valid_tells : (p : PolicyShape) (f : ℕ) (us plan : List ℕ) → if_valid p f us ≡ Some plan → (us ≡ plan) × (is_valid_plan p f us ≡ true)
-if_valid_tells p f us plan h = by_test (is_valid_plan p f us) refl h
-  where
-    by_test : (b : Bool) → is_valid_plan p f us ≡ b → (if b then Some us else None) ≡ Some plan → (us ≡ plan) × (is_valid_plan p f us ≡ true)
-    by_test true is e = (same_list us plan e, is)
-    by_test false is e = cc
+-- no cause is against a deed
+abbrev pub IsAllowed : Book → Deed → Type 0
+IsAllowed b (deed.Claim n c t u) = first_cause b.policy c t u ≡ None
+IsAllowed b (deed.Finish n c t u) = is_held_by u (state_at c t) ≡ true
+IsAllowed b (deed.GiveBack n c t u) = is_held_by u (state_at c t) ≡ true
+IsAllowed b (deed.Release n c t) = is_held (state_at c t) ≡ true
+IsAllowed b given = Unit {0}
 
--- users who pass the test are a valid plan
-pub valid_users : (p : PolicyShape) (f : ℕ) (us : List ℕ) → UsersBelow (length p.roster.users) us → is_valid_plan p f us ≡ true → IsValidPlan (problem_of p f) no_users no_steps us
-valid_users p f us below test =
-    let parts = and_both (length us == length (flow_at p f).flow.steps) (is_ok (plan_verdict (problem_of p f) no_users no_steps us)) test in
-    (verdict_tells (problem_of p f) no_users no_steps us (eqb-true (length us) (length (flow_at p f).flow.steps) parts.0) below (nobody_within (problem_of p f))).0 parts.1
+-- what is known of a deed that is decided on
+abbrev pub IsTold : Book → Deed → Type 0
+IsTold b given = IsThere b given × IsAllowed b given
 
-pub plan_named_tells : (p : PolicyShape) (f : ℕ) (names : List (List ℕ)) (plan : List ℕ) → plan_named p f names ≡ Some plan → IsValidPlan (problem_of p f) no_users no_steps plan
-plan_named_tells p f names plan h = from_users (users_named p.roster.users names) refl h
-  where
-    from_users : (o : Option (List ℕ)) → users_named p.roster.users names ≡ o → option_and_then (if_valid p f) o ≡ Some plan → IsValidPlan (problem_of p f) no_users no_steps plan
-    from_users None there e = cc
-    from_users (Some us) there e =
-        let tells = if_valid_tells p f us plan e in
-        subst (IsValidPlan (problem_of p f) no_users no_steps) tells.0 (valid_users p f us (named_below p.roster.users names us there) tells.1)
+unless_tells : (b : Bool) (d : Denial) → unless b d ≡ None → b ≡ true
+unless_tells true d h = refl
+unless_tells false d h = cc
 
--- what an opening tells
-pub record IsOpening (s : State) (flow : Option ℕ) (plan_for : ℕ → Option (List ℕ)) (n : ℕ) (plan : List ℕ) : Type 0 where
-  pub its_flow : ℕ
-  pub known : flow ≡ Some its_flow
-  pub room : is_full s ≡ false
-  pub valid : plan_for its_flow ≡ Some plan
-  pub number : n ≡ s.ever
+unless_holds : (P : Deed → Type 0) (given : Deed) (o : Option Denial) → (o ≡ None → P given) → HoldsOf P (unless_denied given o)
+unless_holds P given None allowed = allowed refl
+unless_holds P given (Some d) allowed = tt
 
-abbrev plan_in : Reply → List ℕ
-plan_in (reply.Granted plan) = plan
-plan_in (reply.Opened n plan) = plan
-plan_in given = []
+allowed_told : (b : Book) (given : Deed) → IsThere b given → HoldsOf (IsTold b) (unless_denied given (cause_aside b given))
+allowed_told b (deed.Open f) there = unless_holds (IsTold b) (deed.Open f) (cause_aside b (deed.Open f)) (λ none. (there, tt))
+allowed_told b (deed.Claim n c t u) there = unless_holds (IsTold b) (deed.Claim n c t u) (cause_aside b (deed.Claim n c t u)) (λ none. (there, none))
+allowed_told b (deed.Finish n c t u) there = unless_holds (IsTold b) (deed.Finish n c t u) (cause_aside b (deed.Finish n c t u)) (λ none. (there, unless_tells _ _ none))
+allowed_told b (deed.GiveBack n c t u) there = unless_holds (IsTold b) (deed.GiveBack n c t u) (cause_aside b (deed.GiveBack n c t u)) (λ none. (there, unless_tells _ _ none))
+allowed_told b (deed.Release n c t) there = unless_holds (IsTold b) (deed.Release n c t) (cause_aside b (deed.Release n c t)) (λ none. (there, unless_tells _ _ none))
+allowed_told b (deed.Withdraw n) there = (tt, tt)
+allowed_told b (deed.Show c) there = (tt, tt)
+allowed_told b (deed.TurnAway bad) there = (tt, tt)
 
-abbrev number_in : Reply → ℕ
-number_in (reply.Opened n plan) = n
-number_in given = 0
+pub aside_told : (b : Book) (what : Ask) → HoldsOf (IsTold b) (decision_aside b what)
+aside_told b what = then_holds (IsThere b) (IsTold b) (resolve b what) _ (resolve_there b what) (allowed_told b)
 
-pub opening_tells : (s : State) (flow : Option ℕ) (plan_for : ℕ → Option (List ℕ)) (n : ℕ) (plan : List ℕ) → open_answer s flow plan_for ≡ reply.Opened n plan → IsOpening s flow plan_for n plan
-opening_tells s None plan_for n plan h = cc
-opening_tells s (Some f) plan_for n plan h = by_room (is_full s) refl (plan_for f) refl h
-  where
-    by_room : (b : Bool) → is_full s ≡ b → (o : Option (List ℕ)) → plan_for f ≡ o → (if b then reply.Denied denial.Full else opened_with s o) ≡ reply.Opened n plan → IsOpening s (Some f) plan_for n plan
-    by_room true full o there e = cc
-    by_room false full None there e = cc
-    by_room false full (Some made) there e = record { its_flow = f; known = refl; room = full; valid = there ∙ ap Some (ap plan_in e); number = sym (ap number_in e) }
+-- what is decided on is there, and no cause is against it
+pub told : (b : Book) (what : Ask) → HoldsOf (IsTold b) (decision_of b what)
+told b what = then_holds (IsTold b) (IsTold b) (decision_aside b what) _ (aside_told b what) (λ given known. unless_holds (IsTold b) given (cause_full b given) (λ none. known))
 
--- ---- steps of a case
+no_user_free : (x : StepState) (rest : List (Option Denial)) (make : ℕ → Denial) → first_of (option_map make (user_of x) ∷ rest) ≡ None → x ≡ Free
+no_user_free Free rest make h = refl
+no_user_free (Held v) rest make h = cc
+no_user_free (Finished v) rest make h = cc
 
-abbrev pub is_denied : Reply → Bool
-is_denied (reply.Denied d) = true
-is_denied given = false
+-- a step that may be claimed is free
+pub claim_free : (b : Book) (n : ℕ) (c : CaseShape) (t u : ℕ) → IsAllowed b (deed.Claim n c t u) → state_at c t ≡ Free
+claim_free b n c t u allowed = no_user_free (state_at c t) _ _ allowed
 
-not_denied : {X : Type 0} (d : Denial) (given : Reply) → is_denied given ≡ false → reply.Denied d ≡ given → X
-not_denied d given aside e = let is : true ≡ false = ap is_denied e ∙ aside in cc
-
--- an answer other than a denial names an open case, a step and a user
-pub record IsAbout (s : State) (n : ℕ) (step user : List ℕ) (next : CaseShape → ℕ → ℕ → Reply) (given : Reply) : Type 0 where
-  pub found : CaseShape
-  pub its_step : ℕ
-  pub its_user : ℕ
-  pub named : AreNamed s n step user found its_step its_user
-  pub is : next found its_step its_user ≡ given
-
-pub names_tell : (s : State) (n : ℕ) (step user : List ℕ) (next : CaseShape → ℕ → ℕ → Reply) (given : Reply) → is_denied given ≡ false → on_names s n step user next ≡ given → IsAbout s n step user next given
-names_tell s n step user next given aside h = by_case (case_in n s.rows) refl h
-  where
-    by_user : (c : CaseShape) (t : ℕ) → case_in n s.rows ≡ Some c → is_open c ≡ true → step_named s c.flow step ≡ Some t →
-        (o : Option ℕ) → user_named s user ≡ o → on_user o (λ u. next c t u) ≡ given → IsAbout s n step user next given
-    by_user c t here live has None there e = not_denied denial.NoUser given aside e
-    by_user c t here live has (Some u) there e = record { found = c; its_step = t; its_user = u; named = record { its_case = here; open_case = live; its_step = has; its_user = there }; is = e }
-
-    by_step : (c : CaseShape) → case_in n s.rows ≡ Some c → is_open c ≡ true →
-        (o : Option ℕ) → step_named s c.flow step ≡ o → on_step o (λ t. on_user (user_named s user) (λ u. next c t u)) ≡ given → IsAbout s n step user next given
-    by_step c here live None there e = not_denied denial.NoStep given aside e
-    by_step c here live (Some t) there e = by_user c t here live there (user_named s user) refl e
-
-    by_phase : (c : CaseShape) → case_in n s.rows ≡ Some c → (b : Bool) → is_open c ≡ b →
-        (if b then on_step (step_named s c.flow step) (λ t. on_user (user_named s user) (λ u. next c t u)) else reply.Denied denial.Closed) ≡ given → IsAbout s n step user next given
-    by_phase c here true live e = by_step c here live (step_named s c.flow step) refl e
-    by_phase c here false live e = not_denied denial.Closed given aside e
-
-    by_case : (o : Option CaseShape) → case_in n s.rows ≡ o → on_case o (λ c. on_step (step_named s c.flow step) (λ t. on_user (user_named s user) (λ u. next c t u))) ≡ given → IsAbout s n step user next given
-    by_case None here e = not_denied denial.NoCase given aside e
-    by_case (Some c) here e = by_phase c here (is_open c) refl e
-
--- a claim that is granted is of a free step, and the kept plan gives it to the user
-pub record IsGrant (s : State) (n t u : ℕ) (x : StepState) (plan : List ℕ) : Type 0 where
-  pub free : x ≡ Free
-  pub kept : kept_plan s n ≡ plan
-  pub gives : planned plan t ≡ u
-
-on_plan_tells : (t u : ℕ) (kept plan : List ℕ) → claim_on_plan t u kept ≡ reply.Granted plan → (kept ≡ plan) × (planned plan t ≡ u)
-on_plan_tells t u kept plan h = by_test (planned kept t == u) refl h
-  where
-    by_test : (b : Bool) → (planned kept t == u) ≡ b → (if b then reply.Granted kept else reply.Denied (denial.OffPlan (planned kept t))) ≡ reply.Granted plan → (kept ≡ plan) × (planned plan t ≡ u)
-    by_test true test e = (ap plan_in e, subst (λ k. planned k t ≡ u) (ap plan_in e) (eqb-true (planned kept t) u test))
-    by_test false test e = cc
-
-pub grant_tells : (s : State) (n : ℕ) (c : CaseShape) (t u : ℕ) (x : StepState) (plan : List ℕ) → claim_step s n c t u x ≡ reply.Granted plan → IsGrant s n t u x plan
-grant_tells s n c t u Free plan h = by_order (first_missing c (flow_at s.policy c.flow).flow.order t) h
-  where
-    by_order : (o : Option ℕ) → claim_in_order s n c t u o ≡ reply.Granted plan → IsGrant s n t u Free plan
-    by_order None e = let tells = on_plan_tells t u (kept_plan s n) plan e in record { free = refl; kept = tells.0; gives = tells.1 }
-    by_order (Some before) e = cc
-grant_tells s n c t u (Held v) plan h = cc
-grant_tells s n c t u (Finished v) plan h = cc
-
-held_by : (u : ℕ) (x : StepState) → is_held_by u x ≡ true → x ≡ Held u
+pub held_by : (u : ℕ) (x : StepState) → is_held_by u x ≡ true → is_held x ≡ true
 held_by u Free h = cc
-held_by u (Held v) h = ap Held (eqb-true v u h)
+held_by u (Held v) h = refl
 held_by u (Finished v) h = cc
-
--- a finish is of a step that the user holds
-pub finish_tells : (c : CaseShape) (t u : ℕ) (x : StepState) (done : Bool) → finish_step c t u x ≡ reply.Finished done → x ≡ Held u
-finish_tells c t u x done h = by_test (is_held_by u x) refl h
-  where
-    by_test : (b : Bool) → is_held_by u x ≡ b → (if b then reply.Finished (is_done (finished_case c t).phase) else reply.Denied (denial.NotHeld x)) ≡ reply.Finished done → x ≡ Held u
-    by_test true test e = held_by u x test
-    by_test false test e = cc
-
--- a step that the user holds is finished
-pub finish_is : (c : CaseShape) (t u : ℕ) (x : StepState) → is_held_by u x ≡ true → finish_step c t u x ≡ reply.Finished (is_done (finished_case c t).phase)
-finish_is c t u x held = rw held refl
-
--- where a case, a step and a user are named, the answer is the one for them
-pub names_are : (s : State) (n : ℕ) (step user : List ℕ) (next : CaseShape → ℕ → ℕ → Reply) (c : CaseShape) (t u : ℕ) → AreNamed s n step user c t u → on_names s n step user next ≡ next c t u
-names_are s n step user next c t u named = rw (named.its_case, named.open_case, named.its_step, named.its_user) refl

@@ -1,24 +1,49 @@
 -- Histories: entries in order, and whether they answer the jobs of an input.
-use Rattle.std.specs.Prelude.{◌≡◌, ℕ, ◌+◌, ◌<◌, ◌≤◌, nat_eq, List, [], ◌∷◌, ◌++◌, length, take, drop, map, slice_index_or}
+use Rattle.std.specs.Prelude.{◌≡◌, ℕ, ◌+◌, ◌<◌, ◌≤◌, true, nat_eq, List, [], ◌∷◌, ◌++◌, length, take, drop, map, max, slice_index_or}
 use Rattle.std.specs.List.{filter}
+use Rattle.std.proofs.Common.{◌⊎◌}
 use Rattle.wf_talk.specs.declared.entry.Entry.{Entry}
 use Rattle.wf_talk.specs.declared.job.Job.{Job}
+use Rattle.wf_talk.specs.declared.request.Ask.{Ask}
+use Rattle.wf_talk.specs.declared.reply.Reply.TheVariants.{Again}
 use Rattle.wf_board.specs.States.{State}
+use Rattle.wf_board.specs.Decisions.{decision_of, needs_verdict}
 use Rattle.wf_board.specs.Steps.{IsStep, state_after_step}
-
--- the entries from place n on are legal from a state: each has its place, and its reply is a step
-abbrev pub IsLegalFrom : ℕ → State → List Entry → Type 0
-IsLegalFrom n s [] = Unit {0}
-IsLegalFrom n s (e ∷ es) = (e.at ≡ n) × (IsStep s e.ask e.reply × IsLegalFrom (n + 1) (state_after_step s e.ask e.reply) es)
-
--- a legal history
-abbrev pub IsLegal : State → List Entry → Type 0
-IsLegal s entries = IsLegalFrom 0 s entries
+use Rattle.wf_board.specs.Counting.{counted, counted_end, lane_end}
 
 -- the state after a history
 abbrev pub state_after : State → List Entry → State
 state_after s [] = s
 state_after s (e ∷ es) = state_after (state_after_step s e.ask e.reply) es
+
+-- P holds of each of these entries and those before it
+abbrev pub EachAfter : (List Entry → Entry → Type 0) → List Entry → List Entry → Type 0
+EachAfter P earlier [] = Unit {0}
+EachAfter P earlier (e ∷ es) = P earlier e × EachAfter P (earlier ++ e ∷ []) es
+
+-- after a history, a lane's request may be answered again, with n rounds of rounds allowed: only whether a case can be
+-- completed is left to decide, n entries that count for it stand behind the lane's last one, and the last that counts
+-- stands at this place
+pub record MayRetry (s : State) (earlier : List Entry) (rounds lane : ℕ) (what : Ask) (n place : ℕ) : Type 0 where
+  pub undecided : needs_verdict (decision_of (state_after s earlier).book what) ≡ true
+  pub positive : 1 ≤ rounds
+  pub all : n ≡ rounds
+  pub enough : rounds ≤ counted what (drop (lane_end lane earlier) earlier)
+  pub last : place + 1 ≡ counted_end what earlier
+
+-- an entry is answered again as it may be
+abbrev pub IsRetry : State → ℕ → List Entry → Entry → Type 0
+IsRetry s rounds earlier e =
+    (n : ℕ) × ((place : ℕ) × ((e.reply ≡ Again n place) × MayRetry s earlier rounds e.lane e.ask n place))
+
+-- an entry stands at its place, and its reply is a step from the state that the earlier ones leave, or `again` as it may be
+abbrev pub IsRightAfter : State → ℕ → List Entry → Entry → Type 0
+IsRightAfter s rounds earlier e =
+    (e.at ≡ length earlier) × (IsStep (state_after s earlier) e.ask e.reply ⊎ IsRetry s rounds earlier e)
+
+-- a legal history, with so many rounds allowed
+abbrev pub IsLegal : State → ℕ → List Entry → Type 0
+IsLegal s rounds entries = EachAfter (IsRightAfter s rounds) [] entries
 
 -- the job that an entry answers
 abbrev pub job_of_entry : Entry → Job
@@ -40,20 +65,29 @@ batch_end batch_ends k = slice_index_or batch_ends k 0
 abbrev pub batch_jobs : List ℕ → ℕ → List Job → List Job
 batch_jobs batch_ends k jobs = drop (batch_start batch_ends k) (take (batch_end batch_ends k) jobs)
 
+-- an entry that is answered again rests on so many entries of its batch, which begins at start, behind its lane's last one
+abbrev pub RestsFrom : ℕ → List Entry → Entry → Type 0
+RestsFrom start earlier e =
+    (n place : ℕ) → e.reply ≡ Again n place → n ≤ counted e.ask (drop (max (lane_end e.lane earlier) start) earlier)
+
+-- each entry of one batch that is answered again rests on entries of the batch
+abbrev pub BatchRests : List ℕ → ℕ → List Entry → Type 0
+BatchRests batch_ends k entries =
+    EachAfter (RestsFrom (batch_start batch_ends k)) (take (batch_start batch_ends k) entries)
+    (drop (batch_start batch_ends k) (take (batch_end batch_ends k) entries))
+
 -- the entries hold each job once: batch after batch, and within a batch each lane's in order
 pub record FillsJobs (entries : List Entry) (jobs : List Job) (batch_ends : List ℕ) : Type 0 where
   pub whole : length entries ≡ length jobs
   pub batches : (k : ℕ) → k < length batch_ends → (lane : ℕ) →
       lane_jobs lane (batch_jobs batch_ends k (map job_of_entry entries)) ≡ lane_jobs lane (batch_jobs batch_ends k jobs)
+  pub rests : (k : ℕ) → k < length batch_ends → BatchRests batch_ends k entries
 
--- a list that is the front of another
-abbrev pub IsFront : List Job → List Job → Type 0
-IsFront front all = (rest : List Job) × (all ≡ front ++ rest)
+-- an entry is not answered again
+abbrev pub IsAnsweredOnce : Entry → Type 0
+IsAnsweredOnce e = (n place : ℕ) → ¬ (e.reply ≡ Again n place)
 
--- the entries hold jobs at most once: so for each batch that ends within them, and in the next batch each lane's first ones
-pub record FillsPart (entries : List Entry) (jobs : List Job) (batch_ends : List ℕ) : Type 0 where
-  pub within : length entries ≤ length jobs
-  pub batches : (k : ℕ) → k < length batch_ends → batch_end batch_ends k ≤ length entries → (lane : ℕ) →
-      lane_jobs lane (batch_jobs batch_ends k (map job_of_entry entries)) ≡ lane_jobs lane (batch_jobs batch_ends k jobs)
-  pub next : (k : ℕ) → k < length batch_ends → batch_start batch_ends k ≤ length entries → length entries < batch_end batch_ends k → (lane : ℕ) →
-      IsFront (lane_jobs lane (drop (batch_start batch_ends k) (map job_of_entry entries))) (lane_jobs lane (batch_jobs batch_ends k jobs))
+-- no entry is answered again
+abbrev pub AreAnsweredOnce : List Entry → Type 0
+AreAnsweredOnce [] = Unit {0}
+AreAnsweredOnce (e ∷ es) = IsAnsweredOnce e × AreAnsweredOnce es

@@ -1,69 +1,125 @@
 -- Inside: laws of histories, for whoever adds an entry at the end.
-use Rattle.std.proofs.Common.{◌≡◌, ℕ, ◌+◌, ◌-◌, ◌≤◌, nat_eq, List, [], ◌∷◌, ◌++◌, length, take, drop, map, refl, sym, ap, subst, ◌∙◌, arith}
-use Rattle.std.proofs.lemmas.List.{length-append, length-map, take-append-le}
-use Rattle.std.proofs.Math.Seq.{take-append-add}
-use Rattle.std.proofs.lemmas.List.{drop-append-le}
-use Rattle.std.proofs.lemmas.List.Elements.{filter-append}
+use Rattle.std.proofs.Common.{◌≡◌, ℕ, zero, suc, List, [], ◌∷◌, ◌++◌, length, take, drop, map, Result, Ok, Err, inl, inr, append_assoc, append-nil, refl, sym, ap, subst, ◌∙◌}
+use Rattle.std.proofs.lemmas.List.{length-map}
 use Rattle.wf_talk.specs.declared.entry.Entry.{Entry}
 use Rattle.wf_talk.specs.declared.job.Job.{Job}
+use Rattle.wf_talk.specs.declared.request.Ask.{Ask}
+use Rattle.wf_talk.specs.declared.reply.Reply.{Reply}
+use Rattle.wf_talk.specs.declared.reply.Reply.TheVariants as reply
+use Rattle.wf_talk.specs.declared.reply.Denial.{Denial}
+use Rattle.wf_board.specs.declared.deed.Deed.{Deed}
+use Rattle.wf_board.specs.declared.deed.Deed.TheVariants as deed
 use Rattle.wf_board.specs.States.{State}
-use Rattle.wf_board.specs.Steps.{IsStep, state_after_step}
-use Rattle.wf_board.specs.Histories.{IsLegal, IsLegalFrom, IsFront, FillsJobs, FillsPart, batch_start, batch_end, batch_jobs, job_of_entry, lane_jobs, state_after}
+use Rattle.wf_board.specs.Decisions.{decision_of}
+use Rattle.wf_board.specs.Steps.{Answers, IsReplyTo, IsStep, state_after_decision, state_after_deed, state_after_step}
+use Rattle.wf_board.specs.Histories.{AreAnsweredOnce, BatchRests, EachAfter, FillsJobs, IsAnsweredOnce, IsLegal, IsRightAfter, RestsFrom, batch_end, batch_jobs, batch_start, job_of_entry, lane_jobs, state_after}
 
 -- the state after one more entry
 pub after_more : (s : State) (entries : List Entry) (e : Entry) → state_after s (entries ++ e ∷ []) ≡ state_after_step (state_after s entries) e.ask e.reply
 after_more s [] e = refl
 after_more s (x ∷ xs) e = after_more (state_after_step s x.ask x.reply) xs e
 
-pub legal_more_from : (n : ℕ) (s : State) (entries : List Entry) (e : Entry) → IsLegalFrom n s entries → e.at ≡ n + length entries →
-    IsStep (state_after s entries) e.ask e.reply → IsLegalFrom n s (entries ++ e ∷ [])
-legal_more_from n s [] e legal at step = (omega (arith, at), (step, tt))
-legal_more_from n s (x ∷ xs) e legal at step =
-    (legal.0, (legal.1.0, legal_more_from (n + 1) (state_after_step s x.ask x.reply) xs e legal.1.1 (omega (arith, at)) step))
+-- what holds of each entry and those before it, and of one more
+pub each_more : (P : List Entry → Entry → Type 0) (earlier entries : List Entry) (e : Entry) → EachAfter P earlier entries → P (earlier ++ entries) e →
+    EachAfter P earlier (entries ++ e ∷ [])
+each_more P earlier [] e each last = (subst (λ es. P es e) (append-nil earlier) last, tt)
+each_more P earlier (x ∷ xs) e each last =
+    (each.0, each_more P (earlier ++ x ∷ []) xs e each.1 (subst (λ es. P es e) (sym (append_assoc earlier (x ∷ []) xs)) last))
 
 -- a legal history stays one with an entry at the next place whose reply is a step
-pub legal_more : (s : State) (entries : List Entry) (e : Entry) → IsLegal s entries → e.at ≡ length entries →
-    IsStep (state_after s entries) e.ask e.reply → IsLegal s (entries ++ e ∷ [])
-legal_more s entries e legal at step = legal_more_from 0 s entries e legal (omega (arith, at)) step
+pub legal_more : (s : State) (rounds : ℕ) (entries : List Entry) (e : Entry) → IsLegal s rounds entries → e.at ≡ length entries →
+    IsStep (state_after s entries) e.ask e.reply → IsLegal s rounds (entries ++ e ∷ [])
+legal_more s rounds entries e legal at step = each_more (IsRightAfter s rounds) [] entries e legal (at, inl step)
 
-in_order_length : (entries : List Entry) (rest jobs : List Job) → jobs ≡ map job_of_entry entries ++ rest → length jobs ≡ length entries + length rest
-in_order_length entries rest jobs same = ap length same ∙ length-append (map job_of_entry entries) rest ∙ ap (λ n. n + length rest) (length-map entries job_of_entry)
+no_again : (s : State) (given : Deed) (n place : ℕ) → IsReplyTo s given (reply.Again n place) → ⊥
+no_again s (deed.Open f) n place is = is
+no_again s (deed.Claim m c t u) n place is = is
+no_again s (deed.Finish m c t u) n place is = is
+no_again s (deed.GiveBack m c t u) n place is = is
+no_again s (deed.Release m c t) n place is = is
+no_again s (deed.Withdraw m) n place is = is
+no_again s (deed.Show c) n place is = is
+no_again s (deed.TurnAway bad) n place is = is
 
--- entries that are the jobs in order fill them
-pub in_order_fills : (entries : List Entry) (jobs : List Job) (batch_ends : List ℕ) → map job_of_entry entries ≡ jobs → FillsJobs entries jobs batch_ends
-in_order_fills entries jobs batch_ends same = record {
+answers_once : (s : State) (decision : Result Deed Denial) (given : Reply) (n place : ℕ) → given ≡ reply.Again n place → Answers s decision given → ⊥
+answers_once s (Ok made) given n place again is = no_again s made n place (subst (IsReplyTo s made) again is)
+answers_once s (Err d) given n place again (inl is) = cc
+answers_once s (Err d) given n place again (inr is) = cc
+
+-- a step is not answered again
+pub step_once : (s : State) (what : Ask) (given : Reply) → IsStep s what given → (n place : ℕ) → ¬ (given ≡ reply.Again n place)
+step_once s what given step n place again = answers_once s (decision_of s.book what) given n place again step
+
+-- with one more entry that is not answered again no entry is
+pub once_more : (entries : List Entry) (e : Entry) → AreAnsweredOnce entries → IsAnsweredOnce e → AreAnsweredOnce (entries ++ e ∷ [])
+once_more [] e once last = (last, tt)
+once_more (x ∷ xs) e once last = (once.0, once_more xs e once.1 last)
+
+-- nor with several more
+pub once_all : (entries more : List Entry) → AreAnsweredOnce entries → AreAnsweredOnce more → AreAnsweredOnce (entries ++ more)
+once_all [] more once later = later
+once_all (x ∷ xs) more once later = (once.0, once_all xs more once.1 later)
+
+once_first : (n : ℕ) (entries : List Entry) → AreAnsweredOnce entries → AreAnsweredOnce (take n entries)
+once_first zero entries once = tt
+once_first (suc n) [] once = tt
+once_first (suc n) (x ∷ xs) once = (once.0, once_first n xs once.1)
+
+once_last : (n : ℕ) (entries : List Entry) → AreAnsweredOnce entries → AreAnsweredOnce (drop n entries)
+once_last zero entries once = once
+once_last (suc n) [] once = tt
+once_last (suc n) (x ∷ xs) once = once_last n xs once.1
+
+once_rests : (start : ℕ) (earlier entries : List Entry) → AreAnsweredOnce entries → EachAfter (RestsFrom start) earlier entries
+once_rests start earlier [] once = tt
+once_rests start earlier (x ∷ xs) once = (λ n place again. absurd (once.0 n place again), once_rests start (earlier ++ x ∷ []) xs once.1)
+
+-- where no entry is answered again, none has to rest on others of its batch
+pub batch_rests : (batch_ends : List ℕ) (k : ℕ) (entries : List Entry) → AreAnsweredOnce entries → BatchRests batch_ends k entries
+batch_rests batch_ends k entries once =
+    let start = batch_start batch_ends k in
+    let end = batch_end batch_ends k in
+    once_rests start (take start entries) (drop start (take end entries)) (once_last start (take end entries) (once_first end entries once))
+
+-- entries that are the jobs in order, none of them answered again, fill them
+pub in_order_fills : (entries : List Entry) (jobs : List Job) (batch_ends : List ℕ) → map job_of_entry entries ≡ jobs → AreAnsweredOnce entries →
+    FillsJobs entries jobs batch_ends
+in_order_fills entries jobs batch_ends same once = record {
   whole = sym (length-map entries job_of_entry) ∙ ap length same;
   batches = λ k known lane. ap (λ js. lane_jobs lane (batch_jobs batch_ends k js)) same;
+  rests = λ k known. batch_rests batch_ends k entries once;
 }
 
-batch_of_front : (batch_ends : List ℕ) (k lane : ℕ) (front rest : List Job) → batch_end batch_ends k ≤ length front →
-    lane_jobs lane (batch_jobs batch_ends k front) ≡ lane_jobs lane (batch_jobs batch_ends k (front ++ rest))
-batch_of_front batch_ends k lane front rest within =
-    ap (λ js. lane_jobs lane (drop (batch_start batch_ends k) js)) (sym (take-append-le (batch_end batch_ends k) front rest within))
+deed_policy : (s : State) (given : Deed) (answer : Reply) → (state_after_deed s given answer).book.policy ≡ s.book.policy
+deed_policy s (deed.Open f) (reply.Opened n plan) = refl
+deed_policy s (deed.Claim n c t u) (reply.Granted plan) = refl
+deed_policy s (deed.Finish n c t u) (reply.Finished done) = refl
+deed_policy s (deed.GiveBack n c t u) reply.Returned = refl
+deed_policy s (deed.Release n c t) reply.Released = refl
+deed_policy s (deed.Withdraw n) reply.Withdrawn = refl
+deed_policy s given answer = refl
 
-begun_batch : (start end : ℕ) (front rest : List Job) → start ≤ length front → length front ≤ end →
-    drop start (take end (front ++ rest)) ≡ drop start front ++ take (end - length front) rest
-begun_batch start end front rest begun within =
-    let beyond : end ≡ length front + (end - length front) = omega (arith, within) in
-    ap (λ n. drop start (take n (front ++ rest))) beyond ∙ ap (drop start) (take-append-add front rest (end - length front)) ∙ drop-append-le start front (take (end - length front) rest) begun
+decision_policy : (s : State) (decision : Result Deed Denial) (answer : Reply) → (state_after_decision s decision answer).book.policy ≡ s.book.policy
+decision_policy s (Ok given) answer = deed_policy s given answer
+decision_policy s (Err d) answer = refl
 
-front_of_batch : (lane start end : ℕ) (front rest : List Job) → start ≤ length front → length front ≤ end →
-    IsFront (lane_jobs lane (drop start front)) (lane_jobs lane (drop start (take end (front ++ rest))))
-front_of_batch lane start end front rest begun within =
-    let more = take (end - length front) rest in
-    (lane_jobs lane more, ap (lane_jobs lane) (begun_batch start end front rest begun within) ∙ filter-append (λ j. nat_eq j.lane lane) (drop start front) more)
+-- no step changes the policy
+pub policy_stays : (s : State) (what : Ask) (given : Reply) → (state_after_step s what given).book.policy ≡ s.book.policy
+policy_stays s what given = decision_policy s (decision_of s.book what) given
 
--- entries that are the first jobs in order fill a part of them
-pub in_order_front : (entries : List Entry) (rest jobs : List Job) (batch_ends : List ℕ) → jobs ≡ map job_of_entry entries ++ rest → FillsPart entries jobs batch_ends
-in_order_front entries rest jobs batch_ends same =
-    let front = map job_of_entry entries in
-    let len : length front ≡ length entries = length-map entries job_of_entry in
-    record {
-      within = omega (arith, in_order_length entries rest jobs same);
-      batches = λ k known ended lane.
-          subst (λ js. lane_jobs lane (batch_jobs batch_ends k front) ≡ lane_jobs lane (batch_jobs batch_ends k js)) (sym same)
-          (batch_of_front batch_ends k lane front rest (omega (arith, ended, len)));
-      next = λ k known begun short lane.
-          subst (λ js. IsFront (lane_jobs lane (drop (batch_start batch_ends k) front)) (lane_jobs lane (batch_jobs batch_ends k js))) (sym same)
-          (front_of_batch lane (batch_start batch_ends k) (batch_end batch_ends k) front rest (omega (arith, begun, len)) (omega (arith, short, len)));
-    }
+deed_edits : (s : State) (given : Deed) (answer : Reply) → (state_after_deed s given answer).edits ≡ s.edits
+deed_edits s (deed.Open f) (reply.Opened n plan) = refl
+deed_edits s (deed.Claim n c t u) (reply.Granted plan) = refl
+deed_edits s (deed.Finish n c t u) (reply.Finished done) = refl
+deed_edits s (deed.GiveBack n c t u) reply.Returned = refl
+deed_edits s (deed.Release n c t) reply.Released = refl
+deed_edits s (deed.Withdraw n) reply.Withdrawn = refl
+deed_edits s given answer = refl
+
+decision_edits : (s : State) (decision : Result Deed Denial) (answer : Reply) → (state_after_decision s decision answer).edits ≡ s.edits
+decision_edits s (Ok given) answer = deed_edits s given answer
+decision_edits s (Err d) answer = refl
+
+-- no step is an edit
+pub edits_stay : (s : State) (what : Ask) (given : Reply) → (state_after_step s what given).edits ≡ s.edits
+edits_stay s what given = decision_edits s (decision_of s.book what) given

@@ -1,24 +1,80 @@
 -- Laws of sessions.
-use Rattle.std.specs.Prelude.{◌≡◌, ℕ, List, take}
+use Rattle.std.specs.Prelude.{◌≡◌, ◌↔◌, ℕ, true, List, take, Some, Ok, IsTrue}
 use Rattle.policy_book.specs.Shapes.{PolicyShape}
+use Rattle.policy_book.specs.Facts.{IsSoundPolicy}
+use Rattle.policy_book.specs.Policies.{flow_at, is_authorised, problem_of}
+use Rattle.policy_book.specs.Plans.{IsCompletable, IsValidPlan}
+use Rattle.case_record.specs.Cases.{CaseShape, assigned_of, finished_case, finished_of, is_open, state_at, with_state}
+use Rattle.case_record.specs.Ready.{is_ready}
+use Rattle.wf_names.specs.declared.states.StepState.TheVariants.{Free, Held}
+use Rattle.denial_reasons.specs.Causes.{assigned_with}
 use Rattle.wf_talk.specs.declared.entry.Entry.{Entry}
+use Rattle.wf_talk.specs.declared.request.Request.TheVariants as request
 use Rattle.wf_talk.specs.declared.request.Ask.{Ask}
+use Rattle.wf_talk.specs.declared.request.Ask.TheVariants as ask
 use Rattle.wf_talk.specs.declared.reply.Reply.{Reply}
-use Rattle.wf_board.specs.States.{State, opening_state}
+use Rattle.wf_talk.specs.declared.reply.Reply.TheVariants as reply
+use Rattle.wf_board.specs.declared.deed.Deed.TheVariants as deed
+use Rattle.wf_board.specs.States.{Book, State, case_at, opening_state, step_named, user_named}
+use Rattle.wf_board.specs.Decisions.{decision_of}
 use Rattle.wf_board.specs.Steps.{IsStep, state_after_step}
 use Rattle.wf_board.specs.Histories.{IsLegal, state_after}
-use Rattle.wf_board.specs.Kept.{IsSoundState, KeepsCompletable, KeepsPlans}
+use Rattle.wf_board.specs.declared.verdict.Verdict.{Verdict}
+use Rattle.wf_board.specs.Boards.{BoardShape, book_on, state_on}
+use Rattle.wf_board.specs.Verdicts.{IsRight, snap_of}
+use Rattle.wf_board.specs.Kept.{IsSoundState, KeepsCompletable}
 
--- under a policy every step keeps what a session keeps, a valid plan for each open case with it
-abbrev pub StepsKeepPlans : PolicyShape → Type 0
-StepsKeepPlans p =
-    (s : State) (what : Ask) (given : Reply) → s.policy ≡ p → IsSoundState s → IsStep s what given → IsSoundState (state_after_step s what given)
+-- every step keeps each open case completable
+abbrev pub StepsKeepCompletable : Type 0
+StepsKeepCompletable =
+    (s : State) (what : Ask) (given : Reply) → IsSoundState s → KeepsCompletable s → IsStep s what given →
+    IsSoundState (state_after_step s what given) × KeepsCompletable (state_after_step s what given)
 
--- after any number of entries of a legal history each open case has a valid plan
-abbrev pub HistoriesKeepPlans : PolicyShape → Type 0
-HistoriesKeepPlans p =
-    (entries : List Entry) → IsLegal (opening_state p) entries → (n : ℕ) → KeepsPlans (state_after (opening_state p) (take n entries))
+-- after any number of entries of a legal history each open case can be completed
+abbrev pub HistoriesKeepCompletable : Type 0
+HistoriesKeepCompletable =
+    (p : PolicyShape) (rounds : ℕ) (entries : List Entry) → IsSoundPolicy p → IsLegal (opening_state p) rounds entries →
+    (n : ℕ) → KeepsCompletable (state_after (opening_state p) (take n entries))
 
--- where each open case has a valid plan, each can be completed
-abbrev pub PlansComplete : Type 0
-PlansComplete = (s : State) → KeepsPlans s → KeepsCompletable s
+-- in a state of one policy, a claim against which there is no cause and for which there is memory is granted exactly
+-- where its case can then be completed
+abbrev pub ClaimsAreExact : Type 0
+ClaimsAreExact =
+    (s : State) (what : Ask) (given : Reply) (n : ℕ) (c : CaseShape) (t u : ℕ) → IsSoundState s →
+    decision_of s.book what ≡ Ok (deed.Claim n c t u) → IsStep s what given → ¬ (given ≡ reply.NoMemory) →
+    ((plan : List ℕ) × (given ≡ reply.Granted plan)) ↔ IsCompletable (problem_of s.book.policy c.flow) (assigned_with c t u) (finished_of c)
+
+-- the case of a claim is open, and its step and its user are there
+pub record AreNamed (b : Book) (n : ℕ) (step user : List ℕ) (c : CaseShape) (t u : ℕ) : Type 0 where
+  pub its_case : case_at b.cases n ≡ Some c
+  pub live : is_open c ≡ true
+  pub its_step : step_named b c.flow step ≡ Some t
+  pub its_user : user_named b user ≡ Some u
+
+-- a user is authorised for a step of a case, the step is ready, and the case can be completed with the step given to the user
+pub record MayBeGranted (p : PolicyShape) (c : CaseShape) (t u : ℕ) : Type 0 where
+  pub authorised : IsTrue (is_authorised p c.flow t u)
+  pub ready : IsTrue (is_ready c (flow_at p c.flow).flow.order t)
+  pub completable : IsCompletable (problem_of p c.flow) (assigned_with c t u) (finished_of c)
+
+-- in a state of one policy, a claim for which there is memory is granted exactly where its user is authorised, its step is
+-- ready, and its case can then be completed
+abbrev pub GrantsAreExact : Type 0
+GrantsAreExact =
+    (s : State) (n : ℕ) (step user : List ℕ) (c : CaseShape) (t u : ℕ) (given : Reply) → IsSoundState s →
+    AreNamed s.book n step user c t u → IsStep s (ask.Request (request.Claim n step user)) given → ¬ (given ≡ reply.NoMemory) →
+    ((plan : List ℕ) × (given ≡ reply.Granted plan)) ↔ MayBeGranted s.book.policy c t u
+
+-- when a held step is finished or given back, a valid plan stays valid
+abbrev pub PlansStayValid : Type 0
+PlansStayValid =
+    (p : PolicyShape) (c : CaseShape) (t u : ℕ) (plan : List ℕ) → state_at c t ≡ Held u →
+    IsValidPlan (problem_of p c.flow) (assigned_of c) (finished_of c) plan →
+    IsValidPlan (problem_of p c.flow) (assigned_of (finished_case c t)) (finished_of (finished_case c t)) plan
+    × IsValidPlan (problem_of p c.flow) (assigned_of (with_state c t Free)) (finished_of (with_state c t Free)) plan
+
+-- what is right for a snapshot is right for the board of which it was taken
+abbrev pub SnapsSuffice : Type 0
+SnapsSuffice =
+    (b : BoardShape) (what : Ask) (spare : ℕ) (v : Verdict) → IsRight (book_on (snap_of b what spare)) what v →
+    IsRight (state_on b).book what v

@@ -1,34 +1,68 @@
 -- The state of a session.
-use Rattle.std.specs.Prelude.{ℕ, ◌||◌, nat_le, Bool, List, [], Option}
+use Rattle.std.specs.Prelude.{ℕ, ◌||◌, nat_le, Bool, false, List, [], Option, None, Some, option_map}
+use Rattle.std.specs.List.{count_by}
 use Rattle.wf_names.specs.Table.{place_of}
 use Rattle.wf_names.specs.declared.limits.TheConstants.{OPEN_CASE_LIMIT, CASE_LIMIT}
+use Rattle.rbac_state.specs.Rosters.{has_role}
 use Rattle.policy_book.specs.Shapes.{PolicyShape}
 use Rattle.policy_book.specs.Policies.{flow_at}
-use Rattle.grant_table.specs.declared.rows.Row.{Row}
-use Rattle.grant_table.specs.Tables.{open_count}
+use Rattle.case_record.specs.Cases.{CaseShape, is_open}
+use Rattle.grant_table.specs.Lookup.{look_up, change_at}
 
--- the policy, the cases with their numbers and kept plans, and how many cases were ever opened
-pub record State : Type 0 where
+-- a case with its number
+pub record Numbered : Type 0 where
+  pub number : ℕ
+  pub case : CaseShape
+
+-- what requests are judged by: the policy, cases at their numbers, and how many were ever opened; a snapshot has some
+-- of the cases
+pub record Book : Type 0 where
   pub policy : PolicyShape
-  pub rows : List Row
+  pub cases : List Numbered
   pub ever : ℕ
+
+-- the state: all cases that were ever opened stand in its book, beside it stands how many edits were accepted
+pub record State : Type 0 where
+  pub book : Book
+  pub edits : ℕ
 
 -- the state before the first request
 abbrev pub opening_state : PolicyShape → State
-opening_state p = record { policy = p; rows = []; ever = 0 }
+opening_state p = record { book = record { policy = p; cases = []; ever = 0 }; edits = 0 }
+
+-- the case with a number
+abbrev pub case_at : List Numbered → ℕ → Option CaseShape
+case_at cases n = option_map (λ e. e.case) (look_up (λ e. e.number) n cases)
+
+-- the cases with the one at a number changed
+abbrev pub with_case_changed : ℕ → (CaseShape → CaseShape) → List Numbered → List Numbered
+with_case_changed n change cases = change_at (λ e. e.number) n (λ e. record e { case = change e.case }) cases
 
 -- the workflow with a name
-abbrev pub flow_named : State → List ℕ → Option ℕ
-flow_named s name = place_of s.policy.flow_names name
+abbrev pub flow_named : Book → List ℕ → Option ℕ
+flow_named b name = place_of b.policy.flow_names name
 
 -- the step with a name, of a workflow
-abbrev pub step_named : State → ℕ → List ℕ → Option ℕ
-step_named s f name = place_of (flow_at s.policy f).flow.steps name
+abbrev pub step_named : Book → ℕ → List ℕ → Option ℕ
+step_named b f name = place_of (flow_at b.policy f).flow.steps name
 
 -- the user with a name
-abbrev pub user_named : State → List ℕ → Option ℕ
-user_named s name = place_of s.policy.roster.users name
+abbrev pub user_named : Book → List ℕ → Option ℕ
+user_named b name = place_of b.policy.roster.users name
+
+-- there is the user, and the user has the admin role
+abbrev pub administers : Book → Option ℕ → Bool
+administers b None = false
+administers b (Some u) = has_role b.policy.roster u b.policy.admin
+
+-- the name is that of a user who has the admin role
+abbrev pub is_admin : Book → List ℕ → Bool
+is_admin b name = administers b (user_named b name)
+
+-- how many cases are open
+abbrev pub open_count : List Numbered → ℕ
+open_count cases = count_by (λ e. is_open e.case) cases
 
 -- no more cases can be opened
-abbrev pub is_full : State → Bool
-is_full s = nat_le OPEN_CASE_LIMIT (open_count s.rows) || nat_le CASE_LIMIT s.ever
+abbrev pub is_full : Book → Bool
+is_full b = nat_le OPEN_CASE_LIMIT (open_count b.cases) || nat_le CASE_LIMIT b.ever

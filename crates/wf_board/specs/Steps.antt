@@ -1,51 +1,86 @@
 -- One step of a session: an ask, its reply, and the state after them.
-use Rattle.std.specs.Prelude.{◌≡◌, ℕ, ◌+◌, List, [], ◌∷◌, ◌++◌, length, Some, unwrap_or}
-use Rattle.std.specs.Option.{option_and_then}
+use Rattle.std.specs.Prelude.{◌≡◌, ℕ, ◌+◌, [], ◌∷◌, ◌++◌, length, Result, Ok, Err, IsTrue}
 use Rattle.std.proofs.Common.{◌⊎◌}
-use Rattle.policy_book.specs.Policies.{flow_at}
-use Rattle.case_record.specs.Cases.{fresh_case}
-use Rattle.grant_table.specs.declared.rows.Row.{Row}
-use Rattle.grant_table.specs.Tables.{case_in, change_row, held_row, finished_row}
-use Rattle.wf_talk.specs.declared.request.Request.{Request}
-use Rattle.wf_talk.specs.declared.request.Request.TheVariants as request
+use Rattle.wf_names.specs.States.{is_done}
+use Rattle.wf_names.specs.declared.states.StepState.TheVariants.{Free, Held}
+use Rattle.wf_names.specs.declared.states.Phase.TheVariants.{Withdrawn}
+use Rattle.constraint_forms.specs.Assigned.{no_users, no_steps}
+use Rattle.refutation_tree.specs.Views.{shape_of}
+use Rattle.policy_book.specs.Policies.{flow_at, problem_of}
+use Rattle.policy_book.specs.Plans.{IsValidPlan}
+use Rattle.policy_book.specs.Refuting.{refutes}
+use Rattle.case_record.specs.Cases.{CaseShape, finished_case, finished_of, fresh_case, with_phase, with_state}
 use Rattle.wf_talk.specs.declared.request.Ask.{Ask}
-use Rattle.wf_talk.specs.declared.request.Ask.TheVariants as ask
+use Rattle.wf_talk.specs.declared.reply.Face.{Face}
 use Rattle.wf_talk.specs.declared.reply.Reply.{Reply}
 use Rattle.wf_talk.specs.declared.reply.Reply.TheVariants as reply
-use Rattle.wf_board.specs.States.{State, flow_named, step_named, user_named}
-use Rattle.wf_board.specs.Answers.{answer_to}
+use Rattle.wf_talk.specs.declared.reply.Denial.{Denial}
+use Rattle.wf_talk.specs.declared.reply.Denial.TheVariants as denial
+use Rattle.denial_reasons.specs.Causes.{assigned_with}
+use Rattle.wf_board.specs.declared.deed.Deed.{Deed}
+use Rattle.wf_board.specs.declared.deed.Deed.TheVariants as deed
+use Rattle.wf_board.specs.States.{State, with_case_changed}
+use Rattle.wf_board.specs.Decisions.{decision_of}
 
--- the reply is the answer, or there was no memory for it
+-- what is to be seen of a case
+abbrev pub face_of : CaseShape → Face
+face_of c = record { flow = c.flow; phase = c.phase; states = c.states }
+
+-- the reply to a deed against which there is no cause
+abbrev pub IsReplyTo : State → Deed → Reply → Type 0
+IsReplyTo s given reply.NoMemory = Unit {0}
+IsReplyTo s (deed.Open f) (reply.Opened n plan) = (n ≡ s.book.ever) × IsValidPlan (problem_of s.book.policy f) no_users no_steps plan
+IsReplyTo s (deed.Open f) (reply.Denied (denial.Unsatisfiable g tree)) =
+    (g ≡ f) × IsTrue (refutes (problem_of s.book.policy f) no_users no_steps (shape_of tree))
+IsReplyTo s (deed.Claim n c t u) (reply.Granted plan) =
+    IsValidPlan (problem_of s.book.policy c.flow) (assigned_with c t u) (finished_of c) plan
+IsReplyTo s (deed.Claim n c t u) (reply.Denied (denial.Stranded g tree)) =
+    (g ≡ c.flow) × IsTrue (refutes (problem_of s.book.policy c.flow) (assigned_with c t u) (finished_of c) (shape_of tree))
+IsReplyTo s (deed.Finish n c t u) (reply.Finished done) = done ≡ is_done (finished_case c t).phase
+IsReplyTo s (deed.GiveBack n c t u) reply.Returned = Unit {0}
+IsReplyTo s (deed.Release n c t) reply.Released = Unit {0}
+IsReplyTo s (deed.Withdraw n) reply.Withdrawn = Unit {0}
+IsReplyTo s (deed.Show c) (reply.Shown face) = face ≡ face_of c
+IsReplyTo s (deed.TurnAway bad) (reply.Bad b) = b ≡ bad
+IsReplyTo s given answer = ⊥
+
+-- the reply where the deed or the cause against it is this
+abbrev pub Answers : State → Result Deed Denial → Reply → Type 0
+Answers s (Ok given) answer = IsReplyTo s given answer
+Answers s (Err d) answer = (answer ≡ reply.Denied d) ⊎ (answer ≡ reply.NoMemory)
+
+-- the reply to what a line asks; want of memory may stand in place of any
 abbrev pub IsStep : State → Ask → Reply → Type 0
-IsStep s what given = (given ≡ answer_to s what) ⊎ (given ≡ reply.NoMemory)
+IsStep s what answer = Answers s (decision_of s.book what) answer
 
--- with a fresh case of a workflow, and its plan
-abbrev pub with_opened : State → ℕ → List ℕ → State
-with_opened s f plan = record s {
-  rows = s.rows ++ record { number = s.ever; case = fresh_case f (length (flow_at s.policy f).flow.steps); plan = Some plan } ∷ [];
-  ever = s.ever + 1;
+-- with a fresh case of a workflow
+abbrev pub with_opened : State → ℕ → State
+with_opened s f = record s {
+  book = record s.book {
+    cases = s.book.cases ++ record { number = s.book.ever; case = fresh_case f (length (flow_at s.book.policy f).flow.steps) } ∷ [];
+    ever = s.book.ever + 1;
+  };
 }
 
--- with the row of one case changed
-abbrev pub with_changed : State → ℕ → (Row → Row) → State
-with_changed s n change = record s { rows = change_row n change s.rows }
+-- with one case changed
+abbrev pub with_changed : State → ℕ → (CaseShape → CaseShape) → State
+with_changed s n change = record s { book = record s.book { cases = with_case_changed n change s.book.cases } }
 
--- the step of a case with a name
-abbrev pub step_of_case : State → ℕ → List ℕ → ℕ
-step_of_case s n name = unwrap_or (option_and_then (λ c. step_named s c.flow name) (case_in n s.rows)) 0
+-- the state after a deed; all that a row does not name stays
+abbrev pub state_after_deed : State → Deed → Reply → State
+state_after_deed s (deed.Open f) (reply.Opened n plan) = with_opened s f
+state_after_deed s (deed.Claim n c t u) (reply.Granted plan) = with_changed s n (λ c. with_state c t (Held u))
+state_after_deed s (deed.Finish n c t u) (reply.Finished done) = with_changed s n (λ c. finished_case c t)
+state_after_deed s (deed.GiveBack n c t u) reply.Returned = with_changed s n (λ c. with_state c t Free)
+state_after_deed s (deed.Release n c t) reply.Released = with_changed s n (λ c. with_state c t Free)
+state_after_deed s (deed.Withdraw n) reply.Withdrawn = with_changed s n (λ c. with_phase c Withdrawn)
+state_after_deed s given answer = s
 
--- the user with a name
-abbrev pub known_user : State → List ℕ → ℕ
-known_user s name = unwrap_or (user_named s name) 0
+-- the state where the deed or the cause against it is this
+abbrev pub state_after_decision : State → Result Deed Denial → Reply → State
+state_after_decision s (Ok given) answer = state_after_deed s given answer
+state_after_decision s (Err d) answer = s
 
--- the state after a request was answered
-abbrev pub state_after_request : State → Request → Reply → State
-state_after_request s (request.OpenWith flow names) (reply.Opened n plan) = with_opened s (unwrap_or (flow_named s flow) 0) plan
-state_after_request s (request.Claim n step user) (reply.Granted plan) = with_changed s n (held_row (step_of_case s n step) (known_user s user) plan)
-state_after_request s (request.Finish n step user) (reply.Finished done) = with_changed s n (finished_row (step_of_case s n step))
-state_after_request s what given = s
-
--- the state after what a line asked was answered
+-- the state after what a line asks was answered
 abbrev pub state_after_step : State → Ask → Reply → State
-state_after_step s (ask.Request request) given = state_after_request s request given
-state_after_step s (ask.Bad bad) given = s
+state_after_step s what answer = state_after_decision s (decision_of s.book what) answer

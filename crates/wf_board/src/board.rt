@@ -1,40 +1,45 @@
 //! The board: a policy and its cases.
-ghost use Rattle.std.specs.Prelude.{◌≡◌, ◌≢◌, ◌+◌, ◌<◌, ◌≤◌, true, IfOk, OnErr, OnOk};
-ghost use Rattle.wf_board.specs.Answers.{answer_to, answer_to_request, is_opening};
-ghost use Rattle.wf_board.specs.States.{is_full, opening_state};
-ghost use Rattle.wf_board.specs.Steps.{IsStep, state_after_request, state_after_step};
+ghost use Rattle.std.specs.Prelude.{◌≡◌, ◌≢◌, ◌≤◌, ◌+◌, true, IfOk, OnErr, OnOk};
+ghost use Rattle.std.proofs.Common.{◌⊎◌};
 ghost use Rattle.wf_board.specs.Boards.{state_on};
-ghost use Rattle.wf_board.specs.Kept.{IsSoundState, KeepsPlans};
+ghost use Rattle.wf_board.specs.Decisions.{decision_of, needs_verdict, takes_memory};
+ghost use Rattle.wf_board.specs.Kept.{AreNumbered, ArePlanned, IsSoundState, KeepsCompletable};
+ghost use Rattle.wf_board.specs.States.{opening_state};
+ghost use Rattle.wf_board.specs.Steps.{IsStep, state_after_step};
+ghost use Rattle.wf_board.specs.Verdicts.{HasAnswered, HasUsed, IsRight, MayLackMemory, snap_of, snap_rows};
 
-use crate::plans::plan_named;
-use crate::replies::{claim_reply, holds, named};
+use crate::taking::answer;
+use crate::{Answered, Decider, Snap, Verdict};
 use grant_table::Cases;
 use policy_book::Policy;
 use std::alloc::{AllocError, Global};
 use std::marker::Model;
-use wf_names::{CASE_LIMIT, CaseId, Name, OPEN_CASE_LIMIT};
-use wf_talk::{Ask, Denial, Reply, Request, UserNames};
+use std::sync::Arc;
+use wf_talk::{Ask, Reply, Request};
 
-/// The policy with its cases. Each open case has a plan by which it can be completed.
+/// The policy with its cases and the count of accepted edits. Each open case has a plan by which
+/// it can be completed, and there is a case at each number below the next.
 #[derive(Drop)]
 pub struct Board {
-    policy: Policy,
+    policy: Arc<Policy, Global>,
     cases: Cases,
+    edits: u32,
 }
 
 impl Model for Board {
+    ghost use Rattle.std.specs.Arc.{arc_value};
     ghost use Rattle.std.specs.Coded.{codes};
     ghost use Rattle.policy_book.specs.Shapes.{policy_code};
-    ghost use Rattle.wf_board.specs.Boards.{BoardShape, state_of};
-    ghost use Rattle.wf_board.specs.Kept.{IsSoundState};
+    ghost use Rattle.wf_board.specs.Boards.{BoardShape};
+    ghost use Rattle.wf_board.specs.Kept.{AreNumbered, ArePlanned};
 
     ghost Value = { BoardShape };
 
     ghost coded = { Prim.hlevel (codes, policy_code) };
 
-    ghost view = { λ b. record { policy = b.policy; cases = b.cases } };
+    ghost view = { λ b. record { policy = arc_value b.policy; cases = b.cases; edits = b.edits } };
 
-    ghost invariant = { λ b. IsSoundState (state_of b.policy b.cases) };
+    ghost invariant = { λ b. ArePlanned (arc_value b.policy) b.cases.rows × AreNumbered b.cases.rows b.cases.ever };
 }
 
 impl Board {
@@ -43,8 +48,9 @@ impl Board {
         ensures { IfOk result (λ b. state_on b ≡ opening_state policy) }
     {
         Ok(Board {
-            policy,
+            policy: Arc::new(alloc, policy)?,
             cases: Cases::new(alloc)?,
+            edits: 0,
         })
     }
 
@@ -58,143 +64,112 @@ impl Board {
         self.cases.reserve(more)
     }
 
-    /// Answers what a line asks, and takes the step.
+    /// Answers what a line asks, and takes the step. Where nothing but whether the case can be
+    /// completed is left to decide, a verdict decides, which has to be right.
     ///
-    /// Only an opening takes memory, and only where there is no room for a case.
-    pub fn answer(&mut self, ask: &Ask) -> Reply
+    /// The list of roles of a denied claim takes memory, and an opening without room.
+    pub fn answer(&mut self, alloc: Global, ask: &Ask, verdict: Verdict) -> Answered
+        requires right { IsRight (state_on self.old).book ask.now verdict }
+        ensures answered { HasAnswered self.old self.new ask.now verdict result }
+        ensures needs { needs_verdict (decision_of (state_on self.old).book ask.now) ≡ true
+            → verdict ≡ Verdict.Nothing → result ≡ Answered.Needs }
+        ensures made { needs_verdict (decision_of (state_on self.old).book ask.now) ≡ true
+            → HasUsed verdict result }
+        ensures memory { result ≡ Answered.Done Reply.NoMemory
+            → MayLackMemory self.old ask.now verdict }
+        ensures room { self.old.cases.spare ≤ self.new.cases.spare + 1 }
+    {
+        let policy: &Policy = &self.policy;
+        answer(alloc, policy, &mut self.cases, ask, verdict)
+    }
+
+    /// What has to be known to find a verdict on what is asked: the one case of a claim.
+    pub fn snap(&self, alloc: Global, ask: &Ask) -> Result<Snap, AllocError>
+        ensures { IfOk result (λ s. s ≡ snap_of self.now ask.now s.cases.spare) }
+    {
+        let cases = cases_for(alloc, &self.cases, ask)?;
+        Ok(Snap::of(Arc::try_clone(&self.policy)?, cases))
+    }
+
+    /// Answers what a line asks, with a verdict of the decider where one is needed, and takes the
+    /// step. No finish, return, release, withdrawal, view or bad line is answered with want of
+    /// memory.
+    pub fn decide<V: Decider>(&mut self, alloc: Global, decider: &V, ask: &Ask) -> Reply
+        requires ready { V.ready decider.now }
         ensures step { IsStep (state_on self.old) ask.now result }
         ensures next { state_on self.new ≡ state_after_step (state_on self.old) ask.now result }
-        ensures memory { result ≡ Reply.NoMemory → (is_opening (answer_to (state_on self.old) ask.now) ≡ true) × (self.old.cases.spare ≡ 0) }
-        ensures room { self.old.cases.spare ≤ self.new.cases.spare + 1 }
+        ensures memory { result ≡ Reply.NoMemory
+            → (needs_verdict (decision_of (state_on self.old).book ask.now) ≡ true)
+            ⊎ (takes_memory (decision_of (state_on self.old).book ask.now) ≡ true) }
     {
-        match ask {
-            Ask::Request(request) => self.answer_request(request),
-            Ask::Bad(bad) => Reply::Bad(*bad),
-        }
-    }
-
-    fn answer_request(&mut self, request: &Request) -> Reply
-        ensures step { IsStep (state_on self.old) (Ask.Request request.now) result }
-        ensures next { state_on self.new ≡ state_after_request (state_on self.old) request.now result }
-        ensures memory { result ≡ Reply.NoMemory → (is_opening (answer_to_request (state_on self.old) request.now) ≡ true) × (self.old.cases.spare ≡ 0) }
-        ensures room { self.old.cases.spare ≤ self.new.cases.spare + 1 }
-    {
-        match request {
-            Request::OpenWith { flow, plan } => self.open_with(flow, plan),
-            Request::OpenWithTooMany { flow } => self.open_with_too_many(flow),
-            Request::Claim { case, step, user } => self.claim(*case, step, user),
-            Request::Finish { case, step, user } => self.finish(*case, step, user),
-        }
-    }
-
-    /// Opens a case with a plan of the caller's own.
-    fn open_with(&mut self, flow: &Name, names: &UserNames) -> Reply
-        ensures step { IsStep (state_on self.old) (Ask.Request (Request.OpenWith flow.now names.now)) result }
-        ensures next { state_on self.new ≡ state_after_request (state_on self.old) (Request.OpenWith flow.now names.now) result }
-        ensures memory { result ≡ Reply.NoMemory → (is_opening (answer_to_request (state_on self.old) (Request.OpenWith flow.now names.now)) ≡ true) × (self.old.cases.spare ≡ 0) }
-        ensures room { self.old.cases.spare ≤ self.new.cases.spare + 1 }
-    {
-        let Some(f) = self.policy.find_flow(flow) else {
-            return Reply::Denied(Denial::NoFlow);
+        let verdict = match self.answer(alloc, ask, Verdict::Nothing) {
+            Answered::Done(reply) => return reply,
+            Answered::Needs => self.verdict(alloc, decider, ask),
         };
-        if self.is_full() {
-            return Reply::Denied(Denial::Full);
+        match self.answer(alloc, ask, verdict) {
+            Answered::Done(reply) => reply,
+            Answered::Needs => unreachable!(),
         }
-        let Some(plan) = plan_named(&self.policy, f, names) else {
-            return Reply::Denied(Denial::Invalid);
-        };
-        if make_room(&mut self.cases).is_err() {
-            return Reply::NoMemory;
-        }
-        let case = self.cases.open_case(&self.policy, f, plan);
-        Reply::Opened { case, plan }
     }
 
-    /// Denies to open a case with a plan that no workflow has steps for.
-    fn open_with_too_many(&mut self, flow: &Name) -> Reply
-        ensures answer { result ≡ answer_to_request (state_on self.old) (Request.OpenWithTooMany flow.now) }
-        ensures same { self.new ≡ self.old }
-        ensures memory { result ≢ Reply.NoMemory }
+    /// The verdict of a decider on what is asked.
+    fn verdict<V: Decider>(&self, alloc: Global, decider: &V, ask: &Ask) -> Verdict
+        requires ready { V.ready decider.now }
+        requires needed { needs_verdict (decision_of (state_on self.now).book ask.now) ≡ true }
+        ensures right { IsRight (state_on self.now).book ask.now result }
+        ensures given { result ≢ Verdict.Nothing }
     {
-        if self.policy.find_flow(flow).is_none() {
-            return Reply::Denied(Denial::NoFlow);
+        match self.snap(alloc, ask) {
+            Ok(snap) => decider.decide(alloc, &snap, ask),
+            Err(_) => Verdict::NoMemory,
         }
-        if self.is_full() {
-            return Reply::Denied(Denial::Full);
-        }
-        Reply::Denied(Denial::Invalid)
-    }
-
-    /// Gives a step to a user, where the kept plan does.
-    fn claim(&mut self, n: CaseId, step: &Name, user: &Name) -> Reply
-        ensures answer { result ≡ answer_to_request (state_on self.old) (Request.Claim n step.now user.now) }
-        ensures next { state_on self.new ≡ state_after_request (state_on self.old) (Request.Claim n step.now user.now) result }
-        ensures memory { result ≢ Reply.NoMemory }
-        ensures room { self.new.cases.spare ≡ self.old.cases.spare }
-    {
-        let (case, t, u) = match named(&self.policy, &self.cases, n, step, user) {
-            Ok(found) => found,
-            Err(denial) => return Reply::Denied(denial),
-        };
-        let reply = claim_reply(&self.policy, &self.cases, n, &case, t, u);
-        if let Reply::Granted(plan) = reply {
-            self.cases.hold(&self.policy, n, t, u, plan);
-        }
-        reply
-    }
-
-    /// Finishes a step for the user who holds it.
-    fn finish(&mut self, n: CaseId, step: &Name, user: &Name) -> Reply
-        ensures answer { result ≡ answer_to_request (state_on self.old) (Request.Finish n step.now user.now) }
-        ensures next { state_on self.new ≡ state_after_request (state_on self.old) (Request.Finish n step.now user.now) result }
-        ensures memory { result ≢ Reply.NoMemory }
-        ensures room { self.new.cases.spare ≡ self.old.cases.spare }
-    {
-        let (case, t, u) = match named(&self.policy, &self.cases, n, step, user) {
-            Ok(found) => found,
-            Err(denial) => return Reply::Denied(denial),
-        };
-        if !holds(case.state(t), u) {
-            return Reply::Denied(Denial::NotHeld(case.state(t)));
-        }
-        let done = self.cases.finish(n, t);
-        Reply::Finished { done }
-    }
-
-    /// Whether no more cases can be opened.
-    fn is_full(&self) -> bool
-        ensures { result ≡ is_full (state_on self.now) }
-    {
-        self.cases.live() >= OPEN_CASE_LIMIT || self.cases.ever() >= CASE_LIMIT
     }
 
     /// The policy.
     pub fn policy(&self) -> &Policy
         ensures policy { result.now ≡ self.now.policy }
-        ensures kept { KeepsPlans (state_on self.now) }
+        ensures sound { IsSoundState (state_on self.now) }
+        ensures kept { KeepsCompletable (state_on self.now) }
     {
-        &self.policy
+        let policy: &Policy = &self.policy;
+        let _sound = policy.admin();
+        policy
     }
 
     /// The cases with their kept plans.
     pub fn cases(&self) -> &Cases
         ensures cases { result.now ≡ self.now.cases }
-        ensures kept { IsSoundState (state_on self.now) }
+        ensures kept { ArePlanned self.now.policy self.now.cases.rows }
+        ensures numbered { AreNumbered self.now.cases.rows self.now.cases.ever }
     {
         &self.cases
     }
+
+    /// How many edits were accepted.
+    pub fn number(&self) -> u32
+        ensures { result ≡ self.now.edits }
+    {
+        self.edits
+    }
+
+    /// A board with the same policy, cases and plans.
+    pub fn copy(&self) -> Result<Board, AllocError>
+        ensures { IfOk result (λ b. b ≡ record self.now { cases = record self.now.cases { spare = b.cases.spare } }) }
+    {
+        Ok(Board {
+            policy: Arc::try_clone(&self.policy)?,
+            cases: self.cases.copy()?,
+            edits: self.edits,
+        })
+    }
 }
 
-/// Makes room for one more case, where there is none.
-fn make_room(cases: &mut Cases) -> Result<(), AllocError>
-    ensures room { OnOk result (0 < cases.new.spare) }
-    ensures kept { cases.old.spare ≤ cases.new.spare }
-    ensures same { cases.new ≡ record cases.old { spare = cases.new.spare } }
-    ensures short { OnErr result (cases.old.spare ≡ 0) }
-    ensures unchanged { OnErr result (cases.new ≡ cases.old) }
+/// The one case of a claim, and else none.
+fn cases_for(alloc: Global, cases: &Cases, ask: &Ask) -> Result<Cases, AllocError>
+    ensures { IfOk result (λ t. t ≡ record cases.now { rows = snap_rows cases.now.rows ask.now; spare = t.spare }) }
 {
-    if cases.spare() > 0 {
-        return Ok(());
+    match *ask {
+        Ask::Request(Request::Claim { case, .. }) => cases.copy_one(alloc, case),
+        _ => Ok(cases.copy_none(alloc)),
     }
-    cases.reserve(1)
 }

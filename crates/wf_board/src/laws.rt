@@ -1,23 +1,33 @@
 //! Laws of sessions. Each function changes nothing; its contract is the law.
-ghost use Rattle.wf_board.specs.Laws.{HistoriesKeepPlans, PlansComplete, StepsKeepPlans};
+ghost use Rattle.wf_board.specs.Laws.{ClaimsAreExact, GrantsAreExact, HistoriesKeepCompletable, PlansStayValid, SnapsSuffice, StepsKeepCompletable};
 
-use policy_book::Policy;
+/// Whatever is asked and answered, each open case can still be completed.
+pub fn steps_keep_completable()
+    ensures { StepsKeepCompletable }
+{}
 
-/// Whatever is asked and answered, each open case keeps a valid plan.
-pub fn steps_keep_plans(p: &Policy)
-    ensures { StepsKeepPlans p.now }
-{
-    let _ = p.flows();
-}
+/// After any number of entries of a legal history each open case can be completed.
+pub fn histories_keep_completable()
+    ensures { HistoriesKeepCompletable }
+{}
 
-/// After any number of entries of a legal history each open case has a valid plan.
-pub fn histories_keep_plans(p: &Policy)
-    ensures { HistoriesKeepPlans p.now }
-{
-    let _ = p.flows();
-}
+/// A claim is granted exactly where no cause is against it and its case can still be completed.
+pub fn claims_are_exact()
+    ensures { ClaimsAreExact }
+{}
 
-/// Where each open case has a valid plan, each can be completed.
-pub fn plans_complete()
-    ensures { PlansComplete }
+/// A claim is granted exactly where its user is authorised, its step is ready, and its case can
+/// then be completed.
+pub fn grants_are_exact()
+    ensures { GrantsAreExact }
+{}
+
+/// When a held step is finished or given back, a valid plan stays valid.
+pub fn plans_stay_valid()
+    ensures { PlansStayValid }
+{}
+
+/// What is right for a snapshot is right for the board of which it was taken.
+pub fn snaps_suffice()
+    ensures { SnapsSuffice }
 {}

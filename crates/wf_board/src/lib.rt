@@ -1,9 +1,20 @@
-//! The state of a session: the policy with the table of cases, and the answers to what is asked.
+//! The state of a session: the policy with the table of cases, the answers to what is asked, and
+//! the laws of histories.
 #![tactic(auto)]
 
 mod board;
+mod decider;
+mod decision;
+mod deed;
 pub mod laws;
-mod plans;
-mod replies;
+mod resolve;
+mod snap;
+mod taking;
+mod verdict;
 
 pub use board::Board;
+pub use decider::Decider;
+pub use decision::{Refused, decision_aside};
+pub use deed::Deed;
+pub use snap::Snap;
+pub use verdict::{Answered, Verdict};

@@ -4,55 +4,40 @@ use Rattle.std.proofs.lemmas.Grind.{common_steps}
 use Rattle.std.proofs.lemmas.List.{take_rest, take-append-drop, take-append-le, append-nil, drop_more, take_more, length-map, length-append, get_or_append_left}
 use Rattle.std.specs.Prelude.{Bool, true, false, nat_lt, slice_index_or, if◌then◌else◌}
 use Rattle.std.proofs.Math.Seq.{drop-append_seam, take-length, get_or-append_seam}
+use Rattle.wf_names.specs.declared.limits.TheConstants.{DEFAULT_ROUNDS}
 use Rattle.wf_outside.specs.Outside.{with_bytes, HasPart}
 use Rattle.wf_outside.proofs.OutsideLaws.{more_put, part_first, part_second, part_all}
 use Rattle.policy_book.specs.Shapes.{PolicyShape}
 use Rattle.wf_talk.specs.declared.entry.Entry.{Entry}
 use Rattle.wf_talk.specs.declared.job.Job.{Job}
-use Rattle.wf_talk.specs.declared.request.Request.{Request}
-use Rattle.wf_talk.specs.declared.request.Request.TheVariants as request
-use Rattle.wf_talk.specs.declared.request.Ask.{Ask}
-use Rattle.wf_talk.specs.declared.request.Ask.TheVariants as ask
-use Rattle.wf_talk.specs.declared.reply.Reply.{Reply}
-use Rattle.wf_talk.specs.declared.reply.Reply.TheVariants as reply
 use Rattle.wf_board.specs.States.{State, opening_state}
-use Rattle.wf_board.specs.Steps.{IsStep, state_after_request, state_after_step}
-use Rattle.wf_board.specs.Histories.{IsLegal, FillsJobs, lane_jobs, batch_start, batch_end, batch_jobs, job_of_entry, state_after}
-use Rattle.wf_board.specs.HistoryLaws.{after_more, legal_more}
-use Rattle.wire_json.specs.Entries.{entry_text, transcript_text}
+use Rattle.wf_board.specs.Steps.{IsStep, state_after_step}
+use Rattle.wf_board.specs.Histories.{AreAnsweredOnce, IsLegal, lane_jobs, batch_start, batch_end, batch_jobs, job_of_entry, state_after}
+use Rattle.wf_board.specs.HistoryLaws.{after_more, legal_more, once_more, policy_stays}
+use Rattle.wire_json.specs.Replies.{entry_text}
 use Rattle.line_cutter.specs.Jobs.{last_or}
 use Rattle.line_cutter.specs.Cutter.{ends_after}
 use Rattle.line_cutter.specs.CutLaws.{closed_after}
 use Rattle.run_record.specs.declared.fault.RunFault.{RunFault}
 use Rattle.run_record.specs.declared.fault.RunFault.TheVariants as fault
 use Rattle.run_record.specs.Report.{Told}
-use Rattle.wf_server.specs.Sessions.{last_start, WritesPart}
-use Rattle.wf_server.specs.Batches.{LeadsTo, HasAnsweredOne, AreEnds, HasAnswered, HasAnsweredPart, IsAdded, AnswersTo, IsWriteEnding}
+use Rattle.wf_server.specs.Sessions.{last_start}
+use Rattle.wf_server.specs.Batches.{entries_text, FillsLanes, WritesLast, LeadsTo, HasAnsweredOne, AreEnds, HasAnswered, HasAnsweredPart, IsAdded, AnswersTo, IsWriteEnding}
 
 -- the rest behind a place
 pub rest_after : {A : Type 0} (xs : List A) (n : ℕ) → take (length xs - n) (drop n xs) ≡ drop n xs
 rest_after xs n = take_rest xs n
 
--- no step changes the policy
-request_stays : (s : State) (what : Request) (given : Reply) → (state_after_request s what given).policy ≡ s.policy
-request_stays s (request.OpenWith flow names) (reply.Opened n plan) = refl
-request_stays s (request.Claim n step user) (reply.Granted plan) = refl
-request_stays s (request.Finish n step user) (reply.Finished done) = refl
-request_stays s what given = refl
-
-step_stays : (s : State) (what : Ask) (given : Reply) → (state_after_step s what given).policy ≡ s.policy
-step_stays s (ask.Request what) given = request_stays s what given
-step_stays s (ask.Bad bad) given = refl
-
--- nor does a history
-pub history_stays : (s : State) (entries : List Entry) → (state_after s entries).policy ≡ s.policy
+-- no history changes the policy
+pub history_stays : (s : State) (entries : List Entry) → (state_after s entries).book.policy ≡ s.book.policy
 history_stays s [] = refl
-history_stays s (e ∷ es) = history_stays (state_after_step s e.ask e.reply) es ∙ step_stays s e.ask e.reply
+history_stays s (e ∷ es) = history_stays (state_after_step s e.ask e.reply) es ∙ policy_stays s e.ask e.reply
 
 -- one more entry leads on
 pub leads_more : (start s next : State) (before after : List Entry) (job : Job) → HasAnsweredOne before after s next job → LeadsTo start before s → LeadsTo start after next
 leads_more start s next before after job one leads = record {
-  legal = subst (IsLegal start) (sym one.pushed) (legal_more start before one.entry leads.legal one.at (subst (λ x. IsStep x one.entry.ask one.entry.reply) (sym leads.state) one.step));
+  legal = subst (IsLegal start DEFAULT_ROUNDS) (sym one.pushed) (legal_more start DEFAULT_ROUNDS before one.entry leads.legal one.at (subst (λ x. IsStep x one.entry.ask one.entry.reply) (sym leads.state) one.step));
+  once = subst AreAnsweredOnce (sym one.pushed) (once_more s before one.entry leads.once one.step);
   state = ap (state_after start) one.pushed ∙ after_more start before one.entry ∙ ap (λ x. state_after_step x one.entry.ask one.entry.reply) leads.state ∙ sym one.state;
 }
 
@@ -65,9 +50,9 @@ pub filled_more : (s next : State) (before after : List Entry) (job : Job) → H
 filled_more s next before after job one =
     ap (map job_of_entry) one.pushed ∙ map_append job_of_entry before (one.entry ∷ []) ∙ ap (λ j. map job_of_entry before ++ j ∷ []) one.answers
 
-text_append : (p : PolicyShape) (xs ys : List Entry) → transcript_text p (xs ++ ys) ≡ transcript_text p xs ++ transcript_text p ys
+text_append : (p : PolicyShape) (xs ys : List Entry) → entries_text p (xs ++ ys) ≡ entries_text p xs ++ entries_text p ys
 text_append p [] ys = refl
-text_append p (x ∷ xs) ys = ap (λ t. entry_text p x ++ t) (text_append p xs ys) ∙ sym (append_assoc (entry_text p x) (transcript_text p xs) (transcript_text p ys))
+text_append p (x ∷ xs) ys = ap (λ t. entry_text p x ++ t) (text_append p xs ys) ∙ sym (append_assoc (entry_text p x) (entries_text p xs) (entries_text p ys))
 
 -- the first items, with the next one
 pub take_next : {A : Type 0} (xs : List A) (i : ℕ) (x : A) → i < length xs → x ≡ get_or xs i x → take (i + 1) xs ≡ take i xs ++ x ∷ []
@@ -83,32 +68,32 @@ kept_more before after n e within pushed = ap (take n) pushed ∙ take-append-le
 
 -- one more entry is written
 pub written_more : (p : PolicyShape) (held mid after : Option (List ℕ)) (es : List Entry) (i : ℕ) (e : Entry) → i < length es → e ≡ get_or es i e
-    → mid ≡ with_bytes held (transcript_text p (take i es)) → after ≡ with_bytes mid (entry_text p e) → after ≡ with_bytes held (transcript_text p (take (i + 1) es))
+    → mid ≡ with_bytes held (entries_text p (take i es)) → after ≡ with_bytes mid (entry_text p e) → after ≡ with_bytes held (entries_text p (take (i + 1) es))
 written_more p held mid after es i e within is so_far now =
-    now ∙ ap (λ m. with_bytes m (entry_text p e)) so_far ∙ more_put held (transcript_text p (take i es)) (entry_text p e)
-    ∙ ap (with_bytes held) (ap (λ t. transcript_text p (take i es) ++ t) (sym (append-nil (entry_text p e))) ∙ sym (text_append p (take i es) (e ∷ [])) ∙ ap (transcript_text p) (sym (take_next es i e within is)))
+    now ∙ ap (λ m. with_bytes m (entry_text p e)) so_far ∙ more_put held (entries_text p (take i es)) (entry_text p e)
+    ∙ ap (with_bytes held) (ap (λ t. entries_text p (take i es) ++ t) (sym (append-nil (entry_text p e))) ∙ sym (text_append p (take i es) (e ∷ [])) ∙ ap (entries_text p) (sym (take_next es i e within is)))
 
 -- or only a part of it
 pub written_part : (p : PolicyShape) (held mid after : Option (List ℕ)) (es : List Entry) (i : ℕ) (e : Entry) → i < length es → e ≡ get_or es i e
-    → mid ≡ with_bytes held (transcript_text p (take i es)) → HasPart mid after (entry_text p e) → HasPart held after (transcript_text p es)
+    → mid ≡ with_bytes held (entries_text p (take i es)) → HasPart mid after (entry_text p e) → HasPart held after (entries_text p es)
 written_part p held mid after es i e within is so_far part =
-    let front = transcript_text p (take i es) in
-    let rest = transcript_text p (drop (i + 1) es) in
-    let whole : transcript_text p es ≡ front ++ (entry_text p e ++ rest) = ap (transcript_text p) (split_at es i e within is) ∙ text_append p (take i es) (e ∷ drop (i + 1) es) in
+    let front = entries_text p (take i es) in
+    let rest = entries_text p (drop (i + 1) es) in
+    let whole : entries_text p es ≡ front ++ (entry_text p e ++ rest) = ap (entries_text p) (split_at es i e within is) ∙ text_append p (take i es) (e ∷ drop (i + 1) es) in
     subst (HasPart held after) (sym whole)
     (part_second held after front (entry_text p e ++ rest) (part_first (with_bytes held front) after (entry_text p e) rest (subst (λ m. HasPart m after (entry_text p e)) so_far part)))
 
 -- the text of all entries: of those before, and of the others
-whole_text : (p : PolicyShape) (old new : List Entry) → take (length old) new ≡ old → transcript_text p new ≡ transcript_text p old ++ transcript_text p (drop (length old) new)
+whole_text : (p : PolicyShape) (old new : List Entry) → take (length old) new ≡ old → entries_text p new ≡ entries_text p old ++ entries_text p (drop (length old) new)
 whole_text p old new kept =
-    ap (transcript_text p) (sym (take-append-drop (length old) new) ∙ ap (λ es. es ++ drop (length old) new) kept) ∙ text_append p old (drop (length old) new)
+    ap (entries_text p) (sym (take-append-drop (length old) new) ∙ ap (λ es. es ++ drop (length old) new) kept) ∙ text_append p old (drop (length old) new)
 
 -- the text with the policy of the board
-pub text_on : (p q : PolicyShape) (s : State) (old new es : List Entry) (n : ℕ) → LeadsTo (opening_state p) new s → q ≡ s.policy → n ≡ length old → es ≡ drop n new
-    → transcript_text q es ≡ transcript_text p (drop (length old) new)
+pub text_on : (p q : PolicyShape) (s : State) (old new es : List Entry) (n : ℕ) → LeadsTo (opening_state p) new s → q ≡ s.book.policy → n ≡ length old → es ≡ drop n new
+    → entries_text q es ≡ entries_text p (drop (length old) new)
 text_on p q s old new es n leads found len is =
-    ap (λ x. transcript_text x es) (found ∙ sym (ap (λ (x : State). x.policy) leads.state) ∙ history_stays (opening_state p) new)
-    ∙ ap (transcript_text p) (is ∙ ap (λ k. drop k new) len)
+    ap (λ x. entries_text x es) (found ∙ sym (ap (λ (x : State). x.book.policy) leads.state) ∙ history_stays (opening_state p) new)
+    ∙ ap (entries_text p) (is ∙ ap (λ k. drop k new) len)
 
 -- ---- ends of batches
 
@@ -152,7 +137,7 @@ last_batch s e xs ys first size =
 moved : (lane s t e f : ℕ) (xs : List Job) → s ≡ t → e ≡ f → lane_jobs lane (drop s (take e xs)) ≡ lane_jobs lane (drop t (take f xs))
 moved lane s t e f xs same last = ap (λ n. lane_jobs lane (drop n (take e xs))) same ∙ ap (λ n. lane_jobs lane (drop t (take n xs))) last
 
-old_batch : (es new : List Entry) (js more : List Job) (ends : List ℕ) → FillsJobs es js ends → AreEnds ends (length js) → (k : ℕ) → k < length ends → (lane : ℕ)
+old_batch : (es new : List Entry) (js more : List Job) (ends : List ℕ) → FillsLanes es js ends → AreEnds ends (length js) → (k : ℕ) → k < length ends → (lane : ℕ)
     → lane_jobs lane (batch_jobs ends k (map job_of_entry (es ++ new))) ≡ lane_jobs lane (batch_jobs ends k (js ++ more))
 old_batch es new js more ends fills are k lt lane =
     let s = batch_start ends k in
@@ -169,7 +154,7 @@ pub record Answers (new : List Entry) (more : List Job) : Type 0 where
   pub whole : length new ≡ length more
   pub lanes : (lane : ℕ) → lane_jobs lane (map job_of_entry new) ≡ lane_jobs lane more
 
-batch_at : (es new : List Entry) (js more : List Job) (ends : List ℕ) (x k lane : ℕ) (below : Bool) → FillsJobs es js ends → AreEnds ends (length js) → Answers new more
+batch_at : (es new : List Entry) (js more : List Job) (ends : List ℕ) (x k lane : ℕ) (below : Bool) → FillsLanes es js ends → AreEnds ends (length js) → Answers new more
     → x ≡ length js + length more → k < length ends + 1 → nat_lt k (length ends) ≡ below
     → lane_jobs lane (batch_jobs (ends ++ x ∷ []) k (map job_of_entry (es ++ new))) ≡ lane_jobs lane (batch_jobs (ends ++ x ∷ []) k (js ++ more))
 batch_at es new js more ends x k lane true fills are answers is lt test =
@@ -188,12 +173,12 @@ batch_at es new js more ends x k lane false fills are answers is lt test =
     ∙ answers.lanes lane
     ∙ sym (ap (lane_jobs lane) (last_batch _ _ js more begins stops))
 
-fills_if : (b : Bool) (es : List Entry) (js : List Job) (one other : List ℕ) → (b ≡ true → FillsJobs es js one) → (b ≡ false → FillsJobs es js other) → FillsJobs es js (if b then one else other)
+fills_if : (b : Bool) (es : List Entry) (js : List Job) (one other : List ℕ) → (b ≡ true → FillsLanes es js one) → (b ≡ false → FillsLanes es js other) → FillsLanes es js (if b then one else other)
 fills_if true es js one other first second = first refl
 fills_if false es js one other first second = second refl
 
-fills_more : (es new : List Entry) (js more : List Job) (ends : List ℕ) → FillsJobs es js ends → AreEnds ends (length js) → Answers new more
-    → FillsJobs (es ++ new) (js ++ more) (ends_after ends (length js) more)
+fills_more : (es new : List Entry) (js more : List Job) (ends : List ℕ) → FillsLanes es js ends → AreEnds ends (length js) → Answers new more
+    → FillsLanes (es ++ new) (js ++ more) (ends_after ends (length js) more)
 fills_more es new js more ends fills are answers =
     let whole : length (es ++ new) ≡ length (js ++ more) = omega (arith, length-append es new, length-append js more, fills.whole, answers.whole) in
     fills_if (nat_lt 0 (length more)) (es ++ new) (js ++ more) (ends ++ (length js + length more) ∷ []) ends
@@ -233,12 +218,12 @@ ends_more js more ends are =
 -- ---- the text
 
 -- all entries written are all of the batches before the last, and all of the last
-pub writes_whole : (p : PolicyShape) (held after : Option (List ℕ)) (told : Told) → after ≡ with_bytes held (transcript_text p told.entries) → WritesPart p held after told
+pub writes_whole : (p : PolicyShape) (held after : Option (List ℕ)) (told : Told) → after ≡ with_bytes held (entries_text p told.entries) → WritesLast p held after told
 writes_whole p held after told written =
     let n = last_start told.batch_ends in
-    let front = transcript_text p (take n told.entries) in
-    let rest = transcript_text p (drop n told.entries) in
-    let whole : transcript_text p told.entries ≡ front ++ rest = ap (transcript_text p) (sym (take-append-drop n told.entries)) ∙ text_append p (take n told.entries) (drop n told.entries) in
+    let front = entries_text p (take n told.entries) in
+    let rest = entries_text p (drop n told.entries) in
+    let whole : entries_text p told.entries ≡ front ++ rest = ap (entries_text p) (sym (take-append-drop n told.entries)) ∙ text_append p (take n told.entries) (drop n told.entries) in
     subst (λ a. HasPart (with_bytes held front) a rest) (sym (written ∙ ap (with_bytes held) whole ∙ sym (more_put held front rest))) (part_all (with_bytes held front) rest)
 
 -- what came of answering a batch
@@ -268,7 +253,7 @@ new_jobs p held mid s next before batch after h =
     sym (drop-append_seam old (map job_of_entry (new_entries before after))) ∙ ap (drop (length old)) both ∙ drop-append_seam old batch
 
 batch_fills : (p : PolicyShape) (held mid : Option (List ℕ)) (s next : State) (before : Told) (batch : List Job) (after : Told) → HasAnsweredBatch p held mid s next before batch after
-    → FillsJobs after.entries after.jobs after.batch_ends
+    → FillsLanes after.entries after.jobs after.batch_ends
 batch_fills p held mid s next before batch after h =
     let new = new_entries before after in
     let jobs = new_jobs p held mid s next before batch after h in
@@ -284,34 +269,35 @@ batch_ends_are : (p : PolicyShape) (held mid : Option (List ℕ)) (s next : Stat
 batch_ends_are p held mid s next before batch after h = rw (h.added.jobs, h.added.ends) (ends_more before.jobs batch before.batch_ends h.answered.ends)
 
 batch_text : (p : PolicyShape) (held mid : Option (List ℕ)) (s next : State) (before : Told) (batch : List Job) (after : Told) → HasAnsweredBatch p held mid s next before batch after
-    → transcript_text p after.entries ≡ transcript_text p before.entries ++ transcript_text p (new_entries before after)
+    → entries_text p after.entries ≡ entries_text p before.entries ++ entries_text p (new_entries before after)
 batch_text p held mid s next before batch after h =
-    ap (transcript_text p) (split_entries p held mid s next before batch after h) ∙ text_append p before.entries (new_entries before after)
+    ap (entries_text p) (split_entries p held mid s next before batch after h) ∙ text_append p before.entries (new_entries before after)
 
 -- a part of the entries of the batch is a part of the last batch
 part_last : (p : PolicyShape) (held mid aft : Option (List ℕ)) (s next : State) (before : Told) (batch : List Job) (after : Told) → HasAnsweredBatch p held mid s next before batch after
-    → HasPart mid aft (transcript_text p (new_entries before after)) → 0 < length (new_entries before after) → WritesPart p held aft after
+    → HasPart mid aft (entries_text p (new_entries before after)) → 0 < length (new_entries before after) → WritesLast p held aft after
 part_last p held mid aft s next before batch after h part some =
     let new = new_entries before after in
     let size : length new ≡ length batch = sym (length-map new job_of_entry) ∙ ap length (new_jobs p held mid s next before batch after h) in
     let more : 0 < length batch = omega arith in
     let ends : after.batch_ends ≡ before.batch_ends ++ (length before.jobs + length batch) ∷ [] = h.added.ends ∙ grind (arith, common_steps) in
     let begins : last_start after.batch_ends ≡ length before.entries = ap last_start ends ∙ last_begins before.batch_ends (length before.jobs + length batch) ∙ h.answered.ends.closed ∙ sym h.whole in
-    subst (λ n. HasPart (with_bytes held (transcript_text p (take n after.entries))) aft (transcript_text p (drop n after.entries))) (sym begins)
-    (subst (λ es. HasPart (with_bytes held (transcript_text p es)) aft (transcript_text p new)) (sym h.kept)
-    (subst (λ m. HasPart m aft (transcript_text p new)) h.answered.written part))
+    subst (λ n. HasPart (with_bytes held (entries_text p (take n after.entries))) aft (entries_text p (drop n after.entries))) (sym begins)
+    (subst (λ es. HasPart (with_bytes held (entries_text p es)) aft (entries_text p new)) (sym h.kept)
+    (subst (λ m. HasPart m aft (entries_text p new)) h.answered.written part))
 
 part_answered : (p : PolicyShape) (held mid aft : Option (List ℕ)) (s next : State) (before : Told) (batch : List Job) (after : Told) → HasAnsweredBatch p held mid s next before batch after
-    → HasPart mid aft (transcript_text p (new_entries before after)) → 0 < length (new_entries before after) → HasAnsweredPart p held aft after
+    → HasPart mid aft (entries_text p (new_entries before after)) → 0 < length (new_entries before after) → HasAnsweredPart p held aft after
 part_answered p held mid aft s next before batch after h part some = record {
   legal = h.leads.legal;
+  once = h.leads.once;
   fills = batch_fills p held mid s next before batch after h;
   written = part_last p held mid aft s next before batch after h part some;
 }
 
 -- what came of answering a batch, by how its entries were written
 pub answers_to : (p : PolicyShape) (held mid aft : Option (List ℕ)) (s next : State) (before : Told) (batch : List Job) (after : Told) (text : List ℕ) (es : List Entry) (result : Result (Unit {0}) RunFault)
-    → HasAnsweredBatch p held mid s next before batch after → text ≡ transcript_text p (new_entries before after) → es ≡ new_entries before after
+    → HasAnsweredBatch p held mid s next before batch after → text ≡ entries_text p (new_entries before after) → es ≡ new_entries before after
     → OnOk result (aft ≡ with_bytes mid text) → HasPart mid aft text → OnErr result (0 < length es) → IfErr result IsWriteEnding
     → AnswersTo p held aft next before batch after result
 answers_to p held mid aft s next before batch after text es (Ok done) h is new all part some ending = (
@@ -320,8 +306,8 @@ answers_to p held mid aft s next before batch after text es (Ok done) h is new a
     leads = h.leads;
     fills = batch_fills p held mid s next before batch after h;
     ends = batch_ends_are p held mid s next before batch after h;
-    written = all ∙ ap (with_bytes mid) is ∙ ap (λ m. with_bytes m (transcript_text p (new_entries before after))) h.answered.written
-        ∙ more_put held (transcript_text p before.entries) (transcript_text p (new_entries before after)) ∙ ap (with_bytes held) (sym (batch_text p held mid s next before batch after h));
+    written = all ∙ ap (with_bytes mid) is ∙ ap (λ m. with_bytes m (entries_text p (new_entries before after))) h.answered.written
+        ∙ more_put held (entries_text p before.entries) (entries_text p (new_entries before after)) ∙ ap (with_bytes held) (sym (batch_text p held mid s next before batch after h));
   },
 )
 answers_to p held mid aft s next before batch after text es (Err fault.NoMemory) h is new all part some ending =
@@ -334,4 +320,4 @@ answers_to p held mid aft s next before batch after text es (Err other) h is new
 pub answers_none : (p : PolicyShape) (held aft : Option (List ℕ)) (s next : State) (before : Told) (batch : List Job) (after : Told) (result : Result (Unit {0}) RunFault)
     → HasAnswered p held aft s before → after ≡ before → result ≡ Err fault.NoMemory → AnswersTo p held aft next before batch after result
 answers_none p held aft s next before batch after result answered same memory =
-    rw (memory, same) (inl refl, record { legal = answered.leads.legal; fills = answered.fills; written = writes_whole p held aft before answered.written })
+    rw (memory, same) (inl refl, record { legal = answered.leads.legal; once = answered.leads.once; fills = answered.fills; written = writes_whole p held aft before answered.written })

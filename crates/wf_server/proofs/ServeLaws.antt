@@ -9,7 +9,8 @@ use Rattle.run_record.specs.Run.{Run, IsUntouched, OverFile}
 use Rattle.wf_commands.specs.Load.{GivesPolicy, IsLoadEnding, PolicyOf}
 use Rattle.wf_server.specs.declared.serve.TheConstants.{PIECE}
 use Rattle.wf_server.specs.Sessions.{Served}
-use Rattle.wf_server.specs.Serving.{EndsBefore, ServesFile}
+use Rattle.wf_board.specs.Histories.{AreAnsweredOnce}
+use Rattle.wf_server.specs.Serving.{alone, EndsBefore, ServesFile}
 
 ends_before : (file : List ℕ) (fault : RunFault) → PolicyOf file (Err fault) → IsLoadEnding fault → EndsBefore file fault
 ends_before file FileTooLong gives ending = gives
@@ -34,10 +35,10 @@ not_served (told file) r gives ending nothing = inl (ends_before file r.fault gi
 
 -- the policy was there, and was served
 pub is_served : (f : Filed) (p : PolicyShape) (r : Run) → GivesPolicy f (Ok p)
-    → Served p PIECE r.before r.after r.told r.fault → OverFile f r.fault (λ file. ServesFile file r)
-is_served untold p r gives served = tt
-is_served missing p r gives served = cc
-is_served (told file) p r gives served = inr (record { policy = p; within = gives.0; read = gives.1; served = served })
+    → Served (alone p) PIECE r.before r.after r.told r.fault → AreAnsweredOnce r.told.entries → OverFile f r.fault (λ file. ServesFile file r)
+is_served untold p r gives served once = tt
+is_served missing p r gives served once = cc
+is_served (told file) p r gives served once = inr (record { policy = p; within = gives.0; read = gives.1; served = served; once = once })
 
 -- a session does not end with a load fault
 pub loads_late : (fault : RunFault) (before after : ℕ) → is_before_input fault ≡ false → after ≡ before → CountsLoads fault before after

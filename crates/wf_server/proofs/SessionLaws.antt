@@ -1,9 +1,9 @@
 -- How the batches of a session follow one another.
-use Rattle.std.proofs.Common.{◌≡◌, ℕ, ◌+◌, ◌<◌, ◌≤◌, true, false, List, [], ◌++◌, length, take, Option, Some, None, Err, inl, inr, refl, sym, ◌∙◌, ap, subst, arith}
+use Rattle.std.proofs.Common.{◌≡◌, ℕ, ◌+◌, ◌<◌, ◌≤◌, true, false, List, [], ◌∷◌, ◌++◌, length, take, drop, Option, Some, None, Err, inl, inr, refl, sym, ◌∙◌, ap, subst, arith}
 use Rattle.std.specs.Prelude.{◌≢◌}
 use Rattle.std.proofs.lemmas.List.{length-append, length-take}
-use Rattle.wf_names.specs.declared.limits.TheConstants.{DEFAULT_LANES, SESSION_LINE_LIMIT}
-use Rattle.wf_outside.specs.Outside.{HasTaken, with_bytes}
+use Rattle.wf_names.specs.declared.limits.TheConstants.{DEFAULT_LANES, DEFAULT_ROUNDS, SESSION_LINE_LIMIT}
+use Rattle.wf_outside.specs.Outside.{HasPart, HasTaken, with_bytes}
 use Rattle.wf_outside.proofs.OutsideLaws.{nothing_taken, nothing_put}
 use Rattle.policy_book.specs.Shapes.{PolicyShape}
 use Rattle.wf_talk.specs.declared.job.Job.{Job}
@@ -14,18 +14,24 @@ use Rattle.line_cutter.specs.Laws.{JobsAreInOrder}
 use Rattle.batch_reader.specs.declared.reader.Paused.{Paused}
 use Rattle.batch_reader.specs.declared.reader.Paused.TheVariants as paused
 use Rattle.batch_reader.specs.Reading.{ReaderShape, Handed, handed_more, HasRead, IsReadUp, ReadsTo, CountsAs}
-use Rattle.wire_json.specs.Entries.{transcript_text}
 use Rattle.wf_board.specs.States.{State, opening_state}
-use Rattle.wf_board.specs.Histories.{IsLegal, FillsJobs}
-use Rattle.wf_board.specs.Laws.{HistoriesKeepPlans}
+use Rattle.wf_talk.specs.declared.entry.Entry.{Entry}
+use Rattle.wf_board.specs.Steps.{state_after_step}
+use Rattle.wf_board.specs.Histories.{FillsJobs, state_after}
+use Rattle.wf_board.specs.HistoryLaws.{batch_rests, policy_stays}
+use Rattle.policy_book.specs.Facts.{IsSoundPolicy}
+use Rattle.wf_board.specs.Laws.{HistoriesKeepCompletable}
 use Rattle.run_record.specs.declared.fault.RunFault.{RunFault}
 use Rattle.run_record.specs.declared.fault.RunFault.TheVariants as fault
 use Rattle.run_record.specs.Fault.{is_before_input, CountsReads, CountsWrites}
 use Rattle.run_record.specs.Report.{Told, nothing_told}
 use Rattle.run_record.specs.Run.{Streams}
-use Rattle.wf_server.specs.Sessions.{handed_in, ReadsFor, Serves, Served}
-use Rattle.wf_server.specs.Batches.{HasAnswered, IsAdded, AnswersTo, IsServing, BatchEnds, IsWriteEnding, ending_of}
-use Rattle.wf_server.proofs.BatchLaws.{writes_whole}
+use Rattle.wire_json.specs.Replies.{entry_text}
+use Rattle.wf_server.specs.Transcripts.{transcript_text}
+use Rattle.wf_server.specs.Sessions.{ReadsFor, Served, WritesFor, WritesPart, last_start}
+use Rattle.wf_server.specs.Serving.{alone}
+use Rattle.wf_server.specs.Batches.{entries_text, handed_on, Serves, FillsLanes, WritesBy, HasAnswered, IsAdded, AnswersTo, IsServing, BatchEnds, IsWriteEnding, ending_of}
+use Rattle.wf_server.proofs.BatchLaws.{history_stays, writes_whole}
 
 -- no count of faults falls
 counts_le : (how : Paused) (before after : ℕ) → CountsAs how before after → before ≤ after
@@ -36,7 +42,7 @@ counts_le (paused.Stopped stop) before after counts = omega (arith, counts)
 counts_le paused.NoMemory before after counts = counts
 
 -- the jobs of a session are few
-pub few_jobs : (before after : Option (List ℕ)) (told : Told) (more : List Job) → JobsAreInOrder DEFAULT_LANES → IsReadUp before after (handed_more (handed_in told) more)
+pub few_jobs : (before after : Option (List ℕ)) (told : Told) (more : List Job) → JobsAreInOrder DEFAULT_LANES → IsReadUp before after (handed_more (handed_on told) more)
     → length told.jobs + length more ≤ SESSION_LINE_LIMIT
 few_jobs before after told more order up =
     let few = (order up.bytes up.ended).few in
@@ -44,16 +50,17 @@ few_jobs before after told more order up =
     omega (arith, few, length-append told.jobs more, simp length-take at front)
 
 -- what is told with one more batch
-added_handed : (before : Told) (batch : List Job) (after : Told) → IsAdded before batch after → handed_more (handed_in before) batch ≡ handed_in after
+added_handed : (before : Told) (batch : List Job) (after : Told) → IsAdded before batch after → handed_more (handed_on before) batch ≡ handed_on after
 added_handed before batch after added = rw (added.jobs, added.ends) refl
 
 -- memory was refused while a batch was read
 pub memory_serves : (p : PolicyShape) (room : ℕ) (before mid aft : Streams) (r : ReaderShape) (s : State) (told : Told) (how : Paused)
-    → IsServing p before mid r s told → IsReadUp before.input aft.input (handed_in told) → aft.output ≡ mid.output → CountsAs how mid.read_faults aft.read_faults
+    → IsServing p before mid r s told → IsReadUp before.input aft.input (handed_on told) → aft.output ≡ mid.output → CountsAs how mid.read_faults aft.read_faults
     → aft.write_faults ≡ mid.write_faults → Serves p room before aft told fault.NoMemory
 memory_serves p room before mid aft r s told how serving up output reads writes = record {
   reads = up;
   legal = serving.answered.leads.legal;
+  once = serving.answered.leads.once;
   fills = serving.answered.fills;
   writes = writes_whole p before.output aft.output told (output ∙ serving.answered.written);
   read_faults = let le = counts_le how mid.read_faults aft.read_faults reads in let same = serving.read_faults in omega arith;
@@ -62,8 +69,8 @@ memory_serves p room before mid aft r s told how serving up output reads writes 
 
 -- the session after a batch that is answered
 pub done_ends : (p : PolicyShape) (before mid aft : Streams) (r t : ReaderShape) (s next : State) (told after : Told) (batch : List Job) (how : Paused)
-    → IsServing p before mid r s told → ReadsTo before.input aft.input t.room (handed_more (handed_in told) batch) how
-    → (how ≡ paused.Batch → HasRead before.input aft.input (handed_more (handed_in told) batch) t)
+    → IsServing p before mid r s told → ReadsTo before.input aft.input t.room (handed_more (handed_on told) batch) how
+    → (how ≡ paused.Batch → HasRead before.input aft.input (handed_more (handed_on told) batch) t)
     → IsAdded told batch after → HasAnswered p before.output aft.output next after
     → CountsAs how mid.read_faults aft.read_faults → aft.write_faults ≡ mid.write_faults → BatchEnds p before aft t next after (ending_of how)
 done_ends p before mid aft r t s next told after batch paused.Batch serving reads goes_on added answered counts writes = record {
@@ -75,6 +82,7 @@ done_ends p before mid aft r t s next told after batch paused.Batch serving read
 done_ends p before mid aft r t s next told after batch paused.End serving reads goes_on added answered counts writes = record {
   reads = subst (λ (h : Handed). ReadsTo before.input aft.input t.room h paused.End) (added_handed told batch after added) reads;
   legal = answered.leads.legal;
+  once = answered.leads.once;
   fills = answered.fills;
   writes = answered.written;
   read_faults = counts ∙ serving.read_faults;
@@ -83,6 +91,7 @@ done_ends p before mid aft r t s next told after batch paused.End serving reads 
 done_ends p before mid aft r t s next told after batch paused.Failed serving reads goes_on added answered counts writes = record {
   reads = subst (λ (h : Handed). ReadsTo before.input aft.input t.room h paused.Failed) (added_handed told batch after added) reads;
   legal = answered.leads.legal;
+  once = answered.leads.once;
   fills = answered.fills;
   writes = answered.written;
   read_faults = λ small. let rose = counts.1 small in let same = serving.read_faults in omega arith;
@@ -91,6 +100,7 @@ done_ends p before mid aft r t s next told after batch paused.Failed serving rea
 done_ends p before mid aft r t s next told after batch (paused.Stopped (stop.LineTooLong line)) serving reads goes_on added answered counts writes = record {
   reads = subst (λ (h : Handed). ReadsTo before.input aft.input t.room h (paused.Stopped (stop.LineTooLong line))) (added_handed told batch after added) reads;
   legal = answered.leads.legal;
+  once = answered.leads.once;
   fills = answered.fills;
   writes = answered.written;
   read_faults = counts ∙ serving.read_faults;
@@ -99,6 +109,7 @@ done_ends p before mid aft r t s next told after batch (paused.Stopped (stop.Lin
 done_ends p before mid aft r t s next told after batch (paused.Stopped stop.TooManyLines) serving reads goes_on added answered counts writes = record {
   reads = subst (λ (h : Handed). ReadsTo before.input aft.input t.room h (paused.Stopped stop.TooManyLines)) (added_handed told batch after added) reads;
   legal = answered.leads.legal;
+  once = answered.leads.once;
   fills = answered.fills;
   writes = answered.written;
   read_faults = counts ∙ serving.read_faults;
@@ -107,6 +118,7 @@ done_ends p before mid aft r t s next told after batch (paused.Stopped stop.TooM
 done_ends p before mid aft r t s next told after batch paused.NoMemory serving reads goes_on added answered counts writes = record {
   reads = subst (λ (h : Handed). IsReadUp before.input aft.input h) (added_handed told batch after added) reads;
   legal = answered.leads.legal;
+  once = answered.leads.once;
   fills = answered.fills;
   writes = writes_whole p before.output aft.output after answered.written;
   read_faults = let le = counts_le paused.NoMemory mid.read_faults aft.read_faults counts in let same = serving.read_faults in omega arith;
@@ -115,13 +127,14 @@ done_ends p before mid aft r t s next told after batch paused.NoMemory serving r
 
 -- the session after a batch whose answering failed
 pub fault_ends : (p : PolicyShape) (room : ℕ) (before mid aft : Streams) (r : ReaderShape) (s next : State) (told after : Told) (batch : List Job) (how : Paused) (ending : RunFault)
-    → IsServing p before mid r s told → ReadsTo before.input aft.input room (handed_more (handed_in told) batch) how → how ≢ paused.NoMemory
-    → IsReadUp before.input aft.input (handed_more (handed_in told) batch) → IsReadUp before.input aft.input (handed_in told)
+    → IsServing p before mid r s told → ReadsTo before.input aft.input room (handed_more (handed_on told) batch) how → how ≢ paused.NoMemory
+    → IsReadUp before.input aft.input (handed_more (handed_on told) batch) → IsReadUp before.input aft.input (handed_on told)
     → AnswersTo p before.output aft.output next told batch after (Err ending) → IsWriteEnding ending → CountsAs how mid.read_faults aft.read_faults
     → CountsWrites ending mid.write_faults aft.write_faults → Serves p room before aft after ending
 fault_ends p room before mid aft r s next told after batch how fault.Write serving reads memory up up_before answers end counts writes = record {
   reads = (how, memory, subst (λ (h : Handed). ReadsTo before.input aft.input room h how) (added_handed told batch after answers.0) reads);
   legal = answers.1.legal;
+  once = answers.1.once;
   fills = answers.1.fills;
   writes = answers.1.written;
   read_faults = let le = counts_le how mid.read_faults aft.read_faults counts in let same = serving.read_faults in omega arith;
@@ -129,10 +142,11 @@ fault_ends p room before mid aft r s next told after batch how fault.Write servi
 }
 fault_ends p room before mid aft r s next told after batch how fault.NoMemory serving reads memory up up_before answers end counts writes = record {
   reads = elim answers.0 [
-    | inl same ↦ subst (λ (t : Told). IsReadUp before.input aft.input (handed_in t)) (sym same) up_before
+    | inl same ↦ subst (λ (t : Told). IsReadUp before.input aft.input (handed_on t)) (sym same) up_before
     | inr added ↦ subst (λ (h : Handed). IsReadUp before.input aft.input h) (added_handed told batch after added) up
   ];
   legal = answers.1.legal;
+  once = answers.1.once;
   fills = answers.1.fills;
   writes = answers.1.written;
   read_faults = let le = counts_le how mid.read_faults aft.read_faults counts in let same = serving.read_faults in omega arith;
@@ -151,7 +165,7 @@ opening_serves p streams r s told opening none begun empty = rw none (record {
     closed = refl;
   };
   answered = record {
-    leads = record { legal = tt; state = sym opening };
+    leads = record { legal = tt; once = tt; state = sym opening };
     fills = record { whole = refl; batches = λ k lt lane. absurd (omega (arith, lt)) };
     ends = record { within = λ k lt. absurd (omega (arith, lt)); closed = refl };
     written = sym (nothing_put streams.output);
@@ -171,29 +185,77 @@ bare_serves p room streams told ending nothing memory = rw (nothing, memory) (re
     up = record { ends = (0, refl); within = refl };
   };
   legal = tt;
+  once = tt;
   fills = record { whole = refl; batches = λ k lt lane. absurd (omega (arith, lt)) };
   writes = record { count = 0; within = omega arith; held = sym (nothing_put (with_bytes streams.output []) ∙ nothing_put streams.output) };
   read_faults = omega arith;
   write_faults = refl;
 })
 
-pub serves_kept : (p : PolicyShape) (room : ℕ) (before after : Streams) (told : Told) (ending : RunFault) → HistoriesKeepPlans p → Serves p room before after told ending → Served p room before after told ending
-serves_kept p room before after told ending keeps h = record { serves = h; kept = keeps told.entries h.legal }
+-- the names of the policy after each entry are those of the policy before all
+one_text : (s : State) (es : List Entry) → transcript_text s es ≡ entries_text s.book.policy es
+one_text s [] = refl
+one_text s (e ∷ es) =
+    let next = state_after_step s e.ask e.reply in
+    ap (λ t. entry_text next.book.policy e ++ t) (one_text next es) ∙ ap (λ q. entry_text q e ++ entries_text q es) (policy_stays s e.ask e.reply)
+
+rest_text : (p : PolicyShape) (n : ℕ) (es : List Entry)
+    → transcript_text (state_after (opening_state p) (take n es)) (drop n es) ≡ entries_text p (drop n es)
+rest_text p n es =
+    one_text (state_after (opening_state p) (take n es)) (drop n es)
+    ∙ ap (λ q. entries_text q (drop n es)) (history_stays (opening_state p) (take n es))
+
+writes_part : (p : PolicyShape) (before after : Option (List ℕ)) (n : ℕ) (es : List Entry)
+    → HasPart (with_bytes before (entries_text p (take n es))) after (entries_text p (drop n es)) → WritesPart p before after n es
+writes_part p before after n es h =
+    subst (λ t. HasPart (with_bytes before t) after (transcript_text (state_after (opening_state p) (take n es)) (drop n es))) (sym (one_text (opening_state p) (take n es)))
+    (subst (λ t. HasPart (with_bytes before (entries_text p (take n es))) after t) (sym (rest_text p n es)) h)
+
+writes_all : (p : PolicyShape) (before after : Option (List ℕ)) (es : List Entry)
+    → after ≡ with_bytes before (entries_text p es) → after ≡ with_bytes before (transcript_text (opening_state p) es)
+writes_all p before after es h = h ∙ ap (with_bytes before) (sym (one_text (opening_state p) es))
+
+writes_for : (p : PolicyShape) (before after : Option (List ℕ)) (told : Told) (ending : RunFault) → WritesBy p before after told ending → WritesFor p before after told ending
+writes_for p before after told fault.Write h = writes_part p before after (last_start told.batch_ends) told.entries h
+writes_for p before after told fault.NoMemory h = writes_part p before after (last_start told.batch_ends) told.entries h
+writes_for p before after told fault.Nothing h = writes_all p before after told.entries h
+writes_for p before after told fault.Found h = writes_all p before after told.entries h
+writes_for p before after told fault.Usage h = writes_all p before after told.entries h
+writes_for p before after told (fault.Policy e) h = writes_all p before after told.entries h
+writes_for p before after told fault.Read h = writes_all p before after told.entries h
+writes_for p before after told fault.Load h = writes_all p before after told.entries h
+writes_for p before after told fault.FileTooLong h = writes_all p before after told.entries h
+writes_for p before after told (fault.LineTooLong line) h = writes_all p before after told.entries h
+writes_for p before after told fault.TooManyLines h = writes_all p before after told.entries h
+writes_for p before after told (fault.BadInput e) h = writes_all p before after told.entries h
+
+-- a session on one lane is a session as it is promised
+pub serves_kept : (p : PolicyShape) (room : ℕ) (before after : Streams) (told : Told) (ending : RunFault) → IsSoundPolicy p → HistoriesKeepCompletable
+    → Serves p room before after told ending → Served (alone p) room before after told ending
+serves_kept p room before after told ending sound keeps h = record {
+  reads = h.reads;
+  legal = h.legal;
+  fills = record { whole = h.fills.whole; batches = h.fills.batches; rests = λ k lt. batch_rests told.batch_ends k told.entries h.once };
+  writes = writes_for p before.output after.output told ending h.writes;
+  kept = keeps p DEFAULT_ROUNDS told.entries sound h.legal;
+  read_faults = h.read_faults;
+  write_faults = h.write_faults;
+}
 
 -- a session ends with its own endings alone
-late_reads : (before after : Option (List ℕ)) (room : ℕ) (told : Told) (ending : RunFault) → ReadsFor before after room told ending → is_before_input ending ≡ false
-late_reads before after room told fault.Nothing h = refl
-late_reads before after room told fault.Read h = refl
-late_reads before after room told (fault.LineTooLong line) h = refl
-late_reads before after room told fault.TooManyLines h = refl
-late_reads before after room told fault.Write h = refl
-late_reads before after room told fault.NoMemory h = refl
-late_reads before after room told fault.Found h = refl
-late_reads before after room told fault.Usage h = absurd h
-late_reads before after room told (fault.Policy e) h = absurd h
-late_reads before after room told fault.Load h = absurd h
-late_reads before after room told fault.FileTooLong h = absurd h
-late_reads before after room told (fault.BadInput e) h = absurd h
+late_reads : (before after : Option (List ℕ)) (room : ℕ) (handed : Handed) (ending : RunFault) → ReadsFor before after room handed ending → is_before_input ending ≡ false
+late_reads before after room handed fault.Nothing h = refl
+late_reads before after room handed fault.Read h = refl
+late_reads before after room handed (fault.LineTooLong line) h = refl
+late_reads before after room handed fault.TooManyLines h = refl
+late_reads before after room handed fault.Write h = refl
+late_reads before after room handed fault.NoMemory h = refl
+late_reads before after room handed fault.Found h = refl
+late_reads before after room handed fault.Usage h = absurd h
+late_reads before after room handed (fault.Policy e) h = absurd h
+late_reads before after room handed fault.Load h = absurd h
+late_reads before after room handed fault.FileTooLong h = absurd h
+late_reads before after room handed (fault.BadInput e) h = absurd h
 
 pub serves_late : (p : PolicyShape) (room : ℕ) (before after : Streams) (told : Told) (ending : RunFault) → Serves p room before after told ending → is_before_input ending ≡ false
-serves_late p room before after told ending h = late_reads before.input after.input room told ending h.reads
+serves_late p room before after told ending h = late_reads before.input after.input room (handed_on told) ending h.reads

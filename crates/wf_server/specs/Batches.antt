@@ -1,6 +1,7 @@
 -- Inside: where a session stands between its batches.
-use Rattle.std.specs.Prelude.{◌≡◌, ℕ, ◌+◌, ◌<◌, ◌≤◌, List, [], ◌∷◌, ◌++◌, length, map, Option, None, Some, Result, Ok, Err}
+use Rattle.std.specs.Prelude.{◌≡◌, ℕ, ◌+◌, ◌<◌, ◌≤◌, List, [], ◌∷◌, ◌++◌, length, take, drop, map, Option, None, Some, Result, Ok, Err}
 use Rattle.std.proofs.Common.{◌⊎◌}
+use Rattle.wf_names.specs.declared.limits.TheConstants.{DEFAULT_LANES, DEFAULT_ROUNDS}
 use Rattle.wf_outside.specs.Outside.{HasPart, with_bytes}
 use Rattle.wf_talk.specs.declared.entry.Entry.{Entry}
 use Rattle.wf_talk.specs.declared.job.Job.{Job}
@@ -10,18 +11,56 @@ use Rattle.line_cutter.specs.Cutter.{ends_after}
 use Rattle.line_cutter.specs.declared.stop.Stop.TheVariants as stop
 use Rattle.batch_reader.specs.declared.reader.Paused.{Paused}
 use Rattle.batch_reader.specs.declared.reader.Paused.TheVariants as paused
-use Rattle.batch_reader.specs.Reading.{ReaderShape, HasRead}
-use Rattle.wire_json.specs.Entries.{transcript_text}
+use Rattle.batch_reader.specs.Reading.{Handed, ReaderShape, HasRead}
+use Rattle.wire_json.specs.Replies.{entry_text}
 use Rattle.policy_book.specs.Shapes.{PolicyShape}
 use Rattle.wf_board.specs.States.{State, opening_state}
 use Rattle.wf_board.specs.Steps.{IsStep, state_after_step}
-use Rattle.wf_board.specs.Histories.{IsLegal, FillsJobs, batch_end, job_of_entry, state_after}
+use Rattle.wf_board.specs.Histories.{AreAnsweredOnce, IsLegal, batch_end, batch_jobs, job_of_entry, lane_jobs, state_after}
 use Rattle.run_record.specs.declared.fault.RunFault.{RunFault}
 use Rattle.run_record.specs.declared.fault.RunFault.TheVariants.{Nothing, Read, Write, NoMemory, LineTooLong, TooManyLines}
+use Rattle.run_record.specs.Fault.{CountsReads, CountsWrites}
 use Rattle.run_record.specs.Report.{Told}
 use Rattle.run_record.specs.Run.{Streams}
 use Rattle.wf_server.specs.declared.batch.Answered.{Answered}
-use Rattle.wf_server.specs.Sessions.{handed_in, WritesPart, Serves}
+use Rattle.wf_server.specs.Sessions.{handed_in, last_start, ReadsFor}
+
+-- the jobs that a session tells, as they were read
+abbrev pub handed_on : Told → Handed
+handed_on told = handed_in DEFAULT_LANES told
+
+-- the texts of entries, in order, with the names of one policy
+abbrev pub entries_text : PolicyShape → List Entry → List ℕ
+entries_text p [] = []
+entries_text p (e ∷ es) = entry_text p e ++ entries_text p es
+
+-- batch after batch, and within a batch each lane's in order, the entries hold each job once
+pub record FillsLanes (entries : List Entry) (jobs : List Job) (batch_ends : List ℕ) : Type 0 where
+  pub whole : length entries ≡ length jobs
+  pub batches : (k : ℕ) → k < length batch_ends → (lane : ℕ) →
+      lane_jobs lane (batch_jobs batch_ends k (map job_of_entry entries)) ≡ lane_jobs lane (batch_jobs batch_ends k jobs)
+
+-- the entries of all batches but the last are written, and of the last one's a part
+abbrev pub WritesLast : PolicyShape → Option (List ℕ) → Option (List ℕ) → Told → Type 0
+WritesLast p before after told =
+    HasPart (with_bytes before (entries_text p (take (last_start told.batch_ends) told.entries))) after
+    (entries_text p (drop (last_start told.batch_ends) told.entries))
+
+-- what is written where a session ended so
+abbrev pub WritesBy : PolicyShape → Option (List ℕ) → Option (List ℕ) → Told → RunFault → Type 0
+WritesBy p before after told Write = WritesLast p before after told
+WritesBy p before after told NoMemory = WritesLast p before after told
+WritesBy p before after told fault = after ≡ with_bytes before (entries_text p told.entries)
+
+-- a session on one lane, in which no step changes the policy
+pub record Serves (p : PolicyShape) (room : ℕ) (before after : Streams) (told : Told) (fault : RunFault) : Type 0 where
+  pub reads : ReadsFor before.input after.input room (handed_on told) fault
+  pub legal : IsLegal (opening_state p) DEFAULT_ROUNDS told.entries
+  pub once : AreAnsweredOnce told.entries
+  pub fills : FillsLanes told.entries told.jobs told.batch_ends
+  pub writes : WritesBy p before.output after.output told fault
+  pub read_faults : CountsReads fault before.read_faults after.read_faults
+  pub write_faults : CountsWrites fault before.write_faults after.write_faults
 
 -- what a session tells
 abbrev pub told_of : Answered → Told
@@ -29,7 +68,8 @@ told_of a = record { entries = a.entries.entries; jobs = a.jobs; batch_ends = a.
 
 -- the entries are a legal history that leads to a state
 pub record LeadsTo (start : State) (entries : List Entry) (s : State) : Type 0 where
-  pub legal : IsLegal start entries
+  pub legal : IsLegal start DEFAULT_ROUNDS entries
+  pub once : AreAnsweredOnce entries
   pub state : state_after start entries ≡ s
 
 -- there is one more entry: it answers a job in a state, and leads to the next
@@ -49,15 +89,16 @@ pub record AreEnds (batch_ends : List ℕ) (count : ℕ) : Type 0 where
 -- the jobs so far are answered, and the entries written
 pub record HasAnswered (p : PolicyShape) (held held-after : Option (List ℕ)) (s : State) (told : Told) : Type 0 where
   pub leads : LeadsTo (opening_state p) told.entries s
-  pub fills : FillsJobs told.entries told.jobs told.batch_ends
+  pub fills : FillsLanes told.entries told.jobs told.batch_ends
   pub ends : AreEnds told.batch_ends (length told.jobs)
-  pub written : held-after ≡ with_bytes held (transcript_text p told.entries)
+  pub written : held-after ≡ with_bytes held (entries_text p told.entries)
 
 -- the jobs so far are answered, and the entries of the last batch written in part
 pub record HasAnsweredPart (p : PolicyShape) (held held-after : Option (List ℕ)) (told : Told) : Type 0 where
-  pub legal : IsLegal (opening_state p) told.entries
-  pub fills : FillsJobs told.entries told.jobs told.batch_ends
-  pub written : WritesPart p held held-after told
+  pub legal : IsLegal (opening_state p) DEFAULT_ROUNDS told.entries
+  pub once : AreAnsweredOnce told.entries
+  pub fills : FillsLanes told.entries told.jobs told.batch_ends
+  pub written : WritesLast p held held-after told
 
 -- the jobs of one more batch are told, with its end
 pub record IsAdded (before : Told) (batch : List Job) (after : Told) : Type 0 where
@@ -88,7 +129,7 @@ ending_of paused.NoMemory = Some NoMemory
 
 -- between two batches: all that was handed over is answered and written, and no call has failed
 pub record IsServing (p : PolicyShape) (before after : Streams) (r : ReaderShape) (s : State) (told : Told) : Type 0 where
-  pub read : HasRead before.input after.input (handed_in told) r
+  pub read : HasRead before.input after.input (handed_on told) r
   pub answered : HasAnswered p before.output after.output s told
   pub read_faults : after.read_faults ≡ before.read_faults
   pub write_faults : after.write_faults ≡ before.write_faults

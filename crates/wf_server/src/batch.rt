@@ -6,10 +6,11 @@ ghost use Rattle.policy_book.specs.Shapes.{PolicyShape};
 ghost use Rattle.wf_board.specs.Boards.{state_on};
 ghost use Rattle.wf_board.specs.States.{State};
 ghost use Rattle.wf_board.specs.Histories.{job_of_entry};
-ghost use Rattle.wire_json.specs.Entries.{entry_text, transcript_text};
+ghost use Rattle.wire_json.specs.Replies.{entry_text};
 ghost use Rattle.run_record.specs.Fault.{fault_in, CountsWrites};
-ghost use Rattle.wf_server.specs.Batches.{told_of, LeadsTo, HasAnswered, HasAnsweredOne, IsAdded, AnswersTo, IsWriteEnding};
+ghost use Rattle.wf_server.specs.Batches.{entries_text, told_of, LeadsTo, HasAnswered, HasAnsweredOne, IsAdded, AnswersTo, IsWriteEnding};
 
+use crate::decider::PlainDecider;
 use policy_book::Policy;
 use run_record::RunFault;
 use std::alloc::{AllocError, Global};
@@ -59,7 +60,7 @@ pub(crate) fn answer_batch<K: Sink>(
 {
     add_batch(told, batch)?;
     let done = told.entries.len();
-    answer_jobs(board, &mut told.entries, batch);
+    answer_jobs(alloc, board, &mut told.entries, batch);
     write_entries(
         alloc,
         board.policy(),
@@ -112,7 +113,7 @@ fn entries_after(journal: &Journal, done: usize) -> &[Entry]
 }
 
 // Answers each job; there is room for their entries.
-fn answer_jobs(board: &mut Board, journal: &mut Journal, jobs: &[Job])
+fn answer_jobs(alloc: Global, board: &mut Board, journal: &mut Journal, jobs: &[Job])
     requires room { length jobs.now ≤ journal.old.spare }
     requires few { length journal.old.entries + length jobs.now ≤ SESSION_LINE_LIMIT }
     ensures leads { (start : State) → LeadsTo start journal.old.entries (state_on board.old) → LeadsTo start journal.new.entries (state_on board.new) }
@@ -120,18 +121,18 @@ fn answer_jobs(board: &mut Board, journal: &mut Journal, jobs: &[Job])
     ensures kept { take (length journal.old.entries) journal.new.entries ≡ journal.old.entries }
 {
     'answering: for job in jobs {
-        answer_job(board, journal, job);
+        answer_job(alloc, board, journal, job);
     }
 }
 
 // Answers one job; there is room for its entry.
-fn answer_job(board: &mut Board, journal: &mut Journal, job: &Job)
+fn answer_job(alloc: Global, board: &mut Board, journal: &mut Journal, job: &Job)
     requires room { 0 < journal.old.spare }
     requires few { length journal.old.entries ≤ SESSION_LINE_LIMIT }
     ensures one { HasAnsweredOne journal.old.entries journal.new.entries (state_on board.old) (state_on board.new) job.now }
     ensures room { journal.old.spare ≤ journal.new.spare + 1 }
 {
-    let reply = board.answer(&job.ask);
+    let reply = board.decide(alloc, &PlainDecider, &job.ask);
     let entry = Entry {
         at: journal.len() as u32,
         lane: job.lane,
@@ -139,7 +140,7 @@ fn answer_job(board: &mut Board, journal: &mut Journal, job: &Job)
         ask: job.ask,
         reply,
     };
-    journal.add(&entry).unwrap();
+    journal.push(entry).unwrap();
 }
 
 // Writes the lines of entries, one after the other.
@@ -149,8 +150,8 @@ fn write_entries<K: Sink>(
     entries: &[Entry],
     sink: &mut K,
 ) -> Result<(), RunFault>
-    ensures all { OnOk result (K.held sink.new ≡ with_bytes (K.held sink.old) (transcript_text p.now entries.now)) }
-    ensures part { HasPart (K.held sink.old) (K.held sink.new) (transcript_text p.now entries.now) }
+    ensures all { OnOk result (K.held sink.new ≡ with_bytes (K.held sink.old) (entries_text p.now entries.now)) }
+    ensures part { HasPart (K.held sink.old) (K.held sink.new) (entries_text p.now entries.now) }
     ensures some { OnErr result (0 < length entries.now) }
     ensures ending { IfErr result IsWriteEnding }
     ensures counts { CountsWrites (fault_in result) (K.faults sink.old) (K.faults sink.new) }

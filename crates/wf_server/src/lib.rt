@@ -2,6 +2,7 @@
 #![tactic(auto)]
 
 mod batch;
+mod decider;
 #[cfg(test)]
 mod change_tests;
 mod run;

@@ -2,14 +2,15 @@
 ghost use Rattle.std.specs.Prelude.{◌≡◌, false};
 ghost use Rattle.run_record.specs.Fault.{status_of, is_before_input};
 ghost use Rattle.run_record.specs.Report.{told_by};
+ghost use Rattle.wf_board.specs.Histories.{AreAnsweredOnce};
 ghost use Rattle.wf_server.specs.Sessions.{Served};
-ghost use Rattle.wf_server.specs.Serving.{ServesRun};
+ghost use Rattle.wf_server.specs.Serving.{alone, ServesRun};
 
 use crate::session::run_session;
 use policy_book::Policy;
 use run_record::{Report, RunFault, bare_report};
 use std::alloc::Global;
-use wf_board::laws::histories_keep_plans;
+use wf_board::laws::histories_keep_completable;
 use wf_commands::load_policy;
 use wf_outside::{Shelf, Sink, Source};
 
@@ -59,7 +60,7 @@ fn serve_policy<S: Source, K: Sink>(
     source: &mut S,
     sink: &mut K,
 ) -> Report
-    ensures served { Served policy PIECE
+    ensures served { Served (alone policy) PIECE
         (record {
           input = S.left source.old;
           output = K.held sink.old;
@@ -73,9 +74,11 @@ fn serve_policy<S: Source, K: Sink>(
           write_faults = K.faults sink.new;
         })
         (told_by result) result.fault }
+    ensures once { AreAnsweredOnce (told_by result).entries }
     ensures late { is_before_input result.fault ≡ false }
     ensures status { result.status ≡ status_of result.fault }
 {
-    histories_keep_plans(&policy);
+    let _ = policy.admin();
+    histories_keep_completable();
     run_session(alloc, policy, PIECE, source, sink)
 }

@@ -9,8 +9,7 @@ ghost use Rattle.batch_reader.specs.Reading.{IsReady, left_to_read};
 ghost use Rattle.run_record.specs.Fault.{status_of};
 ghost use Rattle.run_record.specs.Report.{told_by};
 ghost use Rattle.run_record.specs.Run.{Streams};
-ghost use Rattle.wf_server.specs.Sessions.{Serves};
-ghost use Rattle.wf_server.specs.Batches.{told_of, ending_of, IsServing, BatchEnds};
+ghost use Rattle.wf_server.specs.Batches.{told_of, ending_of, IsServing, BatchEnds, Serves};
 
 use crate::batch::{Answered, answer_batch};
 use batch_reader::{Paused, Reader, Reading};

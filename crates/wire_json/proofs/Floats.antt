@@ -4,7 +4,7 @@ use Rattle.std.specs.Prelude.{map}
 use Rattle.serde_json.specs.View.{items_of}
 use Rattle.serde_json.specs.Written.{has_float, items_have_float}
 use Rattle.policy_book.specs.Shapes.{PolicyShape}
-use Rattle.refutation_tree.specs.Shapes.{Shape, Kids, holder, rule, node, no_kids, tree_kid}
+use Rattle.refutation_tree.specs.Shapes.{Shape, Kids, holder, rule, node, no_kids, tree_kid, twin_kid}
 use Rattle.wire_json.specs.Entries.{named}
 use Rattle.wire_json.specs.Trees.{tree_data, branches_data}
 use Rattle.wire_json.specs.Findings.{plan_found, tree_found}
@@ -22,6 +22,7 @@ mutual
   branches_without_float : (p : PolicyShape) (f : ℕ) (kids : Kids) → items_have_float (items_of (branches_data p f kids)) ≡ false
   branches_without_float p f no_kids = refl
   branches_without_float p f (tree_kid u t kids) = rw (shape_without_float p f t, branches_without_float p f kids) refl
+  branches_without_float p f (twin_kid u v kids) = rw (branches_without_float p f kids) refl
 
 pub plan_without_float : (p : PolicyShape) (f : ℕ) (plan : List ℕ) → has_float (plan_found p f plan) ≡ false
 plan_without_float p f plan = rw (names_without_float p.roster.users plan) refl

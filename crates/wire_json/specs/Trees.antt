@@ -2,7 +2,7 @@
 use Rattle.std.specs.Prelude.{ℕ, List, [], ◌∷◌, codes}
 use Rattle.serde_json.specs.Data.{Data, number, unsigned, array, object, no_members, member}
 use Rattle.serde_json.specs.View.{items_of}
-use Rattle.refutation_tree.specs.Shapes.{Shape, Kids, holder, rule, node, no_kids, tree_kid}
+use Rattle.refutation_tree.specs.Shapes.{Shape, Kids, holder, rule, node, no_kids, tree_kid, twin_kid}
 use Rattle.policy_book.specs.Shapes.{PolicyShape}
 use Rattle.wire_json.specs.Entries.{single, user_data, step_data}
 
@@ -18,8 +18,10 @@ abbrev mutual
   tree_data p f (rule k) = single (codes "rule") (number (unsigned k))
   tree_data p f (node s kids) = node_data p f s (array (items_of (branches_data p f kids)))
 
-  -- of each branch its user and its tree
+  -- of each branch its user, and its tree or the leaf that names a twin
   pub branches_data : PolicyShape → ℕ → Kids → List Data
   branches_data p f no_kids = []
   branches_data p f (tree_kid u t kids) =
       array (items_of (user_data p u ∷ tree_data p f t ∷ [])) ∷ branches_data p f kids
+  branches_data p f (twin_kid u v kids) =
+      array (items_of (user_data p u ∷ single (codes "twin") (user_data p v) ∷ [])) ∷ branches_data p f kids

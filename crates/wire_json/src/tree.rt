@@ -1,9 +1,10 @@
 //! Trees that refute, as JSON.
-ghost use Rattle.std.specs.Prelude.{◌≡◌, ◌∷◌, IfOk};
+ghost use Rattle.std.specs.Prelude.{◌≡◌, ◌∷◌, IfOk, codes};
 ghost use Rattle.serde_json.specs.Data.{array};
 ghost use Rattle.serde_json.specs.View.{view, items_of};
 ghost use Rattle.refutation_tree.specs.Shapes.{Kids, holder};
 ghost use Rattle.refutation_tree.specs.Views.{branch_onto, kids_of_items, shape_of};
+ghost use Rattle.wire_json.specs.Entries.{single, user_data};
 ghost use Rattle.wire_json.specs.Trees.{branches_data, node_data, tree_data};
 
 use crate::entry::{step_value, user_value};
@@ -11,7 +12,7 @@ use policy_book::Policy;
 use refutation_tree::{Branch, Kid, Tree};
 use serde_json::{Value, json};
 use std::alloc::{AllocError, Global};
-use wf_names::{FlowId, StepId};
+use wf_names::{FlowId, StepId, UserId};
 
 /// The value that is written for a tree over a workflow's steps. A number that names no user or
 /// step of the policy is written as an empty text.
@@ -68,7 +69,15 @@ fn branches_value(
     Ok(Value::Array(values))
 }
 
-// The user and the tree of a branch.
+// The leaf that names a twin.
+fn twin_value(alloc: Global, p: &Policy, twin: UserId) -> Result<Value, AllocError>
+    ensures { IfOk result (λ v. view v ≡ single (codes "twin") (user_data p.now twin)) }
+{
+    let user = user_value(alloc, p, twin)?;
+    json!(in alloc; {"twin": (user)})
+}
+
+// The user and the tree of a branch, or the leaf that names a twin.
 #[cycle(tree_value)]
 fn branch_value(alloc: Global, p: &Policy, f: FlowId, branch: &Branch) -> Result<Value, AllocError>
     ensures { IfOk result (λ v. (rest : Kids) → branches_data p.now f (branch_onto branch.now rest) ≡ view v ∷ branches_data p.now f rest) }
@@ -78,6 +87,11 @@ fn branch_value(alloc: Global, p: &Policy, f: FlowId, branch: &Branch) -> Result
             let user = user_value(alloc, p, branch.user)?;
             let tree = tree_value(alloc, p, f, tree)?;
             json!(in alloc; [(user), (tree)])
+        }
+        Kid::Twin(twin) => {
+            let user = user_value(alloc, p, branch.user)?;
+            let twin = twin_value(alloc, p, *twin)?;
+            json!(in alloc; [(user), (twin)])
         }
     }
 }

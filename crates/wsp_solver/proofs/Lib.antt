@@ -1,2 +1,5 @@
 pub mod Members
+pub mod Pushes
 pub mod Searching
+pub mod Trimming
+pub mod TwinUsers

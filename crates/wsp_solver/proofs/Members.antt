@@ -1,50 +1,98 @@
 -- Sets of steps with one more, and what trees mention.
-use Rattle.std.proofs.Common.{◌≡◌, ◌≢◌, refl, ap, ◌∙◌, ℕ, zero, suc, ◌<◌, ◌≤◌, Bool, true, false, Option, None, Some, List, [], ◌∷◌, length, slice_set, ◌⊎◌, inl, inr, eqb, arith}
-use Rattle.std.proofs.lemmas.Bool.{false≢true, eqb-true}
-use Rattle.std.proofs.lemmas.Bool.Decides.{eqb_tells}
+use Rattle.std.proofs.Common.{◌≡◌, ◌≢◌, refl, sym, ap, ◌∙◌, ℕ, zero, suc, ◌+◌, ◌<◌, ◌≤◌, Bool, true, false, ◌&&◌, ◌||◌, ◌==◌, nat_lt, Option, None, Some, List, [], ◌∷◌, length, slice_set, ◌⊎◌, inl, inr, eqb, leb, arith}
+use Rattle.std.proofs.lemmas.Bool.Decides.{eqb_tells, leb_tells}
 use Rattle.std.proofs.lemmas.List.{get_or-set_same, get_or-set_other}
 use Rattle.constraint_forms.specs.declared.rule.Rule.{Rule}
 use Rattle.constraint_forms.specs.Assigned.{is_member}
 use Rattle.constraint_forms.specs.Rules.{names, IsRuleOf}
-use Rattle.basics.proofs.Booleans.{or_cases, or_left, or_right}
-use Rattle.certificate_check.proofs.Assigned.{either}
-use Rattle.refutation_tree.specs.Shapes.{Shape, Kids, holder, no_kids, tree_kid, joined}
+use Rattle.basics.proofs.Booleans.{and-false, bool_cases, eq_back, eq_is, lt_no, lt_yes, or-false, same_by}
+use Rattle.refutation_tree.specs.Shapes.{Shape, Kids, holder, no_kids, tree_kid, twin_kid, joined}
 use Rattle.policy_book.specs.Refuting.{is_rule_naming, mentions, any_mentions}
-use Rattle.wsp_solver.specs.Searches.{HasMentioned, HasMentionedIn}
+use Rattle.wsp_solver.specs.Searches.{AreMentioned, AreMentionedIn}
 
-pub member_below : (set : List Bool) (t : ℕ) → is_member set t ≡ true → t < length set
-member_below [] t h = absurd (false≢true h)
-member_below (b ∷ bs) zero h = omega arith
-member_below (b ∷ bs) (suc t) h = omega (arith, member_below bs t h)
+pub member_past : (set : List Bool) (t : ℕ) → length set ≤ t → is_member set t ≡ false
+member_past [] t past = refl
+member_past (b ∷ bs) zero past = absurd (omega (arith, past))
+member_past (b ∷ bs) (suc t) past = member_past bs t (omega (arith, past))
 
-pub member_here : (set : List Bool) (s : ℕ) → s < length set → is_member (slice_set set s true) s ≡ true
-member_here set s below = get_or-set_same set s true false below
+or-true : (a : Bool) → (a || true) ≡ true
+or-true true = refl
+or-true false = refl
 
--- who was in a set is in it with one more
-pub member_still : (set : List Bool) (s t : ℕ) → s < length set → is_member set t ≡ true → is_member (slice_set set s true) t ≡ true
-member_still set s t below h = at (eqb_tells t s)
+-- who is in a set with one more step
+pub member_added : (set : List Bool) (s t : ℕ) → s < length set → is_member (slice_set set s true) t ≡ (is_member set t || (t == s))
+member_added set s t below = at (eqb_tells t s)
   where
-    at : ((eqb t s ≡ true) × (t ≡ s)) ⊎ ((eqb t s ≡ false) × (t ≢ s)) → is_member (slice_set set s true) t ≡ true
-    at (inl same) = ap (is_member (slice_set set s true)) same.1 ∙ member_here set s below
-    at (inr apart) = get_or-set_other set s t true false apart.1 ∙ h
+    at : ((eqb t s ≡ true) × (t ≡ s)) ⊎ ((eqb t s ≡ false) × (t ≢ s)) → is_member (slice_set set s true) t ≡ (is_member set t || (t == s))
+    at (inl same) =
+        ap (is_member (slice_set set s true)) same.1 ∙ get_or-set_same set s true false below ∙ sym (or-true (is_member set t)) ∙ ap (λ b. is_member set t || b) (sym same.0)
+    at (inr apart) = get_or-set_other set s t true false apart.1 ∙ sym (or-false (is_member set t)) ∙ ap (λ b. is_member set t || b) (sym apart.0)
+
+-- one more step of a set of those below n that pass
+pub passing_more : (p : ℕ → Bool) (rest : Bool) (n t : ℕ) → ((rest || (nat_lt t n && p t)) || (p n && t == n)) ≡ (rest || (nat_lt t (n + 1) && p t))
+passing_more p rest n t = at (eqb_tells t n) (leb_tells n t)
+  where
+    here : (b r : Bool) → ((r || false) || (b && true)) ≡ (r || b)
+    here true true = refl
+    here true false = refl
+    here false true = refl
+    here false false = refl
+
+    gone : (b r q : Bool) → ((r || b) || (q && false)) ≡ (r || b)
+    gone b true q = refl
+    gone true false q = refl
+    gone false false q = and-false q
+
+    at : ((eqb t n ≡ true) × (t ≡ n)) ⊎ ((eqb t n ≡ false) × (t ≢ n)) → ((leb n t ≡ true) × (n ≤ t)) ⊎ ((leb n t ≡ false) × (t < n)) → ((rest || (nat_lt t n && p t)) || (p n && t == n)) ≡ (rest || (nat_lt t (n + 1) && p t))
+    at (inl same) where_t =
+        ap (λ b. (rest || (b && p t)) || (p n && t == n)) (lt_no t n (omega (arith, same.1)))
+        ∙ ap (λ b. (rest || false) || (p n && b)) same.0 ∙ here (p n) rest
+        ∙ ap (λ x. rest || p x) (sym same.1) ∙ ap (λ b. rest || (b && p t)) (sym (lt_yes t (n + 1) (omega (arith, same.1))))
+    at (inr apart) (inr below) =
+        ap (λ b. (rest || (b && p t)) || (p n && t == n)) (lt_yes t n below.1)
+        ∙ ap (λ b. (rest || p t) || (p n && b)) apart.0 ∙ gone (p t) rest (p n)
+        ∙ ap (λ b. rest || (b && p t)) (sym (lt_yes t (n + 1) (omega (arith, below.1))))
+    at (inr apart) (inl past) =
+        ap (λ b. (rest || (b && p t)) || (p n && t == n)) (lt_no t n past.1)
+        ∙ ap (λ b. (rest || false) || (p n && b)) apart.0 ∙ gone false rest (p n)
+        ∙ ap (λ b. rest || (b && p t)) (sym (lt_no t (n + 1) (omega (arith, past.1, apart.1))))
+
+eq_turned : (m n : ℕ) → (m == n) ≡ (n == m)
+eq_turned m n = same_by (m == n) (n == m) (λ e. eq_is n m (sym (eq_back m n e))) (λ e. eq_is m n (sym (eq_back n m e)))
 
 -- the set of one step has what its leaf mentions
-pub holder_mentioned : (set : List Bool) (s : ℕ) (rules : List Rule) → s < length set → HasMentioned rules (holder s) (slice_set set s true)
-holder_mentioned set s rules below t h = ap (is_member (slice_set set s true)) (eqb-true t s h) ∙ member_here set s below
+pub holder_mentioned : (none set : List Bool) (s : ℕ) (rules : List Rule) → ((t : ℕ) → is_member none t ≡ false) → ((t : ℕ) → is_member set t ≡ (is_member none t || (true && t == s))) → AreMentioned rules (holder s) set
+holder_mentioned none set s rules empty added t = sym (added t ∙ ap (λ b. b || t == s) (empty t))
 
-mentioned_at : (rules : List Rule) (s u : ℕ) (t : Shape) (set : List Bool) → HasMentioned rules t set → (kids : Kids) → (any_mentions rules s kids ≡ true → is_member set s ≡ true) → any_mentions rules s (joined kids (tree_kid u t no_kids)) ≡ true → is_member set s ≡ true
-mentioned_at rules s u t set here no_kids known h =
-    either (or_cases (mentions rules s t) false h) (λ m. here s m) (λ e. absurd (false≢true e))
-mentioned_at rules s u t set here (tree_kid v w kids) known h =
-    either (or_cases (mentions rules s w) (any_mentions rules s (joined kids (tree_kid u t no_kids))) h)
-    (λ m. known (or_left (mentions rules s w) (any_mentions rules s kids) m))
-    (λ later. mentioned_at rules s u t set here kids (λ e. known (or_right (mentions rules s w) (any_mentions rules s kids) e)) later)
+-- a rule in range names the steps of the set of its steps
+pub rule_mentioned : (n most : ℕ) (s : ℕ) (o : Option Rule) (set : List Bool) → n ≤ most → ((r : Rule) → o ≡ Some r → IsRuleOf n r) → (o ≡ None → is_member set s ≡ false) → ((r : Rule) → o ≡ Some r → is_member set s ≡ (nat_lt s most && names r s)) → is_rule_naming s o ≡ is_member set s
+rule_mentioned n most s None set few formed empty known = sym (empty refl)
+rule_mentioned n most s (Some r) set few formed empty known = at (bool_cases (names r s))
+  where
+    at : (names r s ≡ true) ⊎ (names r s ≡ false) → names r s ≡ is_member set s
+    at (inl named) =
+        named ∙ sym (known r refl ∙ ap (λ b. b && names r s) (lt_yes s most (omega (arith, few, formed r refl s named))) ∙ named)
+    at (inr not_named) = not_named ∙ sym (known r refl ∙ ap (λ b. nat_lt s most && b) not_named ∙ and-false (nat_lt s most))
 
--- a set that has what the branches so far mention, and what one more mentions
-pub mentioned_push : (rules : List Rule) (front : Kids) (u : ℕ) (t : Shape) (set : List Bool) → HasMentionedIn rules front set → HasMentioned rules t set → HasMentionedIn rules (joined front (tree_kid u t no_kids)) set
-mentioned_push rules front u t set so_far here s h = mentioned_at rules s u t set here front (so_far s) h
+or_assoc : (a b c : Bool) → (a || (b || c)) ≡ ((a || b) || c)
+or_assoc true b c = refl
+or_assoc false b c = refl
 
--- a rule in range that names a step is in the set of its steps
-pub rule_mentioned : (n most : ℕ) (s : ℕ) (o : Option Rule) (set : List Bool) → n ≤ most → ((r : Rule) → o ≡ Some r → IsRuleOf n r) → ((r : Rule) → o ≡ Some r → (t : ℕ) → t < most → names r t ≡ true → is_member set t ≡ true) → is_rule_naming s o ≡ true → is_member set s ≡ true
-rule_mentioned n most s None set few formed known h = absurd (false≢true h)
-rule_mentioned n most s (Some r) set few formed known h = known r refl s (omega (arith, few, formed r refl s h)) h
+-- what branches and one more mention
+any_push : (rules : List Rule) (s u : ℕ) (t : Shape) (front : Kids) → any_mentions rules s (joined front (tree_kid u t no_kids)) ≡ (any_mentions rules s front || mentions rules s t)
+any_push rules s u t no_kids = or-false (mentions rules s t)
+any_push rules s u t (tree_kid v w kids) = ap (λ b. mentions rules s w || b) (any_push rules s u t kids) ∙ or_assoc (mentions rules s w) (any_mentions rules s kids) (mentions rules s t)
+any_push rules s u t (twin_kid v w kids) = any_push rules s u t kids
+
+any_push_twin : (rules : List Rule) (s u v : ℕ) (front : Kids) → any_mentions rules s (joined front (twin_kid u v no_kids)) ≡ any_mentions rules s front
+any_push_twin rules s u v no_kids = refl
+any_push_twin rules s u v (tree_kid x w kids) = ap (λ b. mentions rules s w || b) (any_push_twin rules s u v kids)
+any_push_twin rules s u v (twin_kid x w kids) = any_push_twin rules s u v kids
+
+-- the sets of what branches mention, with one more branch
+pub mentioned_push : (rules : List Rule) (front : Kids) (u : ℕ) (t : Shape) (before here set : List Bool) → AreMentionedIn rules front before → AreMentioned rules t here → ((s : ℕ) → is_member set s ≡ (is_member before s || is_member here s)) → AreMentionedIn rules (joined front (tree_kid u t no_kids)) set
+mentioned_push rules front u t before here set so_far now both s =
+    any_push rules s u t front ∙ ap (λ b. b || mentions rules s t) (so_far s) ∙ ap (λ b. is_member before s || b) (now s) ∙ sym (both s)
+
+pub mentioned_push_twin : (rules : List Rule) (front : Kids) (u v : ℕ) (set : List Bool) → AreMentionedIn rules front set → AreMentionedIn rules (joined front (twin_kid u v no_kids)) set
+mentioned_push_twin rules front u v set so_far s = any_push_twin rules s u v front ∙ so_far s

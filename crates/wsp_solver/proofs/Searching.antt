@@ -1,14 +1,13 @@
 -- What a search may conclude from what it has tried.
-use Rattle.std.proofs.Common.{◌≡◌, ◌≢◌, refl, sym, ap, ◌∙◌, ℕ, zero, suc, ◌+◌, ◌-◌, ◌<◌, ◌≤◌, Bool, true, false, not, ◌&&◌, ◌==◌, nat_lt, List, ◌∷◌, length, Option, None, Some, is_some, slice_set, if◌then◌else◌, arith, ◌⊎◌, inl, inr, eqb, eq-eqb}
-use Rattle.std.proofs.lemmas.Bool.{false≢true, lt-ltb, and_from}
+use Rattle.std.proofs.Common.{◌≡◌, ◌≢◌, refl, sym, ap, ◌∙◌, ℕ, zero, suc, ◌+◌, ◌-◌, ◌<◌, ◌≤◌, Bool, true, false, not, ◌&&◌, nat_lt, List, ◌∷◌, length, Option, None, Some, is_some, slice_set, if◌then◌else◌, arith, ◌⊎◌, inl, inr, eqb}
+use Rattle.std.proofs.lemmas.Bool.{false≢true, lt-ltb}
 use Rattle.std.proofs.lemmas.Bool.Decides.{eqb_tells}
 use Rattle.constraint_forms.specs.Assigned.{user_at, planned, is_member}
 use Rattle.constraint_forms.proofs.RuleLaws.{totals_decide, falsified_by_named}
-use Rattle.refutation_tree.specs.Shapes.{Shape, Kids, no_kids, tree_kid, joined}
-use Rattle.refutation_tree.proofs.ShapeLaws.{joined-assoc, joined-none}
+use Rattle.refutation_tree.specs.Shapes.{Kids, no_kids}
+use Rattle.refutation_tree.proofs.ShapeLaws.{joined-none}
 use Rattle.policy_book.specs.Plans.{Problem, IsValidPlan, IsWellFormed, IsWithin}
-use Rattle.policy_book.specs.Refuting.{refutes, all_refute, have_users, passing, is_misheld, is_broken}
-use Rattle.basics.proofs.Booleans.{and_both}
+use Rattle.policy_book.specs.Refuting.{have_users, passing, is_misheld, is_broken}
 use Rattle.certificate_check.proofs.Assigned.{none_not_some, given_other, given_same}
 use Rattle.certificate_check.proofs.Trees.{passing_at}
 use Rattle.wsp_solver.specs.Searches.{AreOfUsersBelow, IsPlanOf, NoLeafRefutes, free_count}
@@ -59,22 +58,10 @@ users_skip test u n front below fails so_far rest have =
     let skip = passing_at test u n below ∙ ap (λ b. if b then u ∷ passing test (u + 1) (n - (u + 1)) else passing test (u + 1) (n - (u + 1))) fails in
     so_far rest (ap (λ us. have_users us rest) skip ∙ have)
 
-pub users_push : (test : ℕ → Bool) (u n : ℕ) (front : Kids) (t : Shape) → u < n → test u ≡ true → AreOfUsersBelow test u n front → AreOfUsersBelow test (u + 1) n (joined front (tree_kid u t no_kids))
-users_push test u n front t below passes so_far rest have =
-    let take = passing_at test u n below ∙ ap (λ b. if b then u ∷ passing test (u + 1) (n - (u + 1)) else passing test (u + 1) (n - (u + 1))) passes in
-    ap (have_users (passing test 0 n)) (joined-assoc front (tree_kid u t no_kids) rest)
-    ∙ so_far (tree_kid u t rest) (ap (λ us. have_users us (tree_kid u t rest)) take ∙ and_from (u == u) (have_users (passing test (u + 1) (n - (u + 1))) rest) (eq-eqb u u refl) have)
-
 pub users_end : (test : ℕ → Bool) (u n : ℕ) (front : Kids) → n ≤ u → AreOfUsersBelow test u n front → have_users (passing test 0 n) front ≡ true
 users_end test u n front past so_far =
     let none : n - u ≡ zero = omega arith in
     ap (have_users (passing test 0 n)) (sym (joined-none front)) ∙ so_far no_kids (ap (λ k. have_users (passing test u k) no_kids) none)
-
-pub refute_push : (p : Problem) (a : List (Option ℕ)) (done : List Bool) (s u : ℕ) (t : Shape) (front : Kids) (earlier : List ℕ) → all_refute p a done s earlier front ≡ true → refutes p (slice_set a s (Some u)) done t ≡ true → all_refute p a done s earlier (joined front (tree_kid u t no_kids)) ≡ true
-refute_push p a done s u t no_kids earlier so_far here = and_from (refutes p (slice_set a s (Some u)) done t) true here refl
-refute_push p a done s u t (tree_kid v w front) earlier so_far here =
-    let both = and_both (refutes p (slice_set a s (Some v)) done w) (all_refute p a done s (v ∷ earlier) front) so_far in
-    and_from (refutes p (slice_set a s (Some v)) done w) (all_refute p a done s (v ∷ earlier) (joined front (tree_kid u t no_kids))) both.0 (refute_push p a done s u t front (v ∷ earlier) both.1 here)
 
 -- ---- how much is left
 

@@ -1,10 +1,12 @@
 -- What a search answers, and how far it has come.
-use Rattle.std.specs.Prelude.{◌≡◌, ℕ, zero, suc, ◌+◌, ◌-◌, ◌<◌, Bool, true, false, List, Option, Some, is_some, if◌then◌else◌, IsTrue, length}
+use Rattle.std.specs.Prelude.{◌≡◌, ℕ, zero, suc, ◌+◌, ◌-◌, ◌<◌, Bool, false, List, Option, Some, is_some, if◌then◌else◌, IsTrue, length}
 use Rattle.constraint_forms.specs.Assigned.{user_at, planned, is_member}
 use Rattle.refutation_tree.specs.Shapes.{Shape, Kids, holder, rule, joined}
 use Rattle.refutation_tree.specs.Views.{shape_of}
 use Rattle.policy_book.specs.Plans.{Problem, IsValidPlan}
 use Rattle.policy_book.specs.Refuting.{refutes, have_users, passing, mentions, any_mentions}
+use Rattle.policy_book.specs.Lean.{is_lean}
+use Rattle.refutation_tree.specs.declared.tree.Tree.{Tree}
 use Rattle.constraint_forms.specs.declared.rule.Rule.{Rule}
 use Rattle.wsp_solver.specs.declared.leaf.Refutation.{Refutation}
 use Rattle.wsp_solver.specs.declared.search.Searched.{Searched}
@@ -12,23 +14,28 @@ use Rattle.wsp_solver.specs.declared.search.Searched.TheVariants as searched
 use Rattle.wsp_solver.specs.declared.search.Outcome.{Outcome}
 use Rattle.wsp_solver.specs.declared.search.Outcome.TheVariants.{Plan, Refuted}
 
--- a plan that is valid, or a tree that refutes
+-- a tree refutes and is lean
+pub record IsLeanRefutation (p : Problem) (assigned : List (Option ℕ)) (finished : List Bool) (tree : Tree) : Type 0 where
+  pub refutes : IsTrue (refutes p assigned finished (shape_of tree))
+  pub lean : IsTrue (is_lean p assigned (shape_of tree))
+
+-- a plan that is valid, or a lean tree that refutes
 abbrev pub Decides : Problem → List (Option ℕ) → List Bool → Outcome → Type 0
 Decides p assigned finished (Plan plan) = IsValidPlan p assigned finished plan
-Decides p assigned finished (Refuted tree) = IsTrue (refutes p assigned finished (shape_of tree))
+Decides p assigned finished (Refuted tree) = IsLeanRefutation p assigned finished tree
 
--- a set has each step that a tree mentions
-abbrev pub HasMentioned : List Rule → Shape → List Bool → Type 0
-HasMentioned rules tree steps = (s : ℕ) → mentions rules s tree ≡ true → is_member steps s ≡ true
+-- a set has the steps that a tree mentions, and no other
+abbrev pub AreMentioned : List Rule → Shape → List Bool → Type 0
+AreMentioned rules tree steps = (s : ℕ) → mentions rules s tree ≡ is_member steps s
 
--- a set has each step that some branch mentions
-abbrev pub HasMentionedIn : List Rule → Kids → List Bool → Type 0
-HasMentionedIn rules kids steps = (s : ℕ) → any_mentions rules s kids ≡ true → is_member steps s ≡ true
+-- a set has the steps that some branch mentions, and no other
+abbrev pub AreMentionedIn : List Rule → Kids → List Bool → Type 0
+AreMentionedIn rules kids steps = (s : ℕ) → any_mentions rules s kids ≡ is_member steps s
 
--- a tree refutes, and the set beside it has each step that it mentions
+-- a tree refutes, and the set beside it has the steps that it mentions
 pub record IsRefutation (p : Problem) (assigned : List (Option ℕ)) (finished : List Bool) (r : Refutation) : Type 0 where
   pub refutes : IsTrue (refutes p assigned finished (shape_of r.tree))
-  pub steps : HasMentioned p.rules (shape_of r.tree) r.steps
+  pub steps : AreMentioned p.rules (shape_of r.tree) r.steps
 
 -- a plan that is valid, or a tree that refutes with the steps that it mentions
 abbrev pub HasSearched : Problem → List (Option ℕ) → List Bool → Searched → Type 0

@@ -7,9 +7,9 @@ ghost use Rattle.refutation_tree.specs.Views.{shape_of};
 ghost use Rattle.policy_book.specs.Plans.{IsWellFormed, IsWithin};
 ghost use Rattle.policy_book.specs.Policies.{problem_of};
 ghost use Rattle.policy_book.specs.Refuting.{refutes};
-ghost use Rattle.wsp_solver.specs.Searches.{HasMentioned, IsRefutation, NoLeafRefutes};
+ghost use Rattle.wsp_solver.specs.Searches.{AreMentioned, IsRefutation, NoLeafRefutes};
 
-use crate::steps::steps_named;
+use crate::steps::{steps_named, with_if};
 use certificate_check::check_tree;
 use policy_book::{Assign, Policy, StepSet};
 use refutation_tree::Tree;
@@ -37,24 +37,23 @@ pub(crate) fn refuting_leaf(p: &Policy, f: FlowId, a: &Assign, done: &StepSet) -
     }
 }
 
-// The leaf of a step with a wrong holder.
-#[tactic(auto, using(crate::proofs::Members::holder_mentioned))]
-fn held_wrongly(s: StepId) -> Refutation
+/// The leaf of a step with a wrong holder.
+pub(crate) fn held_wrongly(s: StepId) -> Refutation
     requires { s < STEP_LIMIT }
     ensures tree { shape_of result.tree ≡ holder s }
-    ensures steps { (rules : List AnyRule) → HasMentioned rules (holder s) result.steps }
+    ensures steps { (rules : List AnyRule) → AreMentioned rules (holder s) result.steps }
 {
     Refutation {
         tree: Tree::Holder(s),
-        steps: StepSet::empty().with(s),
+        steps: with_if(&StepSet::empty(), s, true),
     }
 }
 
-// The leaf of a rule.
-fn falsified_rule(p: &Policy, f: FlowId, k: u8) -> Refutation
+/// The leaf of a rule.
+pub(crate) fn falsified_rule(p: &Policy, f: FlowId, k: u8) -> Refutation
     requires { f < length p.now.flows }
     ensures tree { shape_of result.tree ≡ rule k }
-    ensures steps { HasMentioned (problem_of p.now f).rules (rule k) result.steps }
+    ensures steps { AreMentioned (problem_of p.now f).rules (rule k) result.steps }
 {
     Refutation {
         tree: Tree::Rule(k),
@@ -65,7 +64,7 @@ fn falsified_rule(p: &Policy, f: FlowId, k: u8) -> Refutation
 // The steps that a rule names; none where there is no such rule.
 fn steps_of_rule(p: &Policy, f: FlowId, k: u8) -> StepSet
     requires { f < length p.now.flows }
-    ensures { HasMentioned (problem_of p.now f).rules (rule k) result }
+    ensures { AreMentioned (problem_of p.now f).rules (rule k) result }
 {
     prove!(p.flow(f).steps().len() as usize <= STEP_LIMIT);
     match p.rules(f).as_slice().get(k as usize) {

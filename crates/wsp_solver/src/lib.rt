@@ -3,8 +3,11 @@
 
 mod found;
 mod leaf;
+mod lean;
 mod next;
 mod search;
 mod steps;
+mod twin;
 
+pub use lean::trim;
 pub use search::{Outcome, solve};

@@ -8,8 +8,10 @@ ghost use Rattle.wsp_solver.specs.Searches.{Decides, HasSearched};
 
 use crate::found::found;
 use crate::leaf::{Refutation, refuting_leaf};
+use crate::lean::trim;
 use crate::next::{next_step, plan_of};
 use crate::steps::united;
+use crate::twin::twin_among;
 use plan_finder::Finder;
 use policy_book::{Assign, Plan, Policy, StepSet};
 use refutation_tree::{Branch, Branches, Kid, Tree};
@@ -51,7 +53,7 @@ pub fn solve(
     }
     match decide(alloc, p, f, a, done, &mut finder)? {
         Searched::Plan(plan) => Ok(Outcome::Plan(plan)),
-        Searched::Refuted(refutation) => Ok(Outcome::Refuted(refutation.tree)),
+        Searched::Refuted(found) => Ok(Outcome::Refuted(trim(alloc, p, f, a, done, found.tree)?)),
     }
 }
 
@@ -79,8 +81,9 @@ fn decide(
     }
 }
 
-// Gives a free step to each user who is authorised for it, one after the other, until one of them leads to a plan. A tree
-// that does not mention the step refutes without it, so that nobody else needs to be tried.
+// Gives a free step to each user who is authorised for it, one after the other, until one of them
+// leads to a plan. A twin of a user who was tried is not tried. A tree that does not mention the step
+// refutes without it, so that nobody else needs to be tried.
 #[cycle(search)]
 fn try_users(
     alloc: Global,
@@ -103,6 +106,13 @@ fn try_users(
     'users: for u in 0..p.roster().users().len() {
         let user = UserId(u);
         if !is_authorised_user(p, f, s, user) {
+            continue;
+        }
+        if let Some(twin) = twin_among(p, f, a, &branches, user) {
+            branches.push(Branch {
+                user,
+                kid: Kid::Twin(twin),
+            })?;
             continue;
         }
         match decide(alloc, p, f, &a.with(s, user), done, finder)? {

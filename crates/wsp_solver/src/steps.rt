@@ -1,5 +1,5 @@
 //! Sets of steps.
-ghost use Rattle.std.specs.Prelude.{◌≡◌, ◌<◌, ℕ, true};
+ghost use Rattle.std.specs.Prelude.{◌≡◌, ◌<◌, ◌||◌, ◌&&◌, ◌==◌, ℕ, nat_lt};
 ghost use Rattle.constraint_forms.specs.Assigned.{is_member};
 ghost use Rattle.constraint_forms.specs.Rules.{names};
 ghost use Rattle.wf_names.specs.declared.limits.TheConstants.{STEP_LIMIT};
@@ -9,29 +9,32 @@ use wf_names::{STEP_LIMIT, StepId};
 
 /// The steps of either set.
 pub(crate) fn united(a: &StepSet, b: &StepSet) -> StepSet
-    ensures first { (s : ℕ) → is_member a.now s ≡ true → is_member result s ≡ true }
-    ensures second { (s : ℕ) → is_member b.now s ≡ true → is_member result s ≡ true }
+    ensures { (t : ℕ) → is_member result t ≡ (is_member a.now t || is_member b.now t) }
 {
     let mut both = *a;
     'steps: for s in 0..b.limit() {
         let step = StepId(s as u8);
-        if b.has(step) {
-            both = both.with(step);
-        }
+        both = with_if(&both, step, b.has(step));
     }
     both
 }
 
 /// The steps that a rule names.
 pub(crate) fn steps_named(rule: &Rule) -> StepSet
-    ensures { (s : ℕ) → s < STEP_LIMIT → names rule.now s ≡ true → is_member result s ≡ true }
+    ensures { (t : ℕ) → is_member result t ≡ (nat_lt t STEP_LIMIT && names rule.now t) }
 {
     let mut named = StepSet::empty();
     'steps: for s in 0..STEP_LIMIT {
         let step = StepId(s as u8);
-        if rule.names(step) {
-            named = named.with(step);
-        }
+        named = with_if(&named, step, rule.names(step));
     }
     named
+}
+
+/// A set, with one more step where that is wanted.
+pub(crate) fn with_if(set: &StepSet, s: StepId, wanted: bool) -> StepSet
+    requires { s < STEP_LIMIT }
+    ensures { (t : ℕ) → is_member result t ≡ (is_member set.now t || (wanted && t == s)) }
+{
+    if wanted { set.with(s) } else { *set }
 }

@@ -1,4 +1,4 @@
-use Rattle.std.proofs.Common.{Option, ◌≡◌, ◌+◌, ◌&&◌, ℕ, [], drop, Bool, true, false, List, refl, sym, ap, ◌∙◌, arith}
+use Rattle.std.proofs.Common.{Option, ◌≡◌, ◌+◌, ◌&&◌, ℕ, [], drop, take, Bool, true, false, List, refl, sym, ap, ◌∙◌, arith}
 use denote.Param.Weighed.{at_most}
 use Rattle.refutation_tree.specs.declared.tree.Branches.TheDeep.{size-Branch}
 use Rattle.refutation_tree.specs.Views.{kids_of_items, shape_of}
@@ -10,25 +10,29 @@ use Rattle.refutation_tree.proofs.Depths.{branches_below}
 use Rattle.policy_book.specs.Plans.{Problem}
 use Rattle.policy_book.specs.Policies.{problem_of}
 use Rattle.policy_book.specs.Refuting.{all_refute, authorised_users, have_users, is_unassigned, refutes}
-use Rattle.certificate_check.proofs.Trees.{refutes_at, branch_user}
+use Rattle.certificate_check.specs.Walks.{tree_users}
+use Rattle.certificate_check.proofs.Trees.{refutes_at, branch_user, first_below, passing_below}
 use Rattle.certificate_check.proofs.tree.+check.Goals as goal
 
 pub all_refute-branch_refutes-requires : goal.all_refute-branch_refutes-requires
 all_refute-branch_refutes-requires t c =
-    let known = branch_user (problem_of c.args.p.now c.args.f) c.args.s c.args.branches.now c.requires.users c.branches.branch-index c.branches-test.true c.branch-item.result c.branch-item.is in
-    (omega (arith, c.decreases, at_most (λ b. size-Branch b) c.args.branches.now c.branches.branch-index c.branch-item.result c.branches-test.true, ap (λ b. size-Branch b) c.branch-item.is), (c.requires.flow, (c.requires.within, (c.requires.room, (c.requires.free, known)))))
+    let p = problem_of c.args.p.now c.args.f in
+    let bs = c.args.branches.now in
+    let known = branch_user p c.args.s bs c.requires.users c.branches.i c.branches-test.true c.index-branches-i.result c.index-branches-i.is in
+    let below = first_below p.users c.branches.i bs (passing_below (p.authorised c.args.s) 0 p.users p.users (omega arith) (kids_of_items bs) c.requires.users) in
+    (omega (arith, c.decreases, at_most (λ b. size-Branch b) bs c.branches.i c.index-branches-i.result c.branches-test.true, ap (λ b. size-Branch b) c.index-branches-i.is), (c.requires.flow, (c.requires.within, (c.requires.room, (c.requires.free, (below, known))))))
 
 pub all_refute-returns-then-not-branch_refutes : goal.all_refute-returns-then-not-branch_refutes
 all_refute-returns-then-not-branch_refutes t c =
     let p = problem_of c.args.p.now c.args.f in
-    let rest = all_refute p c.args.a.now c.args.done.now c.args.s [] (kids_of_items (drop (c.branches.branch-index + 1) c.args.branches.now)) in
-    ap (λ b. b && rest) c.if-not-branch_refutes.ensures ∙ sym (refutes_at p c.args.a.now c.args.done.now c.args.s c.args.branches.now c.branches.branch-index c.branch-item.result c.branches-test.true c.branch-item.is) ∙ c.branches.invariant
+    let rest = all_refute p c.args.a.now c.args.done.now c.args.s (tree_users [] (take (c.branches.i + 1) c.args.branches.now)) (kids_of_items (drop (c.branches.i + 1) c.args.branches.now)) in
+    ap (λ b. b && rest) c.if-not-branch_refutes.ensures ∙ sym (refutes_at p c.args.a.now c.args.done.now c.args.s c.args.branches.now c.branches.i c.index-branches-i.result c.branches-test.true c.index-branches-i.is) ∙ c.branches.invariant
 
 pub all_refute-branches-preserved : goal.all_refute-branches-preserved
 all_refute-branches-preserved t c =
     let p = problem_of c.args.p.now c.args.f in
-    let rest = all_refute p c.args.a.now c.args.done.now c.args.s [] (kids_of_items (drop (c.branches.branch-index + 1) c.args.branches.now)) in
-    ap (λ b. b && rest) c.if-not-branch_refutes.ensures ∙ sym (refutes_at p c.args.a.now c.args.done.now c.args.s c.args.branches.now c.branches.branch-index c.branch-item.result c.branches-test.true c.branch-item.is) ∙ c.branches.invariant
+    let rest = all_refute p c.args.a.now c.args.done.now c.args.s (tree_users [] (take (c.branches.i + 1) c.args.branches.now)) (kids_of_items (drop (c.branches.i + 1) c.args.branches.now)) in
+    ap (λ b. b && rest) c.if-not-branch_refutes.ensures ∙ sym (refutes_at p c.args.a.now c.args.done.now c.args.s c.args.branches.now c.branches.i c.index-branches-i.result c.branches-test.true c.index-branches-i.is) ∙ c.branches.invariant
 
 -- a node refutes by three tests
 node_refutes : (p : Problem) (assigned : List (Option ℕ)) (done : List Bool) (tree : Tree) (s : ℕ) (kids : Kids) (bs : List Branch) → tree ≡ Step s kids → kids ≡ kids_of_items bs → is_unassigned p assigned s ≡ true → (users : Bool) → users ≡ have_users (authorised_users p s) (kids_of_items bs) →

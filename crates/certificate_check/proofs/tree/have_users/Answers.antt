@@ -1,4 +1,4 @@
-use Rattle.std.proofs.Common.{zero, if◌then◌else◌, ◌≡◌, ◌+◌, ◌-◌, ℕ, length, ◌∷◌, drop, true, List, refl, sym, ap, ◌∙◌, arith}
+use Rattle.std.proofs.Common.{zero, if◌then◌else◌, ◌≡◌, ◌+◌, ◌-◌, ℕ, length, ◌∷◌, drop, true, false, List, refl, sym, ap, ◌∙◌, arith}
 use Rattle.refutation_tree.specs.Views.{kids_of_items}
 use Rattle.policy_book.specs.Policies.{problem_of}
 use Rattle.policy_book.specs.Refuting.{have_users, passing}
@@ -15,6 +15,14 @@ users-preserved-then-not-authorised c =
     let left = passing (p.authorised c.args.s) (c.users.u + 1) (p.users - (c.users.u + 1)) in
     let skip = passing_at (p.authorised c.args.s) c.users.u p.users (omega (arith, known, c.users-test.true)) ∙ ap (λ b. if b then c.users.u ∷ left else left) (sym c.if-not-authorised.ensures) in
     (c.users.invariant.0, ap (λ us. have_users us (kids_of_items (drop c.users.next c.args.branches.now))) (sym skip) ∙ c.users.invariant.1)
+
+pub returns-then-not-is_of : goal.returns-then-not-is_of
+returns-then-not-is_of c =
+    let p = problem_of c.args.p.now c.args.f in
+    let known = users_known _ _ _ c.len-u-end.ensures.count (c.users-2.ensures.names ∙ ap (λ r. r.users) c.roster.ensures.roster) in
+    let left = passing (p.authorised c.args.s) (c.users.u + 1) (p.users - (c.users.u + 1)) in
+    let take = passing_at (p.authorised c.args.s) c.users.u p.users (omega (arith, known, c.users-test.true)) ∙ ap (λ b. if b then c.users.u ∷ left else left) (sym c.if-not-authorised.ensures) in
+    sym (users_next c.users.u left c.args.branches.now c.users.next false c.if-not-is_of.ensures.user) ∙ ap (λ us. have_users us (kids_of_items (drop c.users.next c.args.branches.now))) (sym take) ∙ c.users.invariant.1
 
 pub users-preserved : goal.users-preserved
 users-preserved c =

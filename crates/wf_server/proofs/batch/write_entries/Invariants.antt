@@ -1,11 +1,11 @@
 use Rattle.std.proofs.Common.{◌≡◌, take}
 use Rattle.wf_outside.specs.Outside.{with_bytes}
-use Rattle.wire_json.specs.Entries.{transcript_text}
+use Rattle.wf_server.specs.Batches.{entries_text}
 use Rattle.wf_server.proofs.batch.write_entries.Given as goal
 
 abbrev pub invariant-writing : goal.invariant-writing
 invariant-writing g l =
     record {
-      written : g.K.Sink.held l.sink ≡ with_bytes (g.K.Sink.held l.fn.sink) (transcript_text l.p (take l.entry-index l.entries));
+      written : g.K.Sink.held l.sink ≡ with_bytes (g.K.Sink.held l.fn.sink) (entries_text l.p (take l.entry-index l.entries));
       faults : g.K.Sink.faults l.sink ≡ g.K.Sink.faults l.fn.sink;
     }

@@ -1,26 +1,25 @@
 use Rattle.std.proofs.Common.{refl, sym, subst}
 use Rattle.wf_board.specs.Boards.{state_on}
 use Rattle.run_record.specs.Run.{Streams}
-use Rattle.wf_server.specs.Sessions.{handed_in}
-use Rattle.wf_server.specs.Batches.{told_of, BatchEnds}
+use Rattle.wf_server.specs.Batches.{handed_on, told_of, BatchEnds}
 use Rattle.wf_server.proofs.SessionLaws.{few_jobs, memory_serves, done_ends, fault_ends}
 use Rattle.wf_server.proofs.session.serve_batch.Goals as goal
 
 pub answer_batch-requires-clause-few : goal.answer_batch-requires-clause-few
 answer_batch-requires-clause-few g c =
     let told = told_of c.args.told.now in
-    rw c.as_slice.ensures (few_jobs _ _ told c.next_batch-jobs.result.jobs c.jobs_are_in_order.ensures (c.next_batch-jobs.ensures.up c.requires.serving.1.input (handed_in told) c.requires.serving.2.read))
+    rw c.as_slice.ensures (few_jobs _ _ told c.next_batch-jobs.result.jobs c.jobs_are_in_order.ensures (c.next_batch-jobs.ensures.up c.requires.serving.1.input (handed_on told) c.requires.serving.2.read))
 
 pub returns-in-NoMemory-clause-batch : goal.returns-in-NoMemory-clause-batch
 returns-in-NoMemory-clause-batch g c p before serving =
     memory_serves p c.next_batch-jobs.new.self.room before (record { input = g.S.Source.left c.args.source.now; output = g.K.Sink.held c.args.sink.now; read_faults = g.S.Source.faults c.args.source.now; write_faults = g.K.Sink.faults c.args.sink.now }) (record { input = g.S.Source.left c.next_batch-jobs.new.source; output = g.K.Sink.held c.args.sink.now; read_faults = g.S.Source.faults c.next_batch-jobs.new.source; write_faults = g.K.Sink.faults c.args.sink.now })
     c.args.reader.now (state_on c.args.board.now) (told_of c.args.told.now) c.next_batch-jobs.result.paused serving
-    (c.next_batch-jobs.ensures.up_before before.input (handed_in (told_of c.args.told.now)) serving.read) refl c.next_batch-jobs.ensures.counts refl
+    (c.next_batch-jobs.ensures.up_before before.input (handed_on (told_of c.args.told.now)) serving.read) refl c.next_batch-jobs.ensures.counts refl
 
 pub returns-in-Ok-clause-batch : goal.returns-in-Ok-clause-batch
 returns-in-Ok-clause-batch g c p before serving =
     let told = told_of c.args.told.now in
-    let h = handed_in told in
+    let h = handed_on told in
     let after : Streams = (record { input = g.S.Source.left c.next_batch-jobs.new.source; output = g.K.Sink.held c.answer_batch.new.sink; read_faults = g.S.Source.faults c.next_batch-jobs.new.source; write_faults = g.K.Sink.faults c.answer_batch.new.sink }) in
     let t = c.next_batch-jobs.new.self in
     let next = state_on c.answer_batch.new.board in
@@ -37,7 +36,7 @@ returns-in-Ok-clause-batch g c p before serving =
 pub returns-clause-batch : goal.returns-clause-batch
 returns-clause-batch g c p before serving =
     let told = told_of c.args.told.now in
-    let h = handed_in told in
+    let h = handed_on told in
     let jobs = c.as_slice.result.now in
     let same = c.as_slice.ensures in
     let how = c.next_batch-jobs.result.paused in

@@ -3,8 +3,7 @@ use Rattle.wf_board.specs.Boards.{state_on}
 use Rattle.line_cutter.specs.Jobs.{Cut}
 use Rattle.run_record.specs.Report.{nothing_told}
 use Rattle.run_record.specs.Run.{Streams}
-use Rattle.wf_server.specs.Sessions.{Serves}
-use Rattle.wf_server.specs.Batches.{told_of}
+use Rattle.wf_server.specs.Batches.{told_of, Serves}
 use Rattle.wf_server.proofs.SessionLaws.{opening_serves}
 use Rattle.wf_server.proofs.session.serve_batches.Goals as goal
 

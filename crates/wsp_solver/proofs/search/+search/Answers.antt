@@ -1,20 +1,20 @@
-use Rattle.std.proofs.Common.{◌≡◌, ◌<◌, ℕ, length, is_some, None, Bool, true, false, not, refl, ◌+◌, ◌&&◌, nat_lt, List, [], Option, sym, ap, subst, ◌∙◌, arith}
-use Rattle.std.proofs.lemmas.Bool.{and_from, ltb-true, false≢true}
-use Rattle.constraint_forms.specs.Assigned.{user_at, is_member}
+use Rattle.std.proofs.Common.{◌≡◌, ◌<◌, ℕ, length, is_some, None, true, not, ◌+◌, ◌&&◌, nat_lt, List, [], Option, sym, ap, subst, ◌∙◌, arith}
+use Rattle.std.proofs.lemmas.Bool.{and_from, ltb-true}
+use Rattle.constraint_forms.specs.Assigned.{user_at}
 use Rattle.refutation_tree.specs.Views.{shape_of}
 use Rattle.policy_book.specs.Plans.{Problem, AreAssigned, IsWithin, IsValidPlan}
 use Rattle.policy_book.specs.Policies.{problem_of}
-use Rattle.policy_book.specs.Refuting.{all_refute, authorised_users, have_users, is_unassigned, mentions, refutes}
+use Rattle.policy_book.specs.Refuting.{all_refute, authorised_users, have_users, is_unassigned, refutes}
 use Rattle.basics.proofs.Booleans.{and_both}
 use Rattle.certificate_check.proofs.Assigned.{not_some}
 use Rattle.certificate_check.proofs.Refuted.{assigned_given}
 use Rattle.certificate_check.proofs.Trees.{within_given}
-use Rattle.wsp_solver.specs.Searches.{AreOfUsersBelow, HasMentioned, HasMentionedIn, HasSearched, free_count}
-use Rattle.wsp_solver.proofs.Members.{mentioned_push}
+use Rattle.certificate_check.specs.Walks.{AreUsersBelow}
+use Rattle.wsp_solver.specs.Searches.{AreOfUsersBelow, AreMentionedIn, HasSearched, free_count}
+use Rattle.wsp_solver.proofs.Members.{mentioned_push, mentioned_push_twin}
 use Rattle.certificate_check.proofs.Dropped.{unmentioned_step_drops as drops}
-use Rattle.constraint_forms.specs.declared.rule.Rule.{Rule}
-use Rattle.refutation_tree.specs.Shapes.{Shape}
-use Rattle.wsp_solver.proofs.Searching.{valid_full, valid_without, users_skip, users_push, users_end, refute_push, count_less}
+use Rattle.wsp_solver.proofs.Searching.{valid_full, valid_without, users_skip, users_end, count_less}
+use Rattle.wsp_solver.proofs.Pushes.{below_push, below_push_twin, refute_push, refute_push_twin, users_push, users_push_twin}
 use Rattle.wsp_solver.proofs.search.+search.Goals as goal
 
 pub decide-returns-in-None : goal.decide-returns-in-None
@@ -37,7 +37,7 @@ pub try_users-users-preserved-then-not-is_authorised_user :
 try_users-users-preserved-then-not-is_authorised_user t c =
     let p = problem_of c.args.p.now c.args.f in
     let known = users_known _ _ _ c.len-u-end.ensures.count (c.users-2.ensures.names ∙ ap (λ r. r.users) c.roster.ensures.roster) in
-    (users_skip (p.authorised c.args.s) c.users.u p.users c.users.branches (omega (arith, known, c.users-test.true)) (sym c.if-not-is_authorised_user.ensures) c.users.invariant.0, c.users.invariant.1, c.users.invariant.2)
+    (users_skip (p.authorised c.args.s) c.users.u p.users c.users.branches (omega (arith, known, c.users-test.true)) (sym c.if-not-is_authorised_user.ensures) c.users.invariant.0, c.users.invariant.1, c.users.invariant.2, c.users.invariant.3)
 
 pub try_users-decide-requires : goal.try_users-decide-requires
 try_users-decide-requires t c =
@@ -65,11 +65,6 @@ try_users-returns-in-Plan t c =
     valid_without p c.args.a.now done c.in-Plan.plan c.args.s c.users.u (step_open p c.args.a.now c.args.s c.requires.free)
     (subst (λ x. IsValidPlan p x done c.in-Plan.plan) c.with.ensures.given found)
 
--- a tree that does not mention the step refutes without it
-silent : (rules : List Rule) (s : ℕ) (tree : Shape) (set : List Bool) → HasMentioned rules tree set → is_member set s ≡ false → (b : Bool) → mentions rules s tree ≡ b → b ≡ false
-silent rules s tree set has none true is = absurd (false≢true (sym none ∙ has s is))
-silent rules s tree set has none false is = refl
-
 pub try_users-returns-then-not-has : goal.try_users-returns-then-not-has
 try_users-returns-then-not-has t c =
     let p = problem_of c.args.p.now c.args.f in
@@ -79,10 +74,26 @@ try_users-returns-then-not-has t c =
     let kid = c.in-Refuted.kid in
     let found = subst (HasSearched p c.with.result done) c.in-Refuted.is c.in_ok-plan.ensures in
     let here = subst (λ x. refutes p x done (shape_of kid.tree) ≡ true) c.with.ensures.given found.refutes in
-    let quiet = silent p.rules s (shape_of kid.tree) kid.steps found.steps (sym c.if-not-has.ensures.flag) (mentions p.rules s (shape_of kid.tree)) refl in record {
+    let quiet = found.steps s ∙ sym c.if-not-has.ensures.flag in record {
       refutes = drops p a done s c.users.u (shape_of kid.tree) (omega (arith, c.requires.room, c.with.ensures.len)) (step_open p a s c.requires.free) quiet here;
       steps = found.steps;
     }
+
+pub try_users-users-preserved-in-Some : goal.try_users-users-preserved-in-Some
+try_users-users-preserved-in-Some t c =
+    let p = problem_of c.args.p.now c.args.f in
+    let a = c.args.a.now in
+    let s = c.args.s in
+    let u = c.users.u in
+    let twin = c.in-Some.twin in
+    let front = c.users.branches in
+    let known = users_known _ _ _ c.len-u-end.ensures.count (c.users-2.ensures.names ∙ ap (λ r. r.users) c.roster.ensures.roster) in
+    let pushed = c.in_ok-push.ensures.ok in (
+      subst (AreOfUsersBelow (p.authorised s) (u + 1) p.users) (sym pushed) (users_push_twin (p.authorised s) u twin p.users front (omega (arith, known, c.users-test.true)) (sym c.if-not-is_authorised_user.ensures) c.users.invariant.0),
+      subst (λ k. all_refute p a c.args.done.now s [] k ≡ true) (sym pushed) (refute_push_twin p a c.args.done.now s u twin front [] c.users.invariant.1 c.in-Some.ensures.0 c.in-Some.ensures.1),
+      subst (λ k. AreMentionedIn p.rules k c.users.steps) (sym pushed) (mentioned_push_twin p.rules front u twin c.users.steps c.users.invariant.2),
+      subst (AreUsersBelow p.users) (sym pushed) (below_push_twin p.users u twin front (omega (arith, known, c.users-test.true)) c.users.invariant.3),
+    )
 
 pub try_users-users-preserved : goal.try_users-users-preserved
 try_users-users-preserved t c =
@@ -97,12 +108,12 @@ try_users-users-preserved t c =
     let known = users_known _ _ _ c.len-u-end.ensures.count (c.users-2.ensures.names ∙ ap (λ r. r.users) c.roster.ensures.roster) in
     let found = subst (HasSearched p c.with.result done) c.in-Refuted.is c.in_ok-plan.ensures in
     let here = subst (λ x. refutes p x done tree ≡ true) c.with.ensures.given found.refutes in
-    let both = c.united-steps.ensures in
-    let said = mentioned_push p.rules front u tree c.united-steps.result (λ x h. both.first x (c.users.invariant.2 x h)) (λ x h. both.second x (found.steps x h)) in
+    let said = mentioned_push p.rules front u tree c.users.steps kid.steps c.united-steps.result c.users.invariant.2 found.steps c.united-steps.ensures in
     let pushed = c.in_ok-push-in-Refuted.ensures.ok in (
       subst (AreOfUsersBelow (p.authorised s) (u + 1) p.users) (sym pushed) (users_push (p.authorised s) u p.users front tree (omega (arith, known, c.users-test.true)) (sym c.if-not-is_authorised_user.ensures) c.users.invariant.0),
       subst (λ k. all_refute p a done s [] k ≡ true) (sym pushed) (refute_push p a done s u tree front [] c.users.invariant.1 here),
-      subst (λ k. HasMentionedIn p.rules k c.united-steps.result) (sym pushed) said,
+      subst (λ k. AreMentionedIn p.rules k c.united-steps.result) (sym pushed) said,
+      subst (AreUsersBelow p.users) (sym pushed) (below_push p.users u tree front (omega (arith, known, c.users-test.true)) c.users.invariant.3),
     )
 
 pub try_users-returns : goal.try_users-returns

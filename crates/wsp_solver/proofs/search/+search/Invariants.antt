@@ -1,7 +1,8 @@
 use Rattle.std.proofs.Common.{◌≡◌, ◌+◌, ◌*◌, [], true}
 use Rattle.policy_book.specs.Policies.{problem_of}
 use Rattle.policy_book.specs.Refuting.{all_refute}
-use Rattle.wsp_solver.specs.Searches.{AreOfUsersBelow, HasMentionedIn, free_count}
+use Rattle.certificate_check.specs.Walks.{AreUsersBelow}
+use Rattle.wsp_solver.specs.Searches.{AreOfUsersBelow, AreMentionedIn, free_count}
 use Rattle.wsp_solver.proofs.search.+search.Given as goal
 
 abbrev pub decreases-decide : goal.decreases-decide
@@ -14,4 +15,5 @@ abbrev pub invariant-try_users-users : goal.invariant-try_users-users
 invariant-try_users-users l =
     AreOfUsersBelow ((problem_of l.p l.f).authorised l.s) l.u (problem_of l.p l.f).users l.branches ×
     (all_refute (problem_of l.p l.f) l.a l.done l.s [] l.branches ≡ true) ×
-    HasMentionedIn (problem_of l.p l.f).rules l.branches l.steps
+    AreMentionedIn (problem_of l.p l.f).rules l.branches l.steps ×
+    AreUsersBelow (problem_of l.p l.f).users l.branches

@@ -1,7 +1,7 @@
-use Rattle.std.proofs.Common.{◌≡◌, ◌<◌, ℕ, true}
+use Rattle.std.proofs.Common.{◌≡◌, ℕ, ◌&&◌, nat_lt}
 use Rattle.constraint_forms.specs.Assigned.{is_member}
 use Rattle.constraint_forms.specs.Rules.{names}
 use Rattle.wsp_solver.proofs.steps.steps_named.Given as goal
 
 abbrev pub invariant-steps : goal.invariant-steps
-invariant-steps l = (t : ℕ) → t < l.s → names l.rule t ≡ true → is_member l.named t ≡ true
+invariant-steps l = (t : ℕ) → is_member l.named t ≡ (nat_lt t l.s && names l.rule t)

@@ -1,0 +1,146 @@
+//! Whether two users are twins, so that nothing depends on which of them is given a step.
+ghost use Rattle.std.specs.Prelude.{◌≡◌, ◌<◌, ◌&&◌, ◌||◌, ◌==◌, length, slice_get};
+ghost use Rattle.wf_names.specs.declared.limits.TheConstants.{STEP_LIMIT};
+ghost use Rattle.constraint_forms.specs.Assigned.{user_at};
+ghost use Rattle.constraint_forms.specs.Rules.{relation_of};
+ghost use Rattle.policy_book.specs.Policies.{problem_of};
+ghost use Rattle.policy_book.specs.Twins.{agree, all_below, are_related_alike, are_twins, has_no_step, is_alike_to, is_given_to, is_rule_alike, may_do_the_same, treats_alike};
+
+use constraint_forms::{Holds, Rule};
+use policy_book::{Assign, Policy};
+use wf_names::{FlowId, RelId, STEP_LIMIT, StepId, UserId};
+
+/// Whether two users are twins under an assignment: neither has a step, both are authorised for the
+/// same steps, and the relation of each rule treats them alike. Takes no memory.
+pub fn twins(p: &Policy, f: FlowId, a: &Assign, u: UserId, v: UserId) -> bool
+    requires flow { f < length p.now.flows }
+    requires first { u < (problem_of p.now f).users }
+    requires second { v < (problem_of p.now f).users }
+    ensures { result ≡ are_twins (problem_of p.now f) a.now u v }
+{
+    have_no_step(a, u, v) && may_do_the_same(p, f, u, v) && are_related_alike(p, f, u, v)
+}
+
+fn have_no_step(a: &Assign, u: UserId, v: UserId) -> bool
+    ensures { result ≡ (has_no_step a.now u && has_no_step a.now v) }
+{
+    has_no_step(a, u) && has_no_step(a, v)
+}
+
+fn has_no_step(a: &Assign, u: UserId) -> bool
+    ensures { result ≡ has_no_step a.now u }
+{
+    'steps: for s in 0..STEP_LIMIT {
+        if is_given_to(a, StepId(s as u8), u) {
+            return false;
+        }
+    }
+    true
+}
+
+fn is_given_to(a: &Assign, s: StepId, u: UserId) -> bool
+    ensures given { result ≡ is_given_to u (user_at a.now s) }
+    ensures len { length a.now ≡ STEP_LIMIT }
+{
+    match a.at(s) {
+        Some(v) => v == u,
+        None => false,
+    }
+}
+
+fn may_do_the_same(p: &Policy, f: FlowId, u: UserId, v: UserId) -> bool
+    requires flow { f < length p.now.flows }
+    requires first { u < (problem_of p.now f).users }
+    requires second { v < (problem_of p.now f).users }
+    ensures { result ≡ may_do_the_same (problem_of p.now f) u v }
+{
+    'steps: for s in 0..p.flow(f).steps().len() {
+        if !may_both_or_neither(p, f, StepId(s as u8), u, v) {
+            return false;
+        }
+    }
+    true
+}
+
+fn may_both_or_neither(p: &Policy, f: FlowId, s: StepId, u: UserId, v: UserId) -> bool
+    requires flow { f < length p.now.flows }
+    requires step { s < (problem_of p.now f).steps }
+    requires first { u < (problem_of p.now f).users }
+    requires second { v < (problem_of p.now f).users }
+    ensures { result ≡ agree ((problem_of p.now f).authorised s u) ((problem_of p.now f).authorised s v) }
+{
+    agree(p.authorised(f, s, u), p.authorised(f, s, v))
+}
+
+fn agree(one: bool, other: bool) -> bool
+    ensures { result ≡ agree one other }
+{
+    if one { other } else { !other }
+}
+
+fn are_related_alike(p: &Policy, f: FlowId, u: UserId, v: UserId) -> bool
+    requires { f < length p.now.flows }
+    ensures { result ≡ are_related_alike (problem_of p.now f) u v }
+{
+    'rules: for k in 0..p.rules(f).len() {
+        if !is_rule_alike(p, f, k, u, v) {
+            return false;
+        }
+    }
+    true
+}
+
+fn is_rule_alike(p: &Policy, f: FlowId, k: usize, u: UserId, v: UserId) -> bool
+    requires { f < length p.now.flows }
+    ensures { result ≡ is_rule_alike (problem_of p.now f) u v (slice_get (problem_of p.now f).rules k) }
+{
+    match p.rules(f).as_slice().get(k) {
+        Some(rule) => treats_alike(p, f, relation_of(rule), u, v),
+        None => true,
+    }
+}
+
+fn relation_of(rule: &Rule) -> RelId
+    ensures { result ≡ relation_of rule.now }
+{
+    match *rule {
+        Rule::Pair { rho, .. } => rho,
+        Rule::SomeOf { rho, .. } => rho,
+        Rule::AllOf { rho, .. } => rho,
+    }
+}
+
+fn treats_alike(p: &Policy, f: FlowId, rho: RelId, u: UserId, v: UserId) -> bool
+    ensures { result ≡ treats_alike (problem_of p.now f).users ((problem_of p.now f).related rho) u v }
+{
+    if !agree(p.holds(rho, u, u), p.holds(rho, v, v)) {
+        return false;
+    }
+    if !agree(p.holds(rho, u, v), p.holds(rho, v, u)) {
+        return false;
+    }
+    are_alike_to_all(p, f, rho, u, v)
+}
+
+fn are_alike_to_all(p: &Policy, f: FlowId, rho: RelId, u: UserId, v: UserId) -> bool
+    ensures { result ≡ all_below (problem_of p.now f).users (λ w. (w == u || w == v) || is_alike_to ((problem_of p.now f).related rho) u v w) }
+{
+    'users: for w in 0..p.roster().users().len() {
+        if !are_alike_to(p, f, rho, u, v, UserId(w)) {
+            return false;
+        }
+    }
+    true
+}
+
+fn are_alike_to(p: &Policy, f: FlowId, rho: RelId, u: UserId, v: UserId, w: UserId) -> bool
+    ensures { result ≡ ((w == u || w == v) || is_alike_to ((problem_of p.now f).related rho) u v w) }
+{
+    w == u || w == v || is_alike_to(p, f, rho, u, v, w)
+}
+
+fn is_alike_to(p: &Policy, f: FlowId, rho: RelId, u: UserId, v: UserId, w: UserId) -> bool
+    ensures { result ≡ is_alike_to ((problem_of p.now f).related rho) u v w }
+{
+    agree(p.holds(rho, u, w), p.holds(rho, v, w)) && agree(p.holds(rho, w, u), p.holds(rho, w, v))
+}

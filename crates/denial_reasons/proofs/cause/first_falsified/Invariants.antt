@@ -1,0 +1,10 @@
+use Rattle.std.proofs.Common.{◌≡◌, drop}
+use Rattle.constraint_forms.specs.Assigned.{user_at}
+use Rattle.policy_book.specs.Policies.{flow_at, problem_of}
+use Rattle.denial_reasons.specs.Causes.{first_falsified}
+use Rattle.denial_reasons.proofs.cause.first_falsified.Given as goal
+
+abbrev pub invariant-rules : goal.invariant-rules
+invariant-rules l =
+    first_falsified (problem_of l.p l.fn.f).related (user_at l.a) l.k (drop l.k l.rules)
+    ≡ first_falsified (problem_of l.p l.fn.f).related (user_at l.a) 0 (flow_at l.p l.fn.f).rules

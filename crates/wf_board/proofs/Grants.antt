@@ -1,0 +1,189 @@
+-- A claim is granted exactly where its user is authorised, its step is ready, and its case can then be completed.
+use Rattle.std.proofs.Common.{◌≡◌, ℕ, suc, ◌+◌, ◌<◌, Bool, true, false, ◌&&◌, nat_lt, List, [], ◌∷◌, length, Option, None, Some, option_map, is_none, slice_get, if◌then◌else◌, ◌⊎◌, inl, inr, refl, sym, ap, subst, ◌∙◌, arith}
+use Rattle.std.specs.Prelude.{◌↔◌}
+use Rattle.std.proofs.lemmas.Bool.Decides.{nat_tests}
+use Rattle.basics.proofs.Booleans.{and_both, and_from}
+use Rattle.first_fault.specs.Reading.{◌>>=◌}
+use Rattle.wf_names.specs.States.{user_of}
+use Rattle.wf_names.specs.declared.states.StepState.{StepState}
+use Rattle.wf_names.specs.declared.states.StepState.TheVariants.{Free, Held, Finished}
+use Rattle.constraint_forms.specs.declared.rule.Rule.{Rule}
+use Rattle.constraint_forms.specs.Assigned.{user_at}
+use Rattle.constraint_forms.specs.Rules.{Relating, is_falsified}
+use Rattle.refutation_tree.specs.Shapes.{rule}
+use Rattle.policy_book.specs.Shapes.{PolicyShape}
+use Rattle.policy_book.specs.Facts.{IsSoundPolicy}
+use Rattle.policy_book.specs.Policies.{flow_at, is_authorised, problem_of}
+use Rattle.policy_book.specs.Plans.{IsCompletable}
+use Rattle.policy_book.specs.Refuting.{is_broken}
+use Rattle.certificate_check.proofs.Refuted.{refutes_soundly}
+use Rattle.case_record.specs.Cases.{CaseShape, finished_of, state_at}
+use Rattle.case_record.specs.Ready.{first_missing, is_free}
+use Rattle.wf_talk.specs.declared.request.Request.TheVariants as request
+use Rattle.wf_talk.specs.declared.request.Ask.TheVariants as ask
+use Rattle.wf_talk.specs.declared.reply.Reply.{Reply}
+use Rattle.wf_talk.specs.declared.reply.Reply.TheVariants as reply
+use Rattle.wf_talk.specs.declared.reply.Denial.{Denial}
+use Rattle.wf_talk.specs.declared.reply.Denial.TheVariants as denial
+use Rattle.denial_reasons.specs.Causes.{assigned_with, first_cause, first_falsified, first_of, permitted_roles, unless}
+use Rattle.wf_board.specs.declared.deed.Deed.TheVariants as deed
+use Rattle.wf_board.specs.States.{Book, State}
+use Rattle.wf_board.specs.Decisions.{cause_full, decision_of, unless_denied}
+use Rattle.wf_board.specs.Steps.{Answers}
+use Rattle.wf_board.specs.Laws.{AreNamed, GrantsAreExact, MayBeGranted}
+use Rattle.wf_board.proofs.Told.{place_within}
+use Rattle.wf_board.proofs.Exact.{claimed_assigned, claims_are_exact, well_formed}
+
+-- ---- what no cause tells
+
+all_none : (a b c d : Option Denial) → first_of (a ∷ b ∷ c ∷ d ∷ []) ≡ None → (a ≡ None) × ((b ≡ None) × ((c ≡ None) × (d ≡ None)))
+all_none (Some x) b c d h = cc
+all_none None (Some x) c d h = cc
+all_none None None (Some x) d h = cc
+all_none None None None (Some x) h = cc
+all_none None None None None h = (refl, (refl, (refl, refl)))
+
+none_all : (a b c d : Option Denial) → a ≡ None → b ≡ None → c ≡ None → d ≡ None → first_of (a ∷ b ∷ c ∷ d ∷ []) ≡ None
+none_all a b c d h i j k = rw (h, i, j, k) refl
+
+free_of_users : (x : StepState) (make : ℕ → Denial) → option_map make (user_of x) ≡ None → is_free x ≡ true
+free_of_users Free make h = refl
+free_of_users (Held u) make h = cc
+free_of_users (Finished u) make h = cc
+
+users_of_free : (x : StepState) (make : ℕ → Denial) → is_free x ≡ true → option_map make (user_of x) ≡ None
+users_of_free Free make h = refl
+users_of_free (Held u) make h = cc
+users_of_free (Finished u) make h = cc
+
+free_is : (x : StepState) → is_free x ≡ true → x ≡ Free
+free_is Free h = refl
+free_is (Held u) h = cc
+free_is (Finished u) h = cc
+
+nothing_made : (o : Option ℕ) (make : ℕ → Denial) → option_map make o ≡ None → is_none o ≡ true
+nothing_made None make h = refl
+nothing_made (Some n) make h = cc
+
+made_of_nothing : (o : Option ℕ) (make : ℕ → Denial) → is_none o ≡ true → option_map make o ≡ None
+made_of_nothing None make h = refl
+made_of_nothing (Some n) make h = cc
+
+passes : (b : Bool) (d : Denial) → unless b d ≡ None → b ≡ true
+passes true d h = refl
+passes false d h = cc
+
+passed : (b : Bool) (d : Denial) → b ≡ true → unless b d ≡ None
+passed true d h = refl
+passed false d h = cc
+
+-- ---- a falsified rule
+
+-- the rule with a number, of rules of which the first has the number k, is falsified
+record IsFalsifiedAt (related : Relating) (users : ℕ → Option ℕ) (k m : ℕ) (rules : List Rule) : Type 0 where
+  place : ℕ
+  number : m ≡ k + place
+  the_rule : Rule
+  there : slice_get rules place ≡ Some the_rule
+  falsified : is_falsified related the_rule users ≡ true
+
+same_number : (k m : ℕ) → Some k ≡ Some m → m ≡ k + 0
+same_number k m h = let is : k ≡ m = cc in omega (arith, is)
+
+falsified_found : (related : Relating) (users : ℕ → Option ℕ) (k m : ℕ) (rules : List Rule) → first_falsified related users k rules ≡ Some m → IsFalsifiedAt related users k m rules
+falsified_found related users k m [] h = cc
+falsified_found related users k m (r ∷ rs) h = at_first (is_falsified related r users) refl h (falsified_found related users (k + 1) m rs)
+  where
+    later : IsFalsifiedAt related users (k + 1) m rs → IsFalsifiedAt related users k m (r ∷ rs)
+    later found = record { place = suc found.place; number = omega (arith, found.number); the_rule = found.the_rule; there = found.there; falsified = found.falsified }
+
+    at_first : (b : Bool) → is_falsified related r users ≡ b → (if b then Some k else first_falsified related users (k + 1) rs) ≡ Some m →
+        (first_falsified related users (k + 1) rs ≡ Some m → IsFalsifiedAt related users (k + 1) m rs) → IsFalsifiedAt related users k m (r ∷ rs)
+    at_first true is found rest = record { place = 0; number = same_number k m found; the_rule = r; there = refl; falsified = is }
+    at_first false is found rest = later (rest found)
+
+-- where a rule is falsified nothing can be completed
+no_rule_falsified : (p : PolicyShape) (c : CaseShape) (t u : ℕ) → IsSoundPolicy p → c.flow < length p.flows → state_at c t ≡ Free →
+    IsCompletable (problem_of p c.flow) (assigned_with c t u) (finished_of c) →
+    is_none (first_falsified (problem_of p c.flow).related (user_at (assigned_with c t u)) 0 (flow_at p c.flow).rules) ≡ true
+no_rule_falsified p c t u sound known free complete = by_search (first_falsified (problem_of p c.flow).related (user_at (assigned_with c t u)) 0 (flow_at p c.flow).rules) refl
+  where
+    by_search : (o : Option ℕ) → first_falsified (problem_of p c.flow).related (user_at (assigned_with c t u)) 0 (flow_at p c.flow).rules ≡ o → is_none o ≡ true
+    by_search None is = refl
+    by_search (Some k) is =
+        let found = falsified_found (problem_of p c.flow).related (user_at (assigned_with c t u)) 0 k (flow_at p c.flow).rules is in
+        let broken : is_broken (problem_of p c.flow) (assigned_with c t u) (slice_get (flow_at p c.flow).rules found.place) ≡ true = rw found.there found.falsified in
+        absurd (refutes_soundly (problem_of p c.flow) (assigned_with c t u) (finished_of c) (rule found.place) (well_formed p c.flow sound known) (claimed_assigned c t u free) broken complete)
+
+-- ---- the decision
+
+-- what a claim is decided as, once its case, step and user are found
+decided_claim : (b : Book) (n : ℕ) (step user : List ℕ) (c : CaseShape) (t u : ℕ) → AreNamed b n step user c t u →
+    decision_of b (ask.Request (request.Claim n step user)) ≡ unless_denied (deed.Claim n c t u) (first_cause b.policy c t u)
+decided_claim b n step user c t u named = rw (named.its_case, named.live, named.its_step, named.its_user) (unless_full (first_cause b.policy c t u))
+  where
+    unless_full : (o : Option Denial) → (unless_denied (deed.Claim n c t u) o >>= (λ given. unless_denied given (cause_full b given))) ≡ unless_denied (deed.Claim n c t u) o
+    unless_full None = refl
+    unless_full (Some d) = refl
+
+-- no cause is against a claim that may be granted
+granted_none : (s : State) (c : CaseShape) (t u : ℕ) → IsSoundPolicy s.book.policy → c.flow < length s.book.policy.flows → MayBeGranted s.book.policy c t u → first_cause s.book.policy c t u ≡ None
+granted_none s c t u sound known may =
+    let p = s.book.policy in
+    let ready = and_both (nat_lt t (length c.states) && is_free (state_at c t)) (is_none (first_missing c (flow_at p c.flow).flow.order t)) may.ready in
+    let free = (and_both (nat_lt t (length c.states)) (is_free (state_at c t)) ready.0).1 in
+    none_all _ _ _ _
+    (users_of_free (state_at c t) denial.Taken free)
+    (made_of_nothing (first_missing c (flow_at p c.flow).flow.order t) (denial.Order c.flow) ready.1)
+    (passed (is_authorised p c.flow t u) (denial.Role (permitted_roles p c.flow t)) may.authorised)
+    (made_of_nothing (first_falsified (problem_of p c.flow).related (user_at (assigned_with c t u)) 0 (flow_at p c.flow).rules) denial.Rule
+    (no_rule_falsified p c t u sound known (free_is (state_at c t) free) may.completable))
+
+-- where there is no cause, the user is authorised and the step ready
+none_granted : (s : State) (c : CaseShape) (t u : ℕ) → t < length c.states → first_cause s.book.policy c t u ≡ None →
+    IsCompletable (problem_of s.book.policy c.flow) (assigned_with c t u) (finished_of c) → MayBeGranted s.book.policy c t u
+none_granted s c t u below none complete =
+    let p = s.book.policy in
+    let each = all_none
+    (option_map denial.Taken (user_of (state_at c t)))
+    (option_map (denial.Order c.flow) (first_missing c (flow_at p c.flow).flow.order t))
+    (unless (is_authorised p c.flow t u) (denial.Role (permitted_roles p c.flow t)))
+    (option_map denial.Rule (first_falsified (problem_of p c.flow).related (user_at (assigned_with c t u)) 0 (flow_at p c.flow).rules))
+    none in
+    let within : nat_lt t (length c.states) ≡ true = grind (arith, nat_tests) in
+    record {
+      authorised = passes (is_authorised p c.flow t u) (denial.Role (permitted_roles p c.flow t)) each.1.1.0;
+      ready = and_from (nat_lt t (length c.states) && is_free (state_at c t)) (is_none (first_missing c (flow_at p c.flow).flow.order t))
+          (and_from (nat_lt t (length c.states)) (is_free (state_at c t)) within (free_of_users (state_at c t) denial.Taken each.0))
+          (nothing_made (first_missing c (flow_at p c.flow).flow.order t) (denial.Order c.flow) each.1.0);
+      completable = complete;
+    }
+
+no_grant : (d : Denial) (given : Reply) (plan : List ℕ) → (given ≡ reply.Denied d) ⊎ (given ≡ reply.NoMemory) → given ≡ reply.Granted plan → ⊥
+no_grant d given plan (inl is) granted = cc
+no_grant d given plan (inr is) granted = cc
+
+pub grants_are_exact : GrantsAreExact
+grants_are_exact s n step user c t u given sound named is_step memory = by_cause (first_cause s.book.policy c t u) refl
+  where
+    decided : decision_of s.book (ask.Request (request.Claim n step user)) ≡ unless_denied (deed.Claim n c t u) (first_cause s.book.policy c t u)
+    decided = decided_claim s.book n step user c t u named
+
+    known : c.flow < length s.book.policy.flows
+    known = (sound.cases n c named.its_case).flow
+
+    below : t < length c.states
+    below = subst (λ k. t < k) (sym (sound.cases n c named.its_case).steps) (place_within (flow_at s.book.policy c.flow).flow.steps step t named.its_step)
+
+    by_cause : (o : Option Denial) → first_cause s.book.policy c t u ≡ o → ((plan : List ℕ) × (given ≡ reply.Granted plan)) ↔ MayBeGranted s.book.policy c t u
+    by_cause None none =
+        let exact = claims_are_exact s (ask.Request (request.Claim n step user)) given n c t u sound (decided ∙ ap (unless_denied (deed.Claim n c t u)) none) is_step memory in
+        (λ granted. none_granted s c t u below none (exact.0 granted), λ may. exact.1 may.completable)
+    by_cause (Some d) cause =
+        let denied = subst (λ r. Answers s r given) (decided ∙ ap (unless_denied (deed.Claim n c t u)) cause) is_step in (
+          λ granted. absurd (no_grant d given granted.0 denied granted.1),
+          λ may. absurd (none_apart d (sym (granted_none s c t u sound.policy known may) ∙ cause)),
+        )
+      where
+        none_apart : (e : Denial) → None ≡ Some e → ⊥
+        none_apart e h = cc

@@ -1,0 +1,211 @@
+-- A snapshot has what a verdict on what is asked rests on.
+use Rattle.std.proofs.Common.{◌≡◌, ℕ, Bool, true, false, nat_eq, List, [], ◌∷◌, map, Option, None, Some, Result, Ok, Err, if◌then◌else◌, refl, sym, ap, subst, ◌∙◌}
+use Rattle.std.specs.Option.{option_map}
+use Rattle.first_fault.specs.Reading.{◌>>=◌, or_fault, check}
+use Rattle.policy_book.specs.Shapes.{PolicyShape}
+use Rattle.case_record.specs.Cases.{CaseShape}
+use Rattle.grant_table.specs.declared.rows.Row.{Row}
+use Rattle.grant_table.specs.Lookup.{look_up}
+use Rattle.grant_table.specs.Tables.{only}
+use Rattle.refutation_tree.specs.declared.tree.Tree.{Tree}
+use Rattle.wf_talk.specs.declared.request.Request.TheVariants as request
+use Rattle.wf_talk.specs.declared.request.Ask.{Ask}
+use Rattle.wf_talk.specs.declared.request.Ask.TheVariants as ask
+use Rattle.wf_talk.specs.declared.reply.Denial.{Denial}
+use Rattle.wf_talk.specs.declared.reply.Denial.TheVariants.{NoCase, NoStep, NoUser, NotAdmin}
+use Rattle.wf_board.specs.declared.deed.Deed.{Deed}
+use Rattle.wf_board.specs.declared.deed.Deed.TheVariants as deed
+use Rattle.wf_board.specs.declared.verdict.Verdict.{Verdict}
+use Rattle.wf_board.specs.declared.verdict.Verdict.TheVariants as verdict
+use Rattle.wf_board.specs.States.{Book, Numbered, case_at, is_admin, step_named, user_named}
+use Rattle.wf_board.specs.Resolved.{on_step, open_case_at, resolve, resolve_request}
+use Rattle.wf_board.specs.Decisions.{cause_aside, cause_full, decision_aside, decision_of, needs_plan, needs_verdict, unless_denied}
+use Rattle.wf_board.specs.Boards.{BoardShape, book_on, numbered, state_on}
+use Rattle.wf_board.specs.Verdicts.{IsPlanFor, IsRight, IsTreeFor, snap_of}
+use Rattle.wf_board.specs.Laws.{SnapsSuffice}
+
+-- a snapshot of one case has it as the table has it
+pub case_alone : (n : ℕ) (rows : List Row) → case_at (map numbered (only n rows)) n ≡ case_at (map numbered rows) n
+case_alone n [] = refl
+case_alone n (r ∷ rs) = at_first (nat_eq r.number n) refl (case_alone n rs)
+  where
+    at_first : (b : Bool) → nat_eq r.number n ≡ b → case_at (map numbered (only n rs)) n ≡ case_at (map numbered rs) n →
+        case_at (map numbered (if b then r ∷ only n rs else only n rs)) n ≡ option_map (λ (e : Numbered). e.case) (if b then Some (numbered r) else look_up (λ (e : Numbered). e.number) n (map numbered rs))
+    at_first true here rest = rw here refl
+    at_first false here rest = rest
+
+same_rest : {A B F : Type 0} (r : Result A F) (f g : A → Result B F) → ((x : A) → f x ≡ g x) → (r >>= f) ≡ (r >>= g)
+same_rest (Ok x) f g same = same x
+same_rest (Err d) f g same = refl
+
+-- a book with these cases
+abbrev with_cases : PolicyShape → List Numbered → ℕ → Book
+with_cases p cases ever = record { policy = p; cases = cases; ever = ever }
+
+-- the causes rest on no case but the deed's
+same_cause : (p : PolicyShape) (xs ys : List Numbered) (m : ℕ) (given : Deed) → unless_denied given (cause_aside (with_cases p xs m) given) ≡ unless_denied given (cause_aside (with_cases p ys m) given)
+same_cause p xs ys m (deed.Open f) = refl
+same_cause p xs ys m (deed.Claim n c s u) = refl
+same_cause p xs ys m (deed.Finish n c s u) = refl
+same_cause p xs ys m (deed.GiveBack n c s u) = refl
+same_cause p xs ys m (deed.Release n c s) = refl
+same_cause p xs ys m (deed.Withdraw n) = refl
+same_cause p xs ys m (deed.Show c) = refl
+same_cause p xs ys m (deed.TurnAway bad) = refl
+
+same_decision : (p : PolicyShape) (xs ys : List Numbered) (m : ℕ) (what : Ask) → resolve (with_cases p xs m) what ≡ resolve (with_cases p ys m) what →
+    decision_aside (with_cases p xs m) what ≡ decision_aside (with_cases p ys m) what
+same_decision p xs ys m what same =
+    ap (λ r. r >>= (λ given. unless_denied given (cause_aside (with_cases p xs m) given))) same
+    ∙ same_rest (resolve (with_cases p ys m) what) _ _ (same_cause p xs ys m)
+
+same_claim : (p : PolicyShape) (xs ys : List Numbered) (m n : ℕ) (step user : List ℕ) → case_at xs n ≡ case_at ys n →
+    on_step deed.Claim (with_cases p xs m) n step user ≡ on_step deed.Claim (with_cases p ys m) n step user
+same_claim p xs ys m n step user same = rw same refl
+
+-- a claim is decided over its case alone as over all
+pub claim_alone : (b : BoardShape) (n : ℕ) (step user : List ℕ) (spare : ℕ) →
+    decision_aside (book_on (snap_of b (ask.Request (request.Claim n step user)) spare)) (ask.Request (request.Claim n step user))
+    ≡ decision_aside (state_on b).book (ask.Request (request.Claim n step user))
+claim_alone b n step user spare =
+    same_decision b.policy (map numbered (only n b.cases.rows)) (map numbered b.cases.rows) b.cases.ever (ask.Request (request.Claim n step user))
+    (same_claim b.policy (map numbered (only n b.cases.rows)) (map numbered b.cases.rows) b.cases.ever n step user (case_alone n b.cases.rows))
+
+-- an opening is decided over no case as over all
+pub opening_alone : (b : BoardShape) (flow : List ℕ) (spare : ℕ) →
+    decision_aside (book_on (snap_of b (ask.Request (request.OpenCase flow)) spare)) (ask.Request (request.OpenCase flow))
+    ≡ decision_aside (state_on b).book (ask.Request (request.OpenCase flow))
+opening_alone b flow spare = same_decision b.policy [] (map numbered b.cases.rows) b.cases.ever (ask.Request (request.OpenCase flow)) refl
+
+-- what is no opening and no claim
+abbrev IsPlain : Result Deed Denial → Type 0
+IsPlain (Ok given) = needs_plan given ≡ false
+IsPlain (Err d) = Unit {0}
+
+then_plain : {X : Type 0} (r : Result X Denial) (f : X → Result Deed Denial) → ((x : X) → IsPlain (f x)) → IsPlain (r >>= f)
+then_plain (Ok x) f each = each x
+then_plain (Err d) f each = tt
+
+denied_plain : (given : Deed) (o : Option Denial) → needs_plan given ≡ false → IsPlain (unless_denied given o)
+denied_plain given None plain = plain
+denied_plain given (Some d) plain = tt
+
+plain_aside : (b : Book) (r : Result Deed Denial) → IsPlain r → IsPlain (r >>= (λ given. unless_denied given (cause_aside b given)))
+plain_aside b (Ok given) plain = denied_plain given (cause_aside b given) plain
+plain_aside b (Err d) plain = tt
+
+plain_step : (b : Book) (make : ℕ → CaseShape → ℕ → ℕ → Deed) (n : ℕ) (step user : List ℕ) → ((c : CaseShape) (s u : ℕ) → needs_plan (make n c s u) ≡ false) → IsPlain (on_step make b n step user)
+plain_step b make n step user plain =
+    then_plain (open_case_at b n) _ (λ c. then_plain (or_fault (step_named b c.flow step) NoStep) _ (λ s. then_plain (or_fault (user_named b user) NoUser) _ (λ u. plain c s u)))
+
+-- what rests on no plan
+abbrev IsAside : Book → Ask → Type 0
+IsAside b what = IsPlain (decision_aside b what)
+
+finish_plain : (n : ℕ) (step user : List ℕ) (b : Book) → IsAside b (ask.Request (request.Finish n step user))
+finish_plain n step user b = plain_aside b (on_step deed.Finish b n step user) (plain_step b deed.Finish n step user (λ c s u. refl))
+
+return_plain : (n : ℕ) (step user : List ℕ) (b : Book) → IsAside b (ask.Request (request.GiveBack n step user))
+return_plain n step user b = plain_aside b (on_step deed.GiveBack b n step user) (plain_step b deed.GiveBack n step user (λ c s u. refl))
+
+release_plain : (by : List ℕ) (n : ℕ) (step : List ℕ) (b : Book) → IsAside b (ask.Request (request.Release by n step))
+release_plain by n step b =
+    plain_aside b (resolve_request b (request.Release by n step))
+    (then_plain (check (is_admin b by) NotAdmin) _ (λ _. then_plain (open_case_at b n) _ (λ c. then_plain (or_fault (step_named b c.flow step) NoStep) _ (λ s. refl))))
+
+withdraw_plain : (by : List ℕ) (n : ℕ) (b : Book) → IsAside b (ask.Request (request.Withdraw by n))
+withdraw_plain by n b =
+    plain_aside b (resolve_request b (request.Withdraw by n)) (then_plain (check (is_admin b by) NotAdmin) _ (λ _. then_plain (open_case_at b n) _ (λ c. refl)))
+
+show_plain : (n : ℕ) (b : Book) → IsAside b (ask.Request (request.Show n))
+show_plain n b = plain_aside b (resolve_request b (request.Show n)) (then_plain (or_fault (case_at b.cases n) NoCase) _ (λ c. refl))
+
+plain_needs : (r : Result Deed Denial) → IsPlain r → needs_verdict r ≡ false
+plain_needs (Ok given) plain = plain
+plain_needs (Err d) plain = refl
+
+-- what rests on no plan over any book
+abbrev IsAlwaysAside : Ask → Type 0
+IsAlwaysAside what = (b : Book) → IsAside b what
+
+both_plain : (b : BoardShape) (what : Ask) (spare : ℕ) → IsAlwaysAside what → needs_verdict (decision_aside (book_on (snap_of b what spare)) what) ≡ needs_verdict (decision_aside (state_on b).book what)
+both_plain b what spare plain =
+    let snap = book_on (snap_of b what spare) in
+    plain_needs (decision_aside snap what) (plain snap) ∙ sym (plain_needs (decision_aside (state_on b).book what) (plain (state_on b).book))
+
+-- a snapshot needs a verdict exactly where its board does
+pub needs_same : (b : BoardShape) (what : Ask) (spare : ℕ) → needs_verdict (decision_aside (book_on (snap_of b what spare)) what) ≡ needs_verdict (decision_aside (state_on b).book what)
+needs_same b (ask.Request (request.OpenCase flow)) spare = ap needs_verdict (opening_alone b flow spare)
+needs_same b (ask.Request (request.Claim n step user)) spare = ap needs_verdict (claim_alone b n step user spare)
+needs_same b (ask.Request (request.Finish n step user)) spare = both_plain b (ask.Request (request.Finish n step user)) spare (finish_plain n step user)
+needs_same b (ask.Request (request.GiveBack n step user)) spare = both_plain b (ask.Request (request.GiveBack n step user)) spare (return_plain n step user)
+needs_same b (ask.Request (request.Release by n step)) spare = both_plain b (ask.Request (request.Release by n step)) spare (release_plain by n step)
+needs_same b (ask.Request (request.Withdraw by n)) spare = both_plain b (ask.Request (request.Withdraw by n)) spare (withdraw_plain by n)
+needs_same b (ask.Request (request.Show n)) spare = both_plain b (ask.Request (request.Show n)) spare (show_plain n)
+needs_same b (ask.Bad bad) spare = refl
+
+denied_needs : (given : Deed) (o : Option Denial) → needs_verdict (unless_denied given o) ≡ true → needs_plan given ≡ true
+denied_needs given None needs = needs
+denied_needs given (Some d) needs = cc
+
+-- what needs a verdict needs one with `full` aside
+pub needs_aside : (b : Book) (what : Ask) → needs_verdict (decision_of b what) ≡ true → needs_verdict (decision_aside b what) ≡ true
+needs_aside b what needs = from (decision_aside b what) needs
+  where
+    from : (r : Result Deed Denial) → needs_verdict (r >>= (λ given. unless_denied given (cause_full b given))) ≡ true → needs_verdict r ≡ true
+    from (Ok given) h = denied_needs given (cause_full b given) h
+    from (Err d) h = h
+
+-- what needs a verdict over a board needs one over its snapshot
+pub snap_needs : (b : BoardShape) (what : Ask) (spare : ℕ) → needs_verdict (decision_of (state_on b).book what) ≡ true →
+    needs_verdict (decision_aside (book_on (snap_of b what spare)) what) ≡ true
+snap_needs b what spare needs = needs_same b what spare ∙ needs_aside (state_on b).book what needs
+
+no_plan : (b : Book) (r : Result Deed Denial) (plan : List ℕ) {X : Type 0} → IsPlain r → IsPlanFor b r plan → X
+no_plan b (Ok (deed.Open f)) plan plain is = cc
+no_plan b (Ok (deed.Claim n c t u)) plan plain is = cc
+no_plan b r plan plain is = absurd is
+
+no_tree : (b : Book) (r : Result Deed Denial) (tree : Tree) {X : Type 0} → IsPlain r → IsTreeFor b r tree → X
+no_tree b (Ok (deed.Open f)) tree plain is = cc
+no_tree b (Ok (deed.Claim n c t u)) tree plain is = cc
+no_tree b r tree plain is = absurd is
+
+-- no plan and no tree is right for what rests on no plan
+plain_right : (b c : Book) (what : Ask) (v : Verdict) → IsAlwaysAside what → IsRight b what v → IsRight c what v
+plain_right b c what verdict.Nothing plain is = tt
+plain_right b c what verdict.NoMemory plain is = tt
+plain_right b c what (verdict.Plan plan) plain is = no_plan b (decision_aside b what) plan (plain b) is
+plain_right b c what (verdict.Refuted tree) plain is = no_tree b (decision_aside b what) tree (plain b) is
+
+-- where the decision is the same, so is what is right
+plan_same : (p : PolicyShape) (xs ys : List Numbered) (m : ℕ) (r : Result Deed Denial) (plan : List ℕ) → IsPlanFor (with_cases p xs m) r plan → IsPlanFor (with_cases p ys m) r plan
+plan_same p xs ys m (Ok (deed.Open f)) plan is = is
+plan_same p xs ys m (Ok (deed.Claim n c t u)) plan is = is
+plan_same p xs ys m r plan is = absurd is
+
+tree_same : (p : PolicyShape) (xs ys : List Numbered) (m : ℕ) (r : Result Deed Denial) (tree : Tree) → IsTreeFor (with_cases p xs m) r tree → IsTreeFor (with_cases p ys m) r tree
+tree_same p xs ys m (Ok (deed.Open f)) tree is = is
+tree_same p xs ys m (Ok (deed.Claim n c t u)) tree is = is
+tree_same p xs ys m r tree is = absurd is
+
+right_same : (p : PolicyShape) (xs ys : List Numbered) (m : ℕ) (what : Ask) (v : Verdict) → decision_aside (with_cases p xs m) what ≡ decision_aside (with_cases p ys m) what →
+    IsRight (with_cases p xs m) what v → IsRight (with_cases p ys m) what v
+right_same p xs ys m what verdict.Nothing same is = tt
+right_same p xs ys m what verdict.NoMemory same is = tt
+right_same p xs ys m what (verdict.Plan plan) same is =
+    subst (λ r. IsPlanFor (with_cases p ys m) r plan) same (plan_same p xs ys m (decision_aside (with_cases p xs m) what) plan is)
+right_same p xs ys m what (verdict.Refuted tree) same is =
+    subst (λ r. IsTreeFor (with_cases p ys m) r tree) same (tree_same p xs ys m (decision_aside (with_cases p xs m) what) tree is)
+
+pub snaps_suffice : SnapsSuffice
+snaps_suffice b (ask.Request (request.OpenCase flow)) spare v is =
+    right_same b.policy [] (map numbered b.cases.rows) b.cases.ever (ask.Request (request.OpenCase flow)) v (opening_alone b flow spare) is
+snaps_suffice b (ask.Request (request.Claim n step user)) spare v is =
+    right_same b.policy (map numbered (only n b.cases.rows)) (map numbered b.cases.rows) b.cases.ever (ask.Request (request.Claim n step user)) v (claim_alone b n step user spare) is
+snaps_suffice b (ask.Request (request.Finish n step user)) spare v is = plain_right (book_on (snap_of b (ask.Request (request.Finish n step user)) spare)) (state_on b).book (ask.Request (request.Finish n step user)) v (finish_plain n step user) is
+snaps_suffice b (ask.Request (request.GiveBack n step user)) spare v is = plain_right (book_on (snap_of b (ask.Request (request.GiveBack n step user)) spare)) (state_on b).book (ask.Request (request.GiveBack n step user)) v (return_plain n step user) is
+snaps_suffice b (ask.Request (request.Release by n step)) spare v is = plain_right (book_on (snap_of b (ask.Request (request.Release by n step)) spare)) (state_on b).book (ask.Request (request.Release by n step)) v (release_plain by n step) is
+snaps_suffice b (ask.Request (request.Withdraw by n)) spare v is = plain_right (book_on (snap_of b (ask.Request (request.Withdraw by n)) spare)) (state_on b).book (ask.Request (request.Withdraw by n)) v (withdraw_plain by n) is
+snaps_suffice b (ask.Request (request.Show n)) spare v is = plain_right (book_on (snap_of b (ask.Request (request.Show n)) spare)) (state_on b).book (ask.Request (request.Show n)) v (show_plain n) is
+snaps_suffice b (ask.Bad bad) spare v is = plain_right (book_on (snap_of b (ask.Bad bad) spare)) (state_on b).book (ask.Bad bad) v (λ a. refl) is

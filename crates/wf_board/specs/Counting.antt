@@ -1,0 +1,70 @@
+-- Which entries count for a request: they changed what its decision rests on.
+use Rattle.std.specs.Prelude.{◌≡◌, ℕ, ◌+◌, ◌==◌, nat_eq, Bool, false, List, [], ◌∷◌, drop, Option, None, Some, if◌then◌else◌}
+use Rattle.wf_talk.specs.declared.entry.Entry.{Entry}
+use Rattle.wf_talk.specs.declared.request.Request.{Request}
+use Rattle.wf_talk.specs.declared.request.Request.TheVariants as request
+use Rattle.wf_talk.specs.declared.request.Ask.{Ask}
+use Rattle.wf_talk.specs.declared.request.Ask.TheVariants as ask
+use Rattle.wf_talk.specs.declared.reply.Reply.{Reply}
+use Rattle.wf_talk.specs.declared.reply.Reply.TheVariants as reply
+
+-- the case that a request names by its number
+abbrev pub case_of_request : Request → Option ℕ
+case_of_request (request.OpenCase flow) = None
+case_of_request (request.Claim n step user) = Some n
+case_of_request (request.Finish n step user) = Some n
+case_of_request (request.GiveBack n step user) = Some n
+case_of_request (request.Release by n step) = Some n
+case_of_request (request.Withdraw by n) = Some n
+case_of_request (request.Show n) = Some n
+
+-- the case that what was asked names
+abbrev pub case_of_ask : Ask → Option ℕ
+case_of_ask (ask.Request r) = case_of_request r
+case_of_ask (ask.Bad bad) = None
+
+-- the case that a reply changed, where this was asked
+abbrev pub changed_case : Ask → Reply → Option ℕ
+changed_case what (reply.Opened n plan) = Some n
+changed_case what (reply.Granted plan) = case_of_ask what
+changed_case what (reply.Finished done) = case_of_ask what
+changed_case what reply.Returned = case_of_ask what
+changed_case what reply.Released = case_of_ask what
+changed_case what reply.Withdrawn = case_of_ask what
+changed_case what given = None
+
+-- there is a number, and it is this
+abbrev pub is_number : ℕ → Option ℕ → Bool
+is_number n None = false
+is_number n (Some m) = m == n
+
+-- whether an entry counts for what is asked: for a claim where it changed its case; no request changes the policy
+abbrev pub counts_for : Entry → Ask → Bool
+counts_for e (ask.Request (request.Claim n step user)) = is_number n (changed_case e.ask e.reply)
+counts_for e what = false
+
+-- how many pass
+abbrev pub count_of : (Entry → Bool) → List Entry → ℕ
+count_of test [] = 0
+count_of test (e ∷ es) = (if test e then 1 else 0) + count_of test es
+
+-- how many count for what is asked
+abbrev pub counted : Ask → List Entry → ℕ
+counted what es = count_of (λ e. counts_for e what) es
+
+-- the place behind the last that passes, of entries of which the first stands at n; before, where none does
+abbrev pub last_end_from : ℕ → ℕ → (Entry → Bool) → List Entry → ℕ
+last_end_from n before test [] = before
+last_end_from n before test (e ∷ es) = last_end_from (n + 1) (if test e then n + 1 else before) test es
+
+-- the place behind a lane's last entry
+abbrev pub lane_end : ℕ → List Entry → ℕ
+lane_end lane es = last_end_from 0 0 (λ e. nat_eq e.lane lane) es
+
+-- the place behind the last entry that counts for what is asked
+abbrev pub counted_end : Ask → List Entry → ℕ
+counted_end what es = last_end_from 0 0 (λ e. counts_for e what) es
+
+-- no entry from a place on counts for what is asked
+abbrev pub IsFresh : List Entry → ℕ → Ask → Type 0
+IsFresh es n what = counted what (drop n es) ≡ 0

@@ -1,0 +1,61 @@
+-- Inside: how a board answers over its policy and its table of cases.
+use Rattle.std.specs.Prelude.{◌≡◌, ℕ, ◌+◌, ◌≤◌, false, true, Result}
+use Rattle.policy_book.specs.Shapes.{PolicyShape}
+use Rattle.case_record.specs.Cases.{CaseShape}
+use Rattle.grant_table.specs.Tables.{CasesShape}
+use Rattle.wf_talk.specs.declared.request.Ask.{Ask}
+use Rattle.wf_talk.specs.declared.reply.Reply.{Reply}
+use Rattle.wf_talk.specs.declared.reply.Reply.TheVariants as reply
+use Rattle.wf_talk.specs.declared.reply.Denial.{Denial}
+use Rattle.wf_board.specs.declared.deed.Deed.{Deed}
+use Rattle.wf_board.specs.declared.verdict.Verdict.{Verdict}
+use Rattle.wf_board.specs.declared.verdict.Verdict.TheVariants as verdict
+use Rattle.wf_board.specs.declared.verdict.Answered.{Answered}
+use Rattle.wf_board.specs.declared.verdict.Answered.TheVariants.{Done, Needs}
+use Rattle.wf_board.specs.States.{Book}
+use Rattle.wf_board.specs.Boards.{BoardShape, book_of, state_on}
+use Rattle.wf_board.specs.Decisions.{cause_full, decision_of, needs_verdict, takes_memory, unless_denied}
+use Rattle.wf_board.specs.Steps.{Answers, state_after_decision, with_changed}
+use Rattle.wf_board.specs.Kept.{AreNumbered, ArePlanned}
+use Rattle.wf_board.specs.Verdicts.{HasAnswered, HasUsed, MayLackMemory}
+
+-- what a board keeps of its table
+pub record IsKept (p : PolicyShape) (t : CasesShape) : Type 0 where
+  pub planned : ArePlanned p t.rows
+  pub numbered : AreNumbered t.rows t.ever
+
+-- a board of a policy and a table
+abbrev pub board_of : PolicyShape → CasesShape → ℕ → BoardShape
+board_of p t edits = record { policy = p; cases = t; edits = edits }
+
+-- a deed, or the cause that no more cases can be opened
+abbrev pub full_or : Book → Deed → Result Deed Denial
+full_or b given = unless_denied given (cause_full b given)
+
+-- a step was taken, where the deed or the cause against it is this
+pub record HasTaken (p : PolicyShape) (before after : CasesShape) (decision : Result Deed Denial) (given : Reply) : Type 0 where
+  pub kept : IsKept p after
+  pub step : (edits : ℕ) → Answers (state_on (board_of p before edits)) decision given
+  pub next : (edits : ℕ) → state_on (board_of p after edits) ≡ state_after_decision (state_on (board_of p before edits)) decision given
+  pub room : before.spare ≤ after.spare + 1
+
+-- one case was changed
+pub record HasChanged (p : PolicyShape) (before after : CasesShape) (n : ℕ) (change : CaseShape → CaseShape) : Type 0 where
+  pub kept : IsKept p after
+  pub next : (edits : ℕ) → state_on (board_of p after edits) ≡ with_changed (state_on (board_of p before edits)) n change
+  pub spare : after.spare ≡ before.spare
+
+-- what needs no verdict was answered; what needs one was not, and nothing changed
+abbrev pub HasAnsweredAlone : PolicyShape → CasesShape → CasesShape → Result Deed Denial → Answered → Type 0
+HasAnsweredAlone p before after decision Needs = (needs_verdict decision ≡ true) × (after ≡ before)
+HasAnsweredAlone p before after decision (Done given) =
+    HasTaken p before after decision given × ((needs_verdict decision ≡ false) × (given ≡ reply.NoMemory → takes_memory decision ≡ true))
+
+-- all that a board promises of an answer
+pub record HasAnsweredBy (p : PolicyShape) (before after : CasesShape) (what : Ask) (v : Verdict) (given : Answered) : Type 0 where
+  pub kept : IsKept p after
+  pub answered : (edits : ℕ) → HasAnswered (board_of p before edits) (board_of p after edits) what v given
+  pub needs : needs_verdict (decision_of (book_of p before) what) ≡ true → v ≡ verdict.Nothing → given ≡ Needs
+  pub made : needs_verdict (decision_of (book_of p before) what) ≡ true → HasUsed v given
+  pub memory : (edits : ℕ) → given ≡ Done reply.NoMemory → MayLackMemory (board_of p before edits) what v
+  pub room : before.spare ≤ after.spare + 1

@@ -1,0 +1,102 @@
+-- Verdicts on whether a case can be completed.
+use Rattle.std.specs.Prelude.{◌≡◌, ◌≢◌, ℕ, Bool, false, true, List, [], Result, Ok, IsTrue}
+use Rattle.std.proofs.Common.{◌⊎◌}
+use Rattle.constraint_forms.specs.Assigned.{no_users, no_steps}
+use Rattle.refutation_tree.specs.Views.{shape_of}
+use Rattle.policy_book.specs.Policies.{problem_of}
+use Rattle.policy_book.specs.Plans.{IsValidPlan}
+use Rattle.policy_book.specs.Refuting.{refutes}
+use Rattle.case_record.specs.Cases.{finished_of}
+use Rattle.grant_table.specs.declared.rows.Row.{Row}
+use Rattle.grant_table.specs.Tables.{only}
+use Rattle.wf_talk.specs.declared.request.Request.TheVariants as request
+use Rattle.wf_talk.specs.declared.request.Ask.{Ask}
+use Rattle.wf_talk.specs.declared.request.Ask.TheVariants as ask
+use Rattle.wf_talk.specs.declared.reply.Reply.{Reply}
+use Rattle.wf_talk.specs.declared.reply.Reply.TheVariants as reply
+use Rattle.wf_talk.specs.declared.reply.Denial.{Denial}
+use Rattle.wf_talk.specs.declared.reply.Denial.TheVariants as denial
+use Rattle.refutation_tree.specs.declared.tree.Tree.{Tree}
+use Rattle.denial_reasons.specs.Causes.{assigned_with}
+use Rattle.wf_board.specs.declared.deed.Deed.{Deed}
+use Rattle.wf_board.specs.declared.deed.Deed.TheVariants as deed
+use Rattle.wf_board.specs.declared.verdict.Verdict.{Verdict}
+use Rattle.wf_board.specs.declared.verdict.Verdict.TheVariants as verdict
+use Rattle.wf_board.specs.declared.verdict.Answered.{Answered}
+use Rattle.wf_board.specs.declared.verdict.Answered.TheVariants.{Done, Needs}
+use Rattle.wf_board.specs.States.{Book}
+use Rattle.wf_board.specs.Boards.{BoardShape, SnapShape, state_on}
+use Rattle.wf_board.specs.Decisions.{decision_aside, decision_of, needs_verdict, takes_memory}
+use Rattle.wf_board.specs.Steps.{IsStep, state_after_step}
+
+-- a plan by which the case of a deed can be completed
+abbrev pub IsPlanFor : Book → Result Deed Denial → List ℕ → Type 0
+IsPlanFor b (Ok (deed.Open f)) plan = IsValidPlan (problem_of b.policy f) no_users no_steps plan
+IsPlanFor b (Ok (deed.Claim n c t u)) plan = IsValidPlan (problem_of b.policy c.flow) (assigned_with c t u) (finished_of c) plan
+IsPlanFor b given plan = ⊥
+
+-- a tree that shows that the case of a deed cannot be completed
+abbrev pub IsTreeFor : Book → Result Deed Denial → Tree → Type 0
+IsTreeFor b (Ok (deed.Open f)) tree = IsTrue (refutes (problem_of b.policy f) no_users no_steps (shape_of tree))
+IsTreeFor b (Ok (deed.Claim n c t u)) tree =
+    IsTrue (refutes (problem_of b.policy c.flow) (assigned_with c t u) (finished_of c) (shape_of tree))
+IsTreeFor b given tree = ⊥
+
+-- a verdict is right: no earlier check denies what is asked, `full` aside, and its plan or tree is one for the deed
+abbrev pub IsRight : Book → Ask → Verdict → Type 0
+IsRight b what verdict.Nothing = Unit {0}
+IsRight b what verdict.NoMemory = Unit {0}
+IsRight b what (verdict.Plan plan) = IsPlanFor b (decision_aside b what) plan
+IsRight b what (verdict.Refuted tree) = IsTreeFor b (decision_aside b what) tree
+
+-- the verdict is nothing exactly where an earlier check decides, `full` aside, or no verdict is needed
+pub record Decides (b : Book) (what : Ask) (v : Verdict) : Type 0 where
+  pub right : IsRight b what v
+  pub nothing : needs_verdict (decision_aside b what) ≡ false → v ≡ verdict.Nothing
+  pub something : needs_verdict (decision_aside b what) ≡ true → v ≢ verdict.Nothing
+
+-- a reply is made of this very verdict, where one was needed
+abbrev pub IsMadeOf : Verdict → Reply → Type 0
+IsMadeOf v reply.NoMemory = Unit {0}
+IsMadeOf (verdict.Plan plan) (reply.Granted q) = q ≡ plan
+IsMadeOf (verdict.Plan plan) (reply.Opened n q) = q ≡ plan
+IsMadeOf (verdict.Refuted tree) (reply.Denied (denial.Stranded f t)) = t ≡ tree
+IsMadeOf (verdict.Refuted tree) (reply.Denied (denial.Unsatisfiable f t)) = t ≡ tree
+IsMadeOf v given = ⊥
+
+-- what the board answered is made of this very verdict; it needs one only where there is none
+abbrev pub HasUsed : Verdict → Answered → Type 0
+HasUsed v Needs = v ≡ verdict.Nothing
+HasUsed v (Done given) = IsMadeOf v given
+
+-- an opening, where nothing stands against it
+abbrev pub is_opening : Result Deed Denial → Bool
+is_opening (Ok (deed.Open f)) = true
+is_opening given = false
+
+-- where want of memory may be answered: it is the verdict, where one is needed, or there was none for the list of roles
+-- of a denial, or for an opening without room
+abbrev pub MayLackMemory : BoardShape → Ask → Verdict → Type 0
+MayLackMemory b what v =
+    ((v ≡ verdict.NoMemory) × (needs_verdict (decision_of (state_on b).book what) ≡ true))
+    ⊎ ((takes_memory (decision_of (state_on b).book what) ≡ true)
+    ⊎ ((is_opening (decision_of (state_on b).book what) ≡ true) × (b.cases.spare ≡ 0)))
+
+-- the board has answered
+abbrev pub HasAnswered : BoardShape → BoardShape → Ask → Verdict → Answered → Type 0
+HasAnswered before after what v Needs =
+    (needs_verdict (decision_of (state_on before).book what) ≡ true) × ((v ≡ verdict.Nothing) × (after ≡ before))
+HasAnswered before after what v (Done given) =
+    IsStep (state_on before) what given × (state_on after ≡ state_after_step (state_on before) what given)
+
+-- the rows that a snapshot has for what is asked: the one case of a claim, and else none
+abbrev pub snap_rows : List Row → Ask → List Row
+snap_rows rows (ask.Request (request.Claim n step user)) = only n rows
+snap_rows rows what = []
+
+-- the snapshot of a board for what is asked, with so much room
+abbrev pub snap_of : BoardShape → Ask → ℕ → SnapShape
+snap_of b what spare = record {
+  policy = b.policy;
+  cases = record { rows = snap_rows b.cases.rows what; ever = b.cases.ever; spare = spare };
+}

@@ -1,0 +1,185 @@
+//! What a line asks, or the first cause against it.
+ghost use Rattle.std.specs.Prelude.{◌≡◌, Ok, true, IfErr, IfOk, OnErr};
+ghost use Rattle.wf_names.specs.States.{is_held};
+ghost use Rattle.first_fault.specs.Reading.{Gives};
+ghost use Rattle.case_record.specs.Cases.{state_at};
+ghost use Rattle.denial_reasons.specs.Causes as causes;
+ghost use Rattle.wf_board.specs.Boards.{book_of};
+ghost use Rattle.wf_board.specs.Kept.{ArePlanned};
+ghost use Rattle.wf_board.specs.Found.{IsFound};
+ghost use Rattle.wf_board.specs.Decisions.{cause_aside, cause_full, decision_aside, decision_of, is_held_by, needs_plan, takes_memory};
+ghost use Rattle.wf_board.specs.Refusals.{denial_in};
+ghost use Rattle.wf_board.specs.States.{is_full};
+
+use crate::Deed;
+use crate::resolve::resolve;
+use case_record::Case;
+use denial_reasons::first_cause;
+use grant_table::Cases;
+use policy_book::Policy;
+use std::alloc::{AllocError, Global};
+use wf_names::{CASE_LIMIT, OPEN_CASE_LIMIT, StepId, StepState, UserId};
+use wf_talk::{Ask, Denial};
+
+/// Why a deed is not done.
+#[derive(Drop)]
+pub enum Refused {
+    /// The first cause against it.
+    Denied(Denial),
+    /// There was no memory to name the cause.
+    NoMemory,
+}
+
+impl From<AllocError> for Refused {
+    ghost use Rattle.wf_board.specs.declared.decision.Refused.TheVariants.{NoMemory};
+
+    ghost from_gives = { λ _ r. r ≡ NoMemory };
+
+    fn from(_: AllocError) -> Refused {
+        Refused::NoMemory
+    }
+}
+
+/// The deed that a line asks for, or the first cause against it but `full` of an opening and what
+/// needs a verdict. Only the roles of a denied claim take memory.
+pub fn decision_aside(alloc: Global, p: &Policy, cases: &Cases, ask: &Ask) -> Result<Deed, Refused>
+    requires { ArePlanned p.now cases.now.rows }
+    ensures decision { Gives denial_in (λ deed. deed) result (decision_aside (book_of p.now cases.now) ask.now) }
+    ensures found { IfOk result (IsFound p.now cases.now.rows) }
+    ensures memory { IfErr result (λ e. e ≡ Refused.NoMemory
+        → takes_memory (decision_aside (book_of p.now cases.now) ask.now) ≡ true) }
+{
+    let deed = match resolve(p, cases, ask) {
+        Ok(deed) => deed,
+        Err(denial) => return Err(Refused::Denied(denial)),
+    };
+    match cause_aside(alloc, p, cases, &deed) {
+        Ok(None) => Ok(deed),
+        Ok(Some(denial)) => Err(Refused::Denied(denial)),
+        Err(_) => Err(Refused::NoMemory),
+    }
+}
+
+/// The deed that a line asks for, or the first cause against it but what needs a verdict.
+pub(crate) fn decision_of(
+    alloc: Global,
+    p: &Policy,
+    cases: &Cases,
+    ask: &Ask,
+) -> Result<Deed, Refused>
+    requires { ArePlanned p.now cases.now.rows }
+    ensures decision { Gives denial_in (λ deed. deed) result (decision_of (book_of p.now cases.now) ask.now) }
+    ensures aside { IfOk result (λ deed. decision_aside (book_of p.now cases.now) ask.now ≡ Ok deed) }
+    ensures found { IfOk result (IsFound p.now cases.now.rows) }
+    ensures memory { IfErr result (λ e. e ≡ Refused.NoMemory
+        → takes_memory (decision_of (book_of p.now cases.now) ask.now) ≡ true) }
+{
+    let deed = decision_aside(alloc, p, cases, ask)?;
+    match cause_full(p, cases, &deed) {
+        None => Ok(deed),
+        Some(denial) => Err(Refused::Denied(denial)),
+    }
+}
+
+/// That no more cases can be opened, of an opening.
+fn cause_full(p: &Policy, cases: &Cases, deed: &Deed) -> Option<Denial>
+    ensures { result ≡ cause_full (book_of p.now cases.now) deed.now }
+{
+    match deed {
+        Deed::Open { .. } if is_full(p, cases) => Some(Denial::Full),
+        _ => None,
+    }
+}
+
+/// Why a deed is denied, `full` of an opening aside.
+fn cause_aside(
+    alloc: Global,
+    p: &Policy,
+    cases: &Cases,
+    deed: &Deed,
+) -> Result<Option<Denial>, AllocError>
+    requires { IsFound p.now cases.now.rows deed.now }
+    ensures cause { IfOk result (λ cause. cause ≡ cause_aside (book_of p.now cases.now) deed.now) }
+    ensures memory { OnErr result
+        (causes.takes_memory (cause_aside (book_of p.now cases.now) deed.now) ≡ true) }
+{
+    let _ = cases;
+    match deed {
+        Deed::Open { flow } if p.retired(*flow) => Ok(Some(Denial::Retired)),
+        Deed::Claim {
+            case,
+            step,
+            user,
+            ..
+        } => first_cause(alloc, p, case, *step, *user),
+        Deed::Finish {
+            case,
+            step,
+            user,
+            ..
+        }
+        | Deed::GiveBack {
+            case,
+            step,
+            user,
+            ..
+        } => { Ok(unless_holding(case, *step, *user)) }
+        Deed::Release { case, step, .. } => Ok(unless_held(case, *step)),
+        _ => Ok(None),
+    }
+}
+
+/// That a user does not hold a step.
+fn unless_holding(case: &Case, s: StepId, u: UserId) -> Option<Denial>
+    ensures { result ≡ causes.unless (is_held_by u (state_at case.now s)) (Denial.NotHeld (state_at case.now s)) }
+{
+    if holds(case.state(s), u) {
+        None
+    } else {
+        Some(not_held(case, s))
+    }
+}
+
+/// That nobody holds a step.
+fn unless_held(case: &Case, s: StepId) -> Option<Denial>
+    ensures { result ≡ causes.unless (is_held (state_at case.now s)) (Denial.NotHeld (state_at case.now s)) }
+{
+    if case.state(s).is_held() {
+        None
+    } else {
+        Some(not_held(case, s))
+    }
+}
+
+/// How a step stands that is not held.
+fn not_held(case: &Case, s: StepId) -> Denial
+    ensures { result ≡ Denial.NotHeld (state_at case.now s) }
+{
+    Denial::NotHeld(case.state(s))
+}
+
+/// Whether a user holds a step that stands so.
+fn holds(state: StepState, u: UserId) -> bool
+    ensures { result ≡ is_held_by u state }
+{
+    match state {
+        StepState::Held(v) => v == u,
+        StepState::Free | StepState::Finished(_) => false,
+    }
+}
+
+/// Whether no more cases can be opened.
+#[tactic(auto, using(crate::proofs::Rows::open_numbered))]
+pub(crate) fn is_full(p: &Policy, cases: &Cases) -> bool
+    ensures { result ≡ is_full (book_of p.now cases.now) }
+{
+    let _ = p;
+    cases.live() >= OPEN_CASE_LIMIT || cases.ever() >= CASE_LIMIT
+}
+
+/// Whether a deed rests on whether a case can be completed.
+pub(crate) fn needs_plan(deed: &Deed) -> bool
+    ensures { result ≡ needs_plan deed.now }
+{
+    matches!(deed, Deed::Open { .. } | Deed::Claim { .. })
+}

@@ -1,0 +1,53 @@
+//! What is asked, with the case as it stands and numbers in place of names.
+
+use case_record::Case;
+use wf_names::{CaseId, FlowId, StepId, UserId};
+use wf_talk::Bad;
+
+/// What a line asks of a session, once its names and numbers are found.
+#[derive(Clone, Copy)]
+pub enum Deed {
+    /// To open a case of a workflow.
+    Open {
+        flow: FlowId,
+    },
+    /// To perform a step of an open case.
+    Claim {
+        number: CaseId,
+        case: Case,
+        step: StepId,
+        user: UserId,
+    },
+    /// To report that a step of an open case is done.
+    Finish {
+        number: CaseId,
+        case: Case,
+        step: StepId,
+        user: UserId,
+    },
+    /// To let go of a step of an open case.
+    GiveBack {
+        number: CaseId,
+        case: Case,
+        step: StepId,
+        user: UserId,
+    },
+    /// To take a step of an open case from its holder.
+    Release {
+        number: CaseId,
+        case: Case,
+        step: StepId,
+    },
+    /// To end an open case.
+    Withdraw {
+        number: CaseId,
+    },
+    /// To see a case.
+    Show {
+        case: Case,
+    },
+    /// Nothing: the line is no request.
+    TurnAway {
+        bad: Bad,
+    },
+}

@@ -1,0 +1,176 @@
+//! What a line asks, with numbers in place of names.
+ghost use Rattle.std.specs.Prelude.{◌≡◌, ◌<◌, ℕ, List, length, Err, IfErr, IfOk, Ok, Some};
+ghost use Rattle.first_fault.specs.Reading.{check, or_fault};
+ghost use Rattle.policy_book.specs.Policies.{flow_at};
+ghost use Rattle.case_record.specs.Cases.{CaseShape};
+ghost use Rattle.grant_table.specs.Tables.{case_in};
+ghost use Rattle.wf_board.specs.declared.deed.Deed.{Deed};
+ghost use Rattle.wf_board.specs.Boards.{book_of};
+ghost use Rattle.wf_board.specs.Found.{AreFound, IsFound, IsOpenAt};
+ghost use Rattle.wf_board.specs.Kept.{ArePlanned, IsOfPolicy};
+ghost use Rattle.wf_board.specs.Resolved.{on_step, open_case_at, resolve, resolve_request};
+ghost use Rattle.wf_board.specs.States.{case_at, is_admin, Numbered};
+ghost use Rattle.wf_names.specs.Table.{place_of};
+
+use crate::Deed;
+use case_record::Case;
+use grant_table::Cases;
+use policy_book::Policy;
+use wf_names::{CaseId, FlowId, Name, StepId, UserId};
+use wf_talk::{Ask, Denial, Request};
+
+/// What a line asks, or the first of its names and numbers that is nothing.
+pub(crate) fn resolve(p: &Policy, cases: &Cases, ask: &Ask) -> Result<Deed, Denial>
+    requires { ArePlanned p.now cases.now.rows }
+    ensures deed { result ≡ resolve (book_of p.now cases.now) ask.now }
+    ensures found { IfOk result (IsFound p.now cases.now.rows) }
+{
+    match *ask {
+        Ask::Request(request) => resolve_request(p, cases, &request),
+        Ask::Bad(bad) => Ok(Deed::TurnAway { bad }),
+    }
+}
+
+fn resolve_request(p: &Policy, cases: &Cases, request: &Request) -> Result<Deed, Denial>
+    requires { ArePlanned p.now cases.now.rows }
+    ensures deed { result ≡ resolve_request (book_of p.now cases.now) request.now }
+    ensures found { IfOk result (IsFound p.now cases.now.rows) }
+{
+    match *request {
+        Request::OpenCase { flow } => match p.find_flow(&flow) {
+            Some(flow) => Ok(Deed::Open { flow }),
+            None => Err(Denial::NoFlow),
+        },
+        Request::Claim {
+            case: number,
+            step,
+            user,
+        } => {
+            let (case, step, user) = on_step(p, cases, number, &step, &user)?;
+            Ok(Deed::Claim {
+                number,
+                case,
+                step,
+                user,
+            })
+        }
+        Request::Finish {
+            case: number,
+            step,
+            user,
+        } => {
+            let (case, step, user) = on_step(p, cases, number, &step, &user)?;
+            Ok(Deed::Finish {
+                number,
+                case,
+                step,
+                user,
+            })
+        }
+        Request::GiveBack {
+            case: number,
+            step,
+            user,
+        } => {
+            let (case, step, user) = on_step(p, cases, number, &step, &user)?;
+            Ok(Deed::GiveBack {
+                number,
+                case,
+                step,
+                user,
+            })
+        }
+        Request::Release {
+            by,
+            case: number,
+            step,
+        } => {
+            check_admin(p, &by)?;
+            let case = open_case(p, cases, number)?;
+            let step = step_named(p, &case, &step)?;
+            Ok(Deed::Release { number, case, step })
+        }
+        Request::Withdraw { by, case: number } => {
+            check_admin(p, &by)?;
+            open_case(p, cases, number)?;
+            Ok(Deed::Withdraw { number })
+        }
+        Request::Show { case: number } => Ok(Deed::Show {
+            case: case_with(p, cases, number)?,
+        }),
+    }
+}
+
+/// An open case, a step of its workflow and a user.
+fn on_step(
+    p: &Policy,
+    cases: &Cases,
+    n: CaseId,
+    step: &Name,
+    user: &Name,
+) -> Result<(Case, StepId, UserId), Denial>
+    requires { ArePlanned p.now cases.now.rows }
+    ensures deed { IfOk result (λ x. (deed : ℕ → CaseShape → ℕ → ℕ → Deed)
+        → on_step deed (book_of p.now cases.now) n step.now user.now ≡ Ok (deed n x.0 x.1 x.2)) }
+    ensures denied { IfErr result (λ d. (deed : ℕ → CaseShape → ℕ → ℕ → Deed)
+        → on_step deed (book_of p.now cases.now) n step.now user.now ≡ Err d) }
+    ensures found { IfOk result (λ x. AreFound p.now cases.now.rows n x.0 x.1 x.2) }
+{
+    let case = open_case(p, cases, n)?;
+    let s = step_named(p, &case, step)?;
+    match p.roster().users().find(user) {
+        Some(u) => Ok((case, s, UserId(u))),
+        None => Err(Denial::NoUser),
+    }
+}
+
+/// The open case with a number.
+fn open_case(p: &Policy, cases: &Cases, n: CaseId) -> Result<Case, Denial>
+    requires { ArePlanned p.now cases.now.rows }
+    ensures case { result ≡ open_case_at (book_of p.now cases.now) n }
+    ensures found { IfOk result (IsOpenAt p.now cases.now.rows n) }
+{
+    let case = case_with(p, cases, n)?;
+    if case.phase().is_live() {
+        Ok(case)
+    } else {
+        Err(Denial::Closed)
+    }
+}
+
+/// The case with a number.
+fn case_with(p: &Policy, cases: &Cases, n: CaseId) -> Result<Case, Denial>
+    requires { ArePlanned p.now cases.now.rows }
+    ensures case { result ≡ or_fault (case_at (book_of p.now cases.now).cases n) Denial.NoCase }
+    ensures found { IfOk result (λ c. case_in n cases.now.rows ≡ Some c) }
+    ensures known { IfOk result (IsOfPolicy p.now) }
+{
+    let _ = p;
+    match cases.case(n) {
+        Some(case) => Ok(*case),
+        None => Err(Denial::NoCase),
+    }
+}
+
+/// The step with a name, of a case's workflow.
+fn step_named(p: &Policy, case: &Case, name: &Name) -> Result<StepId, Denial>
+    requires { IsOfPolicy p.now case.now }
+    ensures step { result ≡ or_fault (place_of (flow_at p.now case.now.flow).flow.steps name.now) Denial.NoStep }
+    ensures within { IfOk result (λ s. s < length case.now.states) }
+{
+    match p.flow(case.flow()).steps().find(name) {
+        Some(s) => Ok(StepId(s as u8)),
+        None => Err(Denial::NoStep),
+    }
+}
+
+/// Denies who does not administer.
+fn check_admin(p: &Policy, by: &Name) -> Result<(), Denial>
+    ensures { (cases : List Numbered) (ever : ℕ)
+        → result ≡ check (is_admin (record { policy = p.now; cases = cases; ever = ever }) by.now) Denial.NotAdmin }
+{
+    match p.roster().users().find(by) {
+        Some(u) if p.roster().has(UserId(u), p.admin()) => Ok(()),
+        _ => Err(Denial::NotAdmin),
+    }
+}

@@ -1,0 +1,295 @@
+//! How a board answers, over its policy and its table of cases.
+ghost use Rattle.std.specs.Prelude.{◌≡◌, ◌≢◌, ◌≤◌, ◌<◌, None, Ok, false, length, true, OnErr, OnOk};
+ghost use Rattle.wf_names.specs.States.{is_held};
+ghost use Rattle.wf_names.specs.declared.states.StepState.TheVariants.{Free as FreeStep};
+ghost use Rattle.wf_names.specs.declared.states.Phase.TheVariants.{Withdrawn as WithdrawnCase};
+ghost use Rattle.constraint_forms.specs.Assigned.{no_steps, no_users};
+ghost use Rattle.policy_book.specs.Plans.{IsValidPlan};
+ghost use Rattle.policy_book.specs.Policies.{problem_of};
+ghost use Rattle.case_record.specs.Cases.{finished_of, state_at, with_phase, with_state, CaseShape};
+ghost use Rattle.denial_reasons.specs.Causes.{assigned_with};
+ghost use Rattle.wf_board.specs.declared.deed.Deed.TheVariants as deeds;
+ghost use Rattle.wf_board.specs.declared.verdict.Verdict.TheVariants as verdicts;
+ghost use Rattle.wf_talk.specs.declared.reply.Reply.TheVariants as replies;
+ghost use Rattle.wf_board.specs.Boards.{book_of};
+ghost use Rattle.wf_board.specs.Decisions.{cause_aside, decision_aside, decision_of, needs_plan, needs_verdict};
+ghost use Rattle.wf_board.specs.Found.{AreFound, IsFound, IsOpenAt};
+ghost use Rattle.wf_board.specs.States.{is_full};
+ghost use Rattle.wf_board.specs.Steps.{face_of};
+ghost use Rattle.wf_board.specs.Taking.{full_or, HasAnsweredAlone, HasAnsweredBy, HasChanged, HasTaken, IsKept};
+ghost use Rattle.wf_board.specs.Verdicts.{is_opening, IsMadeOf, IsPlanFor, IsRight, IsTreeFor};
+
+use crate::decision::{Refused, decision_of, is_full, needs_plan};
+use crate::resolve::resolve;
+use crate::{Answered, Deed, Verdict};
+use case_record::Case;
+use constraint_forms::Plan;
+use grant_table::Cases;
+use policy_book::Policy;
+use refutation_tree::Tree;
+use std::alloc::{AllocError, Global};
+use wf_names::{CaseId, FlowId, StepId, UserId};
+use wf_talk::{Ask, Denial, Face, Reply, States};
+
+/// Answers what a line asks, with a verdict where one is needed.
+pub(crate) fn answer(
+    alloc: Global,
+    p: &Policy,
+    cases: &mut Cases,
+    ask: &Ask,
+    verdict: Verdict,
+) -> Answered
+    requires kept { IsKept p.now cases.old }
+    requires right { IsRight (book_of p.now cases.old) ask.now verdict }
+    ensures answered { HasAnsweredBy p.now cases.old cases.new ask.now verdict result }
+{
+    match verdict {
+        Verdict::Plan(plan) => Answered::Done(by_plan(p, cases, ask, plan)),
+        Verdict::Refuted(tree) => Answered::Done(by_tree(p, cases, ask, tree)),
+        Verdict::Nothing => without_verdict(alloc, p, cases, ask),
+        Verdict::NoMemory => match without_verdict(alloc, p, cases, ask) {
+            Answered::Done(reply) => Answered::Done(reply),
+            Answered::Needs => Answered::Done(Reply::NoMemory),
+        },
+    }
+}
+
+/// Answers what needs no verdict.
+pub(crate) fn without_verdict(alloc: Global, p: &Policy, cases: &mut Cases, ask: &Ask) -> Answered
+    requires { IsKept p.now cases.old }
+    ensures { HasAnsweredAlone p.now cases.old cases.new (decision_of (book_of p.now cases.old) ask.now) result }
+{
+    match decision_of(alloc, p, cases, ask) {
+        Ok(deed) if needs_plan(&deed) => Answered::Needs,
+        Ok(deed) => Answered::Done(perform(p, cases, deed)),
+        Err(Refused::Denied(denial)) => Answered::Done(Reply::Denied(denial)),
+        Err(Refused::NoMemory) => Answered::Done(Reply::NoMemory),
+    }
+}
+
+/// Answers by a plan that shows that a case can be completed.
+pub(crate) fn by_plan(p: &Policy, cases: &mut Cases, ask: &Ask, plan: Plan) -> Reply
+    requires kept { IsKept p.now cases.old }
+    requires plan { IsPlanFor (book_of p.now cases.old) (decision_aside (book_of p.now cases.old) ask.now) plan }
+    ensures taken { HasTaken p.now cases.old cases.new (decision_of (book_of p.now cases.old) ask.now) result }
+    ensures made { needs_verdict (decision_of (book_of p.now cases.old) ask.now) ≡ true → IsMadeOf (verdicts.Plan plan) result }
+    ensures memory { result ≡ replies.NoMemory
+        → (is_opening (decision_of (book_of p.now cases.old) ask.now) ≡ true) × (cases.old.spare ≡ 0) }
+{
+    match resolve(p, cases, ask) {
+        Ok(deed) => plan_for(p, cases, deed, plan),
+        Err(_) => unreachable!(),
+    }
+}
+
+/// Does a deed by a plan that shows that its case can be completed.
+fn plan_for(p: &Policy, cases: &mut Cases, deed: Deed, plan: Plan) -> Reply
+    requires kept { IsKept p.now cases.old }
+    requires found { IsFound p.now cases.old.rows deed }
+    requires cause { cause_aside (book_of p.now cases.old) deed ≡ None }
+    requires plan { IsPlanFor (book_of p.now cases.old) (Ok deed) plan }
+    ensures taken { HasTaken p.now cases.old cases.new (full_or (book_of p.now cases.old) deed) result }
+    ensures made { needs_verdict (full_or (book_of p.now cases.old) deed) ≡ true → IsMadeOf (verdicts.Plan plan) result }
+    ensures memory { result ≡ replies.NoMemory
+        → (is_opening (full_or (book_of p.now cases.old) deed) ≡ true) × (cases.old.spare ≡ 0) }
+{
+    match deed {
+        Deed::Open { flow } => open(p, cases, flow, plan),
+        Deed::Claim {
+            number,
+            case,
+            step,
+            user,
+        } => { claim(p, cases, number, &case, step, user, plan) }
+        _ => unreachable!(),
+    }
+}
+
+/// Answers by a tree that shows that a case cannot be completed.
+pub(crate) fn by_tree(p: &Policy, cases: &Cases, ask: &Ask, tree: Tree) -> Reply
+    requires kept { IsKept p.now cases.now }
+    requires tree { IsTreeFor (book_of p.now cases.now) (decision_aside (book_of p.now cases.now) ask.now) tree }
+    ensures taken { HasTaken p.now cases.now cases.now (decision_of (book_of p.now cases.now) ask.now) result }
+    ensures made { needs_verdict (decision_of (book_of p.now cases.now) ask.now) ≡ true → IsMadeOf (verdicts.Refuted tree) result }
+    ensures memory { result ≢ replies.NoMemory }
+{
+    match resolve(p, cases, ask) {
+        Ok(deed) => tree_for(p, cases, deed, tree),
+        Err(_) => unreachable!(),
+    }
+}
+
+/// Denies a deed by a tree that shows that its case cannot be completed.
+fn tree_for(p: &Policy, cases: &Cases, deed: Deed, tree: Tree) -> Reply
+    requires kept { IsKept p.now cases.now }
+    requires tree { IsTreeFor (book_of p.now cases.now) (Ok deed) tree }
+    ensures taken { HasTaken p.now cases.now cases.now (full_or (book_of p.now cases.now) deed) result }
+    ensures made { needs_verdict (full_or (book_of p.now cases.now) deed) ≡ true → IsMadeOf (verdicts.Refuted tree) result }
+    ensures memory { result ≢ replies.NoMemory }
+{
+    match deed {
+        Deed::Open { flow } => unsatisfiable(p, cases, flow, tree),
+        Deed::Claim { case, .. } => Reply::Denied(Denial::Stranded {
+            flow: case.flow(),
+            tree,
+        }),
+        _ => unreachable!(),
+    }
+}
+
+/// Denies to open a case of a workflow that has no valid plan.
+fn unsatisfiable(p: &Policy, cases: &Cases, flow: FlowId, tree: Tree) -> Reply
+    requires kept { IsKept p.now cases.now }
+    requires tree { IsTreeFor (book_of p.now cases.now) (Ok (deeds.Open flow)) tree }
+    ensures taken { HasTaken p.now cases.now cases.now (full_or (book_of p.now cases.now) (deeds.Open flow)) result }
+    ensures made { is_full (book_of p.now cases.now) ≡ false → IsMadeOf (verdicts.Refuted tree) result }
+    ensures memory { result ≢ replies.NoMemory }
+{
+    if is_full(p, cases) {
+        return Reply::Denied(Denial::Full);
+    }
+    Reply::Denied(Denial::Unsatisfiable { flow, tree })
+}
+
+/// Does a deed that needs no verdict.
+fn perform(p: &Policy, cases: &mut Cases, deed: Deed) -> Reply
+    requires kept { IsKept p.now cases.old }
+    requires found { IsFound p.now cases.old.rows deed }
+    requires cause { cause_aside (book_of p.now cases.old) deed ≡ None }
+    requires aside { needs_plan deed ≡ false }
+    ensures taken { HasTaken p.now cases.old cases.new (Ok deed) result }
+    ensures memory { result ≢ replies.NoMemory }
+{
+    match deed {
+        Deed::Finish {
+            number,
+            case,
+            step,
+            user,
+        } => finish(p, cases, number, &case, step, user),
+        Deed::GiveBack {
+            number,
+            case,
+            step,
+            ..
+        } => {
+            give_back(p, cases, number, &case, step);
+            Reply::Returned
+        }
+        Deed::Release { number, case, step } => {
+            give_back(p, cases, number, &case, step);
+            Reply::Released
+        }
+        Deed::Withdraw { number } => {
+            withdraw(p, cases, number);
+            Reply::Withdrawn
+        }
+        Deed::Show { case } => Reply::Shown(face_of(&case)),
+        Deed::TurnAway { bad } => Reply::Bad(bad),
+        Deed::Open { .. } | Deed::Claim { .. } => unreachable!(),
+    }
+}
+
+/// Opens a case with a plan.
+fn open(p: &Policy, cases: &mut Cases, flow: FlowId, plan: Plan) -> Reply
+    requires kept { IsKept p.now cases.old }
+    requires flow { flow < length p.now.flows }
+    requires valid { IsValidPlan (problem_of p.now flow) no_users no_steps plan }
+    ensures taken { HasTaken p.now cases.old cases.new (full_or (book_of p.now cases.old) (deeds.Open flow)) result }
+    ensures made { is_full (book_of p.now cases.old) ≡ false → IsMadeOf (verdicts.Plan plan) result }
+    ensures memory { result ≡ replies.NoMemory
+        → (is_full (book_of p.now cases.old) ≡ false) × (cases.old.spare ≡ 0) }
+{
+    if is_full(p, cases) {
+        return Reply::Denied(Denial::Full);
+    }
+    if make_room(cases).is_err() {
+        return Reply::NoMemory;
+    }
+    let case = cases.open_case(p, flow, plan);
+    Reply::Opened { case, plan }
+}
+
+/// Makes room for one more case, where there is none.
+fn make_room(cases: &mut Cases) -> Result<(), AllocError>
+    ensures room { OnOk result (0 < cases.new.spare) }
+    ensures kept { cases.old.spare ≤ cases.new.spare }
+    ensures same { cases.new ≡ record cases.old { spare = cases.new.spare } }
+    ensures short { OnErr result (cases.old.spare ≡ 0) }
+    ensures unchanged { OnErr result (cases.new ≡ cases.old) }
+{
+    if cases.spare() > 0 {
+        return Ok(());
+    }
+    cases.reserve(1)
+}
+
+/// Gives a free step to a user, with a plan for the rest of the case.
+fn claim(
+    p: &Policy,
+    cases: &mut Cases,
+    n: CaseId,
+    case: &Case,
+    s: StepId,
+    u: UserId,
+    plan: Plan,
+) -> Reply
+    requires kept { IsKept p.now cases.old }
+    requires found { AreFound p.now cases.old.rows n case.now s u }
+    requires free { state_at case.now s ≡ FreeStep }
+    requires valid { IsValidPlan (problem_of p.now case.now.flow) (assigned_with case.now s u) (finished_of case.now) plan }
+    ensures taken { HasTaken p.now cases.old cases.new (Ok (deeds.Claim n case.now s u)) result }
+    ensures granted { result ≡ replies.Granted plan }
+{
+    let _ = case;
+    cases.hold(p, n, s, u, plan);
+    Reply::Granted(plan)
+}
+
+/// Finishes a step that a user holds.
+fn finish(p: &Policy, cases: &mut Cases, n: CaseId, case: &Case, s: StepId, u: UserId) -> Reply
+    requires kept { IsKept p.now cases.old }
+    requires found { IsOpenAt p.now cases.old.rows n case.now }
+    requires held { is_held (state_at case.now s) ≡ true }
+    ensures taken { HasTaken p.now cases.old cases.new (Ok (deeds.Finish n case.now s u)) result }
+    ensures memory { result ≢ replies.NoMemory }
+{
+    let _ = p;
+    let _ = case;
+    let _ = u;
+    let done = cases.finish(n, s);
+    Reply::Finished { done }
+}
+
+/// Takes a held step from its holder.
+fn give_back(p: &Policy, cases: &mut Cases, n: CaseId, case: &Case, s: StepId)
+    requires kept { IsKept p.now cases.old }
+    requires found { IsOpenAt p.now cases.old.rows n case.now }
+    requires held { is_held (state_at case.now s) ≡ true }
+    ensures { HasChanged p.now cases.old cases.new n (λ c. with_state c s FreeStep) }
+{
+    let _ = p;
+    let _ = case;
+    cases.give_back(n, s);
+}
+
+/// Ends an open case.
+fn withdraw(p: &Policy, cases: &mut Cases, n: CaseId)
+    requires kept { IsKept p.now cases.old }
+    requires found { (c : CaseShape) × IsOpenAt p.now cases.old.rows n c }
+    ensures { HasChanged p.now cases.old cases.new n (λ c. with_phase c WithdrawnCase) }
+{
+    let _ = p;
+    cases.withdraw(n);
+}
+
+/// What is to be seen of a case.
+fn face_of(case: &Case) -> Face
+    ensures { result ≡ face_of case.now }
+{
+    Face {
+        flow: case.flow(),
+        phase: case.phase(),
+        states: States::of(case.states()),
+    }
+}

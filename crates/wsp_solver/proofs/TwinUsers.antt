@@ -1,0 +1,73 @@
+-- The users of branches that have trees, and twins among them.
+use Rattle.std.proofs.Common.{◌≡◌, refl, sym, ap, subst, ◌∙◌, ℕ, ◌<◌, true, false, ◌||◌, ◌==◌, List, [], ◌∷◌, Option, ◌⊎◌, inl, inr, arith}
+use Rattle.std.proofs.lemmas.Bool.{false≢true}
+use Rattle.basics.proofs.Booleans.{eq_back, or-false, or_cases, or_left, or_right}
+use Rattle.refutation_tree.specs.Shapes.{Kids, no_kids, tree_kid, twin_kid}
+use Rattle.refutation_tree.specs.Views.{kid_onto, kids_of_items}
+use Rattle.refutation_tree.specs.declared.tree.Branch.{Branch}
+use Rattle.refutation_tree.specs.declared.tree.Kid.{Kid}
+use Rattle.refutation_tree.specs.declared.tree.Kid.TheVariants.{Tree as Tree_kid, Twin}
+use Rattle.policy_book.specs.Plans.{Problem}
+use Rattle.policy_book.specs.Twins.{are_twins, has_twin, is_one_of}
+use Rattle.certificate_check.specs.Walks.{AreUsersBelow, tree_users, user_onto}
+use Rattle.certificate_check.proofs.Assigned.{either}
+use Rattle.certificate_check.proofs.TwinLaws.{twins_chain}
+use Rattle.wsp_solver.specs.Trims.{kid_users}
+
+-- branches as they are kept, and as pure data
+pub kid_users-items : (bs : List Branch) (users : List ℕ) → kid_users users (kids_of_items bs) ≡ tree_users users bs
+kid_users-items [] users = refl
+kid_users-items (b ∷ bs) users = onto b.kid b.user (kids_of_items bs) users ∙ kid_users-items bs (user_onto b.kid b.user users)
+  where
+    onto : (kid : Kid) (u : ℕ) (rest : Kids) (users : List ℕ) → kid_users users (kid_onto kid u rest) ≡ kid_users (user_onto kid u users) rest
+    onto (Tree_kid t) u rest users = refl
+    onto (Twin v) u rest users = refl
+
+pub twin_onto : (p : Problem) (a : List (Option ℕ)) (u : ℕ) (kid : Kid) (w : ℕ) (users : List ℕ) → has_twin p a u (user_onto kid w users) ≡ (has_twin p a u (user_onto kid w []) || has_twin p a u users)
+twin_onto p a u (Tree_kid t) w users = ap (λ b. b || has_twin p a u users) (sym (or-false (are_twins p a u w)))
+twin_onto p a u (Twin v) w users = refl
+
+-- a branch with a tree, whose user is a twin
+pub twin_here : (p : Problem) (a : List (Option ℕ)) (u : ℕ) (kid : Kid) (w : ℕ) → has_twin p a u (user_onto kid w []) ≡ true → (is_one_of (user_onto kid w []) w ≡ true) × (are_twins p a u w ≡ true)
+twin_here p a u (Tree_kid t) w h = (or_left (w == w) false (eq_here w), either (or_cases (are_twins p a u w) false h) (λ e. e) (λ e. absurd (false≢true e)))
+  where
+    eq_here : (n : ℕ) → (n == n) ≡ true
+    eq_here n = grind arith
+twin_here p a u (Twin v) w h = absurd (false≢true h)
+
+pub user_here : (kid : Kid) (u x : ℕ) → is_one_of (user_onto kid u []) x ≡ true → u ≡ x
+user_here (Tree_kid t) u x h = either (or_cases (u == x) false h) (λ e. eq_back u x e) (λ e. absurd (false≢true e))
+user_here (Twin v) u x h = absurd (false≢true h)
+
+pub has_twin_from : (p : Problem) (a : List (Option ℕ)) (u v : ℕ) (users : List ℕ) → is_one_of users v ≡ true → are_twins p a u v ≡ true → has_twin p a u users ≡ true
+has_twin_from p a u v [] among twins = absurd (false≢true among)
+has_twin_from p a u v (w ∷ ws) among twins =
+    either (or_cases (w == v) (is_one_of ws v) among)
+    (λ here. or_left (are_twins p a u w) (has_twin p a u ws) (ap (are_twins p a u) (eq_back w v here) ∙ twins))
+    (λ later. or_right (are_twins p a u w) (has_twin p a u ws) (has_twin_from p a u v ws later twins))
+
+has_twin_find : (p : Problem) (a : List (Option ℕ)) (u : ℕ) (users : List ℕ) → has_twin p a u users ≡ true → (w : ℕ) × (is_one_of users w ≡ true) × (are_twins p a u w ≡ true)
+has_twin_find p a u [] h = absurd (false≢true h)
+has_twin_find p a u (w ∷ ws) h =
+    either (or_cases (are_twins p a u w) (has_twin p a u ws) h)
+    (λ here. (w, or_left (w == w) (is_one_of ws w) (eq_here w), here))
+    (λ later. let found = has_twin_find p a u ws later in (found.0, or_right (w == found.0) (is_one_of ws found.0) found.1, found.2))
+  where
+    eq_here : (n : ℕ) → (n == n) ≡ true
+    eq_here n = grind arith
+
+users_below : (n : ℕ) (kids : Kids) (users : List ℕ) (x : ℕ) → AreUsersBelow n kids → (is_one_of users x ≡ true → x < n) → is_one_of (kid_users users kids) x ≡ true → x < n
+users_below n no_kids users x known before h = before h
+users_below n (tree_kid u t kids) users x known before h =
+    users_below n kids (u ∷ users) x known.1 (λ e. either (or_cases (u == x) (is_one_of users x) e) (λ here. subst (λ y. y < n) (eq_back u x here) known.0) before) h
+users_below n (twin_kid u v kids) users x known before h = users_below n kids users x known.1 before h
+
+pub kid_user_below : (n : ℕ) (kids : Kids) (x : ℕ) → AreUsersBelow n kids → is_one_of (kid_users [] kids) x ≡ true → x < n
+kid_user_below n kids x known h = users_below n kids [] x known (λ e. absurd (false≢true e)) h
+
+-- a twin of a user who is one of some, or is a twin of one of them, is a twin of one of them
+pub twin_of_covered : (p : Problem) (a : List (Option ℕ)) (u v : ℕ) (users : List ℕ) → u < p.users → v < p.users → ((w : ℕ) → is_one_of users w ≡ true → w < p.users) → are_twins p a u v ≡ true → (is_one_of users v ≡ true) ⊎ (has_twin p a v users ≡ true) → has_twin p a u users ≡ true
+twin_of_covered p a u v users u_in v_in known twins (inl among) = has_twin_from p a u v users among twins
+twin_of_covered p a u v users u_in v_in known twins (inr twin) =
+    let found = has_twin_find p a v users twin in
+    has_twin_from p a u found.0 users found.1 (twins_chain p a u v found.0 u_in v_in (known found.0 found.1) twins found.2)

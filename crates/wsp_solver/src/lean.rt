@@ -1,0 +1,121 @@
+//! Trees without the branches that are not needed.
+ghost use Rattle.std.specs.Prelude.{◌≡◌, ◌<◌, ◌≤◌, [], length, IfOk, IsTrue};
+ghost use Rattle.wf_names.specs.declared.limits.TheConstants.{STEP_LIMIT};
+ghost use Rattle.refutation_tree.specs.Shapes.{node};
+ghost use Rattle.refutation_tree.specs.Views.{kids_of_items, shape_of};
+ghost use Rattle.policy_book.specs.Plans.{IsWithin};
+ghost use Rattle.policy_book.specs.Policies.{problem_of};
+ghost use Rattle.policy_book.specs.Refuting.{all_refute, authorised_users, have_users, is_unassigned, refutes};
+ghost use Rattle.wsp_solver.specs.Trims.{IsTrimmed, IsTrimming};
+
+use crate::leaf::{Refutation, falsified_rule, held_wrongly};
+use crate::steps::united;
+use crate::twin::twin_among;
+use policy_book::{Assign, Policy, StepSet};
+use refutation_tree::{Branch, Branches, Kid, Tree};
+use std::alloc::{AllocError, Global};
+use wf_names::{FlowId, STEP_LIMIT, StepId};
+
+/// A lean tree made of one that refutes: it has leaves for twins of earlier users, and no node whose
+/// step its branches do not mention. Where memory is wanted, the tree that was handed in is lost.
+pub fn trim(
+    alloc: Global,
+    p: &Policy,
+    f: FlowId,
+    a: &Assign,
+    done: &StepSet,
+    tree: Tree,
+) -> Result<Tree, AllocError>
+    requires flow { f < length p.now.flows }
+    requires within { IsWithin (problem_of p.now f) a.now }
+    requires refutes { IsTrue (refutes (problem_of p.now f) a.now done.now (shape_of tree)) }
+    ensures { IfOk result (IsTrimmed (problem_of p.now f) a.now done.now (shape_of tree)) }
+{
+    Ok(trim_tree(alloc, p, f, a, done, &tree)?.tree)
+}
+
+#[cycle(trim)]
+fn trim_tree(
+    alloc: Global,
+    p: &Policy,
+    f: FlowId,
+    a: &Assign,
+    done: &StepSet,
+    tree: &Tree,
+) -> Result<Refutation, AllocError>
+    requires flow { f < length p.now.flows }
+    requires within { IsWithin (problem_of p.now f) a.now }
+    requires refutes { IsTrue (refutes (problem_of p.now f) a.now done.now (shape_of tree.now)) }
+    ensures { IfOk result (IsTrimming (problem_of p.now f) a.now done.now (shape_of tree.now)) }
+{
+    prove!(step_count(p, f) <= STEP_LIMIT);
+    match tree {
+        Tree::Holder(s) => Ok(held_wrongly(*s)),
+        Tree::Rule(k) => Ok(falsified_rule(p, f, *k)),
+        Tree::Step(s, branches) => {
+            let branches = branches.as_slice();
+            trim_node(alloc, p, f, a, done, *s, branches)
+        }
+    }
+}
+
+fn step_count(p: &Policy, f: FlowId) -> usize
+    requires { f < length p.now.flows }
+    ensures count { result ≡ (problem_of p.now f).steps }
+    ensures few { result ≤ STEP_LIMIT }
+{
+    p.flow(f).steps().len() as usize
+}
+
+// Each branch becomes the leaf of a twin where it can, and else its tree is trimmed. A trimmed tree
+// that does not mention the step takes the node's place, and is trimmed again: without the step given
+// more users may be twins.
+#[cycle(trim)]
+fn trim_node(
+    alloc: Global,
+    p: &Policy,
+    f: FlowId,
+    a: &Assign,
+    done: &StepSet,
+    s: StepId,
+    branches: &[Branch],
+) -> Result<Refutation, AllocError>
+    requires flow { f < length p.now.flows }
+    requires within { IsWithin (problem_of p.now f) a.now }
+    requires room { s < STEP_LIMIT }
+    requires free { IsTrue (is_unassigned (problem_of p.now f) a.now s) }
+    requires users { IsTrue (have_users (authorised_users (problem_of p.now f) s) (kids_of_items branches.now)) }
+    requires each { IsTrue (all_refute (problem_of p.now f) a.now done.now s [] (kids_of_items branches.now)) }
+    ensures { IfOk result (IsTrimming (problem_of p.now f) a.now done.now (node s (kids_of_items branches.now))) }
+{
+    let mut kept = Branches::new(alloc);
+    let mut steps = StepSet::empty();
+    'branches: for branch in branches {
+        let user = branch.user;
+        if let Some(twin) = twin_among(p, f, a, &kept, user) {
+            kept.push(Branch {
+                user,
+                kid: Kid::Twin(twin),
+            })?;
+            continue;
+        }
+        match &branch.kid {
+            Kid::Tree(tree) => {
+                let kid = trim_tree(alloc, p, f, &a.with(s, user), done, tree)?;
+                if !kid.steps.has(s) {
+                    return trim_tree(alloc, p, f, a, done, &kid.tree);
+                }
+                steps = united(&steps, &kid.steps);
+                kept.push(Branch {
+                    user,
+                    kid: Kid::Tree(kid.tree),
+                })?;
+            }
+            Kid::Twin(_) => unreachable!(),
+        }
+    }
+    Ok(Refutation {
+        tree: Tree::Step(s, kept),
+        steps,
+    })
+}
