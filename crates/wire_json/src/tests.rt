@@ -67,7 +67,10 @@ fn replies() -> [(Entry, &'static str); 11] {
             r#"{"view":{"flow":"pay","phase":"withdrawn","steps":[["finished","ann"],["held","cyd"],["free"]]}}"#,
         ),
         (
-            entry(Reply::Again { rounds: 2, at: 4_294_967_295 }),
+            entry(Reply::Again {
+                rounds: 2,
+                at: 4_294_967_295,
+            }),
             r#"{"again":{"at":4294967295,"rounds":2}}"#,
         ),
         (entry(Reply::NoMemory), r#""no_memory""#),
@@ -95,24 +98,42 @@ fn denials() -> [(Entry, &'static str); 16] {
         (denied(Denial::NoFlow), r#"{"denied":"no_flow"}"#),
         (denied(Denial::Retired), r#"{"denied":"retired"}"#),
         (denied(Denial::Full), r#"{"denied":"full"}"#),
-        (denied(Denial::Unsatisfiable {
+        (
+            denied(Denial::Unsatisfiable {
                 flow,
                 tree: Tree::Holder(step),
-            }), r#"{"denied":{"unsatisfiable":{"holder":"approve"}}}"#),
+            }),
+            r#"{"denied":{"unsatisfiable":{"holder":"approve"}}}"#,
+        ),
         (denied(Denial::NoCase), r#"{"denied":"no_case"}"#),
         (denied(Denial::Closed), r#"{"denied":"closed"}"#),
         (denied(Denial::NoStep), r#"{"denied":"no_step"}"#),
         (denied(Denial::NoUser), r#"{"denied":"no_user"}"#),
         (denied(Denial::Taken(ann)), r#"{"denied":{"taken":"ann"}}"#),
-        (denied(Denial::Order { flow, step }), r#"{"denied":{"order":"approve"}}"#),
+        (
+            denied(Denial::Order { flow, step }),
+            r#"{"denied":{"order":"approve"}}"#,
+        ),
         (denied(Denial::Rule(63)), r#"{"denied":{"rule":63}}"#),
-        (denied(Denial::Stranded {
+        (
+            denied(Denial::Stranded {
                 flow,
                 tree: Tree::Rule(2),
-            }), r#"{"denied":{"stranded":{"rule":2}}}"#),
-        (denied(Denial::NotHeld(StepState::Free)), r#"{"denied":{"not_held":"free"}}"#),
-        (denied(Denial::NotHeld(StepState::Held(ann))), r#"{"denied":{"not_held":{"held":"ann"}}}"#),
-        (denied(Denial::NotHeld(StepState::Finished(ann))), r#"{"denied":{"not_held":{"finished":"ann"}}}"#),
+            }),
+            r#"{"denied":{"stranded":{"rule":2}}}"#,
+        ),
+        (
+            denied(Denial::NotHeld(StepState::Free)),
+            r#"{"denied":{"not_held":"free"}}"#,
+        ),
+        (
+            denied(Denial::NotHeld(StepState::Held(ann))),
+            r#"{"denied":{"not_held":{"held":"ann"}}}"#,
+        ),
+        (
+            denied(Denial::NotHeld(StepState::Finished(ann))),
+            r#"{"denied":{"not_held":{"finished":"ann"}}}"#,
+        ),
         (denied(Denial::NotAdmin), r#"{"denied":"not_admin"}"#),
     ]
 }
@@ -130,7 +151,10 @@ fn faults(key: Name) -> [(Entry, &'static str); 5] {
         (entry(Reply::Bad(Bad::Object)), r#"{"bad":"object"}"#),
         (entry(Reply::Bad(Bad::Do)), r#"{"bad":"do"}"#),
         (entry(Reply::Bad(Bad::Lane)), r#"{"bad":"lane"}"#),
-        (entry(Reply::Bad(Bad::Key(key))), r#"{"bad":{"key":"case"}}"#),
+        (
+            entry(Reply::Bad(Bad::Key(key))),
+            r#"{"bad":{"key":"case"}}"#,
+        ),
     ]
 }
 
