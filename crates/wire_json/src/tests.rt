@@ -11,34 +11,53 @@ use wf_names::{CaseId, FlowId, Name, NameTable, Phase, RoleId, StepId, StepState
 use wf_talk::{Ask, Bad, Denial, Entry, Face, Reply, Request, RoleList, States};
 
 #[test]
-fn replies_have_their_texts(rt: HostRuntime) -> Result<(), Fail> {
+fn entries_have_their_texts(rt: HostRuntime) -> Result<(), Fail> {
     let p = policy(rt.alloc())?;
-    for (reply, wanted) in replies() {
-        assert!(rt; is_written(rt.alloc(), &p, reply, wanted)?, "{wanted}");
-    }
+    assert!(rt; replies_have_their_texts(rt.alloc(), &p)?);
+    assert!(rt; denials_have_their_texts(rt.alloc(), &p)?);
+    assert!(rt; faults_have_their_texts(rt.alloc(), &p)?);
+    assert!(rt; roles_have_their_text(rt.alloc(), &p)?);
     Ok(())
 }
 
-fn replies() -> [(Reply, &'static str); 11] {
+fn replies_have_their_texts(alloc: Global, p: &Policy) -> Result<bool, Fail> {
+    are_lines(alloc, p, &replies())
+}
+
+fn denials_have_their_texts(alloc: Global, p: &Policy) -> Result<bool, Fail> {
+    are_lines(alloc, p, &denials())
+}
+
+fn faults_have_their_texts(alloc: Global, p: &Policy) -> Result<bool, Fail> {
+    let key = read("case")?;
+    are_lines(alloc, p, &faults(key))
+}
+
+fn roles_have_their_text(alloc: Global, p: &Policy) -> Result<bool, Fail> {
+    let entry = denied(roles(alloc)?);
+    is_line(alloc, p, &entry, r#"{"denied":{"role":["boss","clerk"]}}"#)
+}
+
+fn replies() -> [(Entry, &'static str); 11] {
     let (ann, bob, cyd) = (UserId(0), UserId(1), UserId(2));
     let plan = Plan::of(&[ann, cyd, bob]);
     let case = CaseId(65_535);
     [
         (
-            Reply::Granted(plan),
+            entry(Reply::Granted(plan)),
             r#"{"granted":{"plan":["ann","cyd","bob"]}}"#,
         ),
         (
-            Reply::Finished { done: true },
+            entry(Reply::Finished { done: true }),
             r#"{"finished":{"done":true}}"#,
         ),
-        (Reply::Returned, r#""returned""#),
-        (Reply::Released, r#""released""#),
+        (entry(Reply::Returned), r#""returned""#),
+        (entry(Reply::Released), r#""released""#),
         (
-            Reply::Opened { case, plan },
+            entry(Reply::Opened { case, plan }),
             r#"{"opened":{"case":65535,"plan":["ann","cyd","bob"]}}"#,
         ),
-        (Reply::Withdrawn, r#""withdrawn""#),
+        (entry(Reply::Withdrawn), r#""withdrawn""#),
         (
             shown(Phase::Live),
             r#"{"view":{"flow":"pay","phase":"open","steps":[["finished","ann"],["held","cyd"],["free"]]}}"#,
@@ -48,85 +67,74 @@ fn replies() -> [(Reply, &'static str); 11] {
             r#"{"view":{"flow":"pay","phase":"withdrawn","steps":[["finished","ann"],["held","cyd"],["free"]]}}"#,
         ),
         (
-            Reply::Again {
+            entry(Reply::Again {
                 rounds: 2,
                 at: 4_294_967_295,
-            },
+            }),
             r#"{"again":{"at":4294967295,"rounds":2}}"#,
         ),
-        (Reply::NoMemory, r#""no_memory""#),
-        (Reply::Bad(Bad::Extra), r#"{"bad":"extra"}"#),
+        (entry(Reply::NoMemory), r#""no_memory""#),
+        (entry(Reply::Bad(Bad::Extra)), r#"{"bad":"extra"}"#),
     ]
 }
 
-fn shown(phase: Phase) -> Reply {
+fn shown(phase: Phase) -> Entry {
     let states = States::of(&[
         StepState::Finished(UserId(0)),
         StepState::Held(UserId(2)),
         StepState::Free,
     ]);
     let flow = FlowId(0);
-    Reply::Shown(Face {
+    entry(Reply::Shown(Face {
         flow,
         phase,
         states,
-    })
+    }))
 }
 
-#[test]
-fn denials_have_their_texts(rt: HostRuntime) -> Result<(), Fail> {
-    let p = policy(rt.alloc())?;
-    for (denial, wanted) in denials() {
-        assert!(rt; is_denied(rt.alloc(), &p, denial, wanted)?, "{wanted}");
-    }
-    assert!(rt;
-        is_denied(
-            rt.alloc(),
-            &p,
-            roles(rt.alloc())?,
-            r#"{"role":["boss","clerk"]}"#
-        )?
-    );
-    Ok(())
-}
-
-fn denials() -> [(Denial, &'static str); 16] {
+fn denials() -> [(Entry, &'static str); 16] {
     let (flow, step, ann) = (FlowId(0), StepId(1), UserId(0));
     [
-        (Denial::NoFlow, r#""no_flow""#),
-        (Denial::Retired, r#""retired""#),
-        (Denial::Full, r#""full""#),
+        (denied(Denial::NoFlow), r#"{"denied":"no_flow"}"#),
+        (denied(Denial::Retired), r#"{"denied":"retired"}"#),
+        (denied(Denial::Full), r#"{"denied":"full"}"#),
         (
-            Denial::Unsatisfiable {
+            denied(Denial::Unsatisfiable {
                 flow,
                 tree: Tree::Holder(step),
-            },
-            r#"{"unsatisfiable":{"holder":"approve"}}"#,
+            }),
+            r#"{"denied":{"unsatisfiable":{"holder":"approve"}}}"#,
         ),
-        (Denial::NoCase, r#""no_case""#),
-        (Denial::Closed, r#""closed""#),
-        (Denial::NoStep, r#""no_step""#),
-        (Denial::NoUser, r#""no_user""#),
-        (Denial::Taken(ann), r#"{"taken":"ann"}"#),
-        (Denial::Order { flow, step }, r#"{"order":"approve"}"#),
-        (Denial::Rule(63), r#"{"rule":63}"#),
+        (denied(Denial::NoCase), r#"{"denied":"no_case"}"#),
+        (denied(Denial::Closed), r#"{"denied":"closed"}"#),
+        (denied(Denial::NoStep), r#"{"denied":"no_step"}"#),
+        (denied(Denial::NoUser), r#"{"denied":"no_user"}"#),
+        (denied(Denial::Taken(ann)), r#"{"denied":{"taken":"ann"}}"#),
         (
-            Denial::Stranded {
+            denied(Denial::Order { flow, step }),
+            r#"{"denied":{"order":"approve"}}"#,
+        ),
+        (denied(Denial::Rule(63)), r#"{"denied":{"rule":63}}"#),
+        (
+            denied(Denial::Stranded {
                 flow,
                 tree: Tree::Rule(2),
-            },
-            r#"{"stranded":{"rule":2}}"#,
-        ),
-        (Denial::NotHeld(StepState::Free), r#"{"not_held":"free"}"#),
-        (
-            Denial::NotHeld(StepState::Held(ann)),
-            r#"{"not_held":{"held":"ann"}}"#,
+            }),
+            r#"{"denied":{"stranded":{"rule":2}}}"#,
         ),
         (
-            Denial::NotHeld(StepState::Finished(ann)),
-            r#"{"not_held":{"finished":"ann"}}"#,
+            denied(Denial::NotHeld(StepState::Free)),
+            r#"{"denied":{"not_held":"free"}}"#,
         ),
-        (Denial::NotAdmin, r#""not_admin""#),
+        (
+            denied(Denial::NotHeld(StepState::Held(ann))),
+            r#"{"denied":{"not_held":{"held":"ann"}}}"#,
+        ),
+        (
+            denied(Denial::NotHeld(StepState::Finished(ann))),
+            r#"{"denied":{"not_held":{"finished":"ann"}}}"#,
+        ),
+        (denied(Denial::NotAdmin), r#"{"denied":"not_admin"}"#),
     ]
 }
 
@@ -137,44 +145,41 @@ fn roles(alloc: Global) -> Result<Denial, AllocError> {
     Ok(Denial::Role(roles))
 }
 
-#[test]
-fn faults_have_their_texts(rt: HostRuntime) -> Result<(), Fail> {
-    let p = policy(rt.alloc())?;
-    let key = read("case")?;
-    for (bad, wanted) in faults(key) {
-        assert!(rt;
-            is_written(rt.alloc(), &p, Reply::Bad(bad), wanted)?,
-            "{wanted}"
-        );
-    }
-    Ok(())
-}
-
-fn faults(key: Name) -> [(Bad, &'static str); 5] {
+fn faults(key: Name) -> [(Entry, &'static str); 5] {
     [
-        (Bad::Syntax, r#"{"bad":"syntax"}"#),
-        (Bad::Object, r#"{"bad":"object"}"#),
-        (Bad::Do, r#"{"bad":"do"}"#),
-        (Bad::Lane, r#"{"bad":"lane"}"#),
-        (Bad::Key(key), r#"{"bad":{"key":"case"}}"#),
+        (entry(Reply::Bad(Bad::Syntax)), r#"{"bad":"syntax"}"#),
+        (entry(Reply::Bad(Bad::Object)), r#"{"bad":"object"}"#),
+        (entry(Reply::Bad(Bad::Do)), r#"{"bad":"do"}"#),
+        (entry(Reply::Bad(Bad::Lane)), r#"{"bad":"lane"}"#),
+        (
+            entry(Reply::Bad(Bad::Key(key))),
+            r#"{"bad":{"key":"case"}}"#,
+        ),
     ]
 }
 
-fn is_denied(alloc: Global, p: &Policy, denial: Denial, wanted: &str) -> Result<bool, Fail> {
-    let text = format!(in alloc; r#"{{"denied":{wanted}}}"#)?;
-    is_written(alloc, p, Reply::Denied(denial), text.as_str())
+fn denied(denial: Denial) -> Entry {
+    entry(Reply::Denied(denial))
 }
 
-// Whether the entry with a reply has the text that is wanted.
-fn is_written(alloc: Global, p: &Policy, reply: Reply, wanted: &str) -> Result<bool, Fail> {
-    let entry = Entry {
+fn entry(reply: Reply) -> Entry {
+    Entry {
         at: 4,
         lane: 1,
         line: 7,
         ask: Ask::Bad(Bad::Syntax),
         reply,
-    };
-    is_line(alloc, p, &entry, wanted)
+    }
+}
+
+// Whether each entry has the text that is wanted of its reply.
+fn are_lines(alloc: Global, p: &Policy, rows: &[(Entry, &'static str)]) -> Result<bool, Fail> {
+    for (entry, wanted) in rows {
+        if !is_line(alloc, p, entry, wanted)? {
+            return Ok(false);
+        }
+    }
+    Ok(true)
 }
 
 fn is_line(alloc: Global, p: &Policy, entry: &Entry, wanted: &str) -> Result<bool, Fail> {
