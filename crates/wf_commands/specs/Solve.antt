@@ -7,6 +7,7 @@ use Rattle.policy_book.specs.Shapes.{PolicyShape}
 use Rattle.policy_book.specs.Policies.{problem_of}
 use Rattle.policy_book.specs.Plans.{IsValidPlan}
 use Rattle.policy_book.specs.Refuting.{refutes}
+use Rattle.policy_book.specs.Lean.{is_lean}
 use Rattle.wire_json.specs.Findings.{plan_line, tree_line}
 use Rattle.run_record.specs.declared.fault.RunFault.{RunFault}
 use Rattle.run_record.specs.declared.fault.RunFault.TheVariants.{Nothing}
@@ -18,10 +19,11 @@ abbrev pub TellsPlan : PolicyShape → ℕ → List ℕ → Type 0
 TellsPlan p f line =
     (plan : List ℕ) × IsValidPlan (problem_of p f) no_users no_steps plan × (line ≡ plan_line p f plan)
 
--- a line tells a tree that refutes, so that the workflow has no valid plan
+-- a line tells a lean tree that refutes, so that the workflow has no valid plan
 abbrev pub TellsTree : PolicyShape → ℕ → List ℕ → Type 0
 TellsTree p f line =
-    (tree : Shape) × IsTrue (refutes (problem_of p f) no_users no_steps tree) × (line ≡ tree_line p f tree)
+    (tree : Shape) × IsTrue (refutes (problem_of p f) no_users no_steps tree) ×
+    IsTrue (is_lean (problem_of p f) no_users tree) × (line ≡ tree_line p f tree)
 
 -- a line tells what a search may find for a workflow
 abbrev pub TellsFlow : PolicyShape → ℕ → List ℕ → Type 0

@@ -41,6 +41,7 @@ each_at P n (x ∷ xs) r each is = at_first (nat_eq x.number n) is (each_at P n 
   where
     unsome : (y : Row) → Some y ≡ Some r → y ≡ r
     unsome y e = cc
+
     at_first : (b : Bool) → (if b then Some x else row_at n xs) ≡ Some r → (row_at n xs ≡ Some r → P r) → P r
     at_first true e rest = subst P (unsome x e) each.0
     at_first false e rest = rest e

@@ -1,12 +1,16 @@
-//! Each change of a policy once, and room on a board, with ample memory.
+//! Each change of a policy once, and a board's room, copies and plans, with ample memory.
 ghost use Rattle.std.specs.Prelude.{◌<◌, length, IsTrue};
 ghost use Rattle.policy_book.specs.Policies.{flow_at};
 
+use crate::decider::PlainDecider;
+use crate::solve_tests::is_valid;
+use crate::tests::PAY;
 use policy_book::{Policy, RosterFault};
-use std::alloc::AllocError;
+use std::alloc::{AllocError, Global};
 use std::test::Fail;
 use wf_board::Board;
-use wf_names::{FlowId, Name, RelId, RoleId, StepId, UserId};
+use wf_names::{CaseId, FlowId, Name, RelId, RoleId, StepId, UserId};
+use wf_talk::{Ask, Reply, Request};
 
 const TRIO: &str = r#"
 format = 1
@@ -97,6 +101,66 @@ fn a_board_makes_room(rt: HostRuntime) -> Result<(), Fail> {
     board.reserve(2)?;
     assert!(rt; board.cases().spare() >= 2);
     Ok(())
+}
+
+// Whichever plan a case is opened with, either clerk may prepare it.
+#[test]
+fn plans_are_valid(rt: HostRuntime) -> Result<(), Fail> {
+    for user in ["ann", "bob"] {
+        let mut board = board_of_payments(rt.alloc())?;
+        assert!(rt; opens_and_grants(rt.alloc(), &mut board, user), "{user}");
+    }
+    Ok(())
+}
+
+fn board_of_payments(alloc: Global) -> Result<Board, Fail> {
+    let p = policy_reader::read(alloc, PAY.as_bytes())?;
+    Ok(Board::new(alloc, p)?)
+}
+
+fn opens_and_grants(alloc: Global, board: &mut Board, user: &str) -> bool {
+    opens(alloc, board) && is_granted(alloc, board, user)
+}
+
+// Whether a case of payments is opened with a valid plan.
+fn opens(alloc: Global, board: &mut Board) -> bool {
+    let Some(flow) = Name::read("pay") else {
+        return false;
+    };
+    let ask = Ask::Request(Request::OpenCase { flow });
+    match board.decide(alloc, &PlainDecider, &ask) {
+        Reply::Opened { case, plan } => case == CaseId(0) && is_valid(board.policy(), &plan),
+        _ => false,
+    }
+}
+
+// Whether a user's claim to prepare the payment is granted, by a valid plan.
+fn is_granted(alloc: Global, board: &mut Board, user: &str) -> bool {
+    let (Some(step), Some(user)) = (Name::read("prepare"), Name::read(user)) else {
+        return false;
+    };
+    let case = CaseId(0);
+    let ask = Ask::Request(Request::Claim { case, step, user });
+    match board.decide(alloc, &PlainDecider, &ask) {
+        Reply::Granted(plan) => is_valid(board.policy(), &plan),
+        _ => false,
+    }
+}
+
+// What a copy answers changes nothing of its source.
+#[test]
+fn a_board_is_copied(rt: HostRuntime) -> Result<(), Fail> {
+    let mut board = board_of_payments(rt.alloc())?;
+    assert!(rt; is_copied(rt.alloc(), &mut board)?);
+    Ok(())
+}
+
+fn is_copied(alloc: Global, board: &mut Board) -> Result<bool, AllocError> {
+    if !opens(alloc, board) {
+        return Ok(false);
+    }
+    let mut copy = board.copy()?;
+    Ok(is_granted(alloc, &mut copy, "ann") && is_granted(alloc, board, "bob"))
 }
 
 // The policy has the numbers that these tests use.

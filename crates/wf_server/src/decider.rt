@@ -45,7 +45,13 @@ fn verdict_on(alloc: Global, snap: &Snap, deed: &Deed) -> Verdict
 {
     match deed {
         Deed::Open { flow } => {
-            searched(alloc, snap.policy(), *flow, &Assign::empty(), &StepSet::empty())
+            searched(
+                alloc,
+                snap.policy(),
+                *flow,
+                &Assign::empty(),
+                &StepSet::empty(),
+            )
         }
         Deed::Claim {
             number,
@@ -76,7 +82,13 @@ fn claim_verdict(
         }
     }
     let assigned = assigned_with(case, step, user);
-    searched(alloc, snap.policy(), case.flow(), &assigned, &case.finished())
+    searched(
+        alloc,
+        snap.policy(),
+        case.flow(),
+        &assigned,
+        &case.finished(),
+    )
 }
 
 // What is assigned in a case, with one of its steps given to a user.

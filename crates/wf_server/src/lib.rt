@@ -2,9 +2,9 @@
 #![tactic(auto)]
 
 mod batch;
-mod decider;
 #[cfg(test)]
 mod change_tests;
+mod decider;
 mod run;
 mod serve;
 mod session;

@@ -210,7 +210,7 @@ fn plan_numbered(number: u16) -> Plan {
 }
 
 // Whether a plan of the first workflow is valid where nothing is assigned.
-fn is_valid(p: &Policy, plan: &Plan) -> bool {
+pub(crate) fn is_valid(p: &Policy, plan: &Plan) -> bool {
     if p.flows().len() == 0
         || plan.len() as u16 != p.flow(FLOW).steps().len()
         || !are_known(p, plan)

@@ -5,6 +5,7 @@ use crate::run_alone;
 use std::alloc::{AllocError, Global};
 use std::test::Fail;
 use wf_outside::{MemFile, MemShelf, MemSink, MemSource};
+use wf_talk::{Denial, Entry, Reply};
 
 pub(crate) const PAY: &str = r#"
 format = 1
@@ -27,6 +28,20 @@ rules = [
   { form = "pair", relation = "other", first = "prepare", second = "pay" },
 ]
 "#;
+
+// A policy under which a case is opened at once.
+const SMALL: &str = r#"
+format = 1
+admin = "chief"
+roles = ["chief"]
+users = { eve = ["chief"] }
+
+[flows.pay]
+steps = ["pay"]
+permit = { pay = ["chief"] }
+"#;
+
+const OPEN: &str = "{\"do\":\"open\",\"flow\":\"pay\"}\n";
 
 // Printing succeeds; that what is written reads as the policy is proved.
 #[test]
@@ -83,9 +98,8 @@ fn a_longer_line_is_not(rt: HostRuntime) -> Result<(), Fail> {
 fn so_many_lines_are_answered(rt: HostRuntime) -> Result<(), Fail> {
     let mut input = repeated(rt.alloc(), "{\n", 200_000)?;
     let most = Told {
-        status: 0,
-        entries: 200_000,
         batch_ends: None,
+        ..telling(0, 200_000, &[])
     };
     assert!(rt; serves(rt.alloc(), input.as_bytes(), ample(), &most)?);
     input.push('\n')?;
@@ -106,6 +120,54 @@ fn a_stop_comes_before_a_read_fault(rt: HostRuntime) -> Result<(), Fail> {
     Ok(())
 }
 
+// By opening and withdrawing in turn every number is given once.
+#[test]
+fn numbers_end(rt: HostRuntime) -> Result<(), Fail> {
+    let input = turns(rt.alloc(), 65_535)?;
+    let told = Told {
+        batch_ends: None,
+        opened: 65_535,
+        last: 65_534,
+        full: 1,
+        ..telling(0, 131_071, &[])
+    };
+    assert!(rt;
+        ends(
+            rt.alloc(),
+            &["serve", "small"],
+            input.as_bytes(),
+            ample(),
+            &told
+        )?
+    );
+    Ok(())
+}
+
+// No case is opened beside 1,024 others, and one again where one of them was withdrawn.
+#[test]
+fn open_cases_are_limited(rt: HostRuntime) -> Result<(), Fail> {
+    let input = crowd(rt.alloc())?;
+    let told = Told {
+        opened: 1_025,
+        last: 1_024,
+        full: 1,
+        ..telling(0, 1_027, &[1_024, 1_027])
+    };
+    assert!(rt; serves(rt.alloc(), input.as_bytes(), ample(), &told)?);
+    Ok(())
+}
+
+// A fault of the shelf ends the run before its input.
+#[test]
+fn a_shelf_fails(rt: HostRuntime) -> Result<(), Fail> {
+    let outside = Outside {
+        failing_load: 0,
+        ..ample()
+    };
+    assert!(rt; serves(rt.alloc(), OPEN.as_bytes(), outside, &telling(6, 0, &[]))?);
+    Ok(())
+}
+
 // All of a batch is told where writing it fails.
 #[test]
 fn a_sink_fails_after_the_answers(rt: HostRuntime) -> Result<(), Fail> {
@@ -118,21 +180,28 @@ fn a_sink_fails_after_the_answers(rt: HostRuntime) -> Result<(), Fail> {
     Ok(())
 }
 
-/// How the source and the sink behave: how much they give and take at once, and which call fails.
+/// How the outside behaves: how much the source and the sink give and take at once, and which of
+/// the calls fails.
 #[derive(Clone, Copy)]
 pub(crate) struct Outside {
+    failing_load: u64,
     piece: usize,
     failing_take: u64,
     put: usize,
     failing_put: u64,
 }
 
-/// What a report has to tell: the status, how many entries, and the ends of the batches where they matter.
+/// What a report has to tell: the status, how many entries, the ends of the batches where they
+/// matter, how many cases were opened, the number of the last one, and how many openings were denied
+/// since there were too many. No job is answered with want of memory.
 #[derive(Clone, Copy)]
 pub(crate) struct Told<'a> {
     status: u8,
     entries: usize,
     batch_ends: Option<&'a [u32]>,
+    opened: u32,
+    last: u16,
+    full: u32,
 }
 
 fn telling(status: u8, entries: usize, batch_ends: &[u32]) -> Told<'_> {
@@ -140,12 +209,16 @@ fn telling(status: u8, entries: usize, batch_ends: &[u32]) -> Told<'_> {
         status,
         entries,
         batch_ends: Some(batch_ends),
+        opened: 0,
+        last: 0,
+        full: 0,
     }
 }
 
 // No call fails.
 fn ample() -> Outside {
     Outside {
+        failing_load: 1_000_000_000,
         piece: 1_000_000,
         failing_take: 1_000_000_000,
         put: 1_000_000,
@@ -161,6 +234,28 @@ fn repeated(alloc: Global, text: &str, count: usize) -> Result<String, AllocErro
     Ok(all)
 }
 
+// So many cases are opened and withdrawn in turn, and then one is opened.
+fn turns(alloc: Global, count: u16) -> Result<String, AllocError> {
+    let mut all = String::new(alloc);
+    for case in 0..count {
+        all.push_str(OPEN)?;
+        let withdraw = format!(in alloc;
+            "{{\"do\":\"withdraw\",\"by\":\"eve\",\"case\":{case}}}\n"
+        )?;
+        all.push_str(withdraw.as_str())?;
+    }
+    all.push_str(OPEN)?;
+    Ok(all)
+}
+
+// One case too many is opened, one is withdrawn, and one is opened.
+fn crowd(alloc: Global) -> Result<String, AllocError> {
+    let mut all = repeated(alloc, OPEN, 1_025)?;
+    all.push_str("{\"do\":\"withdraw\",\"by\":\"eve\",\"case\":7}\n")?;
+    all.push_str(OPEN)?;
+    Ok(all)
+}
+
 fn serves(
     alloc: Global,
     input: &[u8],
@@ -170,7 +265,7 @@ fn serves(
     ends(alloc, &["serve", "policy"], input, outside, told)
 }
 
-// Whether a run under the policy of payments tells this.
+// Whether a run over the two policies tells this.
 fn ends(
     alloc: Global,
     given: &[&str],
@@ -179,7 +274,7 @@ fn ends(
     told: &Told<'_>,
 ) -> Result<bool, AllocError> {
     let words = words_of(alloc, given)?;
-    let mut shelf = shelf_of(alloc)?;
+    let mut shelf = shelf_of(alloc, outside)?;
     ends_over(alloc, &words, &mut shelf, input, outside, told)
 }
 
@@ -211,6 +306,26 @@ fn tells(
             Some(batch_ends) => report.batch_ends.as_slice() == batch_ends,
             None => true,
         }
+        && answers(report.entries.as_slice(), told)
+}
+
+// Whether entries tell these openings, and no want of memory.
+fn answers(entries: &[Entry], told: &Told<'_>) -> bool {
+    let mut opened = 0u32;
+    let mut last = 0u16;
+    let mut full = 0u32;
+    for entry in entries {
+        match &entry.reply {
+            Reply::Opened { case, .. } => {
+                opened = opened.saturating_add(1);
+                last = case.0;
+            }
+            Reply::Denied(Denial::Full) => full = full.saturating_add(1),
+            Reply::NoMemory => return false,
+            _ => {}
+        }
+    }
+    opened == told.opened && last == told.last && full == told.full
 }
 
 fn words_of(alloc: Global, given: &[&str]) -> Result<Vec<String>, AllocError> {
@@ -221,13 +336,18 @@ fn words_of(alloc: Global, given: &[&str]) -> Result<Vec<String>, AllocError> {
     Ok(words)
 }
 
-fn shelf_of(alloc: Global) -> Result<MemShelf, AllocError> {
+fn shelf_of(alloc: Global, outside: Outside) -> Result<MemShelf, AllocError> {
     let mut files = Vec::new(alloc);
-    files.push(MemFile {
-        name: String::from_str(alloc, "policy")?,
-        bytes: PAY.as_bytes().to_vec(alloc)?,
-    })?;
-    Ok(MemShelf::new(files, Vec::new(alloc)))
+    files.push(file_of(alloc, "policy", PAY)?)?;
+    files.push(file_of(alloc, "small", SMALL)?)?;
+    Ok(MemShelf::new(files, [outside.failing_load].to_vec(alloc)?))
+}
+
+fn file_of(alloc: Global, name: &str, text: &str) -> Result<MemFile, AllocError> {
+    Ok(MemFile {
+        name: String::from_str(alloc, name)?,
+        bytes: text.as_bytes().to_vec(alloc)?,
+    })
 }
 
 fn source_of(alloc: Global, input: &[u8], outside: Outside) -> Result<MemSource, AllocError> {

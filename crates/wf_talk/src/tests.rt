@@ -12,14 +12,13 @@ use wf_names::{CaseId, FlowId, Name, RoleId, StepState, UserId};
 fn a_journal_with_room_takes_its_entries(rt: HostRuntime) -> Result<(), Fail> {
     let mut journal = Journal::new(rt.alloc());
     journal.reserve(2)?;
-    add_entry(&mut journal, roles(rt.alloc())?)?;
-    add_entry(&mut journal, stranded())?;
+    add_entry(&mut journal, 0, roles(rt.alloc())?)?;
+    add_entry(&mut journal, 1, stranded())?;
     assert!(rt; copies_the_entries(&journal)?);
     Ok(())
 }
 
-fn add_entry(journal: &mut Journal, reply: Reply) -> Result<(), AllocError> {
-    let at = journal.len() as u32;
+fn add_entry(journal: &mut Journal, at: u32, reply: Reply) -> Result<(), AllocError> {
     let ask = Ask::Bad(Bad::Syntax);
     journal.push(Entry {
         at,

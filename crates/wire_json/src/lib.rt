@@ -3,13 +3,15 @@
 
 mod entry;
 mod finding;
+mod reply;
 mod request;
 #[cfg(test)]
 mod tests;
+mod text;
 mod tree;
 mod word;
 
-pub use entry::write_entry;
 pub use finding::{write_plan, write_tree};
+pub use reply::write_entry;
 pub use request::{Asked, read_request};
 pub use tree::tree_value;

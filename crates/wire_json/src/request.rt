@@ -119,11 +119,7 @@ fn lane_in(value: &Value, lanes: u8) -> Result<u8, Bad>
     }
 }
 
-fn request_named(
-    word: Word,
-    value: &Value,
-    members: &Map<String, Value>,
-) -> Result<Request, Bad>
+fn request_named(word: Word, value: &Value, members: &Map<String, Value>) -> Result<Request, Bad>
     ensures { Gives Some (λ r. r) result (read.request_by (row_of_word word) (view value.now) (members_view members.now.entries)) }
 {
     match word {

@@ -1,0 +1,47 @@
+-- Text that is added in parts.
+use Rattle.std.proofs.Common.{◌≡◌, ℕ, List, [], ◌∷◌, ◌++◌, Bool, true, false, refl, ap, ◌∙◌, arith, append_assoc, append-nil}
+use Rattle.std.specs.Prelude.{◌&&◌, ◌||◌, ◌==◌, nat_le, nat_lt}
+use Rattle.std.specs.List.{list_all}
+use Rattle.std.proofs.lemmas.Grind.{common_steps}
+use Rattle.json.specs.Print.{escape_byte, escape, quoted}
+use Rattle.serde_json.specs.Data.{Data, Items, item}
+use Rattle.serde_json.specs.Written.{comma_if, compact_text, items_text}
+use Rattle.wf_names.specs.Names.{is_letter, is_name_byte, starts_with_letter, is_name}
+
+pub added_2 : (x0 x1 x2 a b : List ℕ) → x1 ≡ x0 ++ a → x2 ≡ x1 ++ b → x2 ≡ x0 ++ (a ++ b)
+added_2 x0 x1 x2 a b e1 e2 = e2 ∙ ap (λ x. x ++ b) e1 ∙ append_assoc x0 a b
+
+pub added_3 : (x0 x1 x2 x3 a b c : List ℕ) → x1 ≡ x0 ++ a → x2 ≡ x1 ++ b → x3 ≡ x2 ++ c → x3 ≡ x0 ++ (a ++ (b ++ c))
+added_3 x0 x1 x2 x3 a b c e1 e2 e3 = added_2 x0 x1 x3 a (b ++ c) e1 (added_2 x1 x2 x3 b c e2 e3)
+
+pub added_4 : (x0 x1 x2 x3 x4 a b c d : List ℕ) → x1 ≡ x0 ++ a → x2 ≡ x1 ++ b → x3 ≡ x2 ++ c → x4 ≡ x3 ++ d → x4 ≡ x0 ++ (a ++ (b ++ (c ++ d)))
+added_4 x0 x1 x2 x3 x4 a b c d e1 e2 e3 e4 = added_2 x0 x1 x4 a (b ++ (c ++ d)) e1 (added_3 x1 x2 x3 x4 b c d e2 e3 e4)
+
+pub added_5 : (x0 x1 x2 x3 x4 x5 a b c d e : List ℕ) → x1 ≡ x0 ++ a → x2 ≡ x1 ++ b → x3 ≡ x2 ++ c → x4 ≡ x3 ++ d → x5 ≡ x4 ++ e → x5 ≡ x0 ++ (a ++ (b ++ (c ++ (d ++ e))))
+added_5 x0 x1 x2 x3 x4 x5 a b c d e e1 e2 e3 e4 e5 = added_3 x0 x1 x2 x5 a b (c ++ (d ++ e)) e1 e2 (added_3 x2 x3 x4 x5 c d e e3 e4 e5)
+
+pub added_6 : (x0 x1 x2 x3 x4 x5 x6 a b c d e f : List ℕ) → x1 ≡ x0 ++ a → x2 ≡ x1 ++ b → x3 ≡ x2 ++ c → x4 ≡ x3 ++ d → x5 ≡ x4 ++ e → x6 ≡ x5 ++ f → x6 ≡ x0 ++ (a ++ (b ++ (c ++ (d ++ (e ++ f)))))
+added_6 x0 x1 x2 x3 x4 x5 x6 a b c d e f e1 e2 e3 e4 e5 e6 = added_3 x0 x1 x2 x6 a b (c ++ (d ++ (e ++ f))) e1 e2 (added_4 x2 x3 x4 x5 x6 c d e f e3 e4 e5 e6)
+
+pub added_7 : (x0 x1 x2 x3 x4 x5 x6 x7 a b c d e f g : List ℕ) → x1 ≡ x0 ++ a → x2 ≡ x1 ++ b → x3 ≡ x2 ++ c → x4 ≡ x3 ++ d → x5 ≡ x4 ++ e → x6 ≡ x5 ++ f → x7 ≡ x6 ++ g
+    → x7 ≡ x0 ++ (a ++ (b ++ (c ++ (d ++ (e ++ (f ++ g))))))
+added_7 x0 x1 x2 x3 x4 x5 x6 x7 a b c d e f g e1 e2 e3 e4 e5 e6 e7 = added_3 x0 x1 x2 x7 a b (c ++ (d ++ (e ++ (f ++ g)))) e1 e2 (added_5 x2 x3 x4 x5 x6 x7 c d e f g e3 e4 e5 e6 e7)
+
+-- one more item behind a text, and the others behind it
+pub one_more : (old new : List ℕ) (later : Bool) (d : Data) (rest : Items) → new ≡ old ++ (comma_if later ++ compact_text d) → new ++ items_text true rest ≡ old ++ items_text later (item d rest)
+one_more old new later d rest e =
+    ap (λ x. x ++ items_text true rest) e ∙ append_assoc old (comma_if later ++ compact_text d) (items_text true rest)
+    ∙ ap (λ x. old ++ x) (append_assoc (comma_if later) (compact_text d) (items_text true rest))
+
+-- nothing in a name is escaped
+byte_stays : (b : ℕ) → is_name_byte b ≡ true → escape_byte b ≡ b ∷ []
+unfolding escape_byte
+byte_stays b h = grind (arith, common_steps)
+
+bytes_stay : (bs : List ℕ) → list_all is_name_byte bs ≡ true → escape bs ≡ bs
+bytes_stay [] h = refl
+bytes_stay (b ∷ bs) h = grind (arith, common_steps, byte_stays, bytes_stay bs)
+
+pub name_stays : (name : List ℕ) → is_name name ≡ true → escape name ≡ name
+unfolding is_name
+name_stays name h = bytes_stay name (grind (arith, common_steps))

@@ -1,0 +1,413 @@
+//! Writing entries.
+ghost use Rattle.std.specs.Prelude.{◌≡◌, ◌++◌, ◌∷◌, [], codes, decimal, map, IfOk, OnOk};
+ghost use Rattle.serde_json.specs.Data.{boolean, number, unsigned, array};
+ghost use Rattle.serde_json.specs.View.{items_of};
+ghost use Rattle.serde_json.specs.Written.{comma_if, compact_text};
+ghost use Rattle.refutation_tree.specs.Views.{shape_of};
+ghost use Rattle.wire_json.specs.Entries.{single, named, names_data, step_data, plan_data, state_data, seen_data, phase_data, bad_data};
+ghost use Rattle.wire_json.specs.Trees.{tree_data};
+ghost use Rattle.wire_json.specs.Replies.{denial_data, opened_data, face_data, again_data, reply_data, entry_data, entry_text};
+
+use crate::text::{
+    push, push_comma, push_name, push_name_in, push_number, push_plan, push_quoted, push_roles,
+};
+use crate::tree::tree_value;
+use policy_book::{Plan, Policy};
+use refutation_tree::Tree;
+use std::alloc::{AllocError, Global};
+use wf_names::{CaseId, FlowId, Name, Phase, RoleId, StepId, StepState};
+use wf_talk::{Bad, Denial, Entry, Face, Line, Reply, States};
+
+// The room that most lines need.
+const LINE_ROOM: usize = 128;
+
+/// The line that is written for an entry, with its line end. A number that names no user or step
+/// of the policy is written as an empty text.
+#[tactic(auto, unfolding(crate::specs::Replies::entry_text))]
+pub fn write_entry(alloc: Global, p: &Policy, e: &Entry) -> Result<Line, AllocError>
+    ensures { IfOk result (λ line. line ≡ entry_text p.now e.now) }
+{
+    let mut out = Vec::with_capacity(alloc, LINE_ROOM)?;
+    push_entry(alloc, &mut out, p, e)?;
+    push(&mut out, b"\n")?;
+    Ok(Line::from_vec(out))
+}
+
+fn push_entry(alloc: Global, out: &mut Vec<u8>, p: &Policy, e: &Entry) -> Result<(), AllocError>
+    ensures { OnOk result (out.new.items ≡ out.old.items ++ compact_text (entry_data p.now e.now)) }
+{
+    push_number(out, b"{\"at\":", e.at)?;
+    push_number(out, b",\"lane\":", e.lane as u32)?;
+    push_number(out, b",\"line\":", e.line)?;
+    push(out, b",\"reply\":")?;
+    push_reply(alloc, out, p, &e.reply)?;
+    push(out, b"}")?;
+    Ok(())
+}
+
+#[tactic(auto, unfolding(json::specs::Print::escape_byte))]
+fn push_reply(alloc: Global, out: &mut Vec<u8>, p: &Policy, reply: &Reply) -> Result<(), AllocError>
+    ensures { OnOk result (out.new.items ≡ out.old.items ++ compact_text (reply_data p.now reply.now)) }
+{
+    match reply {
+        Reply::Granted(plan) => push_granted(out, p, plan),
+        Reply::Finished { done } => push_finished(out, *done),
+        Reply::Returned => push(out, b"\"returned\""),
+        Reply::Released => push(out, b"\"released\""),
+        Reply::Opened { case, plan } => push_opened(out, p, *case, plan),
+        Reply::Withdrawn => push(out, b"\"withdrawn\""),
+        Reply::Shown(face) => push_shown(out, p, face),
+        Reply::Denied(denial) => push_denied(alloc, out, p, denial),
+        Reply::Again { rounds, at } => push_again(out, *rounds, *at),
+        Reply::NoMemory => push(out, b"\"no_memory\""),
+        Reply::Bad(bad) => push_bad(out, *bad),
+    }
+}
+
+fn push_granted(out: &mut Vec<u8>, p: &Policy, plan: &Plan) -> Result<(), AllocError>
+    ensures { OnOk result (out.new.items ≡ out.old.items ++ compact_text (reply_data p.now (Reply.Granted plan.now))) }
+{
+    push(out, b"{\"granted\":")?;
+    push_kept(out, p, plan)?;
+    push(out, b"}")?;
+    Ok(())
+}
+
+// Adds an object with a plan.
+fn push_kept(out: &mut Vec<u8>, p: &Policy, plan: &Plan) -> Result<(), AllocError>
+    ensures { OnOk result (out.new.items ≡ out.old.items ++ compact_text (single (codes "plan") (plan_data p.now.roster.users plan.now))) }
+{
+    push(out, b"{\"plan\":")?;
+    push_users(out, p, plan)?;
+    push(out, b"}")?;
+    Ok(())
+}
+
+// Adds the names of a plan's users.
+fn push_users(out: &mut Vec<u8>, p: &Policy, plan: &Plan) -> Result<(), AllocError>
+    ensures { OnOk result (out.new.items ≡ out.old.items ++ compact_text (plan_data p.now.roster.users plan.now)) }
+{
+    push_plan(out, p.roster().users(), plan)
+}
+
+#[tactic(auto, unfolding(json::specs::Print::escape_byte))]
+fn push_finished(out: &mut Vec<u8>, done: bool) -> Result<(), AllocError>
+    ensures { OnOk result (out.new.items ≡ out.old.items ++ compact_text (single (codes "finished") (single (codes "done") (boolean done)))) }
+{
+    if done {
+        push(out, b"{\"finished\":{\"done\":true}}")
+    } else {
+        push(out, b"{\"finished\":{\"done\":false}}")
+    }
+}
+
+fn push_opened(out: &mut Vec<u8>, p: &Policy, case: CaseId, plan: &Plan) -> Result<(), AllocError>
+    ensures { OnOk result (out.new.items ≡ out.old.items ++ compact_text (reply_data p.now (Reply.Opened case plan.now))) }
+{
+    push(out, b"{\"opened\":")?;
+    push_case(out, p, case, plan)?;
+    push(out, b"}")?;
+    Ok(())
+}
+
+// Adds an object with a case and its plan.
+fn push_case(out: &mut Vec<u8>, p: &Policy, case: CaseId, plan: &Plan) -> Result<(), AllocError>
+    ensures { OnOk result (out.new.items ≡ out.old.items ++ compact_text (opened_data p.now case plan.now)) }
+{
+    push(out, b"{\"case\":")?;
+    push_case_number(out, case)?;
+    push(out, b",\"plan\":")?;
+    push_users(out, p, plan)?;
+    push(out, b"}")?;
+    Ok(())
+}
+
+fn push_case_number(out: &mut Vec<u8>, case: CaseId) -> Result<(), AllocError>
+    ensures { OnOk result (out.new.items ≡ out.old.items ++ decimal case) }
+{
+    push_number(out, b"", case.0 as u32)
+}
+
+fn push_again(out: &mut Vec<u8>, rounds: u8, at: u32) -> Result<(), AllocError>
+    ensures { OnOk result (out.new.items ≡ out.old.items ++ compact_text (single (codes "again") (again_data rounds at))) }
+{
+    push(out, b"{\"again\":")?;
+    push_lost(out, rounds, at)?;
+    push(out, b"}")?;
+    Ok(())
+}
+
+// Adds an object with how often a decision was lost, and where for the last time.
+fn push_lost(out: &mut Vec<u8>, rounds: u8, at: u32) -> Result<(), AllocError>
+    ensures { OnOk result (out.new.items ≡ out.old.items ++ compact_text (again_data rounds at)) }
+{
+    push_number(out, b"{\"at\":", at)?;
+    push_number(out, b",\"rounds\":", rounds as u32)?;
+    push(out, b"}")?;
+    Ok(())
+}
+
+#[tactic(auto, unfolding(json::specs::Print::escape_byte))]
+fn push_bad(out: &mut Vec<u8>, bad: Bad) -> Result<(), AllocError>
+    ensures { OnOk result (out.new.items ≡ out.old.items ++ compact_text (single (codes "bad") (bad_data bad))) }
+{
+    match bad {
+        Bad::Syntax => push(out, b"{\"bad\":\"syntax\"}"),
+        Bad::Object => push(out, b"{\"bad\":\"object\"}"),
+        Bad::Do => push(out, b"{\"bad\":\"do\"}"),
+        Bad::Lane => push(out, b"{\"bad\":\"lane\"}"),
+        Bad::Key(key) => push_bad_key(out, &key),
+        Bad::Extra => push(out, b"{\"bad\":\"extra\"}"),
+    }
+}
+
+fn push_bad_key(out: &mut Vec<u8>, key: &Name) -> Result<(), AllocError>
+    ensures { OnOk result (out.new.items ≡ out.old.items ++ compact_text (single (codes "bad") (bad_data (Bad.Key key.now)))) }
+{
+    push(out, b"{\"bad\":")?;
+    push_key(out, key)?;
+    push(out, b"}")?;
+    Ok(())
+}
+
+fn push_key(out: &mut Vec<u8>, key: &Name) -> Result<(), AllocError>
+    ensures { OnOk result (out.new.items ≡ out.old.items ++ compact_text (bad_data (Bad.Key key.now))) }
+{
+    push(out, b"{\"key\":")?;
+    push_quoted(out, key)?;
+    push(out, b"}")?;
+    Ok(())
+}
+
+fn push_shown(out: &mut Vec<u8>, p: &Policy, face: &Face) -> Result<(), AllocError>
+    ensures { OnOk result (out.new.items ≡ out.old.items ++ compact_text (single (codes "view") (face_data p.now face.now))) }
+{
+    push(out, b"{\"view\":")?;
+    push_face(out, p, face)?;
+    push(out, b"}")?;
+    Ok(())
+}
+
+fn push_face(out: &mut Vec<u8>, p: &Policy, face: &Face) -> Result<(), AllocError>
+    ensures { OnOk result (out.new.items ≡ out.old.items ++ compact_text (face_data p.now face.now)) }
+{
+    push(out, b"{\"flow\":")?;
+    push_flow(out, p, face.flow)?;
+    push(out, b",\"phase\":")?;
+    push_phase(out, face.phase)?;
+    push(out, b",\"steps\":")?;
+    push_steps(out, p, face.states)?;
+    push(out, b"}")?;
+    Ok(())
+}
+
+fn push_flow(out: &mut Vec<u8>, p: &Policy, f: FlowId) -> Result<(), AllocError>
+    ensures { OnOk result (out.new.items ≡ out.old.items ++ compact_text (named p.now.flow_names f)) }
+{
+    push_name(out, p.flows(), f.0 as u16)
+}
+
+fn push_steps(out: &mut Vec<u8>, p: &Policy, states: States) -> Result<(), AllocError>
+    ensures { OnOk result (out.new.items ≡ out.old.items ++ compact_text (array (items_of (map (seen_data p.now) states)))) }
+{
+    push_states(out, p, states.as_slice())
+}
+
+#[tactic(auto, unfolding(json::specs::Print::escape_byte))]
+fn push_phase(out: &mut Vec<u8>, phase: Phase) -> Result<(), AllocError>
+    ensures { OnOk result (out.new.items ≡ out.old.items ++ compact_text (phase_data phase)) }
+{
+    match phase {
+        Phase::Live => push(out, b"\"open\""),
+        Phase::Done => push(out, b"\"done\""),
+        Phase::Withdrawn => push(out, b"\"withdrawn\""),
+    }
+}
+
+// Adds where steps stand, in order.
+fn push_states(out: &mut Vec<u8>, p: &Policy, states: &[StepState]) -> Result<(), AllocError>
+    ensures { OnOk result (out.new.items ≡ out.old.items ++ compact_text (array (items_of (map (seen_data p.now) states.now)))) }
+{
+    let mut later = false;
+    push(out, b"[")?;
+    'states: for state in states {
+        push_seen_next(out, later, p, *state)?;
+        later = true;
+    }
+    push(out, b"]")?;
+    Ok(())
+}
+
+// Adds where one more step stands.
+fn push_seen_next(
+    out: &mut Vec<u8>,
+    later: bool,
+    p: &Policy,
+    state: StepState,
+) -> Result<(), AllocError>
+    ensures { OnOk result (out.new.items ≡ out.old.items ++ (comma_if later ++ compact_text (seen_data p.now state))) }
+{
+    push_comma(out, later)?;
+    push_seen(out, p, state)?;
+    Ok(())
+}
+
+#[tactic(auto, unfolding(json::specs::Print::escape_byte))]
+fn push_seen(out: &mut Vec<u8>, p: &Policy, state: StepState) -> Result<(), AllocError>
+    ensures { OnOk result (out.new.items ≡ out.old.items ++ compact_text (seen_data p.now state)) }
+{
+    let users = p.roster().users();
+    match state {
+        StepState::Free => push(out, b"[\"free\"]"),
+        StepState::Held(u) => push_name_in(out, b"[\"held\",", users, u.0, b"]"),
+        StepState::Finished(u) => push_name_in(out, b"[\"finished\",", users, u.0, b"]"),
+    }
+}
+
+fn push_denied(
+    alloc: Global,
+    out: &mut Vec<u8>,
+    p: &Policy,
+    denial: &Denial,
+) -> Result<(), AllocError>
+    ensures { OnOk result (out.new.items ≡ out.old.items ++ compact_text (single (codes "denied") (denial_data p.now denial.now))) }
+{
+    push(out, b"{\"denied\":")?;
+    push_denial(alloc, out, p, denial)?;
+    push(out, b"}")?;
+    Ok(())
+}
+
+#[tactic(auto, unfolding(json::specs::Print::escape_byte))]
+fn push_denial(
+    alloc: Global,
+    out: &mut Vec<u8>,
+    p: &Policy,
+    denial: &Denial,
+) -> Result<(), AllocError>
+    ensures { OnOk result (out.new.items ≡ out.old.items ++ compact_text (denial_data p.now denial.now)) }
+{
+    match denial {
+        Denial::NoFlow => push(out, b"\"no_flow\""),
+        Denial::Retired => push(out, b"\"retired\""),
+        Denial::Full => push(out, b"\"full\""),
+        Denial::Unsatisfiable { flow, tree } => {
+            push_tree_in(alloc, out, b"{\"unsatisfiable\":", p, *flow, tree)
+        }
+        Denial::NoCase => push(out, b"\"no_case\""),
+        Denial::Closed => push(out, b"\"closed\""),
+        Denial::NoStep => push(out, b"\"no_step\""),
+        Denial::NoUser => push(out, b"\"no_user\""),
+        Denial::Taken(u) => push_name_in(out, b"{\"taken\":", p.roster().users(), u.0, b"}"),
+        Denial::Order { flow, step } => push_step_in(out, b"{\"order\":", p, *flow, *step),
+        Denial::Role(roles) => push_roles_in(out, b"{\"role\":", p, roles.as_slice()),
+        Denial::Rule(rule) => push_rule(out, *rule),
+        Denial::Stranded { flow, tree } => {
+            push_tree_in(alloc, out, b"{\"stranded\":", p, *flow, tree)
+        }
+        Denial::NotHeld(state) => push_not_held(out, p, *state),
+        Denial::NotAdmin => push(out, b"\"not_admin\""),
+    }
+}
+
+fn push_rule(out: &mut Vec<u8>, rule: u8) -> Result<(), AllocError>
+    ensures { OnOk result (out.new.items ≡ out.old.items ++ compact_text (single (codes "rule") (number (unsigned rule)))) }
+{
+    push_number(out, b"{\"rule\":", rule as u32)?;
+    push(out, b"}")?;
+    Ok(())
+}
+
+fn push_not_held(out: &mut Vec<u8>, p: &Policy, state: StepState) -> Result<(), AllocError>
+    ensures { OnOk result (out.new.items ≡ out.old.items ++ compact_text (single (codes "not_held") (state_data p.now state))) }
+{
+    push(out, b"{\"not_held\":")?;
+    push_state(out, p, state)?;
+    push(out, b"}")?;
+    Ok(())
+}
+
+#[tactic(auto, unfolding(json::specs::Print::escape_byte))]
+fn push_state(out: &mut Vec<u8>, p: &Policy, state: StepState) -> Result<(), AllocError>
+    ensures { OnOk result (out.new.items ≡ out.old.items ++ compact_text (state_data p.now state)) }
+{
+    let users = p.roster().users();
+    match state {
+        StepState::Free => push(out, b"\"free\""),
+        StepState::Held(u) => push_name_in(out, b"{\"held\":", users, u.0, b"}"),
+        StepState::Finished(u) => push_name_in(out, b"{\"finished\":", users, u.0, b"}"),
+    }
+}
+
+// Adds bytes, the name of a step and a closing brace.
+fn push_step_in(
+    out: &mut Vec<u8>,
+    before: &[u8],
+    p: &Policy,
+    f: FlowId,
+    s: StepId,
+) -> Result<(), AllocError>
+    ensures { OnOk result (out.new.items ≡ out.old.items ++ (before.now ++ (compact_text (step_data p.now f s) ++ 125 ∷ []))) }
+{
+    push(out, before)?;
+    push_step(out, p, f, s)?;
+    push(out, b"}")?;
+    Ok(())
+}
+
+fn push_step(out: &mut Vec<u8>, p: &Policy, f: FlowId, s: StepId) -> Result<(), AllocError>
+    ensures { OnOk result (out.new.items ≡ out.old.items ++ compact_text (step_data p.now f s)) }
+{
+    if (f.0 as u16) < p.flows().len() {
+        push_name(out, p.flow(f).steps(), s.0 as u16)
+    } else {
+        push(out, b"\"\"")
+    }
+}
+
+// Adds bytes, the names of roles and a closing brace.
+fn push_roles_in(
+    out: &mut Vec<u8>,
+    before: &[u8],
+    p: &Policy,
+    roles: &[RoleId],
+) -> Result<(), AllocError>
+    ensures { OnOk result (out.new.items ≡ out.old.items ++ (before.now ++ (compact_text (names_data p.now.roster.roles roles.now) ++ 125 ∷ []))) }
+{
+    push(out, before)?;
+    push_roles(out, p.roster().roles(), roles)?;
+    push(out, b"}")?;
+    Ok(())
+}
+
+// Adds bytes, a tree and a closing brace.
+fn push_tree_in(
+    alloc: Global,
+    out: &mut Vec<u8>,
+    before: &[u8],
+    p: &Policy,
+    f: FlowId,
+    tree: &Tree,
+) -> Result<(), AllocError>
+    ensures { OnOk result (out.new.items ≡ out.old.items ++ (before.now ++ (compact_text (tree_data p.now f (shape_of tree.now)) ++ 125 ∷ []))) }
+{
+    push(out, before)?;
+    push_tree(alloc, out, p, f, tree)?;
+    push(out, b"}")?;
+    Ok(())
+}
+
+#[tactic(auto, using(crate::proofs::Floats::shape_without_float))]
+fn push_tree(
+    alloc: Global,
+    out: &mut Vec<u8>,
+    p: &Policy,
+    f: FlowId,
+    tree: &Tree,
+) -> Result<(), AllocError>
+    ensures { OnOk result (out.new.items ≡ out.old.items ++ compact_text (tree_data p.now f (shape_of tree.now))) }
+{
+    let text = tree_value(alloc, p, f, tree)?.to_string(alloc)?;
+    push(out, text.as_bytes())?;
+    Ok(())
+}

@@ -1,0 +1,119 @@
+//! Writing the parts of a line.
+ghost use Rattle.std.specs.Prelude.{◌≡◌, ◌++◌, ◌∷◌, [], decimal, IsTrue, OnOk};
+ghost use Rattle.serde_json.specs.Written.{comma_if, compact_text};
+ghost use Rattle.json.specs.Print.{quoted};
+ghost use Rattle.wf_names.specs.Names.{is_name};
+ghost use Rattle.wire_json.specs.Entries.{named, names_data, plan_data};
+
+use itoa::Buffer;
+use policy_book::Plan;
+use std::alloc::AllocError;
+use wf_names::{Name, NameTable, RoleId, StepId};
+
+/// Adds bytes.
+pub(crate) fn push(out: &mut Vec<u8>, bytes: &[u8]) -> Result<(), AllocError>
+    ensures { OnOk result (out.new.items ≡ out.old.items ++ bytes.now) }
+{
+    out.extend_from_slice(bytes)
+}
+
+/// Adds bytes and the digits of a number.
+pub(crate) fn push_number(out: &mut Vec<u8>, before: &[u8], n: u32) -> Result<(), AllocError>
+    ensures { OnOk result (out.new.items ≡ out.old.items ++ (before.now ++ decimal n)) }
+{
+    let mut digits = Buffer::new();
+    push(out, before)?;
+    push(out, digits.format(n).as_bytes())?;
+    Ok(())
+}
+
+/// Adds the name with a number, as text; the empty text where there is none.
+pub(crate) fn push_name(out: &mut Vec<u8>, names: &NameTable, n: u16) -> Result<(), AllocError>
+    ensures { OnOk result (out.new.items ≡ out.old.items ++ compact_text (named names.now.names n)) }
+{
+    if n < names.len() {
+        push_quoted(out, &names.name(n))
+    } else {
+        push(out, b"\"\"")
+    }
+}
+
+/// Adds the name with a number between bytes.
+pub(crate) fn push_name_in(
+    out: &mut Vec<u8>,
+    before: &[u8],
+    names: &NameTable,
+    n: u16,
+    after: &[u8],
+) -> Result<(), AllocError>
+    ensures { OnOk result (out.new.items ≡ out.old.items ++ (before.now ++ (compact_text (named names.now.names n) ++ after.now))) }
+{
+    push(out, before)?;
+    push_name(out, names, n)?;
+    push(out, after)?;
+    Ok(())
+}
+
+/// Adds a name in quotes.
+pub(crate) fn push_quoted(out: &mut Vec<u8>, name: &Name) -> Result<(), AllocError>
+    ensures { OnOk result (out.new.items ≡ out.old.items ++ quoted name.now) }
+{
+    push(out, b"\"")?;
+    push_bare(out, name)?;
+    push(out, b"\"")?;
+    Ok(())
+}
+
+// Adds a name.
+fn push_bare(out: &mut Vec<u8>, name: &Name) -> Result<(), AllocError>
+    ensures added { OnOk result (out.new.items ≡ out.old.items ++ name.now) }
+    ensures form { IsTrue (is_name name.now) }
+{
+    push(out, name.as_str().as_bytes())
+}
+
+/// Adds the names of a plan's users.
+pub(crate) fn push_plan(out: &mut Vec<u8>, users: &NameTable, plan: &Plan) -> Result<(), AllocError>
+    ensures { OnOk result (out.new.items ≡ out.old.items ++ compact_text (plan_data users.now.names plan.now)) }
+{
+    push(out, b"[")?;
+    'users: for s in 0..plan.len() {
+        push_next(out, s > 0, users, plan.at(StepId(s)).0)?;
+    }
+    push(out, b"]")?;
+    Ok(())
+}
+
+/// Adds the names of roles.
+pub(crate) fn push_roles(
+    out: &mut Vec<u8>,
+    names: &NameTable,
+    roles: &[RoleId],
+) -> Result<(), AllocError>
+    ensures { OnOk result (out.new.items ≡ out.old.items ++ compact_text (names_data names.now.names roles.now)) }
+{
+    let mut later = false;
+    push(out, b"[")?;
+    'roles: for role in roles {
+        push_next(out, later, names, role.0 as u16)?;
+        later = true;
+    }
+    push(out, b"]")?;
+    Ok(())
+}
+
+// Adds one more name.
+fn push_next(out: &mut Vec<u8>, later: bool, names: &NameTable, n: u16) -> Result<(), AllocError>
+    ensures { OnOk result (out.new.items ≡ out.old.items ++ (comma_if later ++ compact_text (named names.now.names n))) }
+{
+    push_comma(out, later)?;
+    push_name(out, names, n)?;
+    Ok(())
+}
+
+/// Adds a comma where something stands before.
+pub(crate) fn push_comma(out: &mut Vec<u8>, later: bool) -> Result<(), AllocError>
+    ensures { OnOk result (out.new.items ≡ out.old.items ++ comma_if later) }
+{
+    if later { push(out, b",") } else { Ok(()) }
+}
