@@ -13,7 +13,7 @@ use Rattle.wf_talk.specs.declared.job.Job.{Job}
 use Rattle.wf_board.specs.States.{State, opening_state}
 use Rattle.wf_board.specs.Steps.{IsStep, state_after_step}
 use Rattle.wf_board.specs.Histories.{AreAnsweredOnce, IsLegal, lane_jobs, batch_start, batch_end, batch_jobs, job_of_entry, state_after}
-use Rattle.wf_board.specs.HistoryLaws.{after_more, legal_more, once_more, policy_stays}
+use Rattle.wf_board.specs.HistoryLaws.{after_more, legal_more, once_more, policy_stays, step_once}
 use Rattle.wire_json.specs.Replies.{entry_text}
 use Rattle.line_cutter.specs.Jobs.{last_or}
 use Rattle.line_cutter.specs.Cutter.{ends_after}
@@ -37,7 +37,7 @@ history_stays s (e ∷ es) = history_stays (state_after_step s e.ask e.reply) es
 pub leads_more : (start s next : State) (before after : List Entry) (job : Job) → HasAnsweredOne before after s next job → LeadsTo start before s → LeadsTo start after next
 leads_more start s next before after job one leads = record {
   legal = subst (IsLegal start DEFAULT_ROUNDS) (sym one.pushed) (legal_more start DEFAULT_ROUNDS before one.entry leads.legal one.at (subst (λ x. IsStep x one.entry.ask one.entry.reply) (sym leads.state) one.step));
-  once = subst AreAnsweredOnce (sym one.pushed) (once_more s before one.entry leads.once one.step);
+  once = subst AreAnsweredOnce (sym one.pushed) (once_more before one.entry leads.once (λ n place. step_once s one.entry.ask one.entry.reply one.step n place));
   state = ap (state_after start) one.pushed ∙ after_more start before one.entry ∙ ap (λ x. state_after_step x one.entry.ask one.entry.reply) leads.state ∙ sym one.state;
 }
 
