@@ -21,121 +21,155 @@ fn entries_have_their_texts(rt: HostRuntime) -> Result<(), Fail> {
 }
 
 fn replies_have_their_texts(alloc: Global, p: &Policy) -> Result<bool, Fail> {
-    are_lines(alloc, p, &replies())
+    let texts = reply_texts();
+    for i in 0..texts.len() {
+        if !is_written(alloc, p, reply(i), texts[i])? {
+            return Ok(false);
+        }
+    }
+    Ok(true)
 }
 
-fn denials_have_their_texts(alloc: Global, p: &Policy) -> Result<bool, Fail> {
-    are_lines(alloc, p, &denials())
+// The replies, in the order of their texts.
+fn reply(i: usize) -> Reply {
+    let plan = Plan::of(&[UserId(0), UserId(2), UserId(1)]);
+    match i {
+        0 => Reply::Granted(plan),
+        1 => Reply::Finished { done: true },
+        2 => Reply::Returned,
+        3 => Reply::Released,
+        4 => Reply::Opened {
+            case: CaseId(65_535),
+            plan,
+        },
+        5 => Reply::Withdrawn,
+        6 => Reply::Shown(face(Phase::Live)),
+        7 => Reply::Shown(face(Phase::Withdrawn)),
+        8 => Reply::Again {
+            rounds: 2,
+            at: 4_294_967_295,
+        },
+        _ => Reply::NoMemory,
+    }
 }
 
-fn faults_have_their_texts(alloc: Global, p: &Policy) -> Result<bool, Fail> {
-    let key = read("case")?;
-    are_lines(alloc, p, &faults(key))
-}
-
-fn roles_have_their_text(alloc: Global, p: &Policy) -> Result<bool, Fail> {
-    let entry = denied(roles(alloc)?);
-    is_line(alloc, p, &entry, r#"{"denied":{"role":["boss","clerk"]}}"#)
-}
-
-fn replies() -> [(Entry, &'static str); 11] {
-    let (ann, bob, cyd) = (UserId(0), UserId(1), UserId(2));
-    let plan = Plan::of(&[ann, cyd, bob]);
-    let case = CaseId(65_535);
+fn reply_texts() -> [&'static str; 10] {
     [
-        (
-            entry(Reply::Granted(plan)),
-            r#"{"granted":{"plan":["ann","cyd","bob"]}}"#,
-        ),
-        (
-            entry(Reply::Finished { done: true }),
-            r#"{"finished":{"done":true}}"#,
-        ),
-        (entry(Reply::Returned), r#""returned""#),
-        (entry(Reply::Released), r#""released""#),
-        (
-            entry(Reply::Opened { case, plan }),
-            r#"{"opened":{"case":65535,"plan":["ann","cyd","bob"]}}"#,
-        ),
-        (entry(Reply::Withdrawn), r#""withdrawn""#),
-        (
-            shown(Phase::Live),
-            r#"{"view":{"flow":"pay","phase":"open","steps":[["finished","ann"],["held","cyd"],["free"]]}}"#,
-        ),
-        (
-            shown(Phase::Withdrawn),
-            r#"{"view":{"flow":"pay","phase":"withdrawn","steps":[["finished","ann"],["held","cyd"],["free"]]}}"#,
-        ),
-        (
-            entry(Reply::Again {
-                rounds: 2,
-                at: 4_294_967_295,
-            }),
-            r#"{"again":{"at":4294967295,"rounds":2}}"#,
-        ),
-        (entry(Reply::NoMemory), r#""no_memory""#),
-        (entry(Reply::Bad(Bad::Extra)), r#"{"bad":"extra"}"#),
+        r#"{"granted":{"plan":["ann","cyd","bob"]}}"#,
+        r#"{"finished":{"done":true}}"#,
+        r#""returned""#,
+        r#""released""#,
+        r#"{"opened":{"case":65535,"plan":["ann","cyd","bob"]}}"#,
+        r#""withdrawn""#,
+        r#"{"view":{"flow":"pay","phase":"open","steps":[["finished","ann"],["held","cyd"],["free"]]}}"#,
+        r#"{"view":{"flow":"pay","phase":"withdrawn","steps":[["finished","ann"],["held","cyd"],["free"]]}}"#,
+        r#"{"again":{"at":4294967295,"rounds":2}}"#,
+        r#""no_memory""#,
     ]
 }
 
-fn shown(phase: Phase) -> Entry {
+fn face(phase: Phase) -> Face {
     let states = States::of(&[
         StepState::Finished(UserId(0)),
         StepState::Held(UserId(2)),
         StepState::Free,
     ]);
-    let flow = FlowId(0);
-    entry(Reply::Shown(Face {
-        flow,
+    Face {
+        flow: FlowId(0),
         phase,
         states,
-    }))
+    }
 }
 
-fn denials() -> [(Entry, &'static str); 16] {
+fn denials_have_their_texts(alloc: Global, p: &Policy) -> Result<bool, Fail> {
+    let texts = denial_texts();
+    for i in 0..texts.len() {
+        if !is_written(alloc, p, Reply::Denied(denial(i)), texts[i])? {
+            return Ok(false);
+        }
+    }
+    Ok(true)
+}
+
+// The denials, in the order of their texts.
+fn denial(i: usize) -> Denial {
     let (flow, step, ann) = (FlowId(0), StepId(1), UserId(0));
+    match i {
+        0 => Denial::NoFlow,
+        1 => Denial::Retired,
+        2 => Denial::Full,
+        3 => Denial::Unsatisfiable {
+            flow,
+            tree: Tree::Holder(step),
+        },
+        4 => Denial::NoCase,
+        5 => Denial::Closed,
+        6 => Denial::NoStep,
+        7 => Denial::NoUser,
+        8 => Denial::Taken(ann),
+        9 => Denial::Order { flow, step },
+        10 => Denial::Rule(63),
+        11 => Denial::Stranded {
+            flow,
+            tree: Tree::Rule(2),
+        },
+        12 => Denial::NotHeld(StepState::Free),
+        13 => Denial::NotHeld(StepState::Held(ann)),
+        14 => Denial::NotHeld(StepState::Finished(ann)),
+        _ => Denial::NotAdmin,
+    }
+}
+
+fn denial_texts() -> [&'static str; 16] {
     [
-        (denied(Denial::NoFlow), r#"{"denied":"no_flow"}"#),
-        (denied(Denial::Retired), r#"{"denied":"retired"}"#),
-        (denied(Denial::Full), r#"{"denied":"full"}"#),
-        (
-            denied(Denial::Unsatisfiable {
-                flow,
-                tree: Tree::Holder(step),
-            }),
-            r#"{"denied":{"unsatisfiable":{"holder":"approve"}}}"#,
-        ),
-        (denied(Denial::NoCase), r#"{"denied":"no_case"}"#),
-        (denied(Denial::Closed), r#"{"denied":"closed"}"#),
-        (denied(Denial::NoStep), r#"{"denied":"no_step"}"#),
-        (denied(Denial::NoUser), r#"{"denied":"no_user"}"#),
-        (denied(Denial::Taken(ann)), r#"{"denied":{"taken":"ann"}}"#),
-        (
-            denied(Denial::Order { flow, step }),
-            r#"{"denied":{"order":"approve"}}"#,
-        ),
-        (denied(Denial::Rule(63)), r#"{"denied":{"rule":63}}"#),
-        (
-            denied(Denial::Stranded {
-                flow,
-                tree: Tree::Rule(2),
-            }),
-            r#"{"denied":{"stranded":{"rule":2}}}"#,
-        ),
-        (
-            denied(Denial::NotHeld(StepState::Free)),
-            r#"{"denied":{"not_held":"free"}}"#,
-        ),
-        (
-            denied(Denial::NotHeld(StepState::Held(ann))),
-            r#"{"denied":{"not_held":{"held":"ann"}}}"#,
-        ),
-        (
-            denied(Denial::NotHeld(StepState::Finished(ann))),
-            r#"{"denied":{"not_held":{"finished":"ann"}}}"#,
-        ),
-        (denied(Denial::NotAdmin), r#"{"denied":"not_admin"}"#),
+        r#"{"denied":"no_flow"}"#,
+        r#"{"denied":"retired"}"#,
+        r#"{"denied":"full"}"#,
+        r#"{"denied":{"unsatisfiable":{"holder":"approve"}}}"#,
+        r#"{"denied":"no_case"}"#,
+        r#"{"denied":"closed"}"#,
+        r#"{"denied":"no_step"}"#,
+        r#"{"denied":"no_user"}"#,
+        r#"{"denied":{"taken":"ann"}}"#,
+        r#"{"denied":{"order":"approve"}}"#,
+        r#"{"denied":{"rule":63}}"#,
+        r#"{"denied":{"stranded":{"rule":2}}}"#,
+        r#"{"denied":{"not_held":"free"}}"#,
+        r#"{"denied":{"not_held":{"held":"ann"}}}"#,
+        r#"{"denied":{"not_held":{"finished":"ann"}}}"#,
+        r#"{"denied":"not_admin"}"#,
     ]
+}
+
+fn faults_have_their_texts(alloc: Global, p: &Policy) -> Result<bool, Fail> {
+    let key = read("case")?;
+    for (bad, wanted) in faults(key) {
+        if !is_written(alloc, p, Reply::Bad(bad), wanted)? {
+            return Ok(false);
+        }
+    }
+    Ok(true)
+}
+
+fn faults(key: Name) -> [(Bad, &'static str); 6] {
+    [
+        (Bad::Syntax, r#"{"bad":"syntax"}"#),
+        (Bad::Object, r#"{"bad":"object"}"#),
+        (Bad::Do, r#"{"bad":"do"}"#),
+        (Bad::Lane, r#"{"bad":"lane"}"#),
+        (Bad::Key(key), r#"{"bad":{"key":"case"}}"#),
+        (Bad::Extra, r#"{"bad":"extra"}"#),
+    ]
+}
+
+fn roles_have_their_text(alloc: Global, p: &Policy) -> Result<bool, Fail> {
+    let denial = roles(alloc)?;
+    is_written(
+        alloc,
+        p,
+        Reply::Denied(denial),
+        r#"{"denied":{"role":["boss","clerk"]}}"#,
+    )
 }
 
 fn roles(alloc: Global) -> Result<Denial, AllocError> {
@@ -145,41 +179,16 @@ fn roles(alloc: Global) -> Result<Denial, AllocError> {
     Ok(Denial::Role(roles))
 }
 
-fn faults(key: Name) -> [(Entry, &'static str); 5] {
-    [
-        (entry(Reply::Bad(Bad::Syntax)), r#"{"bad":"syntax"}"#),
-        (entry(Reply::Bad(Bad::Object)), r#"{"bad":"object"}"#),
-        (entry(Reply::Bad(Bad::Do)), r#"{"bad":"do"}"#),
-        (entry(Reply::Bad(Bad::Lane)), r#"{"bad":"lane"}"#),
-        (
-            entry(Reply::Bad(Bad::Key(key))),
-            r#"{"bad":{"key":"case"}}"#,
-        ),
-    ]
-}
-
-fn denied(denial: Denial) -> Entry {
-    entry(Reply::Denied(denial))
-}
-
-fn entry(reply: Reply) -> Entry {
-    Entry {
+// Whether the entry with a reply has the text that is wanted.
+fn is_written(alloc: Global, p: &Policy, reply: Reply, wanted: &str) -> Result<bool, Fail> {
+    let entry = Entry {
         at: 4,
         lane: 1,
         line: 7,
         ask: Ask::Bad(Bad::Syntax),
         reply,
-    }
-}
-
-// Whether each entry has the text that is wanted of its reply.
-fn are_lines(alloc: Global, p: &Policy, rows: &[(Entry, &'static str)]) -> Result<bool, Fail> {
-    for (entry, wanted) in rows {
-        if !is_line(alloc, p, entry, wanted)? {
-            return Ok(false);
-        }
-    }
-    Ok(true)
+    };
+    is_line(alloc, p, &entry, wanted)
 }
 
 fn is_line(alloc: Global, p: &Policy, entry: &Entry, wanted: &str) -> Result<bool, Fail> {
@@ -191,13 +200,17 @@ fn is_line(alloc: Global, p: &Policy, entry: &Entry, wanted: &str) -> Result<boo
 fn requests_are_read(rt: HostRuntime) -> Result<(), Fail> {
     let (flow, by, step, user) = (read("pay")?, read("eve")?, read("approve")?, read("bob")?);
     for (line, lane, request) in requests(flow, by, step, user) {
-        let asked = read_request(rt.alloc(), line.as_bytes(), 2)?;
-        assert!(rt;
-            asked.lane == lane && asked.ask == Ask::Request(request),
-            "{line}"
-        );
+        let ask = Ask::Request(request);
+        assert!(rt; is_asked(rt.alloc(), line, &Asked { lane, ask })?, "{line}");
     }
     Ok(())
+}
+
+fn is_asked(alloc: Global, line: &str, wanted: &Asked) -> Result<bool, AllocError> {
+    match read_request(alloc, line.as_bytes(), 2) {
+        Ok(asked) => Ok(asked == *wanted),
+        Err(e) => Err(e),
+    }
 }
 
 fn requests(flow: Name, by: Name, step: Name, user: Name) -> [(&'static str, u8, Request); 9] {
@@ -306,8 +319,10 @@ fn bad_lines() -> [(&'static str, &'static str); 35] {
 }
 
 fn is_bad(alloc: Global, line: &[u8], wanted: &str) -> Result<bool, AllocError> {
-    let asked = read_request(alloc, line, 2)?;
-    Ok(asked.lane == 0 && is_fault(&asked, wanted))
+    match read_request(alloc, line, 2) {
+        Ok(asked) => Ok(asked.lane == 0 && is_fault(&asked, wanted)),
+        Err(e) => Err(e),
+    }
 }
 
 fn is_fault(asked: &Asked, wanted: &str) -> bool {
