@@ -6,7 +6,7 @@ use Rattle.wf_board.specs.Counting.{count_of, last_end_from}
 
 -- how many pass of two lists
 pub count_both : (test : Entry → Bool) (entries more : List Entry) → count_of test (entries ++ more) ≡ count_of test entries + count_of test more
-count_both test [] more = refl
+count_both test [] more = omega arith
 count_both test (x ∷ xs) more = let rest = count_both test xs more in omega (arith, rest)
 
 -- and with one more
@@ -75,4 +75,4 @@ end_there n before test (x ∷ xs) some = by_test (test x) some (end_above (n + 
     by_test : (b : Bool) → 1 ≤ (if b then 1 else 0) + count_of test xs → n + 1 ≤ last_end_from (n + 1) (n + 1) test xs →
         (1 ≤ count_of test xs → n + 1 + 1 ≤ last_end_from (n + 1) before test xs) → n + 1 ≤ last_end_from (n + 1) (if b then n + 1 else before) test xs
     by_test true one here later = here
-    by_test false one here later = let rest = later one in omega (arith, rest)
+    by_test false one here later = let rest = later (omega (arith, one)) in omega (arith, rest)

@@ -1,5 +1,5 @@
 -- What does not count for a request leaves what its decision rests on.
-use Rattle.std.proofs.Common.{◌≡◌, ℕ, ◌⊎◌, inl, inr, Bool, true, false, nat_eq, List, [], ◌∷◌, ◌++◌, take, drop, Option, Some, None, Result, Ok, Err, if◌then◌else◌, refl, sym, ap, subst, ◌∙◌, arith}
+use Rattle.std.proofs.Common.{◌≡◌, ℕ, ◌+◌, ◌⊎◌, inl, inr, Bool, true, false, nat_eq, List, [], ◌∷◌, ◌++◌, take, drop, Option, Some, None, Result, Ok, Err, if◌then◌else◌, refl, sym, ap, subst, ◌∙◌, arith}
 use Rattle.std.specs.Option.{option_map}
 use Rattle.std.proofs.lemmas.List.{take-append-drop}
 use Rattle.first_fault.specs.Reading.{◌>>=◌, or_fault, check}
@@ -161,7 +161,7 @@ entry_same start rounds earlier e what right other =
 
 no_first : (b : Bool) (n : ℕ) → (if b then 1 else 0) + n ≡ 0 → (b ≡ false) × (n ≡ 0)
 no_first true n none = absurd (omega (arith, none))
-no_first false n none = (refl, none)
+no_first false n none = (refl, omega (arith, none))
 
 -- and so do several of which none counts
 pub entries_same : (start : State) (rounds : ℕ) (earlier entries : List Entry) (what : Ask) → EachAfter (IsRightAfter start rounds) earlier entries → counted what entries ≡ 0 →

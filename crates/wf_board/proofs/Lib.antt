@@ -3,7 +3,7 @@ pub mod Told
 pub mod Counted
 pub mod Fresh
 pub mod Wanting
-pub mod Certified
+pub mod Certificates
 pub mod Valid
 pub mod Keeping
 pub mod Exact

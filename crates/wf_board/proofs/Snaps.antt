@@ -127,7 +127,7 @@ withdraw_plain by n b =
 pub show_plain : (n : ℕ) (b : Book) → IsAside b (ask.Request (request.Show n))
 show_plain n b = plain_aside b (resolve_request b (request.Show n)) (then_plain (or_fault (case_at b.cases n) NoCase) _ (λ c. refl))
 
-plain_needs : (r : Result Deed Denial) → IsPlain r → needs_verdict r ≡ false
+pub plain_needs : (r : Result Deed Denial) → IsPlain r → needs_verdict r ≡ false
 plain_needs (Ok given) plain = plain
 plain_needs (Err d) plain = refl
 
