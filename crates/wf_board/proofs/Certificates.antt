@@ -24,54 +24,6 @@ use Rattle.wf_board.specs.Verdicts.{IsCertificate, IsCertified, IsPlanFor, IsRig
 use Rattle.wf_board.proofs.Planned.{plan_kept}
 use Rattle.wf_board.proofs.Within.{claimed_within, planned_within}
 
--- what is denied has no certificate
-no_certificate : {X : Type 0} (b : Book) (d : Denial) (v : Verdict) → IsCertificate b (Err d) v → X
-no_certificate b d verdict.Nothing is = absurd is
-no_certificate b d verdict.NoMemory is = absurd is
-no_certificate b d (verdict.Plan plan) is = absurd is
-no_certificate b d (verdict.Refuted tree) is = absurd is
-
--- nor has what rests on no plan
-plain_certificate : {X : Type 0} (b : Book) (given : Deed) (v : Verdict) → needs_plan given ≡ false → IsCertificate b (Ok given) v → X
-plain_certificate b given verdict.Nothing plain is = absurd is
-plain_certificate b given verdict.NoMemory plain is = absurd is
-plain_certificate b (deed.Open f) (verdict.Plan plan) plain is = cc
-plain_certificate b (deed.Claim n c t u) (verdict.Plan plan) plain is = cc
-plain_certificate b given (verdict.Plan plan) plain is = absurd is
-plain_certificate b (deed.Open f) (verdict.Refuted tree) plain is = cc
-plain_certificate b (deed.Claim n c t u) (verdict.Refuted tree) plain is = cc
-plain_certificate b given (verdict.Refuted tree) plain is = absurd is
-
--- a line that names nothing has no certificate
-pub unresolved_has_none : (b : Book) (what : Ask) (d : Denial) (v : Verdict) → resolve b what ≡ Err d → false ≡ true ↔ IsCertified b what v
-unresolved_has_none b what d v is = (λ h. cc, λ certified. no_certificate b d v (subst (λ r. IsCertificate b r v) (denied is) certified))
-  where
-    denied : resolve b what ≡ Err d → decision_of b what ≡ Err d
-    denied h = rw h refl
-
--- a deed against which there is no cause, or a cause
-undenied_cases : (b : Book) (given : Deed) (one two : Option Denial) → cause_aside b given ≡ one → cause_full b given ≡ two →
-    (P : Result Deed Denial → Type 0) → P (Ok given) → ((d : Denial) → P (Err d)) → P (undenied b given)
-undenied_cases b given None None first last P good bad = rw (first, last) good
-undenied_cases b given None (Some d) first last P good bad = rw (first, last) (bad d)
-undenied_cases b given (Some d) two first last P good bad = rw first (bad d)
-
--- it is certified exactly where it is left to decide and a certificate decides it
-pub deed_certified : (b : Book) (what : Ask) (given : Deed) (v : Verdict) (left decides : Bool) → resolve b what ≡ Ok given → left ≡ needs_verdict (undenied b given) →
-    decides ≡ true ↔ IsCertificate b (Ok given) v → (left && decides) ≡ true ↔ IsCertified b what v
-deed_certified b what given v left decides is needs by =
-    let P = λ (r : Result Deed Denial). (needs_verdict r && decides) ≡ true ↔ IsCertificate b r v in
-    let here = undenied_cases b given (cause_aside b given) (cause_full b given) refl refl P (by_plan (needs_plan given) refl) (λ d. (λ h. cc, λ certified. no_certificate b d v certified)) in
-    subst (λ x. (x && decides) ≡ true ↔ IsCertified b what v) (sym needs)
-    (subst (λ r. (needs_verdict (undenied b given) && decides) ≡ true ↔ IsCertificate b r v) (decided is) here)
-  where
-    decided : resolve b what ≡ Ok given → undenied b given ≡ decision_of b what
-    decided h = rw h refl
-
-    by_plan : (x : Bool) → needs_plan given ≡ x → (needs_plan given && decides) ≡ true ↔ IsCertificate b (Ok given) v
-    by_plan true plan = rw plan by
-    by_plan false plan = rw plan (λ h. cc, λ certified. plain_certificate b given v plan certified)
-
 -- what is assigned in a case with a claim's step given to its user is within its workflow and policy
 pub claim_within : (p : PolicyShape) (rows : List Row) (n : ℕ) (c : CaseShape) (t u : ℕ) → ArePlanned p rows → AreFound p rows n c t u → IsWithin (problem_of p c.flow) (assigned_with c t u)
 claim_within p rows n c t u planned found =
