@@ -6,6 +6,7 @@ mod cause;
 mod edited;
 mod fault;
 mod find;
+pub mod laws;
 
 pub use amendment::Amendment;
 pub use cause::edit_cause;
