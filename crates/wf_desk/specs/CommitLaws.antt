@@ -3,7 +3,7 @@ use Rattle.std.proofs.Common.{◌≡◌, ℕ, zero, suc, ◌+◌, ◌-◌, get_o
 use Rattle.std.proofs.lemmas.Grind.{common_steps}
 use Rattle.std.proofs.lemmas.List.{take_more, length-take-le}
 use Rattle.std.proofs.Math.Seq.{drop-length}
-use Rattle.basics.proofs.Booleans.{and_both, bool_cases, same_by}
+use Rattle.basics.proofs.Booleans.{and_both, bool_cases, eq_is, same_by}
 use Rattle.wf_names.specs.declared.limits.TheConstants.{LANE_LIMIT}
 use Rattle.policy_book.specs.Shapes.{PolicyShape}
 use Rattle.wf_talk.specs.declared.entry.Entry.{Entry}
@@ -12,23 +12,24 @@ use Rattle.wf_talk.specs.declared.reply.Reply.{Reply}
 use Rattle.wf_talk.specs.declared.reply.Reply.TheVariants as reply
 use Rattle.wf_talk.specs.declared.request.Ask.{Ask}
 use Rattle.wf_board.specs.declared.verdict.Verdict.{Verdict}
-use Rattle.wf_board.specs.Boards.{BoardShape, state_on}
+use Rattle.wf_board.specs.Boards.{BoardShape, SnapShape, state_on}
 use Rattle.wf_board.specs.Counting.{count_of, counted, counted_end, counts_for, lane_end, last_end_from}
 use Rattle.wf_board.specs.Decisions.{decision_of, needs_verdict}
 use Rattle.wf_board.specs.Histories.{IsRetry, IsRightAfter, IsWantRightful, MayRetry, RestsFrom, job_of_entry, state_after}
 use Rattle.wf_board.specs.HistoryLaws.{again_rests, again_stays, step_rests}
 use Rattle.wf_board.specs.States.{opening_state}
 use Rattle.wf_board.specs.Steps.{IsStep, state_after_step}
-use Rattle.wf_board.specs.Verdicts.{IsDecided, IsRight}
+use Rattle.wf_board.specs.Verdicts.{IsDecided, IsRight, snap_of}
 use Rattle.wf_board.proofs.Counted.{count_later, end_more, end_there}
 use Rattle.wf_board.proofs.Fresh.{fresh_right}
 use Rattle.wf_board.proofs.Wanting.{decided_rightly}
 use Rattle.wf_desk.specs.declared.loss.Loss.{Loss}
 use Rattle.wf_desk.specs.declared.task.Task.{Task}
-use Rattle.wf_desk.specs.Desks.{DeskShape, HasAdded, loss_of, next_job}
-use Rattle.wf_desk.specs.Commits.{IsAgain, IsNext, IsRightFor, floor_of, is_fresh, is_last_round, is_lost, job_of_task, with_loss}
+use Rattle.wf_desk.specs.Desks.{DeskShape, loss_of, next_job, no_loss, served}
+use Rattle.wf_desk.specs.Commits.{IsAgain, IsNext, IsRightFor, IsTask, floor_of, is_fresh, is_last_round, is_lost, job_of_task, with_loss}
 use Rattle.wf_desk.specs.Keeping.{IsDesk, IsNextPlace, LossRests, entry_for, own_start}
-use Rattle.wf_desk.specs.DeskLaws.{Grows, MayLose}
+use Rattle.wf_desk.specs.DeskLaws.{Grows, HasMoved, MayLose, desk_added, desk_lost, with_parts}
+use Rattle.wf_desk.specs.DocketLaws.{next_lane}
 
 -- a verdict that was right stays so where nothing came that counts
 pub fresh_verdict : (d : DeskShape) (places : List ℕ) (t : Task) (v : Verdict) → IsDesk d places → is_fresh d t ≡ true → IsRightFor d t v →
@@ -201,3 +202,79 @@ last_nowhere what entries place none some so_far =
     let nothing : counted_end what (take place entries) ≡ 0 = ap (λ n. counted_end what (take n entries)) at_start in
     let there = end_there 0 0 (λ x. counts_for x what) entries some in
     omega (arith, nothing, there, so_far)
+
+-- ---- a desk with one more entry of its own
+
+pub serve_keeps : (d : DeskShape) (places new : List ℕ) (j : Job) (v : Verdict) (given : Reply) (entries : List Entry) (b : BoardShape) (spare : ℕ) (loss : Loss) → IsDesk d places →
+    j.lane < d.lanes → j.lane < length places → next_job d j.lane ≡ Some j → IsDecided d.board j.ask v given → state_on b ≡ state_after_step (state_on d.board) j.ask given →
+    d.board.cases.spare ≤ b.cases.spare + 1 → d.spare ≤ spare + 1 → entries ≡ d.entries ++ entry_for j (length d.entries) given ∷ [] → loss ≡ no_loss → HasMoved d.jobs places new j.lane →
+    IsDesk (with_parts d j.lane entries b spare loss) new
+serve_keeps d places new j v given entries b spare loss is known sized next decided state cases room added none moved =
+    let few = is.few in
+    desk_added d places new (entry_for j (length d.entries) given) entries b spare loss is
+    (λ place goes_on. step_grows d places j v given b spare place is next decided state (omega (arith, few, known)) sized room cases goes_on) added none moved
+
+pub again_keeps : (d : DeskShape) (places new : List ℕ) (t : Task) (j : Job) (place : ℕ) (entries : List Entry) (spare : ℕ) (loss : Loss) → IsDesk d places → j ≡ job_of_task t →
+    t.lane < d.lanes → j.lane < length places → IsNext d t → is_fresh d t ≡ false → is_lost d t ≡ true → is_last_round d t.lane ≡ true → place + 1 ≡ counted_end j.ask d.entries →
+    d.spare ≤ spare + 1 → entries ≡ d.entries ++ entry_for j (length d.entries) (reply.Again d.rounds place) ∷ [] → loss ≡ no_loss → HasMoved d.jobs places new j.lane →
+    IsDesk (with_parts d j.lane entries d.board spare loss) new
+again_keeps d places new t j place entries spare loss is same known sized next stale lost last end room added none moved =
+    let few = is.few in
+    let job = job_of_task t in
+    let e = entry_for job (length d.entries) (reply.Again d.rounds place) in
+    subst (λ k. IsDesk (with_parts d k.lane entries d.board spare loss) new) (sym same)
+    (desk_added d places new e entries d.board spare loss is
+    (λ next_place goes_on. again_grows d places t place spare next_place is next stale lost last (subst (λ k. place + 1 ≡ counted_end k.ask d.entries) same end) (omega (arith, few, known))
+        (subst (λ k. k.lane < length places) same sized) room goes_on)
+    (subst (λ k. entries ≡ d.entries ++ entry_for k (length d.entries) (reply.Again d.rounds place) ∷ []) same added) none (subst (λ k. HasMoved d.jobs places new k.lane) same moved))
+
+-- something counts where a task is stale
+pub stale_counts : (d : DeskShape) (t : Task) (j : Job) → j ≡ job_of_task t → is_fresh d t ≡ false → 1 ≤ counted j.ask d.entries
+stale_counts d t j same stale =
+    let some : 1 ≤ counted t.ask (drop t.number d.entries) = grind (arith, common_steps) in
+    let later = count_later (λ e. counts_for e t.ask) d.entries 0 t.number (omega arith) in
+    subst (λ k. 1 ≤ counted k.ask d.entries) (sym same) (omega (arith, some, later))
+
+pub lose_keeps : (d : DeskShape) (places : List ℕ) (t : Task) (end : ℕ) → IsDesk d places → end ≡ length d.entries → IsNext d t → is_fresh d t ≡ false → is_lost d t ≡ true →
+    IsDesk (record d { losses = slice_set d.losses t.lane (record { count = (loss_of d.losses t.lane).count + 1; end = end }) }) places
+lose_keeps d places t end is same next stale lost =
+    subst (λ n. IsDesk (record d { losses = slice_set d.losses t.lane (record { count = (loss_of d.losses t.lane).count + 1; end = n }) }) places) (sym same)
+    (desk_lost d places t.lane t.ask is (may_lose d t next stale lost))
+
+-- ---- the parts of a task
+
+as_own : (job : Job) (lane : ℕ) → job.lane ≡ lane → job ≡ record { lane = lane; line = job.line; ask = job.ask }
+as_own job lane own = λ i. record { lane = own i; line = job.line; ask = job.ask }
+
+pub task_is : (d : DeskShape) (lane : ℕ) (job : Job) (number : ℕ) (snap : SnapShape) → next_job d lane ≡ Some job → number ≡ length d.entries →
+    snap ≡ snap_of d.board job.ask snap.cases.spare → (t : Task) →
+    Some (record { lane = lane; line = job.line; ask = job.ask; number = number; snap = snap }) ≡ Some t → IsTask d lane t
+task_is d lane job number snap next count made t is =
+    let task : Task = record { lane = lane; line = job.line; ask = job.ask; number = number; snap = snap } in
+    let same : task ≡ t = cc in
+    let own = next_lane lane (length (served d lane)) d.jobs job next in
+    subst (IsTask d lane) same record {
+      lane = refl;
+      next = next ∙ ap (λ (k : Job). Some k) (as_own job lane own);
+      number = count;
+      snap = made;
+    }
+
+-- the floor, where the batch and the last loss are before a place
+pub floor_test : (d : DeskShape) (lane n : ℕ) → max d.start (loss_of d.losses lane).end ≤ n →
+    not (nat_lt 0 (count_of (λ e. nat_eq e.lane lane) (drop n d.entries))) ≡ nat_le (floor_of d lane) n
+floor_test d lane n before =
+    sym (lane_end_test lane n d.entries)
+    ∙ same_by (nat_le (lane_end lane d.entries) n) (nat_le (floor_of d lane) n) (λ within. grind (arith, common_steps, before)) (λ within. grind (arith, common_steps, before))
+
+pub floor_over : (d : DeskShape) (lane n : ℕ) → n < max d.start (loss_of d.losses lane).end → false ≡ nat_le (floor_of d lane) n
+floor_over d lane n over = grind (arith, common_steps, over)
+
+by_count : (n : ℕ) → not (nat_lt 0 n) ≡ true → (n == 0) ≡ true
+by_count n none = elim (bool_cases (nat_lt 0 n)) [
+  | inl some ↦ let no = rw some at none in absurd (cc)
+  | inr nothing ↦ let at_zero : n ≡ 0 = grind (arith, common_steps) in eq_is n 0 at_zero
+]
+
+pub fresh_test : (d : DeskShape) (t : Task) → not (nat_lt 0 (counted t.ask (drop t.number d.entries))) ≡ true → is_fresh d t ≡ true
+fresh_test d t none = by_count (counted t.ask (drop t.number d.entries)) none

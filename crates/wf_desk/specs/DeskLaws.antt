@@ -24,7 +24,7 @@ use Rattle.wf_desk.specs.declared.task.Task.{Task}
 use Rattle.wf_desk.specs.Desks.{AreOfLanes, DeskShape, IsSoundDesk, loss_of, next_job, no_loss, served, with_batch, with_room}
 use Rattle.wf_desk.specs.Commits.{IsAgain, IsNext, floor_of, is_fresh, is_last_round, is_lost, job_of_task, with_loss}
 use Rattle.wf_desk.specs.Keeping.{IsDesk, IsNextPlace, IsPlace, LossRests, own_start}
-use Rattle.wf_desk.specs.DocketLaws.{front_more, lane_both, lane_own, next_at, next_lane, served_other, served_own}
+use Rattle.wf_desk.specs.DocketLaws.{batch_short, batch_within, front_more, lane_both, lane_own, next_at, next_lane, served_other, served_own}
 
 -- with one more entry, of which the board is this one, and so much room left
 abbrev pub with_entry : DeskShape → Entry → BoardShape → ℕ → DeskShape
@@ -352,3 +352,41 @@ desk_begins p lanes rounds b spare few state = record {
   losses = λ lane j next. absurd (cc);
   placed = λ lane known. subst (IsPlace (first_desk p lanes rounds b spare) lane) (sym (same_all 0 LANE_LIMIT lane)) record { within = omega arith; before = refl; here = tt };
 }
+
+-- ---- what the calls of a desk need of it
+
+pub desk_small : (d : DeskShape) (places : List ℕ) → IsDesk d places → length d.entries < 4294967296
+desk_small d places is = let within = batch_within d is.sound in let small = is.small in omega (arith, within, small)
+
+pub jobs_small : (d : DeskShape) (places : List ℕ) → IsDesk d places → length d.jobs < 4294967296
+jobs_small d places is = let small = is.small in omega (arith, small)
+
+pub has_room : (d : DeskShape) (places : List ℕ) (lane : ℕ) (j : Job) → IsDesk d places → next_job d lane ≡ Some j → 0 < d.spare
+has_room d places lane j is next =
+    let short = batch_short d lane j is.sound.begun is.sound.front next in
+    let room = is.room in
+    omega (arith, short, room)
+
+pub stands_here : (d : DeskShape) (places : List ℕ) (lane : ℕ) (j : Job) → IsDesk d places → lane < d.lanes → next_job d lane ≡ Some j →
+    slice_index_or places lane 0 < length d.jobs
+stands_here d places lane j is known next =
+    let few = is.few in
+    let place = slice_index_or places lane 0 in
+    slice_get_within d.jobs place j (sym (next_at d lane place (is.placed lane (omega (arith, few, known)))) ∙ next)
+
+-- the lane of an entry went on to its next job
+abbrev pub HasMoved : List Job → List ℕ → List ℕ → ℕ → Type 0
+HasMoved jobs places new lane = (place : ℕ) × ((new ≡ slice_set places lane place) × IsNextPlace jobs lane (slice_index_or places lane 0 + 1) place)
+
+-- with the parts that the calls change
+abbrev pub with_parts : DeskShape → ℕ → List Entry → BoardShape → ℕ → Loss → DeskShape
+with_parts d lane entries b spare loss = record d { entries = entries; board = b; spare = spare; losses = slice_set d.losses lane loss }
+
+pub desk_added : (d : DeskShape) (places new : List ℕ) (e : Entry) (entries : List Entry) (b : BoardShape) (spare : ℕ) (loss : Loss) → IsDesk d places →
+    ((place : ℕ) → IsNextPlace d.jobs e.lane (slice_index_or places e.lane 0 + 1) place → Grows d places e b spare place) →
+    entries ≡ d.entries ++ e ∷ [] → loss ≡ no_loss → HasMoved d.jobs places new e.lane → IsDesk (with_parts d e.lane entries b spare loss) new
+desk_added d places new e entries b spare loss is grows added none moved =
+    subst (IsDesk (with_parts d e.lane entries b spare loss)) (sym moved.1.0)
+    (subst (λ l. IsDesk (with_parts d e.lane entries b spare l) (slice_set places e.lane moved.0)) (sym none)
+    (subst (λ es. IsDesk (with_parts d e.lane es b spare no_loss) (slice_set places e.lane moved.0)) (sym added)
+    (desk_more d places e b spare moved.0 is (grows moved.0 moved.1.1))))

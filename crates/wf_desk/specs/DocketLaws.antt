@@ -2,7 +2,7 @@
 use Rattle.std.proofs.Common.{◌≡◌, ℕ, zero, suc, ◌+◌, ◌-◌, ◌<◌, ◌≤◌, ◌⊎◌, inl, inr, Bool, true, false, nat_eq, nat_lt, List, [], ◌∷◌, ◌++◌, length, take, drop, map, get_or, slice_get, IfSome, Option, None, Some, refl, sym, ap, subst, ◌∙◌, arith, append-nil}
 use Rattle.std.specs.List.{filter}
 use Rattle.std.proofs.lemmas.Grind.{common_steps}
-use Rattle.std.proofs.lemmas.List.{map-append, length-map, length-append, length-drop, take-append-drop, drop-append-le, take_more, take_rest}
+use Rattle.std.proofs.lemmas.List.{map-append, length-map, length-append, length-drop, take-append-drop, drop-append-le, take_more, take_rest, take_all, length-take-le}
 use Rattle.std.proofs.lemmas.List.Elements.{filter-append}
 use Rattle.std.proofs.lemmas.Option.{slice_get_past, slice_get_within, get_or_from_slice_get}
 use Rattle.std.proofs.Math.ListN.{drop_of_length-le}
@@ -11,9 +11,10 @@ use Rattle.basics.proofs.Booleans.{bool_cases, eq_back, eq_is}
 use Rattle.wf_names.specs.declared.limits.TheConstants.{LANE_LIMIT}
 use Rattle.wf_talk.specs.declared.entry.Entry.{Entry}
 use Rattle.wf_talk.specs.declared.job.Job.{Job}
-use Rattle.wf_board.specs.Histories.{job_of_entry, lane_jobs}
-use Rattle.wf_desk.specs.Desks.{AreOfLanes, DeskShape, IsDone, left_of, next_job, served, served_jobs}
+use Rattle.wf_board.specs.Histories.{EachAfter, RestsFrom, job_of_entry, lane_jobs}
+use Rattle.wf_desk.specs.Desks.{AreOfLanes, DeskShape, IsDone, IsSoundDesk, left_of, next_job, served, served_jobs}
 use Rattle.wf_desk.specs.Keeping.{IsNextPlace, IsPlace}
+use Rattle.wf_desk.specs.BatchLaws.{AnswersBatch}
 use Rattle.wf_desk.specs.Fronts.{Begins, Fronts, fronts_short, fronts_within}
 
 -- the jobs of a lane of two lists
@@ -145,3 +146,37 @@ rest_from xs n = take_rest xs n
 
 pub rest_none : {A : Type 0} (xs : List A) (n : ℕ) → length xs ≤ n → drop n xs ≡ []
 rest_none xs n past = drop_of_length-le xs past
+
+-- no more jobs are answered than there are
+pub batch_within : (d : DeskShape) → IsSoundDesk d → length d.entries ≤ d.start + length d.jobs
+batch_within d sound =
+    let within = fronts_within (λ (k : Job). k.lane) (map job_of_entry (drop d.start d.entries)) d.jobs (lanes_front d sound.front) in
+    let size = length-map (drop d.start d.entries) job_of_entry in
+    let begun = sound.begun in
+    omega (arith, within, size, begun, length-drop d.start d.entries)
+
+none_past : {A : Type 0} (xs : List A) (n : ℕ) → slice_get xs n ≡ None → length xs ≤ n
+none_past [] n none = omega arith
+none_past (x ∷ xs) zero none = absurd (cc)
+none_past (x ∷ xs) (suc n) none = let rest = none_past xs n none in omega (arith, rest)
+
+lane_done : (d : DeskShape) (lane : ℕ) → served d lane ≡ take (length (served d lane)) (lane_jobs lane d.jobs) → next_job d lane ≡ None → served d lane ≡ lane_jobs lane d.jobs
+lane_done d lane front none = front ∙ take_all (length (served d lane)) (lane_jobs lane d.jobs) (none_past (lane_jobs lane d.jobs) (length (served d lane)) none)
+
+-- where no lane has a job left, the entries of the batch answer its jobs
+pub batch_done : (d : DeskShape) → IsSoundDesk d → IsDone d → AnswersBatch (take d.start d.entries) (drop d.start d.entries) d.jobs
+batch_done d sound done =
+    let begun = sound.begun in
+    let same : (lane : ℕ) → served d lane ≡ lane_jobs lane d.jobs = λ lane. lane_done d lane (sound.front lane) (done lane) in
+    let answered = map job_of_entry (drop d.start d.entries) in
+    let back : Fronts (λ (j : Job). j.lane) d.jobs answered =
+        record { front = λ lane. subst (λ js. take (length (lane_jobs lane d.jobs)) js ≡ lane_jobs lane d.jobs) (sym (same lane)) (take-length (lane_jobs lane d.jobs)) } in
+    let above = fronts_within (λ (j : Job). j.lane) d.jobs answered back in
+    let below = fronts_within (λ (j : Job). j.lane) answered d.jobs (lanes_front d sound.front) in
+    let size = length-map (drop d.start d.entries) job_of_entry in
+    let first : length (take d.start d.entries) ≡ d.start = length-take-le d.start d.entries begun in
+    record {
+      whole = omega (arith, above, below, size);
+      lanes = same;
+      rests = subst (λ n. EachAfter (RestsFrom n) (take d.start d.entries) (drop d.start d.entries)) (sym first) sound.rests;
+    }

@@ -1,14 +1,14 @@
 //! The desk, with its calls.
-ghost use Rattle.std.specs.Prelude.{◌≡◌, ◌≤◌, ◌<◌, ◌+◌, ◌↔◌, ◌≢◌, true, false, [], length, replicate, OnErr, OnOk, IfOk, None, Some, Option};
+ghost use Rattle.std.specs.Prelude.{◌≡◌, ◌≤◌, ◌<◌, ◌+◌, ◌↔◌, ◌≢◌, nat_le, true, false, [], length, replicate, OnErr, OnOk, IfOk, None, Some, Option};
 ghost use Rattle.wf_names.specs.declared.limits.TheConstants.{BATCH_LINE_LIMIT, LANE_LIMIT, ROUND_LIMIT};
 ghost use Rattle.wf_board.specs.Boards.{book_on, state_on};
 ghost use Rattle.wf_board.specs.States.{opening_state};
 ghost use Rattle.wf_board.specs.Verdicts.{Decides, IsDecided, IsRight};
 ghost use Rattle.wf_desk.specs.Desks.{AreOfLanes, HasAdded, IsDone, IsSoundDesk, left_of, next_job, no_loss, with_batch, with_room};
-ghost use Rattle.wf_desk.specs.Commits.{HasCommitted, HasCommittedChecked, HasServed, IsAgain, IsNext, IsRightFor, IsTask, is_fresh, is_last_round, is_lost, job_of_task, with_loss};
+ghost use Rattle.wf_desk.specs.Commits.{HasCommitted, HasCommittedChecked, HasServed, IsAgain, IsNext, IsRightFor, IsTask, floor_of, is_fresh, is_last_round, is_lost, job_of_task, with_loss};
 ghost use Rattle.wf_desk.specs.Keeping.{HasMissed};
 
-use crate::docket::{count_of_lane, first_places, go_on};
+use crate::docket::{count_of_lane, first_places, go_on, job_at};
 use crate::journal::{add_entry, any_counts, any_of_lane, entries_from, last_counting};
 use crate::{Loss, Outcome, Task};
 use policy_book::Policy;
@@ -38,12 +38,13 @@ impl Model for Desk {
     ghost use Rattle.std.specs.Arc.{arc_value};
     ghost use Rattle.std.specs.Coded.{codes};
     ghost use Rattle.policy_book.specs.Shapes.{policy_code};
+    ghost use Rattle.refutation_tree.specs.Codes.{kids_code};
     ghost use Rattle.wf_desk.specs.Desks.{DeskShape};
     ghost use Rattle.wf_desk.specs.Keeping.{IsDesk};
 
     ghost Value = { DeskShape };
 
-    ghost coded = { Prim.hlevel (codes, policy_code) };
+    ghost coded = { Prim.hlevel (codes, policy_code, kids_code) };
 
     ghost view = { λ d. record { opening = arc_value d.opening; lanes = d.lanes; rounds = d.rounds; board = d.board; entries = d.journal.entries; spare = d.journal.spare; jobs = d.jobs; start = d.start; losses = d.losses } };
 
@@ -89,10 +90,11 @@ impl Desk {
         ensures loaded { OnOk result (self.new ≡ with_room (with_batch self.old jobs.now) self.new.spare self.new.board.cases.spare) }
         ensures unchanged { OnErr result (self.new ≡ with_room self.old self.new.spare self.new.board.cases.spare) }
     {
+        let start = self.number();
         self.journal.reserve(jobs.len() as u32)?;
         self.board.reserve(jobs.len() as u16)?;
         self.jobs = Jobs::from_vec(Vec::from_slice(alloc, jobs)?);
-        self.start = self.journal.len() as u32;
+        self.start = start;
         self.losses = no_losses();
         self.places = first_places(jobs);
         Ok(())
@@ -112,7 +114,7 @@ impl Desk {
             lane,
             line: job.line,
             ask: job.ask,
-            number: self.journal.len() as u32,
+            number: self.number(),
             snap: self.board.snap(alloc, &job.ask)?,
         }))
     }
@@ -227,15 +229,22 @@ impl Desk {
 
     // A lane's next job, if it has one left.
     fn next_job(&self, lane: u8) -> Option<Job>
-        requires { lane < LANE_LIMIT }
+        requires { lane < self.now.lanes }
         ensures { result ≡ next_job self.now lane }
     {
-        self.jobs.as_slice().get(self.places[lane as usize] as usize).copied()
+        job_at(self.jobs.as_slice(), self.places[lane as usize])
+    }
+
+    // How many entries there are.
+    fn number(&self) -> u32
+        ensures { result ≡ length self.now.entries }
+    {
+        self.journal.len() as u32
     }
 
     // Whether this is its lane's next job.
     fn is_next(&self, job: &Job) -> bool
-        requires { job.now.lane < LANE_LIMIT }
+        requires { job.now.lane < self.now.lanes }
         ensures { result ≡ true ↔ next_job self.now job.now.lane ≡ Some job.now }
     {
         match self.next_job(job.lane) {
@@ -246,26 +255,34 @@ impl Desk {
 
     // Whether no entry since counts for what a task asks.
     fn is_fresh(&self, task: &Task) -> bool
-        ensures { result ≡ is_fresh self.now task.now }
+        ensures fresh { result ≡ is_fresh self.now task.now }
+        ensures right { result ≡ true → (v : Verdict) → IsRightFor self.now task.now v
+            → IsRight (state_on self.now.board).book task.now.ask v }
     {
         !any_counts(entries_from(&self.journal, task.number), &task.ask)
     }
 
     // Whether a task that is stale is lost.
     fn is_lost(&self, task: &Task) -> bool
-        requires { task.now.lane < LANE_LIMIT }
+        requires { task.now.lane < self.now.lanes }
         ensures { result ≡ is_lost self.now task.now }
     {
-        1 <= self.rounds
-            && self.start <= task.number
-            && self.losses[task.lane as usize].end <= task.number
+        1 <= self.rounds && self.board.needs(&task.ask) && self.is_past_floor(task)
+    }
+
+    // Whether all that a task missed may make it lost.
+    fn is_past_floor(&self, task: &Task) -> bool
+        requires { task.now.lane < self.now.lanes }
+        ensures { result ≡ nat_le (floor_of self.now task.now.lane) task.now.number }
+    {
+        let before = self.start.max(self.losses[task.lane as usize].end);
+        before <= task.number
             && !any_of_lane(entries_from(&self.journal, task.number), task.lane)
-            && self.board.needs(&task.ask)
     }
 
     // Whether one more loss of a lane's next job is the last that it may have.
     fn is_last_round(&self, lane: u8) -> bool
-        requires { lane < LANE_LIMIT }
+        requires { lane < self.now.lanes }
         ensures { result ≡ is_last_round self.now lane }
     {
         self.rounds as u32 <= self.losses[lane as usize].count as u32 + 1
@@ -281,7 +298,7 @@ impl Desk {
     ) -> Outcome
         requires ready { V.ready decider.now }
         requires job { job.now ≡ job_of_task task.now }
-        requires lane { task.now.lane < LANE_LIMIT }
+        requires lane { task.now.lane < self.old.lanes }
         requires next { IsNext self.old task.now }
         requires stale { is_fresh self.old task.now ≡ false }
         ensures { HasMissed self.old self.new task.now result }
@@ -305,7 +322,7 @@ impl Desk {
         verdict: Verdict,
     ) -> u32
         requires ready { V.ready decider.now }
-        requires lane { job.now.lane < LANE_LIMIT }
+        requires lane { job.now.lane < self.old.lanes }
         requires next { next_job self.old job.now.lane ≡ Some job.now }
         requires right { IsRight (state_on self.old.board).book job.now.ask verdict }
         ensures { HasAdded self.old self.new job.now result (IsDecided self.old.board job.now.ask verdict) }
@@ -320,17 +337,16 @@ impl Desk {
     // Answers a lane's next job again, after its last round.
     fn record_again(&mut self, task: &Task, job: &Job) -> u32
         requires job { job.now ≡ job_of_task task.now }
-        requires lane { task.now.lane < LANE_LIMIT }
+        requires lane { task.now.lane < self.old.lanes }
         requires next { IsNext self.old task.now }
         requires stale { is_fresh self.old task.now ≡ false }
         requires lost { is_lost self.old task.now ≡ true }
         requires last { is_last_round self.old task.now.lane ≡ true }
         ensures { HasAdded self.old self.new job.now result (IsAgain self.old task.now) }
     {
-        let last = last_counting(self.journal.as_slice(), &job.ask) as u32;
         let reply = Reply::Again {
             rounds: self.rounds,
-            at: last,
+            at: last_counting(&self.journal, &job.ask),
         };
         let at = add_entry(&mut self.journal, job, reply);
         go_on(&mut self.places, self.jobs.as_slice(), job.lane);
@@ -340,16 +356,16 @@ impl Desk {
 
     // One more loss of a lane's next job.
     fn lose(&mut self, task: &Task)
-        requires lane { task.now.lane < LANE_LIMIT }
+        requires lane { task.now.lane < self.old.lanes }
         requires next { IsNext self.old task.now }
         requires stale { is_fresh self.old task.now ≡ false }
         requires lost { is_lost self.old task.now ≡ true }
         requires some { is_last_round self.old task.now.lane ≡ false }
         ensures { self.new ≡ with_loss self.old task.now.lane }
     {
-        let loss = &mut self.losses[task.lane as usize];
-        loss.count += 1;
-        loss.end = self.journal.len() as u32;
+        let end = self.number();
+        let count = self.losses[task.lane as usize].count + 1;
+        self.losses[task.lane as usize] = Loss { count, end };
     }
 }
 

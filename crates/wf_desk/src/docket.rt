@@ -1,5 +1,5 @@
 //! The jobs of a batch, lane by lane.
-ghost use Rattle.std.specs.Prelude.{◌≡◌, ◌≤◌, ◌<◌, ◌+◌, ℕ, length, slice_index_or, slice_set};
+ghost use Rattle.std.specs.Prelude.{◌≡◌, ◌≤◌, ◌<◌, ◌+◌, ℕ, length, slice_get, slice_index_or, slice_set};
 ghost use Rattle.wf_names.specs.declared.limits.TheConstants.{LANE_LIMIT};
 ghost use Rattle.wf_board.specs.Histories.{lane_jobs};
 ghost use Rattle.wf_desk.specs.Keeping.{IsNextPlace};
@@ -18,6 +18,17 @@ pub(crate) fn next_place(jobs: &[Job], lane: u8, from: usize) -> usize
         }
     }
     jobs.len()
+}
+
+/// The job at a place, if there is one.
+pub(crate) fn job_at(jobs: &[Job], place: u32) -> Option<Job>
+    ensures { result ≡ slice_get jobs.now place }
+{
+    if (place as usize) < jobs.len() {
+        Some(jobs[place as usize])
+    } else {
+        None
+    }
 }
 
 /// How many of these jobs are a lane's.
@@ -51,7 +62,8 @@ pub(crate) fn go_on(places: &mut [u32; LANE_LIMIT as usize], jobs: &[Job], lane:
     requires known { lane < LANE_LIMIT }
     requires here { slice_index_or places.old lane 0 < length jobs.now }
     requires small { length jobs.now < 4294967296 }
-    ensures { (place : ℕ) × ((places.new ≡ slice_set places.old lane place) × IsNextPlace jobs.now lane (slice_index_or places.old lane 0 + 1) place) }
+    ensures sized { lane < length places.old }
+    ensures moved { (place : ℕ) × ((places.new ≡ slice_set places.old lane place) × IsNextPlace jobs.now lane (slice_index_or places.old lane 0 + 1) place) }
 {
     let from = places[lane as usize] as usize + 1;
     places[lane as usize] = next_place(jobs, lane, from) as u32;

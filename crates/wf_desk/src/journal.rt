@@ -42,9 +42,18 @@ pub(crate) fn any_of_lane(entries: &[Entry], lane: u8) -> bool
 }
 
 /// The place of the last entry that counts for what is asked.
-pub(crate) fn last_counting(entries: &[Entry], ask: &Ask) -> usize
+pub(crate) fn last_counting(journal: &Journal, ask: &Ask) -> u32
+    requires some { 1 ≤ counted ask.now journal.now.entries }
+    requires small { length journal.now.entries < 4294967296 }
+    ensures { result + 1 ≡ counted_end ask.now journal.now.entries }
+{
+    last_place(journal.as_slice(), ask) as u32
+}
+
+fn last_place(entries: &[Entry], ask: &Ask) -> usize
     requires { 1 ≤ counted ask.now entries.now }
-    ensures { result + 1 ≡ counted_end ask.now entries.now }
+    ensures last { result + 1 ≡ counted_end ask.now entries.now }
+    ensures within { result < length entries.now }
 {
     let mut place = entries.len();
     'looking: while 0 < place {

@@ -1,9 +1,9 @@
 use Rattle.std.proofs.Common.{◌≡◌, true, false, sym, ◌∙◌, arith}
 use Rattle.wf_desk.specs.CommitLaws.{last_before, last_here, last_nowhere}
-use Rattle.wf_desk.proofs.journal.last_counting.Goals as goal
+use Rattle.wf_desk.proofs.journal.last_place.Goals as goal
 
-pub returns-then-counts : goal.returns-then-counts
-returns-then-counts c =
+pub returns-then-counts-clause-last : goal.returns-then-counts-clause-last
+returns-then-counts-clause-last c =
     last_here c.args.ask.now c.args.entries.now c.looking.place c.index-entries-place.result c.looking-test.true c.looking.invariant.0 c.index-entries-place.is
     (sym c.counts.ensures ∙ c.if-counts.true) c.looking.invariant.1
 
