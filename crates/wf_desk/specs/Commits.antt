@@ -1,5 +1,5 @@
 -- What becomes of a job: decided inside the turn, or with the verdict of a task that was found outside it.
-use Rattle.std.specs.Prelude.{◌≡◌, ℕ, ◌+◌, ◌==◌, ◌&&◌, nat_le, Bool, true, false, List, length, drop, max, slice_set, None, Some}
+use Rattle.std.specs.Prelude.{◌≡◌, ℕ, ◌+◌, ◌==◌, ◌&&◌, nat_le, Bool, true, false, length, drop, max, slice_set, None, Some}
 use Rattle.std.proofs.Common.{◌⊎◌}
 use Rattle.wf_talk.specs.declared.job.Job.{Job}
 use Rattle.wf_talk.specs.declared.reply.Reply.{Reply}
@@ -10,7 +10,6 @@ use Rattle.wf_board.specs.Boards.{state_on}
 use Rattle.wf_board.specs.Counting.{counted, counted_end, lane_end}
 use Rattle.wf_board.specs.Decisions.{decision_of, needs_verdict}
 use Rattle.wf_board.specs.Verdicts.{IsCertified, IsDecided, IsRight, snap_of}
-use Rattle.wf_desk.specs.declared.loss.Loss.{Loss}
 use Rattle.wf_desk.specs.declared.task.Task.{Task}
 use Rattle.wf_desk.specs.declared.outcome.Outcome.{Outcome}
 use Rattle.wf_desk.specs.declared.outcome.Outcome.TheVariants as outcome
@@ -21,9 +20,9 @@ abbrev pub job_of_task : Task → Job
 job_of_task t = record { lane = t.lane; line = t.line; ask = t.ask }
 
 -- a task is that of a lane's next job, on the state as it is now
-pub record IsTask (d : DeskShape) (lane : ℕ) (t : Task) : Type 0 where
-  pub lane : t.lane ≡ lane
-  pub next : next_job d lane ≡ Some (job_of_task t)
+pub record IsTask (d : DeskShape) (of : ℕ) (t : Task) : Type 0 where
+  pub lane : t.lane ≡ of
+  pub next : next_job d of ≡ Some (job_of_task t)
   pub number : t.number ≡ length d.entries
   pub snap : t.snap ≡ snap_of d.board t.ask t.snap.cases.spare
 
