@@ -4,5 +4,3 @@ pub mod Keeping
 pub mod Fronts
 pub mod BatchLaws
 pub mod DocketLaws
-pub mod DeskLaws
-pub mod CommitLaws
