@@ -6,3 +6,5 @@ pub mod BatchLaws
 pub mod DocketLaws
 pub mod DeskLaws
 pub mod CommitLaws
+pub mod Schedules
+pub mod Holding
