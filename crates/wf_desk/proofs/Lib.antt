@@ -1,2 +1,3 @@
 pub mod DeskLaws
 pub mod CommitLaws
+pub mod Scheduling

@@ -4,3 +4,5 @@ pub mod Keeping
 pub mod Fronts
 pub mod BatchLaws
 pub mod DocketLaws
+pub mod Schedules
+pub mod Holding

@@ -17,9 +17,11 @@ mod docket;
 mod journal;
 mod loss;
 mod outcome;
+mod schedule;
 mod task;
 
 pub use desk::{Desk, solve_task};
 pub use loss::Loss;
 pub use outcome::Outcome;
+pub use schedule::{Event, Mark, Marks};
 pub use task::Task;
