@@ -5,16 +5,17 @@ use Rattle.std.proofs.lemmas.Bool.Decides.{eqb_tells}
 use Rattle.std.proofs.Math.Seq.{get_or-append_seam}
 use Rattle.std.proofs.lemmas.List.{get_or_append_left, length-append, length-replicate}
 use Rattle.std.proofs.lemmas.Option.{slice_get_within}
-use Rattle.basics.proofs.Booleans.{and-false, and_both, and_swap, eq_is, lt_back, lt_no, lt_yes, not_true, or-false, same_by}
+use Rattle.basics.proofs.Booleans.{and-false, and_both, and_swap, eq_back, eq_is, lt_back, lt_no, lt_yes, not_true, or-false, same_by}
 use Rattle.wf_names.specs.declared.limits.TheConstants.{STEP_LIMIT}
 use Rattle.constraint_forms.specs.declared.rule.Rule.{Rule}
+use Rattle.constraint_forms.specs.Flags.{word_of}
 use Rattle.constraint_forms.specs.Assigned.{is_member, no_steps, user_at}
 use Rattle.constraint_forms.specs.Rules.{relation_of}
 use Rattle.policy_book.specs.Plans.{Problem}
-use Rattle.policy_book.specs.Twins.{agree, are_related_alike, are_twins, has_no_step, has_twin, is_alike_to, is_given_to, is_rule_alike, may_do_the_same}
-use Rattle.certificate_check.proofs.Below.{all_pass, one_fails}
+use Rattle.policy_book.specs.Twins.{agree, are_related_alike, are_twins, has_no_step, has_twin, is_alike_to, is_given_to, is_rule_alike, may_do_the_same, treats_alike}
+use Rattle.certificate_check.proofs.Below.{all_pass, one_fails, same_agree}
 use Rattle.certificate_check.proofs.TwinLaws.{mean_twins, twins_chain, twins_mean, twins_turned}
-use Rattle.wsp_solver.specs.Crews.{AreClassesBelow, AreDuties, class_of, duties_below, duties_of, is_told_apart, tells_apart}
+use Rattle.wsp_solver.specs.Crews.{AreClassesBelow, AreDuties, are_over_one, class_of, duties_below, duties_of, is_told_apart, tells_apart}
 use Rattle.wsp_solver.proofs.Members.{eq_turned, length_set, member_added, passing_more}
 
 -- ---- steps
@@ -70,6 +71,17 @@ pub apart_by_duties : (p : Problem) (duties : List (List Bool)) (u v : ℕ) → 
 apart_by_duties p duties u v u_in v_in right differ =
     not_true (are_twins p [] u v) (λ twins. differ (right u u_in ∙ duties-same p u v p.steps (twins_mean p [] u v twins).steps ∙ sym (right v v_in)))
 
+-- sets of steps with one word are the same
+pub word_one : (xs ys : List Bool) → length xs ≡ length ys → word_of xs ≡ word_of ys → xs ≡ ys
+unfolding word_of
+word_one [] [] long same = refl
+word_one [] (y ∷ ys) long same = absurd (omega (arith, long))
+word_one (x ∷ xs) [] long same = absurd (omega (arith, long))
+word_one (true ∷ xs) (true ∷ ys) long same = ap (λ zs. true ∷ zs) (word_one xs ys (omega (arith, long)) (omega (arith, same)))
+word_one (false ∷ xs) (false ∷ ys) long same = ap (λ zs. false ∷ zs) (word_one xs ys (omega (arith, long)) (omega (arith, same)))
+word_one (true ∷ xs) (false ∷ ys) long same = absurd (omega (arith, same))
+word_one (false ∷ xs) (true ∷ ys) long same = absurd (omega (arith, same))
+
 -- ---- twins where nothing is assigned
 
 pub idle_when_free : (a : List (Option ℕ)) (u : ℕ) → ((s : ℕ) → user_at a s ≡ None) → has_no_step a u ≡ true
@@ -114,6 +126,22 @@ twins_of_twins p u v w u_in v_in w_in twins =
     same_by (are_twins p [] w v) (are_twins p [] w u)
     (λ h. twins_chain p [] w v u w_in v_in u_in h twins)
     (λ h. twins_chain p [] w u v w_in u_in v_in h (turned p v u twins))
+
+-- users with the same steps are twins exactly where each relation treats them alike
+pub alike_by_duties : (p : Problem) (duties : List (List Bool)) (u v : ℕ) → u < p.users → v < p.users → p.steps ≤ STEP_LIMIT → AreDuties p duties → word_of (duties_of duties u) ≡ word_of (duties_of duties v) → are_twins p [] u v ≡ are_related_alike p u v
+alike_by_duties p duties u v u_in v_in few right one =
+    let long : (w : ℕ) → w < p.users → length (duties_of duties w) ≡ STEP_LIMIT = λ w w_in. ap length (right w w_in) ∙ duties-length p w p.steps no_steps-length in
+    let same = word_one (duties_of duties u) (duties_of duties v) (long u u_in ∙ sym (long v v_in)) one in
+    ap (λ b. b && are_related_alike p u v)
+    (all_pass p.steps (λ s. agree (p.authorised s u) (p.authorised s v))
+    (λ s below. same_agree (p.authorised s u) (p.authorised s v)
+    (sym (duties-known p u s few below) ∙ ap (λ d. is_member d s) (sym (right u u_in) ∙ same ∙ right v v_in) ∙ duties-known p v s few below)))
+
+-- rules over one relation treat users alike together
+pub over_one_alike : (p : Problem) (u v : ℕ) (a b : Option Rule) → are_over_one a b ≡ true → is_rule_alike p u v a ≡ is_rule_alike p u v b
+over_one_alike p u v None b h = absurd (false≢true h)
+over_one_alike p u v (Some x) None h = absurd (false≢true h)
+over_one_alike p u v (Some x) (Some y) h = ap (λ rho. treats_alike p.users (p.related rho) u v) (eq_back (relation_of x) (relation_of y) h)
 
 -- a rule that treats two users differently at a third one tells them apart
 apart_by_rule : (p : Problem) (k : ℕ) (r : Rule) (u v w : ℕ) → k < length p.rules → slice_get p.rules k ≡ Some r → w < p.users → tells_apart (p.related (relation_of r)) u v w ≡ true → are_related_alike p u v ≡ false

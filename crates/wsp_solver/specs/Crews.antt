@@ -46,3 +46,13 @@ tells_apart holds u v w = not ((w == u || w == v) || is_alike_to holds u v w)
 abbrev pub is_told_apart : Problem → ℕ → ℕ → ℕ → Option Rule → Bool
 is_told_apart p u v w None = false
 is_told_apart p u v w (Some rule) = nat_lt w p.users && tells_apart (p.related (relation_of rule)) u v w
+
+-- there is a rule, and it is over a relation
+abbrev pub is_over : ℕ → Option Rule → Bool
+is_over rho None = false
+is_over rho (Some rule) = rho == relation_of rule
+
+-- there are two rules, and they are over one relation
+abbrev pub are_over_one : Option Rule → Option Rule → Bool
+are_over_one None other = false
+are_over_one (Some rule) other = is_over (relation_of rule) other

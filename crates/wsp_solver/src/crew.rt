@@ -1,16 +1,15 @@
 //! What a search knows of each user: the steps for which the user is authorised, and a class, so that
 //! users of one class are twins wherever neither has a step.
-ghost use Rattle.std.specs.Prelude.{◌≡◌, ◌<◌, ◌+◌, ◌==◌, ℕ, [], length, slice_get, false, IfOk, IsTrue};
+ghost use Rattle.std.specs.Prelude.{◌≡◌, ◌<◌, ◌+◌, ◌||◌, ◌==◌, ℕ, [], length, slice_get, false, IfOk, IsTrue};
 ghost use Rattle.policy_book.specs.Policies.{problem_of};
 ghost use Rattle.constraint_forms.specs.Rules.{relation_of};
-ghost use Rattle.policy_book.specs.Twins.{are_related_alike, are_twins};
-ghost use Rattle.wsp_solver.specs.Crews.{AreClassesBelow, AreDuties, IsCrewOf, class_of, duties_below, duties_of, is_told_apart, tells_apart};
+ghost use Rattle.policy_book.specs.Twins.{agree, all_below, are_related_alike, are_twins, is_alike_to, is_rule_alike, treats_alike};
+ghost use Rattle.wsp_solver.specs.Crews.{AreClassesBelow, AreDuties, IsCrewOf, are_over_one, class_of, duties_below, duties_of, is_over, is_told_apart, tells_apart};
 
 use crate::steps::{step_count, with_if};
-use certificate_check::twins;
 use constraint_forms::{Holds, Rule};
 use plan_finder::Finder;
-use policy_book::{Assign, Policy, StepSet};
+use policy_book::{Policy, StepSet};
 use std::alloc::{AllocError, Global};
 use wf_names::{FlowId, RelId, STEP_LIMIT, StepId, UserId};
 
@@ -145,13 +144,103 @@ fn are_alike(
     requires second { v < (problem_of p.now f).users }
     ensures { result ≡ are_twins (problem_of p.now f) [] u v }
 {
+    prove!(step_count(p, f) <= STEP_LIMIT);
     if duties_at(duties, u) != duties_at(duties, v) {
         return false;
     }
     if are_told_apart(p, f, finder, u, v) {
         return false;
     }
-    twins(p, f, &Assign::empty(), u, v)
+    are_related_alike(p, f, u, v)
+}
+
+// Whether the relation of each rule treats two users alike. A relation is looked at for the first
+// rule that is over it.
+fn are_related_alike(p: &Policy, f: FlowId, u: UserId, v: UserId) -> bool
+    requires flow { f < length p.now.flows }
+    ensures { result ≡ are_related_alike (problem_of p.now f) u v }
+{
+    'rules: for k in 0..p.rules(f).len() {
+        if first_over(p, f, k) < k {
+            continue;
+        }
+        if !is_rule_alike(p, f, k, u, v) {
+            return false;
+        }
+    }
+    true
+}
+
+// The first rule that is over the relation of a rule.
+fn first_over(p: &Policy, f: FlowId, k: usize) -> usize
+    requires flow { f < length p.now.flows }
+    ensures { (u v : ℕ) → is_rule_alike (problem_of p.now f) u v (slice_get (problem_of p.now f).rules result) ≡ is_rule_alike (problem_of p.now f) u v (slice_get (problem_of p.now f).rules k) }
+{
+    'earlier: for j in 0..k {
+        if are_over_one(p, f, j, k) {
+            return j;
+        }
+    }
+    k
+}
+
+fn are_over_one(p: &Policy, f: FlowId, j: usize, k: usize) -> bool
+    requires flow { f < length p.now.flows }
+    ensures { result ≡ are_over_one (slice_get (problem_of p.now f).rules j) (slice_get (problem_of p.now f).rules k) }
+{
+    match p.rules(f).as_slice().get(j) {
+        Some(rule) => is_over(p, f, k, relation_of(rule)),
+        None => false,
+    }
+}
+
+fn is_over(p: &Policy, f: FlowId, k: usize, rho: RelId) -> bool
+    requires flow { f < length p.now.flows }
+    ensures { result ≡ is_over rho (slice_get (problem_of p.now f).rules k) }
+{
+    match p.rules(f).as_slice().get(k) {
+        Some(rule) => rho == relation_of(rule),
+        None => false,
+    }
+}
+
+fn is_rule_alike(p: &Policy, f: FlowId, k: usize, u: UserId, v: UserId) -> bool
+    requires flow { f < length p.now.flows }
+    ensures { result ≡ is_rule_alike (problem_of p.now f) u v (slice_get (problem_of p.now f).rules k) }
+{
+    match p.rules(f).as_slice().get(k) {
+        Some(rule) => treats_alike(p, f, relation_of(rule), u, v),
+        None => true,
+    }
+}
+
+fn treats_alike(p: &Policy, f: FlowId, rho: RelId, u: UserId, v: UserId) -> bool
+    ensures { result ≡ treats_alike (problem_of p.now f).users ((problem_of p.now f).related rho) u v }
+{
+    if !agree(p.holds(rho, u, u), p.holds(rho, v, v)) {
+        return false;
+    }
+    if !agree(p.holds(rho, u, v), p.holds(rho, v, u)) {
+        return false;
+    }
+    are_alike_to_all(p, f, rho, u, v)
+}
+
+fn are_alike_to_all(p: &Policy, f: FlowId, rho: RelId, u: UserId, v: UserId) -> bool
+    ensures { result ≡ all_below (problem_of p.now f).users (λ w. (w == u || w == v) || is_alike_to ((problem_of p.now f).related rho) u v w) }
+{
+    'users: for w in 0..p.roster().users().len() {
+        if is_treated_apart(p, f, rho, u, v, UserId(w)) {
+            return false;
+        }
+    }
+    true
+}
+
+fn agree(one: bool, other: bool) -> bool
+    ensures { result ≡ agree one other }
+{
+    if one { other } else { !other }
 }
 
 // Whether the relation of some rule is known to tell two users apart.

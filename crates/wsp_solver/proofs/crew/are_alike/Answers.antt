@@ -1,9 +1,10 @@
-use Rattle.std.proofs.Common.{not, nat_eq, refl, sym, ap, ◌∙◌}
+use Rattle.std.proofs.Common.{◌≤◌, not, nat_eq, refl, sym, ap, ◌∙◌, arith}
 use Rattle.std.proofs.lemmas.Bool.{false≢true}
-use Rattle.basics.proofs.Booleans.{eq_same}
+use Rattle.basics.proofs.Booleans.{eq_back, eq_same, not_false}
+use Rattle.wf_names.specs.declared.limits.TheConstants.{STEP_LIMIT}
 use Rattle.constraint_forms.specs.Flags.{word_of}
 use Rattle.policy_book.specs.Policies.{problem_of}
-use Rattle.wsp_solver.proofs.Crews.{apart_by_duties, apart_by_rules, twins_when_free}
+use Rattle.wsp_solver.proofs.Crews.{apart_by_duties, apart_by_rules, alike_by_duties}
 use Rattle.wsp_solver.proofs.crew.are_alike.Goals as goal
 
 pub returns-then-ne : goal.returns-then-ne
@@ -16,4 +17,10 @@ pub returns-then-are_told_apart : goal.returns-then-are_told_apart
 returns-then-are_told_apart c = sym (apart_by_rules (problem_of c.args.p.now c.args.f) c.args.u c.args.v (c.if-are_told_apart.ensures refl))
 
 pub returns : goal.returns
-returns c = c.twins.ensures ∙ twins_when_free (problem_of c.args.p.now c.args.f) c.empty.result c.args.u c.args.v c.empty.ensures.free
+returns c =
+    let p = problem_of c.args.p.now c.args.f in
+    let few : p.steps ≤ STEP_LIMIT = omega (arith, c.step_count.ensures.count, c.step_count.ensures.few) in
+    let one = eq_back (word_of c.duties_at.result) (word_of c.duties_at-2.result) (not_false (nat_eq (word_of c.duties_at.result) (word_of c.duties_at-2.result)) (sym c.if-ne.ensures)) in
+    c.are_related_alike.ensures
+    ∙ sym (alike_by_duties p c.args.duties.now c.args.u c.args.v c.requires.first c.requires.second few c.requires.duties
+    (ap word_of (sym c.duties_at.ensures) ∙ one ∙ ap word_of c.duties_at-2.ensures))
