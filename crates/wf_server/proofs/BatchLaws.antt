@@ -4,7 +4,6 @@ use Rattle.std.proofs.lemmas.Grind.{common_steps}
 use Rattle.std.proofs.lemmas.List.{take_rest, take-append-drop, take-append-le, append-nil, drop_more, take_more, length-map, length-append, get_or_append_left}
 use Rattle.std.specs.Prelude.{Bool, true, false, nat_lt, slice_index_or, if◌then◌else◌}
 use Rattle.std.proofs.Math.Seq.{drop-append_seam, take-length, get_or-append_seam}
-use Rattle.wf_names.specs.declared.limits.TheConstants.{DEFAULT_ROUNDS}
 use Rattle.wf_outside.specs.Outside.{with_bytes, HasPart}
 use Rattle.wf_outside.proofs.OutsideLaws.{more_put, part_first, part_second, part_all}
 use Rattle.policy_book.specs.Shapes.{PolicyShape}
@@ -21,7 +20,7 @@ use Rattle.line_cutter.specs.CutLaws.{closed_after}
 use Rattle.run_record.specs.declared.fault.RunFault.{RunFault}
 use Rattle.run_record.specs.declared.fault.RunFault.TheVariants as fault
 use Rattle.run_record.specs.Report.{Told}
-use Rattle.wf_server.specs.Sessions.{last_start}
+use Rattle.wf_server.specs.Sessions.{Setting, last_start}
 use Rattle.wf_server.specs.Batches.{entries_text, FillsLanes, WritesLast, LeadsTo, HasAnsweredOne, AreEnds, HasAnswered, HasAnsweredPart, IsAdded, AnswersTo, IsWriteEnding}
 
 -- the rest behind a place
@@ -34,9 +33,9 @@ history_stays s [] = refl
 history_stays s (e ∷ es) = history_stays (state_after_step s e.ask e.reply) es ∙ policy_stays s e.ask e.reply
 
 -- one more entry leads on
-pub leads_more : (start s next : State) (before after : List Entry) (job : Job) → HasAnsweredOne before after s next job → LeadsTo start before s → LeadsTo start after next
-leads_more start s next before after job one leads = record {
-  legal = subst (IsLegal start DEFAULT_ROUNDS) (sym one.pushed) (legal_more start DEFAULT_ROUNDS before one.entry leads.legal one.at (subst (λ x. IsStep x one.entry.ask one.entry.reply) (sym leads.state) one.step));
+pub leads_more : (start s next : State) (rounds : ℕ) (before after : List Entry) (job : Job) → HasAnsweredOne before after s next job → LeadsTo start rounds before s → LeadsTo start rounds after next
+leads_more start s next rounds before after job one leads = record {
+  legal = subst (IsLegal start rounds) (sym one.pushed) (legal_more start rounds before one.entry leads.legal one.at (subst (λ x. IsStep x one.entry.ask one.entry.reply) (sym leads.state) one.step));
   once = subst AreAnsweredOnce (sym one.pushed) (once_more before one.entry leads.once (λ n place. step_once s one.entry.ask one.entry.reply one.step n place));
   state = ap (state_after start) one.pushed ∙ after_more start before one.entry ∙ ap (λ x. state_after_step x one.entry.ask one.entry.reply) leads.state ∙ sym one.state;
 }
@@ -89,9 +88,9 @@ whole_text p old new kept =
     ap (entries_text p) (sym (take-append-drop (length old) new) ∙ ap (λ es. es ++ drop (length old) new) kept) ∙ text_append p old (drop (length old) new)
 
 -- the text with the policy of the board
-pub text_on : (p q : PolicyShape) (s : State) (old new es : List Entry) (n : ℕ) → LeadsTo (opening_state p) new s → q ≡ s.book.policy → n ≡ length old → es ≡ drop n new
+pub text_on : (p q : PolicyShape) (s : State) (rounds : ℕ) (old new es : List Entry) (n : ℕ) → LeadsTo (opening_state p) rounds new s → q ≡ s.book.policy → n ≡ length old → es ≡ drop n new
     → entries_text q es ≡ entries_text p (drop (length old) new)
-text_on p q s old new es n leads found len is =
+text_on p q s rounds old new es n leads found len is =
     ap (λ x. entries_text x es) (found ∙ sym (ap (λ (x : State). x.book.policy) leads.state) ∙ history_stays (opening_state p) new)
     ∙ ap (entries_text p) (is ∙ ap (λ k. drop k new) len)
 
@@ -227,11 +226,11 @@ writes_whole p held after told written =
     subst (λ a. HasPart (with_bytes held front) a rest) (sym (written ∙ ap (with_bytes held) whole ∙ sym (more_put held front rest))) (part_all (with_bytes held front) rest)
 
 -- what came of answering a batch
-pub record HasAnsweredBatch (p : PolicyShape) (held mid : Option (List ℕ)) (s next : State) (before : Told) (batch : List Job) (after : Told) : Type 0 where
-  pub answered : HasAnswered p held mid s before
+pub record HasAnsweredBatch (set : Setting) (held mid : Option (List ℕ)) (s next : State) (before : Told) (batch : List Job) (after : Told) : Type 0 where
+  pub answered : HasAnswered set held mid s before
   pub added : IsAdded before batch after
   pub whole : length before.entries ≡ length before.jobs
-  pub leads : LeadsTo (opening_state p) after.entries next
+  pub leads : LeadsTo (opening_state set.policy) set.rounds after.entries next
   pub filled : map job_of_entry after.entries ≡ map job_of_entry before.entries ++ batch
   pub kept : take (length before.entries) after.entries ≡ before.entries
 
@@ -239,85 +238,85 @@ pub record HasAnsweredBatch (p : PolicyShape) (held mid : Option (List ℕ)) (s 
 abbrev new_entries : Told → Told → List Entry
 new_entries before after = drop (length before.entries) after.entries
 
-split_entries : (p : PolicyShape) (held mid : Option (List ℕ)) (s next : State) (before : Told) (batch : List Job) (after : Told) → HasAnsweredBatch p held mid s next before batch after
+split_entries : (set : Setting) (held mid : Option (List ℕ)) (s next : State) (before : Told) (batch : List Job) (after : Told) → HasAnsweredBatch set held mid s next before batch after
     → after.entries ≡ before.entries ++ new_entries before after
-split_entries p held mid s next before batch after h =
+split_entries set held mid s next before batch after h =
     sym (take-append-drop (length before.entries) after.entries) ∙ ap (λ es. es ++ new_entries before after) h.kept
 
-new_jobs : (p : PolicyShape) (held mid : Option (List ℕ)) (s next : State) (before : Told) (batch : List Job) (after : Told) → HasAnsweredBatch p held mid s next before batch after
+new_jobs : (set : Setting) (held mid : Option (List ℕ)) (s next : State) (before : Told) (batch : List Job) (after : Told) → HasAnsweredBatch set held mid s next before batch after
     → map job_of_entry (new_entries before after) ≡ batch
-new_jobs p held mid s next before batch after h =
+new_jobs set held mid s next before batch after h =
     let old = map job_of_entry before.entries in
     let both : old ++ map job_of_entry (new_entries before after) ≡ old ++ batch =
-    sym (map_append job_of_entry before.entries (new_entries before after)) ∙ ap (map job_of_entry) (sym (split_entries p held mid s next before batch after h)) ∙ h.filled in
+    sym (map_append job_of_entry before.entries (new_entries before after)) ∙ ap (map job_of_entry) (sym (split_entries set held mid s next before batch after h)) ∙ h.filled in
     sym (drop-append_seam old (map job_of_entry (new_entries before after))) ∙ ap (drop (length old)) both ∙ drop-append_seam old batch
 
-batch_fills : (p : PolicyShape) (held mid : Option (List ℕ)) (s next : State) (before : Told) (batch : List Job) (after : Told) → HasAnsweredBatch p held mid s next before batch after
+batch_fills : (set : Setting) (held mid : Option (List ℕ)) (s next : State) (before : Told) (batch : List Job) (after : Told) → HasAnsweredBatch set held mid s next before batch after
     → FillsLanes after.entries after.jobs after.batch_ends
-batch_fills p held mid s next before batch after h =
+batch_fills set held mid s next before batch after h =
     let new = new_entries before after in
-    let jobs = new_jobs p held mid s next before batch after h in
+    let jobs = new_jobs set held mid s next before batch after h in
     let answers : Answers new batch = record {
       whole = sym (length-map new job_of_entry) ∙ ap length jobs;
       lanes = λ lane. ap (lane_jobs lane) jobs;
     } in
-    rw (h.added.jobs, h.added.ends, split_entries p held mid s next before batch after h)
+    rw (h.added.jobs, h.added.ends, split_entries set held mid s next before batch after h)
     (fills_more before.entries new before.jobs batch before.batch_ends h.answered.fills h.answered.ends answers)
 
-batch_ends_are : (p : PolicyShape) (held mid : Option (List ℕ)) (s next : State) (before : Told) (batch : List Job) (after : Told) → HasAnsweredBatch p held mid s next before batch after
+batch_ends_are : (set : Setting) (held mid : Option (List ℕ)) (s next : State) (before : Told) (batch : List Job) (after : Told) → HasAnsweredBatch set held mid s next before batch after
     → AreEnds after.batch_ends (length after.jobs)
-batch_ends_are p held mid s next before batch after h = rw (h.added.jobs, h.added.ends) (ends_more before.jobs batch before.batch_ends h.answered.ends)
+batch_ends_are set held mid s next before batch after h = rw (h.added.jobs, h.added.ends) (ends_more before.jobs batch before.batch_ends h.answered.ends)
 
-batch_text : (p : PolicyShape) (held mid : Option (List ℕ)) (s next : State) (before : Told) (batch : List Job) (after : Told) → HasAnsweredBatch p held mid s next before batch after
-    → entries_text p after.entries ≡ entries_text p before.entries ++ entries_text p (new_entries before after)
-batch_text p held mid s next before batch after h =
-    ap (entries_text p) (split_entries p held mid s next before batch after h) ∙ text_append p before.entries (new_entries before after)
+batch_text : (set : Setting) (held mid : Option (List ℕ)) (s next : State) (before : Told) (batch : List Job) (after : Told) → HasAnsweredBatch set held mid s next before batch after
+    → entries_text set.policy after.entries ≡ entries_text set.policy before.entries ++ entries_text set.policy (new_entries before after)
+batch_text set held mid s next before batch after h =
+    ap (entries_text set.policy) (split_entries set held mid s next before batch after h) ∙ text_append set.policy before.entries (new_entries before after)
 
 -- a part of the entries of the batch is a part of the last batch
-part_last : (p : PolicyShape) (held mid aft : Option (List ℕ)) (s next : State) (before : Told) (batch : List Job) (after : Told) → HasAnsweredBatch p held mid s next before batch after
-    → HasPart mid aft (entries_text p (new_entries before after)) → 0 < length (new_entries before after) → WritesLast p held aft after
-part_last p held mid aft s next before batch after h part some =
+part_last : (set : Setting) (held mid aft : Option (List ℕ)) (s next : State) (before : Told) (batch : List Job) (after : Told) → HasAnsweredBatch set held mid s next before batch after
+    → HasPart mid aft (entries_text set.policy (new_entries before after)) → 0 < length (new_entries before after) → WritesLast set.policy held aft after
+part_last set held mid aft s next before batch after h part some =
     let new = new_entries before after in
-    let size : length new ≡ length batch = sym (length-map new job_of_entry) ∙ ap length (new_jobs p held mid s next before batch after h) in
+    let size : length new ≡ length batch = sym (length-map new job_of_entry) ∙ ap length (new_jobs set held mid s next before batch after h) in
     let more : 0 < length batch = omega arith in
     let ends : after.batch_ends ≡ before.batch_ends ++ (length before.jobs + length batch) ∷ [] = h.added.ends ∙ grind (arith, common_steps) in
     let begins : last_start after.batch_ends ≡ length before.entries = ap last_start ends ∙ last_begins before.batch_ends (length before.jobs + length batch) ∙ h.answered.ends.closed ∙ sym h.whole in
-    subst (λ n. HasPart (with_bytes held (entries_text p (take n after.entries))) aft (entries_text p (drop n after.entries))) (sym begins)
-    (subst (λ es. HasPart (with_bytes held (entries_text p es)) aft (entries_text p new)) (sym h.kept)
-    (subst (λ m. HasPart m aft (entries_text p new)) h.answered.written part))
+    subst (λ n. HasPart (with_bytes held (entries_text set.policy (take n after.entries))) aft (entries_text set.policy (drop n after.entries))) (sym begins)
+    (subst (λ es. HasPart (with_bytes held (entries_text set.policy es)) aft (entries_text set.policy new)) (sym h.kept)
+    (subst (λ m. HasPart m aft (entries_text set.policy new)) h.answered.written part))
 
-part_answered : (p : PolicyShape) (held mid aft : Option (List ℕ)) (s next : State) (before : Told) (batch : List Job) (after : Told) → HasAnsweredBatch p held mid s next before batch after
-    → HasPart mid aft (entries_text p (new_entries before after)) → 0 < length (new_entries before after) → HasAnsweredPart p held aft after
-part_answered p held mid aft s next before batch after h part some = record {
+part_answered : (set : Setting) (held mid aft : Option (List ℕ)) (s next : State) (before : Told) (batch : List Job) (after : Told) → HasAnsweredBatch set held mid s next before batch after
+    → HasPart mid aft (entries_text set.policy (new_entries before after)) → 0 < length (new_entries before after) → HasAnsweredPart set held aft after
+part_answered set held mid aft s next before batch after h part some = record {
   legal = h.leads.legal;
   once = h.leads.once;
-  fills = batch_fills p held mid s next before batch after h;
-  written = part_last p held mid aft s next before batch after h part some;
+  fills = batch_fills set held mid s next before batch after h;
+  written = part_last set held mid aft s next before batch after h part some;
 }
 
 -- what came of answering a batch, by how its entries were written
-pub answers_to : (p : PolicyShape) (held mid aft : Option (List ℕ)) (s next : State) (before : Told) (batch : List Job) (after : Told) (text : List ℕ) (es : List Entry) (result : Result (Unit {0}) RunFault)
-    → HasAnsweredBatch p held mid s next before batch after → text ≡ entries_text p (new_entries before after) → es ≡ new_entries before after
+pub answers_to : (set : Setting) (held mid aft : Option (List ℕ)) (s next : State) (before : Told) (batch : List Job) (after : Told) (text : List ℕ) (es : List Entry) (result : Result (Unit {0}) RunFault)
+    → HasAnsweredBatch set held mid s next before batch after → text ≡ entries_text set.policy (new_entries before after) → es ≡ new_entries before after
     → OnOk result (aft ≡ with_bytes mid text) → HasPart mid aft text → OnErr result (0 < length es) → IfErr result IsWriteEnding
-    → AnswersTo p held aft next before batch after result
-answers_to p held mid aft s next before batch after text es (Ok done) h is new all part some ending = (
+    → AnswersTo set held aft next before batch after result
+answers_to set held mid aft s next before batch after text es (Ok done) h is new all part some ending = (
   h.added,
   record {
     leads = h.leads;
-    fills = batch_fills p held mid s next before batch after h;
-    ends = batch_ends_are p held mid s next before batch after h;
-    written = all ∙ ap (with_bytes mid) is ∙ ap (λ m. with_bytes m (entries_text p (new_entries before after))) h.answered.written
-        ∙ more_put held (entries_text p before.entries) (entries_text p (new_entries before after)) ∙ ap (with_bytes held) (sym (batch_text p held mid s next before batch after h));
+    fills = batch_fills set held mid s next before batch after h;
+    ends = batch_ends_are set held mid s next before batch after h;
+    written = all ∙ ap (with_bytes mid) is ∙ ap (λ m. with_bytes m (entries_text set.policy (new_entries before after))) h.answered.written
+        ∙ more_put held (entries_text set.policy before.entries) (entries_text set.policy (new_entries before after)) ∙ ap (with_bytes held) (sym (batch_text set held mid s next before batch after h));
   },
 )
-answers_to p held mid aft s next before batch after text es (Err fault.NoMemory) h is new all part some ending =
-    (inr h.added, part_answered p held mid aft s next before batch after h (subst (HasPart mid aft) is part) (subst (λ xs. 0 < length xs) new some))
-answers_to p held mid aft s next before batch after text es (Err fault.Write) h is new all part some ending =
-    (h.added, part_answered p held mid aft s next before batch after h (subst (HasPart mid aft) is part) (subst (λ xs. 0 < length xs) new some))
-answers_to p held mid aft s next before batch after text es (Err other) h is new all part some ending = absurd ending
+answers_to set held mid aft s next before batch after text es (Err fault.NoMemory) h is new all part some ending =
+    (inr h.added, part_answered set held mid aft s next before batch after h (subst (HasPart mid aft) is part) (subst (λ xs. 0 < length xs) new some))
+answers_to set held mid aft s next before batch after text es (Err fault.Write) h is new all part some ending =
+    (h.added, part_answered set held mid aft s next before batch after h (subst (HasPart mid aft) is part) (subst (λ xs. 0 < length xs) new some))
+answers_to set held mid aft s next before batch after text es (Err other) h is new all part some ending = absurd ending
 
 -- and where there was no room for the batch
-pub answers_none : (p : PolicyShape) (held aft : Option (List ℕ)) (s next : State) (before : Told) (batch : List Job) (after : Told) (result : Result (Unit {0}) RunFault)
-    → HasAnswered p held aft s before → after ≡ before → result ≡ Err fault.NoMemory → AnswersTo p held aft next before batch after result
-answers_none p held aft s next before batch after result answered same memory =
-    rw (memory, same) (inl refl, record { legal = answered.leads.legal; once = answered.leads.once; fills = answered.fills; written = writes_whole p held aft before answered.written })
+pub answers_none : (set : Setting) (held aft : Option (List ℕ)) (s next : State) (before : Told) (batch : List Job) (after : Told) (result : Result (Unit {0}) RunFault)
+    → HasAnswered set held aft s before → after ≡ before → result ≡ Err fault.NoMemory → AnswersTo set held aft next before batch after result
+answers_none set held aft s next before batch after result answered same memory =
+    rw (memory, same) (inl refl, record { legal = answered.leads.legal; once = answered.leads.once; fills = answered.fills; written = writes_whole set.policy held aft before answered.written })

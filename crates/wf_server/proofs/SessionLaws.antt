@@ -2,7 +2,7 @@
 use Rattle.std.proofs.Common.{◌≡◌, ℕ, ◌+◌, ◌<◌, ◌≤◌, true, false, List, [], ◌∷◌, ◌++◌, length, take, drop, Option, Some, None, Err, inl, inr, refl, sym, ◌∙◌, ap, subst, arith}
 use Rattle.std.specs.Prelude.{◌≢◌}
 use Rattle.std.proofs.lemmas.List.{length-append, length-take}
-use Rattle.wf_names.specs.declared.limits.TheConstants.{DEFAULT_LANES, DEFAULT_ROUNDS, SESSION_LINE_LIMIT}
+use Rattle.wf_names.specs.declared.limits.TheConstants.{SESSION_LINE_LIMIT}
 use Rattle.wf_outside.specs.Outside.{HasPart, HasTaken, with_bytes}
 use Rattle.wf_outside.proofs.OutsideLaws.{nothing_taken, nothing_put}
 use Rattle.policy_book.specs.Shapes.{PolicyShape}
@@ -28,9 +28,8 @@ use Rattle.run_record.specs.Report.{Told, nothing_told}
 use Rattle.run_record.specs.Run.{Streams}
 use Rattle.wire_json.specs.Replies.{entry_text}
 use Rattle.wf_server.specs.Transcripts.{transcript_text}
-use Rattle.wf_server.specs.Sessions.{ReadsFor, Served, WritesFor, WritesPart, last_start}
-use Rattle.wf_server.specs.Serving.{alone}
-use Rattle.wf_server.specs.Batches.{entries_text, handed_on, Serves, FillsLanes, WritesBy, HasAnswered, IsAdded, AnswersTo, IsServing, BatchEnds, IsWriteEnding, ending_of}
+use Rattle.wf_server.specs.Sessions.{ReadsFor, Served, Setting, WritesFor, WritesPart, handed_in, last_start}
+use Rattle.wf_server.specs.Batches.{entries_text, Serves, FillsLanes, WritesBy, HasAnswered, IsAdded, AnswersTo, IsServing, BatchEnds, IsWriteEnding, ending_of}
 use Rattle.wf_server.proofs.BatchLaws.{history_stays, writes_whole}
 
 -- no count of faults falls
@@ -42,45 +41,45 @@ counts_le (paused.Stopped stop) before after counts = omega (arith, counts)
 counts_le paused.NoMemory before after counts = counts
 
 -- the jobs of a session are few
-pub few_jobs : (before after : Option (List ℕ)) (told : Told) (more : List Job) → JobsAreInOrder DEFAULT_LANES → IsReadUp before after (handed_more (handed_on told) more)
+pub few_jobs : (lanes : ℕ) (before after : Option (List ℕ)) (told : Told) (more : List Job) → JobsAreInOrder lanes → IsReadUp before after (handed_more (handed_in lanes told) more)
     → length told.jobs + length more ≤ SESSION_LINE_LIMIT
-few_jobs before after told more order up =
+few_jobs lanes before after told more order up =
     let few = (order up.bytes up.ended).few in
     let front = ap length up.up.within in
     omega (arith, few, length-append told.jobs more, simp length-take at front)
 
 -- what is told with one more batch
-added_handed : (before : Told) (batch : List Job) (after : Told) → IsAdded before batch after → handed_more (handed_on before) batch ≡ handed_on after
-added_handed before batch after added = rw (added.jobs, added.ends) refl
+added_handed : (lanes : ℕ) (before : Told) (batch : List Job) (after : Told) → IsAdded before batch after → handed_more (handed_in lanes before) batch ≡ handed_in lanes after
+added_handed lanes before batch after added = rw (added.jobs, added.ends) refl
 
 -- memory was refused while a batch was read
-pub memory_serves : (p : PolicyShape) (room : ℕ) (before mid aft : Streams) (r : ReaderShape) (s : State) (told : Told) (how : Paused)
-    → IsServing p before mid r s told → IsReadUp before.input aft.input (handed_on told) → aft.output ≡ mid.output → CountsAs how mid.read_faults aft.read_faults
-    → aft.write_faults ≡ mid.write_faults → Serves p room before aft told fault.NoMemory
-memory_serves p room before mid aft r s told how serving up output reads writes = record {
+pub memory_serves : (set : Setting) (room : ℕ) (before mid aft : Streams) (r : ReaderShape) (s : State) (told : Told) (how : Paused)
+    → IsServing set before mid r s told → IsReadUp before.input aft.input (handed_in set.lanes told) → aft.output ≡ mid.output → CountsAs how mid.read_faults aft.read_faults
+    → aft.write_faults ≡ mid.write_faults → Serves set room before aft told fault.NoMemory
+memory_serves set room before mid aft r s told how serving up output reads writes = record {
   reads = up;
   legal = serving.answered.leads.legal;
   once = serving.answered.leads.once;
   fills = serving.answered.fills;
-  writes = writes_whole p before.output aft.output told (output ∙ serving.answered.written);
+  writes = writes_whole set.policy before.output aft.output told (output ∙ serving.answered.written);
   read_faults = let le = counts_le how mid.read_faults aft.read_faults reads in let same = serving.read_faults in omega arith;
   write_faults = writes ∙ serving.write_faults;
 }
 
 -- the session after a batch that is answered
-pub done_ends : (p : PolicyShape) (before mid aft : Streams) (r t : ReaderShape) (s next : State) (told after : Told) (batch : List Job) (how : Paused)
-    → IsServing p before mid r s told → ReadsTo before.input aft.input t.room (handed_more (handed_on told) batch) how
-    → (how ≡ paused.Batch → HasRead before.input aft.input (handed_more (handed_on told) batch) t)
-    → IsAdded told batch after → HasAnswered p before.output aft.output next after
-    → CountsAs how mid.read_faults aft.read_faults → aft.write_faults ≡ mid.write_faults → BatchEnds p before aft t next after (ending_of how)
-done_ends p before mid aft r t s next told after batch paused.Batch serving reads goes_on added answered counts writes = record {
-  read = subst (λ (h : Handed). HasRead before.input aft.input h t) (added_handed told batch after added) (goes_on refl);
+pub done_ends : (set : Setting) (before mid aft : Streams) (r t : ReaderShape) (s next : State) (told after : Told) (batch : List Job) (how : Paused)
+    → IsServing set before mid r s told → ReadsTo before.input aft.input t.room (handed_more (handed_in set.lanes told) batch) how
+    → (how ≡ paused.Batch → HasRead before.input aft.input (handed_more (handed_in set.lanes told) batch) t)
+    → IsAdded told batch after → HasAnswered set before.output aft.output next after
+    → CountsAs how mid.read_faults aft.read_faults → aft.write_faults ≡ mid.write_faults → BatchEnds set before aft t next after (ending_of how)
+done_ends set before mid aft r t s next told after batch paused.Batch serving reads goes_on added answered counts writes = record {
+  read = subst (λ (h : Handed). HasRead before.input aft.input h t) (added_handed set.lanes told batch after added) (goes_on refl);
   answered = answered;
   read_faults = counts ∙ serving.read_faults;
   write_faults = writes ∙ serving.write_faults;
 }
-done_ends p before mid aft r t s next told after batch paused.End serving reads goes_on added answered counts writes = record {
-  reads = subst (λ (h : Handed). ReadsTo before.input aft.input t.room h paused.End) (added_handed told batch after added) reads;
+done_ends set before mid aft r t s next told after batch paused.End serving reads goes_on added answered counts writes = record {
+  reads = subst (λ (h : Handed). ReadsTo before.input aft.input t.room h paused.End) (added_handed set.lanes told batch after added) reads;
   legal = answered.leads.legal;
   once = answered.leads.once;
   fills = answered.fills;
@@ -88,8 +87,8 @@ done_ends p before mid aft r t s next told after batch paused.End serving reads 
   read_faults = counts ∙ serving.read_faults;
   write_faults = writes ∙ serving.write_faults;
 }
-done_ends p before mid aft r t s next told after batch paused.Failed serving reads goes_on added answered counts writes = record {
-  reads = subst (λ (h : Handed). ReadsTo before.input aft.input t.room h paused.Failed) (added_handed told batch after added) reads;
+done_ends set before mid aft r t s next told after batch paused.Failed serving reads goes_on added answered counts writes = record {
+  reads = subst (λ (h : Handed). ReadsTo before.input aft.input t.room h paused.Failed) (added_handed set.lanes told batch after added) reads;
   legal = answered.leads.legal;
   once = answered.leads.once;
   fills = answered.fills;
@@ -97,8 +96,8 @@ done_ends p before mid aft r t s next told after batch paused.Failed serving rea
   read_faults = λ small. let rose = counts.1 small in let same = serving.read_faults in omega arith;
   write_faults = writes ∙ serving.write_faults;
 }
-done_ends p before mid aft r t s next told after batch (paused.Stopped (stop.LineTooLong line)) serving reads goes_on added answered counts writes = record {
-  reads = subst (λ (h : Handed). ReadsTo before.input aft.input t.room h (paused.Stopped (stop.LineTooLong line))) (added_handed told batch after added) reads;
+done_ends set before mid aft r t s next told after batch (paused.Stopped (stop.LineTooLong line)) serving reads goes_on added answered counts writes = record {
+  reads = subst (λ (h : Handed). ReadsTo before.input aft.input t.room h (paused.Stopped (stop.LineTooLong line))) (added_handed set.lanes told batch after added) reads;
   legal = answered.leads.legal;
   once = answered.leads.once;
   fills = answered.fills;
@@ -106,8 +105,8 @@ done_ends p before mid aft r t s next told after batch (paused.Stopped (stop.Lin
   read_faults = counts ∙ serving.read_faults;
   write_faults = writes ∙ serving.write_faults;
 }
-done_ends p before mid aft r t s next told after batch (paused.Stopped stop.TooManyLines) serving reads goes_on added answered counts writes = record {
-  reads = subst (λ (h : Handed). ReadsTo before.input aft.input t.room h (paused.Stopped stop.TooManyLines)) (added_handed told batch after added) reads;
+done_ends set before mid aft r t s next told after batch (paused.Stopped stop.TooManyLines) serving reads goes_on added answered counts writes = record {
+  reads = subst (λ (h : Handed). ReadsTo before.input aft.input t.room h (paused.Stopped stop.TooManyLines)) (added_handed set.lanes told batch after added) reads;
   legal = answered.leads.legal;
   once = answered.leads.once;
   fills = answered.fills;
@@ -115,24 +114,24 @@ done_ends p before mid aft r t s next told after batch (paused.Stopped stop.TooM
   read_faults = counts ∙ serving.read_faults;
   write_faults = writes ∙ serving.write_faults;
 }
-done_ends p before mid aft r t s next told after batch paused.NoMemory serving reads goes_on added answered counts writes = record {
-  reads = subst (λ (h : Handed). IsReadUp before.input aft.input h) (added_handed told batch after added) reads;
+done_ends set before mid aft r t s next told after batch paused.NoMemory serving reads goes_on added answered counts writes = record {
+  reads = subst (λ (h : Handed). IsReadUp before.input aft.input h) (added_handed set.lanes told batch after added) reads;
   legal = answered.leads.legal;
   once = answered.leads.once;
   fills = answered.fills;
-  writes = writes_whole p before.output aft.output after answered.written;
+  writes = writes_whole set.policy before.output aft.output after answered.written;
   read_faults = let le = counts_le paused.NoMemory mid.read_faults aft.read_faults counts in let same = serving.read_faults in omega arith;
   write_faults = writes ∙ serving.write_faults;
 }
 
 -- the session after a batch whose answering failed
-pub fault_ends : (p : PolicyShape) (room : ℕ) (before mid aft : Streams) (r : ReaderShape) (s next : State) (told after : Told) (batch : List Job) (how : Paused) (ending : RunFault)
-    → IsServing p before mid r s told → ReadsTo before.input aft.input room (handed_more (handed_on told) batch) how → how ≢ paused.NoMemory
-    → IsReadUp before.input aft.input (handed_more (handed_on told) batch) → IsReadUp before.input aft.input (handed_on told)
-    → AnswersTo p before.output aft.output next told batch after (Err ending) → IsWriteEnding ending → CountsAs how mid.read_faults aft.read_faults
-    → CountsWrites ending mid.write_faults aft.write_faults → Serves p room before aft after ending
-fault_ends p room before mid aft r s next told after batch how fault.Write serving reads memory up up_before answers end counts writes = record {
-  reads = (how, memory, subst (λ (h : Handed). ReadsTo before.input aft.input room h how) (added_handed told batch after answers.0) reads);
+pub fault_ends : (set : Setting) (room : ℕ) (before mid aft : Streams) (r : ReaderShape) (s next : State) (told after : Told) (batch : List Job) (how : Paused) (ending : RunFault)
+    → IsServing set before mid r s told → ReadsTo before.input aft.input room (handed_more (handed_in set.lanes told) batch) how → how ≢ paused.NoMemory
+    → IsReadUp before.input aft.input (handed_more (handed_in set.lanes told) batch) → IsReadUp before.input aft.input (handed_in set.lanes told)
+    → AnswersTo set before.output aft.output next told batch after (Err ending) → IsWriteEnding ending → CountsAs how mid.read_faults aft.read_faults
+    → CountsWrites ending mid.write_faults aft.write_faults → Serves set room before aft after ending
+fault_ends set room before mid aft r s next told after batch how fault.Write serving reads memory up up_before answers end counts writes = record {
+  reads = (how, memory, subst (λ (h : Handed). ReadsTo before.input aft.input room h how) (added_handed set.lanes told batch after answers.0) reads);
   legal = answers.1.legal;
   once = answers.1.once;
   fills = answers.1.fills;
@@ -140,10 +139,10 @@ fault_ends p room before mid aft r s next told after batch how fault.Write servi
   read_faults = let le = counts_le how mid.read_faults aft.read_faults counts in let same = serving.read_faults in omega arith;
   write_faults = λ small. let rose = writes small in let same = serving.write_faults in omega arith;
 }
-fault_ends p room before mid aft r s next told after batch how fault.NoMemory serving reads memory up up_before answers end counts writes = record {
+fault_ends set room before mid aft r s next told after batch how fault.NoMemory serving reads memory up up_before answers end counts writes = record {
   reads = elim answers.0 [
-    | inl same ↦ subst (λ (t : Told). IsReadUp before.input aft.input (handed_on t)) (sym same) up_before
-    | inr added ↦ subst (λ (h : Handed). IsReadUp before.input aft.input h) (added_handed told batch after added) up
+    | inl same ↦ subst (λ (t : Told). IsReadUp before.input aft.input (handed_in set.lanes t)) (sym same) up_before
+    | inr added ↦ subst (λ (h : Handed). IsReadUp before.input aft.input h) (added_handed set.lanes told batch after added) up
   ];
   legal = answers.1.legal;
   once = answers.1.once;
@@ -152,12 +151,12 @@ fault_ends p room before mid aft r s next told after batch how fault.NoMemory se
   read_faults = let le = counts_le how mid.read_faults aft.read_faults counts in let same = serving.read_faults in omega arith;
   write_faults = writes ∙ serving.write_faults;
 }
-fault_ends p room before mid aft r s next told after batch how ending serving reads memory up up_before answers end counts writes = absurd end
+fault_ends set room before mid aft r s next told after batch how ending serving reads memory up up_before answers end counts writes = absurd end
 
 -- before the first batch
-pub opening_serves : (p : PolicyShape) (streams : Streams) (r : ReaderShape) (s : State) (told : Told) → s ≡ opening_state p → told ≡ nothing_told → r.cut ≡ start DEFAULT_LANES → r.pending ≡ []
-    → IsServing p streams streams r s told
-opening_serves p streams r s told opening none begun empty = rw none (record {
+pub opening_serves : (set : Setting) (streams : Streams) (r : ReaderShape) (s : State) (told : Told) → s ≡ opening_state set.policy → told ≡ nothing_told → r.cut ≡ start set.lanes → r.pending ≡ []
+    → IsServing set streams streams r s told
+opening_serves set streams r s told opening none begun empty = rw none (record {
   read = record {
     bytes = [];
     taken = subst (λ xs. HasTaken streams.input streams.input xs) (sym empty) (nothing_taken streams.input);
@@ -175,8 +174,8 @@ opening_serves p streams r s told opening none begun empty = rw none (record {
 })
 
 -- where there was no memory for a session
-pub bare_serves : (p : PolicyShape) (room : ℕ) (streams : Streams) (told : Told) (ending : RunFault) → told ≡ nothing_told → ending ≡ fault.NoMemory → Serves p room streams streams told ending
-bare_serves p room streams told ending nothing memory = rw (nothing, memory) (record {
+pub bare_serves : (set : Setting) (room : ℕ) (streams : Streams) (told : Told) (ending : RunFault) → told ≡ nothing_told → ending ≡ fault.NoMemory → Serves set room streams streams told ending
+bare_serves set room streams told ending nothing memory = rw (nothing, memory) (record {
   reads = record {
     bytes = [];
     ended = false;
@@ -229,15 +228,15 @@ writes_for p before after told (fault.LineTooLong line) h = writes_all p before 
 writes_for p before after told fault.TooManyLines h = writes_all p before after told.entries h
 writes_for p before after told (fault.BadInput e) h = writes_all p before after told.entries h
 
--- a session on one lane is a session as it is promised
-pub serves_kept : (p : PolicyShape) (room : ℕ) (before after : Streams) (told : Told) (ending : RunFault) → IsSoundPolicy p → HistoriesKeepCompletable
-    → Serves p room before after told ending → Served (alone p) room before after told ending
-serves_kept p room before after told ending sound keeps h = record {
+-- a session is one as it is promised
+pub serves_kept : (set : Setting) (room : ℕ) (before after : Streams) (told : Told) (ending : RunFault) → IsSoundPolicy set.policy → HistoriesKeepCompletable
+    → Serves set room before after told ending → Served set room before after told ending
+serves_kept set room before after told ending sound keeps h = record {
   reads = h.reads;
   legal = h.legal;
   fills = record { whole = h.fills.whole; batches = h.fills.batches; rests = λ k lt. batch_rests told.batch_ends k told.entries h.once };
-  writes = writes_for p before.output after.output told ending h.writes;
-  kept = keeps p DEFAULT_ROUNDS told.entries sound h.legal;
+  writes = writes_for set.policy before.output after.output told ending h.writes;
+  kept = keeps set.policy set.rounds told.entries sound h.legal;
   read_faults = h.read_faults;
   write_faults = h.write_faults;
 }
@@ -257,5 +256,5 @@ late_reads before after room handed fault.Load h = absurd h
 late_reads before after room handed fault.FileTooLong h = absurd h
 late_reads before after room handed (fault.BadInput e) h = absurd h
 
-pub serves_late : (p : PolicyShape) (room : ℕ) (before after : Streams) (told : Told) (ending : RunFault) → Serves p room before after told ending → is_before_input ending ≡ false
-serves_late p room before after told ending h = late_reads before.input after.input room (handed_on told) ending h.reads
+pub serves_late : (set : Setting) (room : ℕ) (before after : Streams) (told : Told) (ending : RunFault) → Serves set room before after told ending → is_before_input ending ≡ false
+serves_late set room before after told ending h = late_reads before.input after.input room (handed_in set.lanes told) ending h.reads

@@ -1,7 +1,6 @@
 -- Inside: where a session stands between its batches.
 use Rattle.std.specs.Prelude.{◌≡◌, ℕ, ◌+◌, ◌<◌, ◌≤◌, List, [], ◌∷◌, ◌++◌, length, take, drop, map, Option, None, Some, Result, Ok, Err}
 use Rattle.std.proofs.Common.{◌⊎◌}
-use Rattle.wf_names.specs.declared.limits.TheConstants.{DEFAULT_LANES, DEFAULT_ROUNDS}
 use Rattle.wf_outside.specs.Outside.{HasPart, with_bytes}
 use Rattle.wf_talk.specs.declared.entry.Entry.{Entry}
 use Rattle.wf_talk.specs.declared.job.Job.{Job}
@@ -11,7 +10,7 @@ use Rattle.line_cutter.specs.Cutter.{ends_after}
 use Rattle.line_cutter.specs.declared.stop.Stop.TheVariants as stop
 use Rattle.batch_reader.specs.declared.reader.Paused.{Paused}
 use Rattle.batch_reader.specs.declared.reader.Paused.TheVariants as paused
-use Rattle.batch_reader.specs.Reading.{Handed, ReaderShape, HasRead}
+use Rattle.batch_reader.specs.Reading.{ReaderShape, HasRead}
 use Rattle.wire_json.specs.Replies.{entry_text}
 use Rattle.policy_book.specs.Shapes.{PolicyShape}
 use Rattle.wf_board.specs.States.{State, opening_state}
@@ -23,11 +22,7 @@ use Rattle.run_record.specs.Fault.{CountsReads, CountsWrites}
 use Rattle.run_record.specs.Report.{Told}
 use Rattle.run_record.specs.Run.{Streams}
 use Rattle.wf_server.specs.declared.batch.Answered.{Answered}
-use Rattle.wf_server.specs.Sessions.{handed_in, last_start, ReadsFor}
-
--- the jobs that a session tells, as they were read
-abbrev pub handed_on : Told → Handed
-handed_on told = handed_in DEFAULT_LANES told
+use Rattle.wf_server.specs.Sessions.{Setting, handed_in, last_start, ReadsFor}
 
 -- the texts of entries, in order, with the names of one policy
 abbrev pub entries_text : PolicyShape → List Entry → List ℕ
@@ -52,13 +47,13 @@ WritesBy p before after told Write = WritesLast p before after told
 WritesBy p before after told NoMemory = WritesLast p before after told
 WritesBy p before after told fault = after ≡ with_bytes before (entries_text p told.entries)
 
--- a session on one lane, in which no step changes the policy
-pub record Serves (p : PolicyShape) (room : ℕ) (before after : Streams) (told : Told) (fault : RunFault) : Type 0 where
-  pub reads : ReadsFor before.input after.input room (handed_on told) fault
-  pub legal : IsLegal (opening_state p) DEFAULT_ROUNDS told.entries
+-- a session in which no step changes the policy
+pub record Serves (set : Setting) (room : ℕ) (before after : Streams) (told : Told) (fault : RunFault) : Type 0 where
+  pub reads : ReadsFor before.input after.input room (handed_in set.lanes told) fault
+  pub legal : IsLegal (opening_state set.policy) set.rounds told.entries
   pub once : AreAnsweredOnce told.entries
   pub fills : FillsLanes told.entries told.jobs told.batch_ends
-  pub writes : WritesBy p before.output after.output told fault
+  pub writes : WritesBy set.policy before.output after.output told fault
   pub read_faults : CountsReads fault before.read_faults after.read_faults
   pub write_faults : CountsWrites fault before.write_faults after.write_faults
 
@@ -67,8 +62,8 @@ abbrev pub told_of : Answered → Told
 told_of a = record { entries = a.entries.entries; jobs = a.jobs; batch_ends = a.batch_ends }
 
 -- the entries are a legal history that leads to a state
-pub record LeadsTo (start : State) (entries : List Entry) (s : State) : Type 0 where
-  pub legal : IsLegal start DEFAULT_ROUNDS entries
+pub record LeadsTo (start : State) (rounds : ℕ) (entries : List Entry) (s : State) : Type 0 where
+  pub legal : IsLegal start rounds entries
   pub once : AreAnsweredOnce entries
   pub state : state_after start entries ≡ s
 
@@ -87,18 +82,18 @@ pub record AreEnds (batch_ends : List ℕ) (count : ℕ) : Type 0 where
   pub closed : last_or 0 batch_ends ≡ count
 
 -- the jobs so far are answered, and the entries written
-pub record HasAnswered (p : PolicyShape) (held held-after : Option (List ℕ)) (s : State) (told : Told) : Type 0 where
-  pub leads : LeadsTo (opening_state p) told.entries s
+pub record HasAnswered (set : Setting) (held held-after : Option (List ℕ)) (s : State) (told : Told) : Type 0 where
+  pub leads : LeadsTo (opening_state set.policy) set.rounds told.entries s
   pub fills : FillsLanes told.entries told.jobs told.batch_ends
   pub ends : AreEnds told.batch_ends (length told.jobs)
-  pub written : held-after ≡ with_bytes held (entries_text p told.entries)
+  pub written : held-after ≡ with_bytes held (entries_text set.policy told.entries)
 
 -- the jobs so far are answered, and the entries of the last batch written in part
-pub record HasAnsweredPart (p : PolicyShape) (held held-after : Option (List ℕ)) (told : Told) : Type 0 where
-  pub legal : IsLegal (opening_state p) DEFAULT_ROUNDS told.entries
+pub record HasAnsweredPart (set : Setting) (held held-after : Option (List ℕ)) (told : Told) : Type 0 where
+  pub legal : IsLegal (opening_state set.policy) set.rounds told.entries
   pub once : AreAnsweredOnce told.entries
   pub fills : FillsLanes told.entries told.jobs told.batch_ends
-  pub written : WritesLast p held held-after told
+  pub written : WritesLast set.policy held held-after told
 
 -- the jobs of one more batch are told, with its end
 pub record IsAdded (before : Told) (batch : List Job) (after : Told) : Type 0 where
@@ -106,11 +101,12 @@ pub record IsAdded (before : Told) (batch : List Job) (after : Told) : Type 0 wh
   pub ends : after.batch_ends ≡ ends_after before.batch_ends (length before.jobs) batch
 
 -- what came of answering a batch
-abbrev pub AnswersTo : PolicyShape → Option (List ℕ) → Option (List ℕ) → State → Told → List Job → Told → Result (Unit {0}) RunFault → Type 0
-AnswersTo p held held-after s before batch after (Ok done) = IsAdded before batch after × HasAnswered p held held-after s after
-AnswersTo p held held-after s before batch after (Err NoMemory) =
-    ((after ≡ before) ⊎ IsAdded before batch after) × HasAnsweredPart p held held-after after
-AnswersTo p held held-after s before batch after (Err fault) = IsAdded before batch after × HasAnsweredPart p held held-after after
+abbrev pub AnswersTo : Setting → Option (List ℕ) → Option (List ℕ) → State → Told → List Job → Told → Result (Unit {0}) RunFault → Type 0
+AnswersTo set held held-after s before batch after (Ok done) = IsAdded before batch after × HasAnswered set held held-after s after
+AnswersTo set held held-after s before batch after (Err NoMemory) =
+    ((after ≡ before) ⊎ IsAdded before batch after) × HasAnsweredPart set held held-after after
+AnswersTo set held held-after s before batch after (Err fault) =
+    IsAdded before batch after × HasAnsweredPart set held held-after after
 
 -- the endings of answering a batch
 abbrev pub IsWriteEnding : RunFault → Type 0
@@ -128,13 +124,13 @@ ending_of (paused.Stopped stop.TooManyLines) = Some TooManyLines
 ending_of paused.NoMemory = Some NoMemory
 
 -- between two batches: all that was handed over is answered and written, and no call has failed
-pub record IsServing (p : PolicyShape) (before after : Streams) (r : ReaderShape) (s : State) (told : Told) : Type 0 where
-  pub read : HasRead before.input after.input (handed_on told) r
-  pub answered : HasAnswered p before.output after.output s told
+pub record IsServing (set : Setting) (before after : Streams) (r : ReaderShape) (s : State) (told : Told) : Type 0 where
+  pub read : HasRead before.input after.input (handed_in set.lanes told) r
+  pub answered : HasAnswered set before.output after.output s told
   pub read_faults : after.read_faults ≡ before.read_faults
   pub write_faults : after.write_faults ≡ before.write_faults
 
 -- after a batch the session goes on, or ends
-abbrev pub BatchEnds : PolicyShape → Streams → Streams → ReaderShape → State → Told → Option RunFault → Type 0
-BatchEnds p before after r s told None = IsServing p before after r s told
-BatchEnds p before after r s told (Some fault) = Serves p r.room before after told fault
+abbrev pub BatchEnds : Setting → Streams → Streams → ReaderShape → State → Told → Option RunFault → Type 0
+BatchEnds set before after r s told None = IsServing set before after r s told
+BatchEnds set before after r s told (Some fault) = Serves set r.room before after told fault

@@ -2,12 +2,12 @@
 ghost use Rattle.std.specs.Prelude.{◌≡◌, ◌≤◌, ◌<◌, ◌+◌, ℕ, List, [], ◌∷◌, ◌++◌, length, take, drop, map, Option, IfErr, OnOk, OnErr};
 ghost use Rattle.wf_outside.specs.Outside.{HasPart, with_bytes};
 ghost use Rattle.wf_names.specs.declared.limits.TheConstants.{SESSION_LINE_LIMIT};
-ghost use Rattle.policy_book.specs.Shapes.{PolicyShape};
 ghost use Rattle.wf_board.specs.Boards.{state_on};
 ghost use Rattle.wf_board.specs.States.{State};
 ghost use Rattle.wf_board.specs.Histories.{job_of_entry};
 ghost use Rattle.wire_json.specs.Replies.{entry_text};
 ghost use Rattle.run_record.specs.Fault.{fault_in, CountsWrites};
+ghost use Rattle.wf_server.specs.Sessions.{Setting};
 ghost use Rattle.wf_server.specs.Batches.{entries_text, told_of, LeadsTo, HasAnswered, HasAnsweredOne, IsAdded, AnswersTo, IsWriteEnding};
 
 use crate::decider::PlainDecider;
@@ -52,9 +52,9 @@ pub(crate) fn answer_batch<K: Sink>(
 ) -> Result<(), RunFault>
     requires whole { length told.old.entries.entries ≡ length told.old.jobs }
     requires few { length told.old.jobs + length batch.now ≤ SESSION_LINE_LIMIT }
-    ensures answers { (p : PolicyShape) (held : Option (List ℕ)) →
-        HasAnswered p held (K.held sink.old) (state_on board.old) (told_of told.old) →
-        AnswersTo p held (K.held sink.new) (state_on board.new) (told_of told.old) batch.now (told_of told.new) result }
+    ensures answers { (set : Setting) (held : Option (List ℕ)) →
+        HasAnswered set held (K.held sink.old) (state_on board.old) (told_of told.old) →
+        AnswersTo set held (K.held sink.new) (state_on board.new) (told_of told.old) batch.now (told_of told.new) result }
     ensures ending { IfErr result IsWriteEnding }
     ensures counts { CountsWrites (fault_in result) (K.faults sink.old) (K.faults sink.new) }
 {
@@ -116,7 +116,9 @@ fn entries_after(journal: &Journal, done: usize) -> &[Entry]
 fn answer_jobs(alloc: Global, board: &mut Board, journal: &mut Journal, jobs: &[Job])
     requires room { length jobs.now ≤ journal.old.spare }
     requires few { length journal.old.entries + length jobs.now ≤ SESSION_LINE_LIMIT }
-    ensures leads { (start : State) → LeadsTo start journal.old.entries (state_on board.old) → LeadsTo start journal.new.entries (state_on board.new) }
+    ensures leads { (start : State) (rounds : ℕ) →
+        LeadsTo start rounds journal.old.entries (state_on board.old) →
+        LeadsTo start rounds journal.new.entries (state_on board.new) }
     ensures filled { map job_of_entry journal.new.entries ≡ map job_of_entry journal.old.entries ++ jobs.now }
     ensures kept { take (length journal.old.entries) journal.new.entries ≡ journal.old.entries }
 {

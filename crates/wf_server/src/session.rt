@@ -1,6 +1,6 @@
 //! The session: batch after batch is read, answered and written.
 ghost use Rattle.std.specs.Prelude.{◌≡◌, ◌≤◌, ◌<◌, ◌+◌, ℕ, List, [], length, Option, None, Some};
-ghost use Rattle.wf_names.specs.declared.limits.TheConstants.{DEFAULT_LANES, SESSION_LINE_LIMIT};
+ghost use Rattle.wf_names.specs.declared.limits.TheConstants.{SESSION_LINE_LIMIT};
 ghost use Rattle.policy_book.specs.Shapes.{PolicyShape};
 ghost use Rattle.wf_board.specs.Boards.{state_on};
 ghost use Rattle.wf_board.specs.States.{opening_state};
@@ -9,16 +9,18 @@ ghost use Rattle.batch_reader.specs.Reading.{IsReady, left_to_read};
 ghost use Rattle.run_record.specs.Fault.{status_of};
 ghost use Rattle.run_record.specs.Report.{told_by};
 ghost use Rattle.run_record.specs.Run.{Streams};
+ghost use Rattle.wf_server.specs.Asked.{options_in};
+ghost use Rattle.wf_server.specs.Serving.{setting};
 ghost use Rattle.wf_server.specs.Batches.{told_of, ending_of, IsServing, BatchEnds, Serves};
 
 use crate::batch::{Answered, answer_batch};
+use crate::words::Options;
 use batch_reader::{Paused, Reader, Reading};
 use line_cutter::{Stop, jobs_are_in_order};
 use policy_book::Policy;
 use run_record::{Report, RunFault, bare_report};
 use std::alloc::Global;
 use wf_board::Board;
-use wf_names::DEFAULT_LANES;
 use wf_outside::{Sink, Source};
 
 /// Answers the lines of the source under a policy, batch by batch, and writes the entries to the
@@ -26,12 +28,13 @@ use wf_outside::{Sink, Source};
 pub(crate) fn run_session<S: Source, K: Sink>(
     alloc: Global,
     policy: Policy,
+    options: Options,
     room: usize,
     source: &mut S,
     sink: &mut K,
 ) -> Report
     requires { 0 < room }
-    ensures serves { Serves policy room
+    ensures serves { Serves (setting policy (options_in options)) room
         (record { input = S.left source.old; output = K.held sink.old; read_faults = S.faults source.old; write_faults = K.faults sink.old })
         (record { input = S.left source.new; output = K.held sink.new; read_faults = S.faults source.new; write_faults = K.faults sink.new })
         (told_by result) result.fault }
@@ -40,24 +43,25 @@ pub(crate) fn run_session<S: Source, K: Sink>(
     let Ok(board) = Board::new(alloc, policy) else {
         return bare_report(alloc, RunFault::NoMemory);
     };
-    let Ok(mut reader) = Reader::new(alloc, DEFAULT_LANES, room) else {
+    let Ok(mut reader) = Reader::new(alloc, options.lanes, room) else {
         return bare_report(alloc, RunFault::NoMemory);
     };
-    serve_batches(alloc, &mut reader, board, source, sink)
+    serve_batches(alloc, options, &mut reader, board, source, sink)
 }
 
 // Serves batch after batch.
 fn serve_batches<S: Source, K: Sink>(
     alloc: Global,
+    options: Options,
     reader: &mut Reader,
     mut board: Board,
     source: &mut S,
     sink: &mut K,
 ) -> Report
-    requires start { reader.old.cut ≡ start DEFAULT_LANES }
+    requires start { reader.old.cut ≡ start options.lanes }
     requires nothing { reader.old.pending ≡ [] }
     requires opening { state_on board ≡ opening_state board.policy }
-    ensures serves { Serves board.policy reader.old.room
+    ensures serves { Serves (setting board.policy (options_in options)) reader.old.room
         (record { input = S.left source.old; output = K.held sink.old; read_faults = S.faults source.old; write_faults = K.faults sink.old })
         (record { input = S.left source.new; output = K.held sink.new; read_faults = S.faults source.new; write_faults = K.faults sink.new })
         (told_by result) result.fault }
@@ -65,7 +69,7 @@ fn serve_batches<S: Source, K: Sink>(
 {
     let mut told = Answered::new(alloc);
     'serving: loop {
-        match serve_batch(alloc, reader, &mut board, &mut told, source, sink) {
+        match serve_batch(alloc, options, reader, &mut board, &mut told, source, sink) {
             None => {}
             Some(fault) => return report_of(fault, told),
         }
@@ -75,6 +79,7 @@ fn serve_batches<S: Source, K: Sink>(
 // Reads a batch, answers it and writes its entries; how the session ends, if it does.
 fn serve_batch<S: Source, K: Sink>(
     alloc: Global,
+    options: Options,
     reader: &mut Reader,
     board: &mut Board,
     told: &mut Answered,
@@ -82,20 +87,20 @@ fn serve_batch<S: Source, K: Sink>(
     sink: &mut K,
 ) -> Option<RunFault>
     requires ready { IsReady reader.old }
-    requires serving { (p : PolicyShape) × (before : Streams) × IsServing p before
+    requires serving { (p : PolicyShape) × (before : Streams) × IsServing (setting p (options_in options)) before
         (record { input = S.left source.old; output = K.held sink.old; read_faults = S.faults source.old; write_faults = K.faults sink.old })
         reader.old (state_on board.old) (told_of told.old) }
-    ensures batch { (p : PolicyShape) (before : Streams) → IsServing p before
+    ensures batch { (p : PolicyShape) (before : Streams) → IsServing (setting p (options_in options)) before
         (record { input = S.left source.old; output = K.held sink.old; read_faults = S.faults source.old; write_faults = K.faults sink.old })
         reader.old (state_on board.old) (told_of told.old) →
-        BatchEnds p before
+        BatchEnds (setting p (options_in options)) before
         (record { input = S.left source.new; output = K.held sink.new; read_faults = S.faults source.new; write_faults = K.faults sink.new })
         reader.new (state_on board.new) (told_of told.new) result }
     ensures ready { result ≡ None → IsReady reader.new }
     ensures less { result ≡ None → left_to_read reader.new < left_to_read reader.old }
     ensures room { reader.new.room ≡ reader.old.room }
 {
-    jobs_are_in_order(DEFAULT_LANES);
+    jobs_are_in_order(options.lanes);
     let Reading { jobs, paused } = reader.next_batch(source);
     if let Paused::NoMemory = paused {
         return Some(RunFault::NoMemory);

@@ -15,7 +15,7 @@ answering-preserved c =
     let one = c.answer_job.ensures.one in
     let inv = c.answering.invariant in
     record {
-      leads = λ start leads. leads_more start (state_on c.answering.board) (state_on c.answer_job.new.board) before after job one (inv.leads start leads);
+      leads = λ start rounds leads. leads_more start (state_on c.answering.board) (state_on c.answer_job.new.board) rounds before after job one (inv.leads start rounds leads);
       filled = filled_more (state_on c.answering.board) (state_on c.answer_job.new.board) before after job one ∙ ap (λ js. js ++ job ∷ []) inv.filled
           ∙ append_assoc (map job_of_entry old) (take i jobs) (job ∷ []) ∙ ap (λ js. map job_of_entry old ++ js) (sym (take_next jobs i job c.answering-test.true c.job-item.is));
       kept = kept_more before after (length old) one.entry (omega (arith, inv.count)) one.pushed ∙ inv.kept;
