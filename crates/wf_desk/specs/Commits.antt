@@ -1,0 +1,100 @@
+-- What becomes of a job: decided inside the turn, or with the verdict of a task that was found outside it.
+use Rattle.std.specs.Prelude.{◌≡◌, ℕ, ◌+◌, ◌==◌, ◌&&◌, nat_le, Bool, true, false, List, length, drop, max, slice_set, None, Some}
+use Rattle.std.proofs.Common.{◌⊎◌}
+use Rattle.wf_talk.specs.declared.job.Job.{Job}
+use Rattle.wf_talk.specs.declared.reply.Reply.{Reply}
+use Rattle.wf_talk.specs.declared.reply.Reply.TheVariants.{Again}
+use Rattle.wf_board.specs.declared.verdict.Verdict.{Verdict}
+use Rattle.wf_board.specs.declared.verdict.Verdict.TheVariants as verdict
+use Rattle.wf_board.specs.Boards.{state_on}
+use Rattle.wf_board.specs.Counting.{counted, counted_end, lane_end}
+use Rattle.wf_board.specs.Decisions.{decision_of, needs_verdict}
+use Rattle.wf_board.specs.Verdicts.{IsCertified, IsDecided, IsRight, snap_of}
+use Rattle.wf_desk.specs.declared.loss.Loss.{Loss}
+use Rattle.wf_desk.specs.declared.task.Task.{Task}
+use Rattle.wf_desk.specs.declared.outcome.Outcome.{Outcome}
+use Rattle.wf_desk.specs.declared.outcome.Outcome.TheVariants as outcome
+use Rattle.wf_desk.specs.Desks.{DeskShape, HasAdded, loss_of, next_job, state_at}
+
+-- the job of a task
+abbrev pub job_of_task : Task → Job
+job_of_task t = record { lane = t.lane; line = t.line; ask = t.ask }
+
+-- a task is that of a lane's next job, on the state as it is now
+pub record IsTask (d : DeskShape) (lane : ℕ) (t : Task) : Type 0 where
+  pub lane : t.lane ≡ lane
+  pub next : next_job d lane ≡ Some (job_of_task t)
+  pub number : t.number ≡ length d.entries
+  pub snap : t.snap ≡ snap_of d.board t.ask t.snap.cases.spare
+
+-- a verdict is right for the state on which its task was found
+abbrev pub IsRightFor : DeskShape → Task → Verdict → Type 0
+IsRightFor d t v = IsRight (state_at d t.number).book t.ask v
+
+-- a task is for its lane's next job
+abbrev pub IsNext : DeskShape → Task → Type 0
+IsNext d t = next_job d t.lane ≡ Some (job_of_task t)
+
+-- no entry since counts for what a task asks
+abbrev pub is_fresh : DeskShape → Task → Bool
+is_fresh d t = counted t.ask (drop t.number d.entries) == 0
+
+-- from where on entries may make a lane's next job lost: behind the lane's last entry, behind those of earlier batches,
+-- and behind those for which the job was lost before
+abbrev pub floor_of : DeskShape → ℕ → ℕ
+floor_of d lane = max (max (lane_end lane d.entries) d.start) (loss_of d.losses lane).end
+
+-- a stale task is lost: jobs may be, only whether a case can be completed is left to decide, and all that it missed may
+-- make it lost
+abbrev pub is_lost : DeskShape → Task → Bool
+is_lost d t =
+    nat_le 1 d.rounds && (needs_verdict (decision_of (state_on d.board).book t.ask) && nat_le (floor_of d t.lane) t.number)
+
+-- one more loss of a lane's next job is the last that it may have
+abbrev pub is_last_round : DeskShape → ℕ → Bool
+is_last_round d lane = nat_le d.rounds ((loss_of d.losses lane).count + 1)
+
+-- with one more loss of a lane's next job
+abbrev pub with_loss : DeskShape → ℕ → DeskShape
+with_loss d lane = record d {
+  losses = slice_set d.losses lane (record { count = (loss_of d.losses lane).count + 1; end = length d.entries });
+}
+
+-- the reply is `again`, with all rounds and the place of the last entry that counts
+abbrev pub IsAgain : DeskShape → Task → Reply → Type 0
+IsAgain d t given = (place : ℕ) × ((given ≡ Again d.rounds place) × (place + 1 ≡ counted_end t.ask d.entries))
+
+-- the reply where the task is fresh, and where it is lost: with its verdict; again; decided anew inside the turn
+abbrev pub IsReplyWhere : (fresh lost : Bool) → DeskShape → Task → Verdict → Reply → Type 0
+IsReplyWhere true lost d t v given = IsDecided d.board t.ask v given
+IsReplyWhere false true d t v given = (is_last_round d t.lane ≡ true) × IsAgain d t given
+IsReplyWhere false false d t v given = IsDecided d.board t.ask verdict.Nothing given
+
+-- a task was committed with a verdict
+abbrev pub HasCommitted : DeskShape → DeskShape → Task → Verdict → Outcome → Type 0
+HasCommitted before after t v outcome.NotNext = ¬ IsNext before t × (after ≡ before)
+HasCommitted before after t v outcome.Lost =
+    IsNext before t × ((is_fresh before t ≡ false) × ((is_lost before t ≡ true)
+    × ((is_last_round before t.lane ≡ false) × (after ≡ with_loss before t.lane))))
+HasCommitted before after t v (outcome.Recorded place) =
+    IsNext before t × HasAdded before after (job_of_task t) place (IsReplyWhere (is_fresh before t) (is_lost before t) before t v)
+
+-- a task was committed with a verdict that was checked once more, whatever was known of it: as above, but that a plan or
+-- a tree that is right now decides
+abbrev pub HasCommittedChecked : DeskShape → DeskShape → Task → Verdict → Outcome → Type 0
+HasCommittedChecked before after t v outcome.NotNext = ¬ IsNext before t × (after ≡ before)
+HasCommittedChecked before after t v outcome.Lost =
+    IsNext before t × (¬ IsCertified (state_on before.board).book t.ask v × ((is_fresh before t ≡ false)
+    × ((is_lost before t ≡ true) × ((is_last_round before t.lane ≡ false) × (after ≡ with_loss before t.lane)))))
+HasCommittedChecked before after t v (outcome.Recorded place) =
+    IsNext before t × HasAdded before after (job_of_task t) place (λ given.
+    (IsCertified (state_on before.board).book t.ask v × IsDecided before.board t.ask v given)
+    ⊎ (¬ IsCertified (state_on before.board).book t.ask v
+    × IsReplyWhere (is_fresh before t) (is_lost before t) before t verdict.Nothing given))
+
+-- a lane's next job was decided inside the turn, if it has one
+abbrev pub HasServed : DeskShape → DeskShape → ℕ → Bool → Type 0
+HasServed before after lane true =
+    (job : Job) × ((next_job before lane ≡ Some job)
+    × HasAdded before after job (length before.entries) (IsDecided before.board job.ask verdict.Nothing))
+HasServed before after lane false = (next_job before lane ≡ None) × (after ≡ before)

@@ -1,0 +1,96 @@
+-- The desk: one history, the state after it, and the jobs of a batch.
+use Rattle.std.specs.Prelude.{◌≡◌, ℕ, ◌+◌, ◌-◌, ◌≤◌, ◌<◌, Bool, List, [], ◌∷◌, ◌++◌, length, take, drop, map, max, replicate, slice_get, slice_index_or, slice_set, Option, None, Some}
+use Rattle.wf_names.specs.declared.limits.TheConstants.{LANE_LIMIT}
+use Rattle.policy_book.specs.Shapes.{PolicyShape}
+use Rattle.wf_talk.specs.declared.entry.Entry.{Entry}
+use Rattle.wf_talk.specs.declared.job.Job.{Job}
+use Rattle.wf_talk.specs.declared.reply.Reply.{Reply}
+use Rattle.wf_board.specs.Boards.{BoardShape, state_on}
+use Rattle.wf_board.specs.States.{State, opening_state}
+use Rattle.wf_board.specs.Histories.{AreWantsRightful, EachAfter, IsLegal, RestsFrom, job_of_entry, lane_jobs, state_after}
+use Rattle.wf_desk.specs.declared.loss.Loss.{Loss}
+
+-- the policy at the beginning, how many lanes there are, after how many lost rounds a request is answered again, the
+-- board, the entries so far with the room that is left for more, the jobs of the batch, how many entries there were when
+-- they came, and for each lane how its next job was lost
+pub record DeskShape : Type 0 where
+  pub opening : PolicyShape
+  pub lanes : ℕ
+  pub rounds : ℕ
+  pub board : BoardShape
+  pub entries : List Entry
+  pub spare : ℕ
+  pub jobs : List Job
+  pub start : ℕ
+  pub losses : List Loss
+
+-- the state after the first so many entries
+abbrev pub state_at : DeskShape → ℕ → State
+state_at d n = state_after (opening_state d.opening) (take n d.entries)
+
+-- a lane's jobs that the entries from a place on answer
+abbrev pub served_jobs : ℕ → List Entry → ℕ → List Job
+served_jobs start entries lane = lane_jobs lane (map job_of_entry (drop start entries))
+
+-- a lane's jobs of the batch that are answered
+abbrev pub served : DeskShape → ℕ → List Job
+served d lane = served_jobs d.start d.entries lane
+
+-- how many jobs a lane has left
+abbrev pub left_of : DeskShape → ℕ → ℕ
+left_of d lane = length (lane_jobs lane d.jobs) - length (served d lane)
+
+-- a lane's next job, if it has one left
+abbrev pub next_job : DeskShape → ℕ → Option Job
+next_job d lane = slice_get (lane_jobs lane d.jobs) (length (served d lane))
+
+-- no lane has a job left
+abbrev pub IsDone : DeskShape → Type 0
+IsDone d = (lane : ℕ) → next_job d lane ≡ None
+
+-- what the type of a desk keeps: the entries are a legal history, and the board shows the state after it; each lane's
+-- entries of the batch answer its first jobs, in order; what is answered again rests on entries of the batch; and only
+-- an opening or a claim is answered with want of memory
+pub record IsSoundDesk (d : DeskShape) : Type 0 where
+  pub legal : IsLegal (opening_state d.opening) d.rounds d.entries
+  pub state : state_on d.board ≡ state_after (opening_state d.opening) d.entries
+  pub begun : d.start ≤ length d.entries
+  pub front : (lane : ℕ) → served d lane ≡ take (length (served d lane)) (lane_jobs lane d.jobs)
+  pub rests : EachAfter (RestsFrom d.start) (take d.start d.entries) (drop d.start d.entries)
+  pub wants : AreWantsRightful d.entries
+
+-- each of these jobs is of one of so many lanes
+abbrev pub AreOfLanes : ℕ → List Job → Type 0
+AreOfLanes lanes [] = Unit {0}
+AreOfLanes lanes (j ∷ js) = (j.lane < lanes) × AreOfLanes lanes js
+
+-- a lane's next job was not lost so far
+abbrev pub no_loss : Loss
+no_loss = record { count = 0; end = 0 }
+
+-- how a lane's next job was lost
+abbrev pub loss_of : List Loss → ℕ → Loss
+loss_of losses lane = slice_index_or losses lane no_loss
+
+-- with so much room in the journal and in the table of cases
+abbrev pub with_room : DeskShape → ℕ → ℕ → DeskShape
+with_room d spare cases = record d { spare = spare; board = record d.board { cases = record d.board.cases { spare = cases } } }
+
+-- with the jobs of another batch
+abbrev pub with_batch : DeskShape → List Job → DeskShape
+with_batch d jobs = record d { jobs = jobs; start = length d.entries; losses = replicate LANE_LIMIT no_loss }
+
+-- there is one more entry, at this place: it answers a job with such a reply, and the job's lane goes on to its next
+pub record HasAdded (before after : DeskShape) (job : Job) (place : ℕ) (Is : Reply → Type 0) : Type 0 where
+  pub entry : Entry
+  pub last : place ≡ length before.entries
+  pub stands : entry.at ≡ place
+  pub answers : job_of_entry entry ≡ job
+  pub reply : Is entry.reply
+  pub added : after.entries ≡ before.entries ++ entry ∷ []
+  pub opening : after.opening ≡ before.opening
+  pub lanes : after.lanes ≡ before.lanes
+  pub rounds : after.rounds ≡ before.rounds
+  pub jobs : after.jobs ≡ before.jobs
+  pub start : after.start ≡ before.start
+  pub losses : after.losses ≡ slice_set before.losses job.lane no_loss
