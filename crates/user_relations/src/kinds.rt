@@ -91,6 +91,68 @@ pub(crate) fn complement_of(declared: &[Relation], rho: RelId) -> Option<RelId>
     }
 }
 
+/// Why a pair would not be put into a relation.
+pub(crate) fn relate_fault(
+    declared: &[Relation],
+    rho: RelId,
+    u: UserId,
+    v: UserId,
+) -> Option<RelationFault>
+    ensures { result ≡ relate_fault (shapes declared.now) rho u v }
+{
+    match kind_at(declared, rho) {
+        None => Some(RelationFault::Fixed),
+        Some(kind) => put_fault(kind, u, v),
+    }
+}
+
+fn put_fault(kind: &Kind, u: UserId, v: UserId) -> Option<RelationFault>
+    ensures { result ≡ put_fault (Some (kind_view kind.now)) u v }
+{
+    match kind {
+        Kind::Complement(_) => Some(RelationFault::Fixed),
+        Kind::Listed(pairs) => {
+            if pairs.has(u.0, v.0) {
+                Some(RelationFault::Already)
+            } else if pairs.len() >= PAIR_LIMIT {
+                Some(RelationFault::Full)
+            } else {
+                None
+            }
+        }
+    }
+}
+
+/// Why a pair would not be taken out of a relation.
+pub(crate) fn unrelate_fault(
+    declared: &[Relation],
+    rho: RelId,
+    u: UserId,
+    v: UserId,
+) -> Option<RelationFault>
+    ensures { result ≡ unrelate_fault (shapes declared.now) rho u v }
+{
+    match kind_at(declared, rho) {
+        None => Some(RelationFault::Fixed),
+        Some(kind) => take_fault(kind, u, v),
+    }
+}
+
+fn take_fault(kind: &Kind, u: UserId, v: UserId) -> Option<RelationFault>
+    ensures { result ≡ take_fault (Some (kind_view kind.now)) u v }
+{
+    match kind {
+        Kind::Complement(_) => Some(RelationFault::Fixed),
+        Kind::Listed(pairs) => {
+            if !pairs.has(u.0, v.0) {
+                Some(RelationFault::Absent)
+            } else {
+                None
+            }
+        }
+    }
+}
+
 /// Makes a declared relation one of this kind.
 pub(crate) fn set_kind(declared: &mut [Relation], rho: RelId, kind: Kind)
     requires { kind_of (shapes declared.old) rho ≢ None }
@@ -123,15 +185,12 @@ fn put_pair(kind: &mut Kind, u: UserId, v: UserId) -> Result<(), RelationFault>
     ensures fault { AnswersFault (put_fault (Some (kind_view kind.old)) u v) result }
     ensures unchanged { OnErr result (kind_view kind.new ≡ kind_view kind.old) }
 {
+    if let Some(fault) = put_fault(kind, u, v) {
+        return Err(fault);
+    }
     let Kind::Listed(pairs) = kind else {
         return Err(RelationFault::Fixed);
     };
-    if pairs.has(u.0, v.0) {
-        return Err(RelationFault::Already);
-    }
-    if pairs.len() >= PAIR_LIMIT {
-        return Err(RelationFault::Full);
-    }
     match pairs.insert(u.0, v.0) {
         Ok(_) => Ok(()),
         Err(_) => Err(RelationFault::NoMemory),

@@ -164,6 +164,20 @@ impl Relations {
         kinds::unrelate(&mut self.declared, rho, u, v)
     }
 
+    /// Why `relate` would not put a pair into a relation, want of memory aside.
+    pub fn relate_fault(&self, rho: RelId, u: UserId, v: UserId) -> Option<RelationFault>
+        ensures { result ≡ relate_fault self.now rho u v }
+    {
+        kinds::relate_fault(&self.declared, rho, u, v)
+    }
+
+    /// Why `unrelate` would not take a pair out of a relation.
+    pub fn unrelate_fault(&self, rho: RelId, u: UserId, v: UserId) -> Option<RelationFault>
+        ensures { result ≡ unrelate_fault self.now rho u v }
+    {
+        kinds::unrelate_fault(&self.declared, rho, u, v)
+    }
+
     /// The number of the relation with a name; that of `same` is 0, that of `other` is 1.
     pub fn find(&self, name: &Name) -> Option<RelId>
         ensures place { result ≡ place_of (known_names self.now) name.now }

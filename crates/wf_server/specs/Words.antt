@@ -1,5 +1,5 @@
 -- The words of the program's command line.
-use Rattle.std.specs.Prelude.{ℕ, ◌+◌, ◌-◌, zero, suc, Bool, true, false, ◌&&◌, List, [], ◌∷◌, Option, None, Some, option_map, codes, nat_eq, if◌then◌else◌}
+use Rattle.std.specs.Prelude.{ℕ, ◌+◌, ◌-◌, ◌<◌, ◌≤◌, zero, suc, Bool, true, false, ◌&&◌, List, [], ◌∷◌, Option, None, Some, option_map, codes, nat_eq, if◌then◌else◌}
 use Rattle.std.specs.Fmt.{decimal}
 use Rattle.std.specs.Cmp.Lexicographic.{pointwise}
 use Rattle.wf_names.specs.declared.limits.TheConstants.{LANE_LIMIT, DEFAULT_LANES, ROUND_LIMIT, DEFAULT_ROUNDS}
@@ -8,6 +8,12 @@ use Rattle.wf_names.specs.declared.limits.TheConstants.{LANE_LIMIT, DEFAULT_LANE
 pub record Options : Type 0 where
   pub lanes : ℕ
   pub rounds : ℕ
+
+-- there are some lanes, and not too many lanes and rounds
+pub record AreOptions (o : Options) : Type 0 where
+  pub some : 0 < o.lanes
+  pub lanes : o.lanes ≤ LANE_LIMIT
+  pub rounds : o.rounds ≤ ROUND_LIMIT
 
 -- what the program is asked to do, with the names of the files and the workflow
 pub data Command : Type 0 where

@@ -4,6 +4,7 @@ ghost use Rattle.run_record.specs.Fault.{status_of, is_before_input};
 ghost use Rattle.run_record.specs.Report.{told_by};
 ghost use Rattle.wf_board.specs.Histories.{AreAnsweredOnce};
 ghost use Rattle.wf_server.specs.Sessions.{Served};
+ghost use Rattle.wf_server.specs.Words.{AreOptions};
 ghost use Rattle.wf_server.specs.Asked.{options_in};
 ghost use Rattle.wf_server.specs.Serving.{setting, ServesRun};
 
@@ -28,6 +29,7 @@ pub(crate) fn run_serve<F: Shelf, S: Source, K: Sink>(
     source: &mut S,
     sink: &mut K,
 ) -> Report
+    requires { AreOptions (options_in options) }
     ensures status { result.status ≡ status_of result.fault }
     ensures usage { result.fault ≡ RunFault.Usage → ⊥ }
     ensures serves { ServesRun policy.now (options_in options) (record {
@@ -64,6 +66,7 @@ fn serve_policy<S: Source, K: Sink>(
     source: &mut S,
     sink: &mut K,
 ) -> Report
+    requires { AreOptions (options_in options) }
     ensures served { Served (setting policy (options_in options)) PIECE
         (record {
           input = S.left source.old;

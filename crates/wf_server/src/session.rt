@@ -9,6 +9,7 @@ ghost use Rattle.batch_reader.specs.Reading.{IsReady, left_to_read};
 ghost use Rattle.run_record.specs.Fault.{status_of};
 ghost use Rattle.run_record.specs.Report.{told_by};
 ghost use Rattle.run_record.specs.Run.{Streams};
+ghost use Rattle.wf_server.specs.Words.{AreOptions};
 ghost use Rattle.wf_server.specs.Asked.{options_in};
 ghost use Rattle.wf_server.specs.Serving.{setting};
 ghost use Rattle.wf_server.specs.Batches.{told_of, ending_of, IsServing, BatchEnds, Serves};
@@ -33,7 +34,8 @@ pub(crate) fn run_session<S: Source, K: Sink>(
     source: &mut S,
     sink: &mut K,
 ) -> Report
-    requires { 0 < room }
+    requires room { 0 < room }
+    requires options { AreOptions (options_in options) }
     ensures serves { Serves (setting policy (options_in options)) room
         (record { input = S.left source.old; output = K.held sink.old; read_faults = S.faults source.old; write_faults = K.faults sink.old })
         (record { input = S.left source.new; output = K.held sink.new; read_faults = S.faults source.new; write_faults = K.faults sink.new })
@@ -58,6 +60,7 @@ fn serve_batches<S: Source, K: Sink>(
     source: &mut S,
     sink: &mut K,
 ) -> Report
+    requires options { AreOptions (options_in options) }
     requires start { reader.old.cut ≡ start options.lanes }
     requires nothing { reader.old.pending ≡ [] }
     requires opening { state_on board ≡ opening_state board.policy }
@@ -86,6 +89,7 @@ fn serve_batch<S: Source, K: Sink>(
     source: &mut S,
     sink: &mut K,
 ) -> Option<RunFault>
+    requires options { AreOptions (options_in options) }
     requires ready { IsReady reader.old }
     requires serving { (p : PolicyShape) × (before : Streams) × IsServing (setting p (options_in options)) before
         (record { input = S.left source.old; output = K.held sink.old; read_faults = S.faults source.old; write_faults = K.faults sink.old })

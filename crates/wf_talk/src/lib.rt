@@ -1,6 +1,7 @@
 //! What callers and the server say to each other: requests, replies, and the lists that keep them.
 #![tactic(auto)]
 
+mod edit;
 mod entry;
 mod job;
 mod lists;
@@ -10,6 +11,7 @@ mod states;
 #[cfg(test)]
 mod tests;
 
+pub use edit::{Edit, Missing};
 pub use entry::Entry;
 pub use job::Job;
 pub use lists::{Ends, Jobs, Journal, Line, RoleList};
