@@ -7,5 +7,5 @@ mod plan;
 mod tree;
 
 pub use alike::twins;
-pub use plan::{PlanFault, check_plan};
+pub use plan::{PlanFault, check_plan, is_valid_plan};
 pub use tree::{check_tree, mentions};

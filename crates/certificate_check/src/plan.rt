@@ -1,5 +1,5 @@
 //! Whether a plan is valid, and what is the first thing wrong with it.
-ghost use Rattle.std.specs.Prelude.{◌≡◌, ◌<◌, ◌↔◌, ℕ, length, slice_get, IsOk};
+ghost use Rattle.std.specs.Prelude.{◌≡◌, ◌<◌, ◌==◌, ◌↔◌, ℕ, length, slice_get, true, IsOk};
 ghost use Rattle.constraint_forms.specs.Assigned.{planned, user_at};
 ghost use Rattle.policy_book.specs.Plans.{IsValidPlan, IsWithin};
 ghost use Rattle.policy_book.specs.Policies.{problem_of};
@@ -18,6 +18,35 @@ pub enum PlanFault {
     Role(StepId),
     /// It does not satisfy the rule with this number.
     Rule(u8),
+}
+
+/// Whether any list of users at all is a plan that is valid for what is assigned and finished.
+pub fn is_valid_plan(p: &Policy, f: FlowId, a: &Assign, done: &StepSet, plan: &Plan) -> bool
+    requires flow { f < length p.now.flows }
+    requires within { IsWithin (problem_of p.now f) a.now }
+    ensures { result ≡ true ↔ IsValidPlan (problem_of p.now f) a.now done.now plan.now }
+{
+    is_whole(p, f, plan) && has_known(p, plan) && check_plan(p, f, a, done, plan).is_ok()
+}
+
+/// Whether a plan has a user for each step.
+fn is_whole(p: &Policy, f: FlowId, plan: &Plan) -> bool
+    requires { f < length p.now.flows }
+    ensures { result ≡ (length plan.now == (problem_of p.now f).steps) }
+{
+    plan.len() as u16 == p.flow(f).steps().len()
+}
+
+/// Whether the policy has every user of a plan.
+fn has_known(p: &Policy, plan: &Plan) -> bool
+    ensures { result ≡ true ↔ ((s : ℕ) → s < length plan.now → planned plan.now s < length p.now.roster.users) }
+{
+    'steps: for s in 0..plan.len() {
+        if plan.at(StepId(s)).0 >= p.roster().users().len() {
+            return false;
+        }
+    }
+    true
 }
 
 /// Checks that a plan is valid for what is assigned and finished, and else tells its first fault.

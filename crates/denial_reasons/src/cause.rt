@@ -1,5 +1,5 @@
 //! The first cause of a denied claim.
-ghost use Rattle.std.specs.Prelude.{◌≡◌, ◌<◌, true, length, IfOk, OnErr};
+ghost use Rattle.std.specs.Prelude.{◌≡◌, ◌<◌, true, length, is_some, IfOk, OnErr};
 ghost use Rattle.constraint_forms.specs.Assigned.{user_at};
 ghost use Rattle.policy_book.specs.Policies.{flow_at, problem_of};
 ghost use Rattle.denial_reasons.specs.Causes.{assigned_with, first_cause, first_falsified, permitted_roles, takes_memory};
@@ -41,6 +41,21 @@ pub fn first_cause(
         Some(k) => Ok(Some(Denial::Rule(k))),
         None => Ok(None),
     }
+}
+
+/// Whether there is such a cause; its list of roles is not made.
+pub fn has_cause(p: &Policy, c: &Case, s: StepId, u: UserId) -> bool
+    requires flow { c.now.flow < length p.now.flows }
+    requires steps { length c.now.states ≡ length (flow_at p.now c.now.flow).flow.steps }
+    requires step { s < length c.now.states }
+    requires user { u < length p.now.roster.users }
+    ensures { result ≡ is_some (first_cause p.now c.now s u) }
+{
+    let f = c.flow();
+    c.state(s).user().is_some()
+        || c.first_missing(p.flow(f), s).is_some()
+        || !p.authorised(f, s, u)
+        || first_falsified(p, f, &assigned_with(c, s, u)).is_some()
 }
 
 /// The roles that are permitted for a step, ascending.

@@ -3,4 +3,4 @@
 
 mod cause;
 
-pub use cause::first_cause;
+pub use cause::{first_cause, has_cause};
