@@ -23,7 +23,8 @@ use Rattle.run_record.specs.declared.fault.RunFault.{RunFault}
 use Rattle.run_record.specs.declared.fault.RunFault.TheVariants as fault
 use Rattle.run_record.specs.Report.{Told}
 use Rattle.wf_server.specs.Sessions.{Setting, last_start}
-use Rattle.wf_server.specs.Batches.{entries_text, setting_of, WritesLast, HasServedOn, HasAnswered, HasAnsweredPart, IsAdded, AnswersTo, IsWriteEnding}
+use Rattle.wf_server.specs.Turns.{setting_of}
+use Rattle.wf_server.specs.Batches.{entries_text, WritesLast, HasAnswered, HasAnsweredPart, IsAdded, AnswersTo, IsWriteEnding}
 
 -- the rest behind a place
 pub rest_after : {A : Type 0} (xs : List A) (n : ℕ) → take (length xs - n) (drop n xs) ≡ drop n xs

@@ -31,7 +31,8 @@ use Rattle.run_record.specs.Run.{Streams}
 use Rattle.wire_json.specs.Replies.{entry_text}
 use Rattle.wf_server.specs.Transcripts.{transcript_text}
 use Rattle.wf_server.specs.Sessions.{ReadsFor, Served, Setting, WritesFor, WritesPart, handed_in, last_start}
-use Rattle.wf_server.specs.Batches.{entries_text, setting_of, Serves, WritesBy, HasAnswered, IsAdded, IsBatch, AnswersTo, IsServing, BatchEnds, IsWriteEnding, ending_of}
+use Rattle.wf_server.specs.Turns.{setting_of}
+use Rattle.wf_server.specs.Batches.{entries_text, Serves, WritesBy, HasAnswered, IsAdded, IsBatch, AnswersTo, IsServing, BatchEnds, IsWriteEnding, ending_of}
 use Rattle.wf_server.proofs.BatchLaws.{history_stays, writes_whole}
 
 -- no count of faults falls

@@ -12,7 +12,7 @@ use Rattle.wf_desk.specs.Desks.{AreOfLanes, DeskShape, IsDone, IsSoundDesk, next
 use Rattle.wf_desk.specs.Commits.{HasServed}
 use Rattle.wf_desk.specs.DoneLaws.{batch_within}
 use Rattle.wf_server.specs.Sessions.{Setting}
-use Rattle.wf_server.specs.Batches.{HasServedOn, left_at, setting_of}
+use Rattle.wf_server.specs.Turns.{HasServedOn, left_at, setting_of}
 
 -- no job was served
 pub on_none : (d : DeskShape) → HasServedOn d d

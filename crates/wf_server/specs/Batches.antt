@@ -22,6 +22,7 @@ use Rattle.run_record.specs.Report.{Told}
 use Rattle.run_record.specs.Run.{Streams}
 use Rattle.wf_server.specs.declared.batch.Answered.{Answered}
 use Rattle.wf_server.specs.Sessions.{Setting, handed_in, last_start, ReadsFor}
+use Rattle.wf_server.specs.Turns.{setting_of}
 
 -- the texts of entries, in order, with the names of one policy
 abbrev pub entries_text : PolicyShape → List Entry → List ℕ
@@ -49,10 +50,6 @@ pub record Serves (set : Setting) (room : ℕ) (before after : Streams) (told : 
   pub read_faults : CountsReads fault before.read_faults after.read_faults
   pub write_faults : CountsWrites fault before.write_faults after.write_faults
 
--- how a desk serves
-abbrev pub setting_of : DeskShape → Setting
-setting_of d = record { policy = d.opening; lanes = d.lanes; rounds = d.rounds }
-
 -- what a session at a desk tells
 abbrev pub told_of : DeskShape → Answered → Told
 told_of d a = record { entries = d.entries; jobs = a.jobs; batch_ends = a.batch_ends }
@@ -62,19 +59,6 @@ pub record IsBatch (lanes before : ℕ) (batch : List Job) : Type 0 where
   pub few : before + length batch ≤ SESSION_LINE_LIMIT
   pub short : length batch ≤ BATCH_LINE_LIMIT
   pub lanes : AreOfLanes lanes batch
-
--- jobs of a desk were served: their entries stand behind those before, and none of them is answered again
-pub record HasServedOn (before after : DeskShape) : Type 0 where
-  pub new : List Entry
-  pub entries : after.entries ≡ before.entries ++ new
-  pub once : AreAnsweredOnce new
-  pub setting : setting_of after ≡ setting_of before
-  pub jobs : after.jobs ≡ before.jobs
-  pub start : after.start ≡ before.start
-
--- how many jobs of the batch have no entry yet
-abbrev pub left_at : DeskShape → ℕ
-left_at d = d.start + length d.jobs - length d.entries
 
 -- the jobs so far are answered, and the entries written
 pub record HasAnswered (held held-after : Option (List ℕ)) (d : DeskShape) (told : Told) : Type 0 where

@@ -6,7 +6,8 @@ ghost use Rattle.line_cutter.specs.Cutter.{ends_after};
 ghost use Rattle.wf_desk.specs.Desks.{IsDone};
 ghost use Rattle.wire_json.specs.Replies.{entry_text};
 ghost use Rattle.run_record.specs.Fault.{fault_in, CountsWrites};
-ghost use Rattle.wf_server.specs.Batches.{entries_text, setting_of, told_of, HasAnswered, IsBatch, AnswersTo, IsWriteEnding};
+ghost use Rattle.wf_server.specs.Batches.{entries_text, told_of, HasAnswered, IsBatch, AnswersTo, IsWriteEnding};
+ghost use Rattle.wf_server.specs.Turns.{setting_of};
 
 use crate::turns::serve_by_turns;
 use policy_book::Policy;

@@ -12,7 +12,8 @@ ghost use Rattle.run_record.specs.Run.{Streams};
 ghost use Rattle.wf_server.specs.Words.{AreOptions};
 ghost use Rattle.wf_server.specs.Asked.{options_in};
 ghost use Rattle.wf_server.specs.Serving.{setting};
-ghost use Rattle.wf_server.specs.Batches.{setting_of, told_of, ending_of, IsServing, BatchEnds, Serves};
+ghost use Rattle.wf_server.specs.Batches.{told_of, ending_of, IsServing, BatchEnds, Serves};
+ghost use Rattle.wf_server.specs.Turns.{setting_of};
 
 use crate::batch::{Answered, answer_batch};
 use crate::words::Options;

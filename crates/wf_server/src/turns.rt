@@ -1,7 +1,7 @@
 //! Serving the jobs of a batch by turns.
 ghost use Rattle.std.specs.Prelude.{◌≡◌, ◌<◌, true, false, length};
 ghost use Rattle.wf_desk.specs.Desks.{AreOfLanes, IsDone};
-ghost use Rattle.wf_server.specs.Batches.{HasServedOn, left_at};
+ghost use Rattle.wf_server.specs.Turns.{HasServedOn, left_at};
 
 use crate::decider::PlainDecider;
 use std::alloc::Global;

@@ -5,7 +5,8 @@ use Rattle.run_record.specs.Run.{Streams}
 use Rattle.wf_board.specs.Histories.{IsLegal}
 use Rattle.wf_board.specs.States.{opening_state}
 use Rattle.wf_server.specs.Sessions.{Setting}
-use Rattle.wf_server.specs.Batches.{setting_of, told_of, Serves}
+use Rattle.wf_server.specs.Batches.{told_of, Serves}
+use Rattle.wf_server.specs.Turns.{setting_of}
 use Rattle.wf_server.proofs.SessionLaws.{lanes_of, opening_serves}
 use Rattle.wf_server.proofs.session.serve_batches.Goals as goal
 

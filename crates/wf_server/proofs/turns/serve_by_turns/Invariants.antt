@@ -1,5 +1,5 @@
 use Rattle.wf_desk.specs.Desks.{AreOfLanes}
-use Rattle.wf_server.specs.Batches.{HasServedOn, left_at}
+use Rattle.wf_server.specs.Turns.{HasServedOn, left_at}
 use Rattle.wf_server.proofs.turns.serve_by_turns.Given as goal
 
 abbrev pub invariant-serving : goal.invariant-serving
