@@ -1,5 +1,5 @@
 -- How the entries of a batch follow those before.
-use Rattle.std.proofs.Common.{◌≡◌, ℕ, ◌+◌, ◌-◌, ◌<◌, ◌≤◌, List, [], ◌∷◌, ◌++◌, length, take, drop, get_or, Option, Result, Ok, Err, OnOk, OnErr, IfErr, inl, inr, refl, sym, ◌∙◌, ap, subst, arith, append_assoc}
+use Rattle.std.proofs.Common.{◌≡◌, ℕ, zero, suc, ◌+◌, ◌-◌, ◌<◌, ◌≤◌, List, [], ◌∷◌, ◌++◌, length, take, drop, get_or, Option, Result, Ok, Err, OnOk, OnErr, IfErr, inl, inr, refl, sym, ◌∙◌, ap, subst, arith, append_assoc}
 use Rattle.std.proofs.lemmas.Grind.{common_steps}
 use Rattle.std.proofs.lemmas.List.{take_rest, take-append-drop, append-nil, drop_more, take_more, length-append, get_or_append_left}
 use Rattle.std.specs.Prelude.{nat_lt, if◌then◌else◌}
@@ -24,7 +24,8 @@ use Rattle.run_record.specs.declared.fault.RunFault.TheVariants as fault
 use Rattle.run_record.specs.Report.{Told}
 use Rattle.wf_server.specs.Sessions.{Setting, last_start}
 use Rattle.wf_server.specs.Turns.{setting_of}
-use Rattle.wf_server.specs.Batches.{entries_text, WritesLast, HasAnswered, HasAnsweredPart, IsAdded, AnswersTo, IsWriteEnding}
+use Rattle.wf_server.specs.declared.batch.Answered.{Answered}
+use Rattle.wf_server.specs.Batches.{entries_text, told_of, WritesLast, HasAnswered, HasAnsweredPart, IsAdded, AnswersTo, IsWriteEnding}
 
 -- the rest behind a place
 pub rest_after : {A : Type 0} (xs : List A) (n : ℕ) → take (length xs - n) (drop n xs) ≡ drop n xs
@@ -79,23 +80,27 @@ last_begins ends x =
 
 ends_last : (ends : List ℕ) (x : ℕ) → batch_start (ends ++ x ∷ []) (length (ends ++ x ∷ [])) ≡ x
 ends_last ends x =
-    let one_more : length (ends ++ x ∷ []) ≡ length ends + 1 = omega (arith, length-append ends (x ∷ [])) in
+    let one_more : length (ends ++ x ∷ []) ≡ suc (length ends) = omega (arith, length-append ends (x ∷ [])) in
     ap (batch_start (ends ++ x ∷ [])) one_more ∙ get_or-append_seam ends x [] 0
 
 end_within : (ends : List ℕ) (x k n : ℕ) → ((k : ℕ) → k < length ends → batch_end ends k ≤ n) → x ≤ n → k < length (ends ++ x ∷ []) → batch_end (ends ++ x ∷ []) k ≤ n
-end_within [] x 0 n within last lt = last
+end_within [] x zero n within last lt = last
 end_within [] x (suc k) n within last lt = absurd (omega (arith, lt))
-end_within (e ∷ ends) x 0 n within last lt = within 0 (omega arith)
+end_within (e ∷ ends) x zero n within last lt = within zero (omega arith)
 end_within (e ∷ ends) x (suc k) n within last lt = end_within ends x k n (λ i below. within (suc i) (omega (arith, below))) last (omega (arith, lt))
+
+-- a batch with a job has an end
+pub ends_some : (ends : List ℕ) (n : ℕ) (m : Job) (more : List Job) → ends_after ends n (m ∷ more) ≡ ends ++ (n + length (m ∷ more)) ∷ []
+ends_some ends n m more = grind (arith, common_steps)
 
 ends_more : (js more : List Job) (ends : List ℕ) → EndAt ends (length js) → EndAt (ends_after ends (length js) more) (length (js ++ more))
 ends_more js [] ends are = rw (append-nil js) are
 ends_more js (m ∷ more) ends are =
-    let size : length (js ++ (m ∷ more)) ≡ length js + (length more + 1) = length-append js (m ∷ more) ∙ omega arith in
-    record {
+    let size : length (js ++ (m ∷ more)) ≡ length js + length (m ∷ more) = length-append js (m ∷ more) in
+    rw (ends_some ends (length js) m more) (record {
       within = λ k lt. end_within ends (length js + length (m ∷ more)) k (length (js ++ (m ∷ more))) (λ i below. let h = are.within i below in omega (arith, h, size)) (omega (arith, size)) lt;
-      closed = ends_last ends (length js + length (m ∷ more)) ∙ sym (length-append js (m ∷ more));
-    }
+      closed = ends_last ends (length js + length (m ∷ more)) ∙ sym size;
+    })
 
 no_entries : (new : List Entry) → length new ≡ 0 → new ≡ []
 no_entries [] none = refl
@@ -104,7 +109,7 @@ no_entries (e ∷ new) none = absurd (omega (arith, none))
 fills_more : (es new : List Entry) (js more : List Job) (ends : List ℕ) → FillsJobs es js ends → EndAt ends (length js) → AnswersBatch es new more
     → FillsJobs (es ++ new) (js ++ more) (ends_after ends (length js) more)
 fills_more es new js [] ends fills are answers = rw (no_entries new answers.whole, append-nil es, append-nil js) fills
-fills_more es new js (m ∷ more) ends fills are answers = batch_fills es new js (m ∷ more) ends fills are answers
+fills_more es new js (m ∷ more) ends fills are answers = rw (ends_some ends (length js) m more) (batch_fills es new js (m ∷ more) ends fills are answers)
 
 -- ---- the text
 
@@ -197,6 +202,10 @@ answers_to held mid aft old d before batch after text es (Err fault.NoMemory) h 
 answers_to held mid aft old d before batch after text es (Err fault.Write) h is new all part some ending =
     (h.added, part_answered held mid aft old d before batch after h (subst (HasPart mid aft) is part) (subst (λ xs. 0 < length xs) new some))
 answers_to held mid aft old d before batch after text es (Err other) h is new all part some ending = absurd ending
+
+-- the same is told
+pub same_told : (old d : DeskShape) (before after : Answered) → d.entries ≡ old.entries → after.jobs ≡ before.jobs → after.batch_ends ≡ before.batch_ends → told_of d after ≡ told_of old before
+same_told old d before after entries jobs ends = rw (entries, jobs, ends) refl
 
 -- and where there was no room for the batch
 pub answers_none : (held aft : Option (List ℕ)) (old d : DeskShape) (before : Told) (batch : List Job) (after : Told) (result : Result (Unit {0}) RunFault)

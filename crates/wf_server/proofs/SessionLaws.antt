@@ -33,7 +33,7 @@ use Rattle.wf_server.specs.Transcripts.{transcript_text}
 use Rattle.wf_server.specs.Sessions.{ReadsFor, Served, Setting, WritesFor, WritesPart, handed_in, last_start}
 use Rattle.wf_server.specs.Turns.{setting_of}
 use Rattle.wf_server.specs.Batches.{entries_text, Serves, WritesBy, HasAnswered, IsAdded, IsBatch, AnswersTo, IsServing, BatchEnds, IsWriteEnding, ending_of}
-use Rattle.wf_server.proofs.BatchLaws.{history_stays, writes_whole}
+use Rattle.wf_server.proofs.BatchLaws.{ends_some, history_stays, writes_whole}
 
 -- no count of faults falls
 counts_le : (how : Paused) (before after : ℕ) → CountsAs how before after → before ≤ after
@@ -59,8 +59,8 @@ first_of_lanes lanes (suc n) (j ∷ jobs) all = (all.0, first_of_lanes lanes n j
 
 -- an end is near the one before it
 near_end : (before x total : ℕ) (ends rest : List ℕ) → LeadTo before (ends ++ (x ∷ rest)) total → x ≤ last_or before ends + BATCH_LINE_LIMIT
-near_end before x total [] rest leads = leads.1.0
-near_end before x total (e ∷ ends) rest leads = near_end e x total ends rest leads.1.1
+near_end before x total [] rest leads = leads.1
+near_end before x total (e ∷ ends) rest leads = near_end e x total ends rest leads.2
 
 -- a batch has not too many jobs
 short_batch : (before k total : ℕ) (batch : List Job) (ends all : List ℕ) → LeadTo 0 all total → last_or 0 ends ≡ before → ends_after ends before batch ≡ take k all
@@ -69,7 +69,7 @@ short_batch before k total [] ends all leads closed is = omega arith
 short_batch before k total (j ∷ batch) ends all leads closed is =
     let x = before + length (j ∷ batch) in
     let whole : all ≡ ends ++ (x ∷ drop k all) =
-    sym (take-append-drop k all) ∙ ap (λ es. es ++ drop k all) (sym is) ∙ append_assoc ends (x ∷ []) (drop k all) in
+    sym (take-append-drop k all) ∙ ap (λ es. es ++ drop k all) (sym is ∙ ends_some ends before j batch) ∙ append_assoc ends (x ∷ []) (drop k all) in
     let near = near_end 0 x total ends (drop k all) (subst (λ es. LeadTo 0 es total) whole leads) in
     omega (arith, near, closed)
 
@@ -84,14 +84,14 @@ next_batch lanes before after told more order closed up =
     record {
       few = omega (arith, few, length-append told.jobs more, simp length-take at front);
       short = short_batch (length told.jobs) up.up.ends.0 (length all.jobs) more told.batch_ends all.ends whole.ends closed up.up.ends.1;
-      lanes = rest_of_lanes lanes told.jobs more (subst (cutting.AreOfLanes lanes) (sym up.up.within) (first_of_lanes lanes _ all.jobs whole.of_lanes));
+      of_lanes = rest_of_lanes lanes told.jobs more (subst (cutting.AreOfLanes lanes) (sym up.up.within) (first_of_lanes lanes _ all.jobs whole.of_lanes));
     }
 
 -- what is told with one more batch
 added_handed : (lanes : ℕ) (before : Told) (batch : List Job) (after : Told) → IsAdded before batch after → handed_more (handed_in lanes before) batch ≡ handed_in lanes after
 added_handed lanes before batch after added = rw (added.jobs, added.ends) refl
 
-lanes_of : (d e : DeskShape) → setting_of e ≡ setting_of d → e.lanes ≡ d.lanes
+pub lanes_of : (d e : DeskShape) → setting_of e ≡ setting_of d → e.lanes ≡ d.lanes
 lanes_of d e same = ap (λ (s : Setting). s.lanes) same
 
 -- how the jobs of another batch are handed over

@@ -34,7 +34,7 @@ setting_same b c opening lanes rounds = rw (opening, lanes, rounds) refl
 
 -- a lane's next job was served, if it had one
 pub on_next : (b c : DeskShape) (lane : ℕ) (had : Bool) → HasServed b c lane had → HasServedOn b c
-on_next b c lane true (job, next, more) = record {
+on_next b c lane true (job, (next, more)) = record {
   new = more.entry ∷ [];
   entries = more.added;
   once = (λ n place. step_once (state_on b.board) job.ask more.entry.reply more.reply.step n place, tt);
@@ -87,7 +87,7 @@ past_next : (d : DeskShape) (lane n : ℕ) → lane_jobs lane d.jobs ≡ [] → 
 past_next d lane n none = rw none refl
 
 -- where no lane had a job, none is left
-pub turned_done : (a c : DeskShape) (lanes : ℕ) → HasTurned a c lanes false → lanes ≡ a.lanes → AreOfLanes a.lanes a.jobs → IsDone c
+pub turned_done : (a c : DeskShape) (lanes : ℕ) → HasTurned a c lanes false → a.lanes ≤ lanes → AreOfLanes a.lanes a.jobs → IsDone c
 turned_done a c lanes turned all of_lanes lane =
     let none = turned.none refl in
     subst (λ d. next_job d lane ≡ None) (sym none.0) (elim (bool_cases (nat_lt lane lanes)) [
@@ -103,3 +103,8 @@ turned_less a c lanes turned sound =
     let start = turned.on.start in
     let within = batch_within c sound in
     omega (arith, more, jobs, start, within)
+
+-- the jobs stay those of the lanes
+pub of_lanes_on : (b c : DeskShape) → HasServedOn b c → AreOfLanes b.lanes b.jobs → AreOfLanes c.lanes c.jobs
+of_lanes_on b c on of_lanes =
+    subst (λ n. AreOfLanes n c.jobs) (sym (ap (λ (s : Setting). s.lanes) on.setting)) (subst (AreOfLanes b.lanes) (sym on.jobs) of_lanes)

@@ -58,7 +58,7 @@ told_of d a = record { entries = d.entries; jobs = a.jobs; batch_ends = a.batch_
 pub record IsBatch (lanes before : ℕ) (batch : List Job) : Type 0 where
   pub few : before + length batch ≤ SESSION_LINE_LIMIT
   pub short : length batch ≤ BATCH_LINE_LIMIT
-  pub lanes : AreOfLanes lanes batch
+  pub of_lanes : AreOfLanes lanes batch
 
 -- the jobs so far are answered, and the entries written
 pub record HasAnswered (held held-after : Option (List ℕ)) (d : DeskShape) (told : Told) : Type 0 where

@@ -9,7 +9,7 @@ use Rattle.run_record.specs.declared.fault.RunFault.TheVariants.{Policy, Load, N
 use Rattle.run_record.specs.Run.{Run, IsUntouched, IsOrderly, OverFile}
 use Rattle.wf_server.specs.declared.serve.TheConstants.{PIECE}
 use Rattle.wf_board.specs.Histories.{AreAnsweredOnce}
-use Rattle.wf_desk.specs.Wants.{AreWantsRightful}
+use Rattle.wf_board.specs.Histories.{AreWantsRightful}
 use Rattle.wf_server.specs.Sessions.{Served, Setting}
 use Rattle.wf_server.specs.Words.{Options}
 

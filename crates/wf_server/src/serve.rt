@@ -3,7 +3,7 @@ ghost use Rattle.std.specs.Prelude.{◌≡◌, false};
 ghost use Rattle.run_record.specs.Fault.{status_of, is_before_input};
 ghost use Rattle.run_record.specs.Report.{told_by};
 ghost use Rattle.wf_board.specs.Histories.{AreAnsweredOnce};
-ghost use Rattle.wf_desk.specs.Wants.{AreWantsRightful};
+ghost use Rattle.wf_board.specs.Histories.{AreWantsRightful};
 ghost use Rattle.wf_server.specs.Sessions.{Served};
 ghost use Rattle.wf_server.specs.Words.{AreOptions};
 ghost use Rattle.wf_server.specs.Asked.{options_in};

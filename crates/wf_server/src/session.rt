@@ -2,7 +2,7 @@
 ghost use Rattle.std.specs.Prelude.{◌≡◌, ◌<◌, [], None};
 ghost use Rattle.wf_board.specs.States.{opening_state};
 ghost use Rattle.wf_board.specs.Histories.{IsLegal};
-ghost use Rattle.wf_desk.specs.Wants.{AreWantsRightful};
+ghost use Rattle.wf_board.specs.Histories.{AreWantsRightful};
 ghost use Rattle.wf_desk.specs.Desks.{IsSoundDesk};
 ghost use Rattle.line_cutter.specs.Jobs.{start};
 ghost use Rattle.batch_reader.specs.Reading.{IsReady, left_to_read};

@@ -1,8 +1,8 @@
 use Rattle.std.proofs.Common.{◌≡◌, ℕ, ◌<◌, ◌∙◌, refl, sym, ap, subst}
 use Rattle.line_cutter.specs.Jobs.{Cut}
-use Rattle.run_record.specs.Report.{nothing_told}
+use Rattle.run_record.specs.Report.{Told, nothing_told}
 use Rattle.run_record.specs.Run.{Streams}
-use Rattle.wf_board.specs.Histories.{IsLegal}
+use Rattle.wf_board.specs.Histories.{AreWantsRightful, IsLegal}
 use Rattle.wf_board.specs.States.{opening_state}
 use Rattle.wf_server.specs.Sessions.{Setting}
 use Rattle.wf_server.specs.Batches.{told_of, Serves}
@@ -48,7 +48,8 @@ returns-in-Some-clause-serves g c =
 pub returns-in-Some-clause-legal : goal.returns-in-Some-clause-legal
 returns-in-Some-clause-legal g c =
     let same = c.serve_batch.ensures.setting ∙ c.serving.invariant.setting in
-    rw c.report_of.ensures.told (subst (λ (set : Setting). IsLegal (opening_state set.policy) set.rounds c.serve_batch.new.desk.entries) same c.report_of.ensures.sound.legal)
+    subst (λ (t : Told). IsLegal (opening_state c.args.desk.opening) c.args.desk.rounds t.entries) (sym c.report_of.ensures.told)
+    (subst (λ (set : Setting). IsLegal (opening_state set.policy) set.rounds c.serve_batch.new.desk.entries) same c.report_of.ensures.sound.legal)
 
 pub returns-in-Some-clause-wants : goal.returns-in-Some-clause-wants
-returns-in-Some-clause-wants g c = rw c.report_of.ensures.told c.report_of.ensures.sound.wants
+returns-in-Some-clause-wants g c = subst (λ (t : Told). AreWantsRightful t.entries) (sym c.report_of.ensures.told) c.report_of.ensures.sound.wants
