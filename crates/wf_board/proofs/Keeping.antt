@@ -23,7 +23,7 @@ use Rattle.wf_board.specs.States.{Numbered, State, case_at, opening_state, with_
 use Rattle.wf_board.specs.Decisions.{decision_of}
 use Rattle.wf_board.specs.Steps.{Answers, IsReplyTo, IsStep, state_after_decision, state_after_deed, state_after_step, with_changed, with_opened}
 use Rattle.wf_board.specs.Histories.{EachAfter, IsRetry, IsRightAfter, state_after}
-use Rattle.wf_board.specs.HistoryLaws.{after_more}
+use Rattle.wf_board.specs.HistoryLaws.{after_more, again_stays}
 use Rattle.wf_board.specs.Kept.{IsOfPolicy, IsSoundState, KeepsCompletable}
 use Rattle.wf_board.specs.Laws.{HistoriesKeepCompletable, PlansStayValid, StepsKeepCompletable}
 use Rattle.wf_board.proofs.Told.{HasStep, HoldsOf, IsTold, claim_free, held_by, told}
@@ -179,17 +179,6 @@ steps_keep_completable s what given sound complete step = step_keeps s what give
 
 -- ---- histories
 
-again_stays : (s : State) (decision : Result Deed Denial) (n place : ℕ) → state_after_decision s decision (reply.Again n place) ≡ s
-again_stays s (Ok (deed.Open f)) n place = refl
-again_stays s (Ok (deed.Claim m c t u)) n place = refl
-again_stays s (Ok (deed.Finish m c t u)) n place = refl
-again_stays s (Ok (deed.GiveBack m c t u)) n place = refl
-again_stays s (Ok (deed.Release m c t)) n place = refl
-again_stays s (Ok (deed.Withdraw m)) n place = refl
-again_stays s (Ok (deed.Show c)) n place = refl
-again_stays s (Ok (deed.TurnAway bad)) n place = refl
-again_stays s (Err d) n place = refl
-
 entry_keeps : (start : State) (rounds : ℕ) (earlier : List Entry) (e : Entry) → Keeps (state_after start earlier) → IsRightAfter start rounds earlier e →
     Keeps (state_after start (earlier ++ e ∷ []))
 entry_keeps start rounds earlier e keeps right = subst Keeps (sym (after_more start earlier e)) (by_reply right.1)
@@ -197,8 +186,7 @@ entry_keeps start rounds earlier e keeps right = subst Keeps (sym (after_more st
     by_reply : IsStep (state_after start earlier) e.ask e.reply ⊎ IsRetry start rounds earlier e → Keeps (state_after_step (state_after start earlier) e.ask e.reply)
     by_reply (inl step) = step_keeps (state_after start earlier) e.ask e.reply keeps step
     by_reply (inr retry) =
-        let s = state_after start earlier in
-        subst (λ r. Keeps (state_after_step s e.ask r)) (sym retry.1.1.0) (subst Keeps (sym (again_stays s (decision_of s.book e.ask) retry.0 retry.1.0)) keeps)
+        subst Keeps (sym (again_stays (state_after start earlier) e.ask e.reply retry.0 retry.1.0 retry.1.1.0)) keeps
 
 history_keeps : (start : State) (rounds : ℕ) (earlier entries : List Entry) → Keeps (state_after start earlier) → EachAfter (IsRightAfter start rounds) earlier entries → (n : ℕ) →
     Keeps (state_after (state_after start earlier) (take n entries))

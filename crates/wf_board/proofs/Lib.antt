@@ -1,5 +1,9 @@
 pub mod Snaps
 pub mod Told
+pub mod Counted
+pub mod Fresh
+pub mod Wanting
+pub mod Certificates
 pub mod Valid
 pub mod Keeping
 pub mod Exact

@@ -39,46 +39,53 @@ same_rest (Ok x) f g same = same x
 same_rest (Err d) f g same = refl
 
 -- a book with these cases
-abbrev with_cases : PolicyShape → List Numbered → ℕ → Book
+abbrev pub with_cases : PolicyShape → List Numbered → ℕ → Book
 with_cases p cases ever = record { policy = p; cases = cases; ever = ever }
 
 -- the causes rest on no case but the deed's
-same_cause : (p : PolicyShape) (xs ys : List Numbered) (m : ℕ) (given : Deed) → unless_denied given (cause_aside (with_cases p xs m) given) ≡ unless_denied given (cause_aside (with_cases p ys m) given)
-same_cause p xs ys m (deed.Open f) = refl
-same_cause p xs ys m (deed.Claim n c s u) = refl
-same_cause p xs ys m (deed.Finish n c s u) = refl
-same_cause p xs ys m (deed.GiveBack n c s u) = refl
-same_cause p xs ys m (deed.Release n c s) = refl
-same_cause p xs ys m (deed.Withdraw n) = refl
-same_cause p xs ys m (deed.Show c) = refl
-same_cause p xs ys m (deed.TurnAway bad) = refl
+same_cause : (p : PolicyShape) (xs ys : List Numbered) (m k : ℕ) (given : Deed) → unless_denied given (cause_aside (with_cases p xs m) given) ≡ unless_denied given (cause_aside (with_cases p ys k) given)
+same_cause p xs ys m k (deed.Open f) = refl
+same_cause p xs ys m k (deed.Claim n c s u) = refl
+same_cause p xs ys m k (deed.Finish n c s u) = refl
+same_cause p xs ys m k (deed.GiveBack n c s u) = refl
+same_cause p xs ys m k (deed.Release n c s) = refl
+same_cause p xs ys m k (deed.Withdraw n) = refl
+same_cause p xs ys m k (deed.Show c) = refl
+same_cause p xs ys m k (deed.TurnAway bad) = refl
 
-same_decision : (p : PolicyShape) (xs ys : List Numbered) (m : ℕ) (what : Ask) → resolve (with_cases p xs m) what ≡ resolve (with_cases p ys m) what →
-    decision_aside (with_cases p xs m) what ≡ decision_aside (with_cases p ys m) what
-same_decision p xs ys m what same =
+same_decision : (p : PolicyShape) (xs ys : List Numbered) (m k : ℕ) (what : Ask) → resolve (with_cases p xs m) what ≡ resolve (with_cases p ys k) what →
+    decision_aside (with_cases p xs m) what ≡ decision_aside (with_cases p ys k) what
+same_decision p xs ys m k what same =
     ap (λ r. r >>= (λ given. unless_denied given (cause_aside (with_cases p xs m) given))) same
-    ∙ same_rest (resolve (with_cases p ys m) what) _ _ (same_cause p xs ys m)
+    ∙ same_rest (resolve (with_cases p ys k) what) _ _ (same_cause p xs ys m k)
 
-same_claim : (p : PolicyShape) (xs ys : List Numbered) (m n : ℕ) (step user : List ℕ) → case_at xs n ≡ case_at ys n →
-    on_step deed.Claim (with_cases p xs m) n step user ≡ on_step deed.Claim (with_cases p ys m) n step user
-same_claim p xs ys m n step user same = rw same refl
+-- a claim is decided alike over cases that have its case alike
+pub same_claim : (p : PolicyShape) (xs ys : List Numbered) (m k n : ℕ) (step user : List ℕ) → case_at xs n ≡ case_at ys n →
+    decision_aside (with_cases p xs m) (ask.Request (request.Claim n step user)) ≡ decision_aside (with_cases p ys k) (ask.Request (request.Claim n step user))
+same_claim p xs ys m k n step user same =
+    let resolved : on_step deed.Claim (with_cases p xs m) n step user ≡ on_step deed.Claim (with_cases p ys k) n step user = rw same refl in
+    same_decision p xs ys m k (ask.Request (request.Claim n step user)) resolved
+
+-- and an opening over all
+pub same_opening : (p : PolicyShape) (xs ys : List Numbered) (m k : ℕ) (flow : List ℕ) →
+    decision_aside (with_cases p xs m) (ask.Request (request.OpenCase flow)) ≡ decision_aside (with_cases p ys k) (ask.Request (request.OpenCase flow))
+same_opening p xs ys m k flow = same_decision p xs ys m k (ask.Request (request.OpenCase flow)) refl
 
 -- a claim is decided over its case alone as over all
 pub claim_alone : (b : BoardShape) (n : ℕ) (step user : List ℕ) (spare : ℕ) →
     decision_aside (book_on (snap_of b (ask.Request (request.Claim n step user)) spare)) (ask.Request (request.Claim n step user))
     ≡ decision_aside (state_on b).book (ask.Request (request.Claim n step user))
 claim_alone b n step user spare =
-    same_decision b.policy (map numbered (only n b.cases.rows)) (map numbered b.cases.rows) b.cases.ever (ask.Request (request.Claim n step user))
-    (same_claim b.policy (map numbered (only n b.cases.rows)) (map numbered b.cases.rows) b.cases.ever n step user (case_alone n b.cases.rows))
+    same_claim b.policy (map numbered (only n b.cases.rows)) (map numbered b.cases.rows) b.cases.ever b.cases.ever n step user (case_alone n b.cases.rows)
 
 -- an opening is decided over no case as over all
 pub opening_alone : (b : BoardShape) (flow : List ℕ) (spare : ℕ) →
     decision_aside (book_on (snap_of b (ask.Request (request.OpenCase flow)) spare)) (ask.Request (request.OpenCase flow))
     ≡ decision_aside (state_on b).book (ask.Request (request.OpenCase flow))
-opening_alone b flow spare = same_decision b.policy [] (map numbered b.cases.rows) b.cases.ever (ask.Request (request.OpenCase flow)) refl
+opening_alone b flow spare = same_opening b.policy [] (map numbered b.cases.rows) b.cases.ever b.cases.ever flow
 
 -- what is no opening and no claim
-abbrev IsPlain : Result Deed Denial → Type 0
+abbrev pub IsPlain : Result Deed Denial → Type 0
 IsPlain (Ok given) = needs_plan given ≡ false
 IsPlain (Err d) = Unit {0}
 
@@ -99,33 +106,33 @@ plain_step b make n step user plain =
     then_plain (open_case_at b n) _ (λ c. then_plain (or_fault (step_named b c.flow step) NoStep) _ (λ s. then_plain (or_fault (user_named b user) NoUser) _ (λ u. plain c s u)))
 
 -- what rests on no plan
-abbrev IsAside : Book → Ask → Type 0
+abbrev pub IsAside : Book → Ask → Type 0
 IsAside b what = IsPlain (decision_aside b what)
 
-finish_plain : (n : ℕ) (step user : List ℕ) (b : Book) → IsAside b (ask.Request (request.Finish n step user))
+pub finish_plain : (n : ℕ) (step user : List ℕ) (b : Book) → IsAside b (ask.Request (request.Finish n step user))
 finish_plain n step user b = plain_aside b (on_step deed.Finish b n step user) (plain_step b deed.Finish n step user (λ c s u. refl))
 
-return_plain : (n : ℕ) (step user : List ℕ) (b : Book) → IsAside b (ask.Request (request.GiveBack n step user))
+pub return_plain : (n : ℕ) (step user : List ℕ) (b : Book) → IsAside b (ask.Request (request.GiveBack n step user))
 return_plain n step user b = plain_aside b (on_step deed.GiveBack b n step user) (plain_step b deed.GiveBack n step user (λ c s u. refl))
 
-release_plain : (by : List ℕ) (n : ℕ) (step : List ℕ) (b : Book) → IsAside b (ask.Request (request.Release by n step))
+pub release_plain : (by : List ℕ) (n : ℕ) (step : List ℕ) (b : Book) → IsAside b (ask.Request (request.Release by n step))
 release_plain by n step b =
     plain_aside b (resolve_request b (request.Release by n step))
     (then_plain (check (is_admin b by) NotAdmin) _ (λ _. then_plain (open_case_at b n) _ (λ c. then_plain (or_fault (step_named b c.flow step) NoStep) _ (λ s. refl))))
 
-withdraw_plain : (by : List ℕ) (n : ℕ) (b : Book) → IsAside b (ask.Request (request.Withdraw by n))
+pub withdraw_plain : (by : List ℕ) (n : ℕ) (b : Book) → IsAside b (ask.Request (request.Withdraw by n))
 withdraw_plain by n b =
     plain_aside b (resolve_request b (request.Withdraw by n)) (then_plain (check (is_admin b by) NotAdmin) _ (λ _. then_plain (open_case_at b n) _ (λ c. refl)))
 
-show_plain : (n : ℕ) (b : Book) → IsAside b (ask.Request (request.Show n))
+pub show_plain : (n : ℕ) (b : Book) → IsAside b (ask.Request (request.Show n))
 show_plain n b = plain_aside b (resolve_request b (request.Show n)) (then_plain (or_fault (case_at b.cases n) NoCase) _ (λ c. refl))
 
-plain_needs : (r : Result Deed Denial) → IsPlain r → needs_verdict r ≡ false
+pub plain_needs : (r : Result Deed Denial) → IsPlain r → needs_verdict r ≡ false
 plain_needs (Ok given) plain = plain
 plain_needs (Err d) plain = refl
 
 -- what rests on no plan over any book
-abbrev IsAlwaysAside : Ask → Type 0
+abbrev pub IsAlwaysAside : Ask → Type 0
 IsAlwaysAside what = (b : Book) → IsAside b what
 
 both_plain : (b : BoardShape) (what : Ask) (spare : ℕ) → IsAlwaysAside what → needs_verdict (decision_aside (book_on (snap_of b what spare)) what) ≡ needs_verdict (decision_aside (state_on b).book what)
@@ -172,37 +179,37 @@ no_tree b (Ok (deed.Claim n c t u)) tree plain is = cc
 no_tree b r tree plain is = absurd is
 
 -- no plan and no tree is right for what rests on no plan
-plain_right : (b c : Book) (what : Ask) (v : Verdict) → IsAlwaysAside what → IsRight b what v → IsRight c what v
+pub plain_right : (b c : Book) (what : Ask) (v : Verdict) → IsAlwaysAside what → IsRight b what v → IsRight c what v
 plain_right b c what verdict.Nothing plain is = tt
 plain_right b c what verdict.NoMemory plain is = tt
 plain_right b c what (verdict.Plan plan) plain is = no_plan b (decision_aside b what) plan (plain b) is
 plain_right b c what (verdict.Refuted tree) plain is = no_tree b (decision_aside b what) tree (plain b) is
 
 -- where the decision is the same, so is what is right
-plan_same : (p : PolicyShape) (xs ys : List Numbered) (m : ℕ) (r : Result Deed Denial) (plan : List ℕ) → IsPlanFor (with_cases p xs m) r plan → IsPlanFor (with_cases p ys m) r plan
-plan_same p xs ys m (Ok (deed.Open f)) plan is = is
-plan_same p xs ys m (Ok (deed.Claim n c t u)) plan is = is
-plan_same p xs ys m r plan is = absurd is
+plan_same : (p : PolicyShape) (xs ys : List Numbered) (m k : ℕ) (r : Result Deed Denial) (plan : List ℕ) → IsPlanFor (with_cases p xs m) r plan → IsPlanFor (with_cases p ys k) r plan
+plan_same p xs ys m k (Ok (deed.Open f)) plan is = is
+plan_same p xs ys m k (Ok (deed.Claim n c t u)) plan is = is
+plan_same p xs ys m k r plan is = absurd is
 
-tree_same : (p : PolicyShape) (xs ys : List Numbered) (m : ℕ) (r : Result Deed Denial) (tree : Tree) → IsTreeFor (with_cases p xs m) r tree → IsTreeFor (with_cases p ys m) r tree
-tree_same p xs ys m (Ok (deed.Open f)) tree is = is
-tree_same p xs ys m (Ok (deed.Claim n c t u)) tree is = is
-tree_same p xs ys m r tree is = absurd is
+tree_same : (p : PolicyShape) (xs ys : List Numbered) (m k : ℕ) (r : Result Deed Denial) (tree : Tree) → IsTreeFor (with_cases p xs m) r tree → IsTreeFor (with_cases p ys k) r tree
+tree_same p xs ys m k (Ok (deed.Open f)) tree is = is
+tree_same p xs ys m k (Ok (deed.Claim n c t u)) tree is = is
+tree_same p xs ys m k r tree is = absurd is
 
-right_same : (p : PolicyShape) (xs ys : List Numbered) (m : ℕ) (what : Ask) (v : Verdict) → decision_aside (with_cases p xs m) what ≡ decision_aside (with_cases p ys m) what →
-    IsRight (with_cases p xs m) what v → IsRight (with_cases p ys m) what v
-right_same p xs ys m what verdict.Nothing same is = tt
-right_same p xs ys m what verdict.NoMemory same is = tt
-right_same p xs ys m what (verdict.Plan plan) same is =
-    subst (λ r. IsPlanFor (with_cases p ys m) r plan) same (plan_same p xs ys m (decision_aside (with_cases p xs m) what) plan is)
-right_same p xs ys m what (verdict.Refuted tree) same is =
-    subst (λ r. IsTreeFor (with_cases p ys m) r tree) same (tree_same p xs ys m (decision_aside (with_cases p xs m) what) tree is)
+pub right_same : (p : PolicyShape) (xs ys : List Numbered) (m k : ℕ) (what : Ask) (v : Verdict) → decision_aside (with_cases p xs m) what ≡ decision_aside (with_cases p ys k) what →
+    IsRight (with_cases p xs m) what v → IsRight (with_cases p ys k) what v
+right_same p xs ys m k what verdict.Nothing same is = tt
+right_same p xs ys m k what verdict.NoMemory same is = tt
+right_same p xs ys m k what (verdict.Plan plan) same is =
+    subst (λ r. IsPlanFor (with_cases p ys k) r plan) same (plan_same p xs ys m k (decision_aside (with_cases p xs m) what) plan is)
+right_same p xs ys m k what (verdict.Refuted tree) same is =
+    subst (λ r. IsTreeFor (with_cases p ys k) r tree) same (tree_same p xs ys m k (decision_aside (with_cases p xs m) what) tree is)
 
 pub snaps_suffice : SnapsSuffice
 snaps_suffice b (ask.Request (request.OpenCase flow)) spare v is =
-    right_same b.policy [] (map numbered b.cases.rows) b.cases.ever (ask.Request (request.OpenCase flow)) v (opening_alone b flow spare) is
+    right_same b.policy [] (map numbered b.cases.rows) b.cases.ever b.cases.ever (ask.Request (request.OpenCase flow)) v (opening_alone b flow spare) is
 snaps_suffice b (ask.Request (request.Claim n step user)) spare v is =
-    right_same b.policy (map numbered (only n b.cases.rows)) (map numbered b.cases.rows) b.cases.ever (ask.Request (request.Claim n step user)) v (claim_alone b n step user spare) is
+    right_same b.policy (map numbered (only n b.cases.rows)) (map numbered b.cases.rows) b.cases.ever b.cases.ever (ask.Request (request.Claim n step user)) v (claim_alone b n step user spare) is
 snaps_suffice b (ask.Request (request.Finish n step user)) spare v is = plain_right (book_on (snap_of b (ask.Request (request.Finish n step user)) spare)) (state_on b).book (ask.Request (request.Finish n step user)) v (finish_plain n step user) is
 snaps_suffice b (ask.Request (request.GiveBack n step user)) spare v is = plain_right (book_on (snap_of b (ask.Request (request.GiveBack n step user)) spare)) (state_on b).book (ask.Request (request.GiveBack n step user)) v (return_plain n step user) is
 snaps_suffice b (ask.Request (request.Release by n step)) spare v is = plain_right (book_on (snap_of b (ask.Request (request.Release by n step)) spare)) (state_on b).book (ask.Request (request.Release by n step)) v (release_plain by n step) is

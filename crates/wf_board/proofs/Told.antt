@@ -27,15 +27,15 @@ abbrev pub HoldsOf : {A F : Type 0} → (A → Type 0) → Result A F → Type 0
 HoldsOf P (Ok x) = P x
 HoldsOf P (Err fault) = Unit {0}
 
-then_holds : {A B F : Type 0} (P : A → Type 0) (Q : B → Type 0) (r : Result A F) (f : A → Result B F) → HoldsOf P r → ((x : A) → P x → HoldsOf Q (f x)) → HoldsOf Q (r >>= f)
+pub then_holds : {A B F : Type 0} (P : A → Type 0) (Q : B → Type 0) (r : Result A F) (f : A → Result B F) → HoldsOf P r → ((x : A) → P x → HoldsOf Q (f x)) → HoldsOf Q (r >>= f)
 then_holds P Q (Ok x) f holds each = each x holds
 then_holds P Q (Err d) f holds each = tt
 
-there_holds : {A F : Type 0} (o : Option A) (fault : F) → HoldsOf (λ x. o ≡ Some x) (or_fault o fault)
+pub there_holds : {A F : Type 0} (o : Option A) (fault : F) → HoldsOf (λ x. o ≡ Some x) (or_fault o fault)
 there_holds (Some x) fault = refl
 there_holds None fault = tt
 
-passed_holds : {F : Type 0} (b : Bool) (fault : F) → HoldsOf (λ _. b ≡ true) (check b fault)
+pub passed_holds : {F : Type 0} (b : Bool) (fault : F) → HoldsOf (λ _. b ≡ true) (check b fault)
 passed_holds true fault = refl
 passed_holds false fault = tt
 
@@ -111,7 +111,7 @@ unless_tells : (b : Bool) (d : Denial) → unless b d ≡ None → b ≡ true
 unless_tells true d h = refl
 unless_tells false d h = cc
 
-unless_holds : (P : Deed → Type 0) (given : Deed) (o : Option Denial) → (o ≡ None → P given) → HoldsOf P (unless_denied given o)
+pub unless_holds : (P : Deed → Type 0) (given : Deed) (o : Option Denial) → (o ≡ None → P given) → HoldsOf P (unless_denied given o)
 unless_holds P given None allowed = allowed refl
 unless_holds P given (Some d) allowed = tt
 

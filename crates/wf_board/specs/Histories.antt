@@ -1,11 +1,13 @@
 -- Histories: entries in order, and whether they answer the jobs of an input.
-use Rattle.std.specs.Prelude.{◌≡◌, ℕ, ◌+◌, ◌<◌, ◌≤◌, true, nat_eq, List, [], ◌∷◌, ◌++◌, length, take, drop, map, max, slice_index_or}
+use Rattle.std.specs.Prelude.{◌≡◌, ℕ, ◌+◌, ◌<◌, ◌≤◌, Bool, true, false, nat_eq, List, [], ◌∷◌, ◌++◌, length, take, drop, map, max, slice_index_or}
 use Rattle.std.specs.List.{filter}
 use Rattle.std.proofs.Common.{◌⊎◌}
 use Rattle.wf_talk.specs.declared.entry.Entry.{Entry}
 use Rattle.wf_talk.specs.declared.job.Job.{Job}
+use Rattle.wf_talk.specs.declared.request.Request.TheVariants as request
 use Rattle.wf_talk.specs.declared.request.Ask.{Ask}
-use Rattle.wf_talk.specs.declared.reply.Reply.TheVariants.{Again}
+use Rattle.wf_talk.specs.declared.request.Ask.TheVariants as ask
+use Rattle.wf_talk.specs.declared.reply.Reply.TheVariants.{Again, NoMemory}
 use Rattle.wf_board.specs.States.{State}
 use Rattle.wf_board.specs.Decisions.{decision_of, needs_verdict}
 use Rattle.wf_board.specs.Steps.{IsStep, state_after_step}
@@ -91,3 +93,18 @@ IsAnsweredOnce e = (n place : ℕ) → ¬ (e.reply ≡ Again n place)
 abbrev pub AreAnsweredOnce : List Entry → Type 0
 AreAnsweredOnce [] = Unit {0}
 AreAnsweredOnce (e ∷ es) = IsAnsweredOnce e × AreAnsweredOnce es
+
+-- what a board may have no memory for: an opening or a claim
+abbrev pub may_lack_memory : Ask → Bool
+may_lack_memory (ask.Request (request.OpenCase flow)) = true
+may_lack_memory (ask.Request (request.Claim n step user)) = true
+may_lack_memory what = false
+
+-- an entry is answered with want of memory only where a board may have none
+abbrev pub IsWantRightful : Entry → Type 0
+IsWantRightful e = e.reply ≡ NoMemory → may_lack_memory e.ask ≡ true
+
+-- each of these entries is
+abbrev pub AreWantsRightful : List Entry → Type 0
+AreWantsRightful [] = Unit {0}
+AreWantsRightful (e ∷ es) = IsWantRightful e × AreWantsRightful es

@@ -1,6 +1,6 @@
 -- Inside: laws of histories, for whoever adds an entry at the end.
-use Rattle.std.proofs.Common.{◌≡◌, ℕ, zero, suc, List, [], ◌∷◌, ◌++◌, length, take, drop, map, Result, Ok, Err, inl, inr, append_assoc, append-nil, refl, sym, ap, subst, ◌∙◌}
-use Rattle.std.proofs.lemmas.List.{length-map}
+use Rattle.std.proofs.Common.{◌≡◌, ℕ, zero, suc, ◌≤◌, max, List, [], ◌∷◌, ◌++◌, length, take, drop, map, Result, Ok, Err, inl, inr, append_assoc, append-nil, refl, sym, ap, subst, ◌∙◌}
+use Rattle.std.proofs.lemmas.List.{drop-append-le, length-map, take-append-drop, take-append-le}
 use Rattle.wf_talk.specs.declared.entry.Entry.{Entry}
 use Rattle.wf_talk.specs.declared.job.Job.{Job}
 use Rattle.wf_talk.specs.declared.request.Ask.{Ask}
@@ -12,12 +12,37 @@ use Rattle.wf_board.specs.declared.deed.Deed.TheVariants as deed
 use Rattle.wf_board.specs.States.{State}
 use Rattle.wf_board.specs.Decisions.{decision_of}
 use Rattle.wf_board.specs.Steps.{Answers, IsReplyTo, IsStep, state_after_decision, state_after_deed, state_after_step}
-use Rattle.wf_board.specs.Histories.{AreAnsweredOnce, BatchRests, EachAfter, FillsJobs, IsAnsweredOnce, IsLegal, IsRightAfter, RestsFrom, batch_end, batch_jobs, batch_start, job_of_entry, lane_jobs, state_after}
+use Rattle.wf_board.specs.Counting.{counted, lane_end}
+use Rattle.wf_board.specs.Histories.{AreAnsweredOnce, AreWantsRightful, BatchRests, EachAfter, FillsJobs, IsAnsweredOnce, IsLegal, IsRetry, IsRightAfter, IsWantRightful, RestsFrom, batch_end, batch_jobs, batch_start, job_of_entry, lane_jobs, state_after}
 
 -- the state after one more entry
 pub after_more : (s : State) (entries : List Entry) (e : Entry) → state_after s (entries ++ e ∷ []) ≡ state_after_step (state_after s entries) e.ask e.reply
 after_more s [] e = refl
 after_more s (x ∷ xs) e = after_more (state_after_step s x.ask x.reply) xs e
+
+-- the state after a history with several more entries
+pub after_all : (s : State) (entries more : List Entry) → state_after s (entries ++ more) ≡ state_after (state_after s entries) more
+after_all s [] more = refl
+after_all s (x ∷ xs) more = after_all (state_after_step s x.ask x.reply) xs more
+
+again_same : (s : State) (decision : Result Deed Denial) (n place : ℕ) → state_after_decision s decision (reply.Again n place) ≡ s
+again_same s (Ok (deed.Open f)) n place = refl
+again_same s (Ok (deed.Claim m c t u)) n place = refl
+again_same s (Ok (deed.Finish m c t u)) n place = refl
+again_same s (Ok (deed.GiveBack m c t u)) n place = refl
+again_same s (Ok (deed.Release m c t)) n place = refl
+again_same s (Ok (deed.Withdraw m)) n place = refl
+again_same s (Ok (deed.Show c)) n place = refl
+again_same s (Ok (deed.TurnAway bad)) n place = refl
+again_same s (Err d) n place = refl
+
+-- what is answered again leaves the state as it is
+pub again_stays : (s : State) (what : Ask) (given : Reply) (n place : ℕ) → given ≡ reply.Again n place → state_after_step s what given ≡ s
+again_stays s what given n place again = ap (λ r. state_after_step s what r) again ∙ again_same s (decision_of s.book what) n place
+
+-- the state after a history with one more entry that is answered again
+pub after_again : (s : State) (entries : List Entry) (e : Entry) (n place : ℕ) → e.reply ≡ reply.Again n place → state_after s (entries ++ e ∷ []) ≡ state_after s entries
+after_again s entries e n place again = after_more s entries e ∙ again_stays (state_after s entries) e.ask e.reply n place again
 
 -- what holds of each entry and those before it, and of one more
 pub each_more : (P : List Entry → Entry → Type 0) (earlier entries : List Entry) (e : Entry) → EachAfter P earlier entries → P (earlier ++ entries) e →
@@ -30,6 +55,28 @@ each_more P earlier (x ∷ xs) e each last =
 pub legal_more : (s : State) (rounds : ℕ) (entries : List Entry) (e : Entry) → IsLegal s rounds entries → e.at ≡ length entries →
     IsStep (state_after s entries) e.ask e.reply → IsLegal s rounds (entries ++ e ∷ [])
 legal_more s rounds entries e legal at step = each_more (IsRightAfter s rounds) [] entries e legal (at, inl step)
+
+-- or with an entry at the next place that is answered again as it may be
+pub legal_again : (s : State) (rounds : ℕ) (entries : List Entry) (e : Entry) → IsLegal s rounds entries → e.at ≡ length entries →
+    IsRetry s rounds entries e → IsLegal s rounds (entries ++ e ∷ [])
+legal_again s rounds entries e legal at retry = each_more (IsRightAfter s rounds) [] entries e legal (at, inr retry)
+
+-- what holds of each entry and those before it holds of the later ones
+pub each_later : (P : List Entry → Entry → Type 0) (earlier entries more : List Entry) → EachAfter P earlier (entries ++ more) → EachAfter P (earlier ++ entries) more
+each_later P earlier [] more each = subst (λ es. EachAfter P es more) (sym (append-nil earlier)) each
+each_later P earlier (x ∷ xs) more each = subst (λ es. EachAfter P es more) (append_assoc earlier (x ∷ []) xs) (each_later P (earlier ++ x ∷ []) xs more each.1)
+
+-- and of those from a place on
+pub each_from : (P : List Entry → Entry → Type 0) (n : ℕ) (entries : List Entry) → EachAfter P [] entries → EachAfter P (take n entries) (drop n entries)
+each_from P n entries each = each_later P [] (take n entries) (drop n entries) (subst (EachAfter P []) (sym (take-append-drop n entries)) each)
+
+-- the entries of a batch rest on one another with one more that does
+pub rests_more : (start : ℕ) (entries : List Entry) (e : Entry) → start ≤ length entries → EachAfter (RestsFrom start) (take start entries) (drop start entries) →
+    RestsFrom start entries e → EachAfter (RestsFrom start) (take start (entries ++ e ∷ [])) (drop start (entries ++ e ∷ []))
+rests_more start entries e within each last =
+    let grown = each_more (RestsFrom start) (take start entries) (drop start entries) e each (subst (λ es. RestsFrom start es e) (sym (take-append-drop start entries)) last) in
+    subst (λ es. EachAfter (RestsFrom start) es (drop start (entries ++ e ∷ []))) (sym (take-append-le start entries (e ∷ []) within))
+    (subst (EachAfter (RestsFrom start) (take start entries)) (sym (drop-append-le start entries (e ∷ []) within)) grown)
 
 no_again : (s : State) (given : Deed) (n place : ℕ) → IsReplyTo s given (reply.Again n place) → ⊥
 no_again s (deed.Open f) n place is = is
@@ -50,12 +97,28 @@ answers_once s (Err d) given n place again (inr is) = cc
 pub step_once : (s : State) (what : Ask) (given : Reply) → IsStep s what given → (n place : ℕ) → ¬ (given ≡ reply.Again n place)
 step_once s what given step n place again = answers_once s (decision_of s.book what) given n place again step
 
+-- so it does not have to rest on others of its batch
+pub step_rests : (s : State) (start : ℕ) (earlier : List Entry) (e : Entry) → IsStep s e.ask e.reply → RestsFrom start earlier e
+step_rests s start earlier e step n place again = absurd (step_once s e.ask e.reply step n place again)
+
+-- what is answered again rests on so many entries of its batch
+pub again_rests : (start : ℕ) (earlier : List Entry) (e : Entry) (n place : ℕ) → e.reply ≡ reply.Again n place →
+    n ≤ counted e.ask (drop (max (lane_end e.lane earlier) start) earlier) → RestsFrom start earlier e
+again_rests start earlier e n place again enough m other is =
+    let same : m ≡ n = cc in
+    subst (λ k. k ≤ counted e.ask (drop (max (lane_end e.lane earlier) start) earlier)) (sym same) enough
+
 -- with one more entry that is not answered again no entry is
 pub once_more : (entries : List Entry) (e : Entry) → AreAnsweredOnce entries → IsAnsweredOnce e → AreAnsweredOnce (entries ++ e ∷ [])
 once_more [] e once last = (last, tt)
 once_more (x ∷ xs) e once last = (once.0, once_more xs e once.1 last)
 
--- nor with several more
+-- with one more entry that is answered with want of memory only where it may be all are
+pub wants_more : (entries : List Entry) (e : Entry) → AreWantsRightful entries → IsWantRightful e → AreWantsRightful (entries ++ e ∷ [])
+wants_more [] e wants last = (last, tt)
+wants_more (x ∷ xs) e wants last = (wants.0, wants_more xs e wants.1 last)
+
+-- nor is one with several more
 pub once_all : (entries more : List Entry) → AreAnsweredOnce entries → AreAnsweredOnce more → AreAnsweredOnce (entries ++ more)
 once_all [] more once later = later
 once_all (x ∷ xs) more once later = (once.0, once_all xs more once.1 later)

@@ -1,6 +1,10 @@
 -- Inside: how a board answers over its policy and its table of cases.
-use Rattle.std.specs.Prelude.{◌≡◌, ℕ, ◌+◌, ◌≤◌, false, true, Result}
+use Rattle.std.specs.Prelude.{◌≡◌, ℕ, ◌+◌, ◌≤◌, Bool, false, true, List, Option, Result, IsTrue}
+use Rattle.first_fault.specs.Reading.{◌>>=◌}
+use Rattle.refutation_tree.specs.Views.{shape_of}
 use Rattle.policy_book.specs.Shapes.{PolicyShape}
+use Rattle.policy_book.specs.Plans.{IsValidPlan, Problem}
+use Rattle.policy_book.specs.Refuting.{refutes}
 use Rattle.case_record.specs.Cases.{CaseShape}
 use Rattle.grant_table.specs.Tables.{CasesShape}
 use Rattle.wf_talk.specs.declared.request.Ask.{Ask}
@@ -14,7 +18,7 @@ use Rattle.wf_board.specs.declared.verdict.Answered.{Answered}
 use Rattle.wf_board.specs.declared.verdict.Answered.TheVariants.{Done, Needs}
 use Rattle.wf_board.specs.States.{Book}
 use Rattle.wf_board.specs.Boards.{BoardShape, book_of, state_on}
-use Rattle.wf_board.specs.Decisions.{cause_full, decision_of, needs_verdict, takes_memory, unless_denied}
+use Rattle.wf_board.specs.Decisions.{cause_aside, cause_full, decision_of, needs_verdict, takes_memory, unless_denied}
 use Rattle.wf_board.specs.Steps.{Answers, state_after_decision, with_changed}
 use Rattle.wf_board.specs.Kept.{AreNumbered, ArePlanned}
 use Rattle.wf_board.specs.Verdicts.{HasAnswered, HasUsed, MayLackMemory}
@@ -31,6 +35,16 @@ board_of p t edits = record { policy = p; cases = t; edits = edits }
 -- a deed, or the cause that no more cases can be opened
 abbrev pub full_or : Book → Deed → Result Deed Denial
 full_or b given = unless_denied given (cause_full b given)
+
+-- a deed, or the first cause against it
+abbrev pub undenied : Book → Deed → Result Deed Denial
+undenied b given = unless_denied given (cause_aside b given) >>= full_or b
+
+-- a valid plan, or a tree that refutes
+abbrev pub IsCertificateOf : Problem → List (Option ℕ) → List Bool → Verdict → Type 0
+IsCertificateOf p assigned finished (verdict.Plan plan) = IsValidPlan p assigned finished plan
+IsCertificateOf p assigned finished (verdict.Refuted tree) = IsTrue (refutes p assigned finished (shape_of tree))
+IsCertificateOf p assigned finished v = ⊥
 
 -- a step was taken, where the deed or the cause against it is this
 pub record HasTaken (p : PolicyShape) (before after : CasesShape) (decision : Result Deed Denial) (given : Reply) : Type 0 where

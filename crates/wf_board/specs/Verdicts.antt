@@ -49,6 +49,16 @@ IsRight b what verdict.NoMemory = Unit {0}
 IsRight b what (verdict.Plan plan) = IsPlanFor b (decision_aside b what) plan
 IsRight b what (verdict.Refuted tree) = IsTreeFor b (decision_aside b what) tree
 
+-- a plan or a tree decides a deed
+abbrev pub IsCertificate : Book → Result Deed Denial → Verdict → Type 0
+IsCertificate b given (verdict.Plan plan) = IsPlanFor b given plan
+IsCertificate b given (verdict.Refuted tree) = IsTreeFor b given tree
+IsCertificate b given v = ⊥
+
+-- a plan or a tree decides what is asked: no cause is against it, and nothing else is left to decide
+abbrev pub IsCertified : Book → Ask → Verdict → Type 0
+IsCertified b what v = IsCertificate b (decision_of b what) v
+
 -- the verdict is nothing exactly where an earlier check decides, `full` aside, or no verdict is needed
 pub record Decides (b : Book) (what : Ask) (v : Verdict) : Type 0 where
   pub right : IsRight b what v
@@ -81,6 +91,20 @@ MayLackMemory b what v =
     ((v ≡ verdict.NoMemory) × (needs_verdict (decision_of (state_on b).book what) ≡ true))
     ⊎ ((takes_memory (decision_of (state_on b).book what) ≡ true)
     ⊎ ((is_opening (decision_of (state_on b).book what) ≡ true) × (b.cases.spare ≡ 0)))
+
+-- where want of memory may be answered once a decider was there: a verdict is needed, and none was given or it is that; or
+-- there was none for the list of roles of a denial, or for an opening without room
+abbrev pub LacksMemory : BoardShape → Ask → Verdict → Type 0
+LacksMemory b what v =
+    (((v ≡ verdict.Nothing) ⊎ (v ≡ verdict.NoMemory)) × (needs_verdict (decision_of (state_on b).book what) ≡ true))
+    ⊎ ((takes_memory (decision_of (state_on b).book what) ≡ true)
+    ⊎ ((is_opening (decision_of (state_on b).book what) ≡ true) × (b.cases.spare ≡ 0)))
+
+-- the reply was decided with a verdict, or with a decider's where one was needed and none was given
+pub record IsDecided (b : BoardShape) (what : Ask) (v : Verdict) (given : Reply) : Type 0 where
+  pub step : IsStep (state_on b) what given
+  pub made : needs_verdict (decision_of (state_on b).book what) ≡ true → v ≢ verdict.Nothing → IsMadeOf v given
+  pub memory : given ≡ reply.NoMemory → LacksMemory b what v
 
 -- the board has answered
 abbrev pub HasAnswered : BoardShape → BoardShape → Ask → Verdict → Answered → Type 0

@@ -1,13 +1,15 @@
 //! The board: a policy and its cases.
-ghost use Rattle.std.specs.Prelude.{◌≡◌, ◌≢◌, ◌≤◌, ◌+◌, true, IfOk, OnErr, OnOk};
-ghost use Rattle.std.proofs.Common.{◌⊎◌};
+ghost use Rattle.std.specs.Prelude.{◌≡◌, ◌≢◌, ◌≤◌, ◌+◌, ◌↔◌, true, IfOk, OnErr, OnOk};
+ghost use Rattle.std.specs.Arc.{arc_value};
 ghost use Rattle.wf_board.specs.Boards.{state_on};
-ghost use Rattle.wf_board.specs.Decisions.{decision_of, needs_verdict, takes_memory};
+ghost use Rattle.wf_board.specs.Decisions.{decision_of, needs_verdict};
 ghost use Rattle.wf_board.specs.Kept.{AreNumbered, ArePlanned, IsSoundState, KeepsCompletable};
 ghost use Rattle.wf_board.specs.States.{opening_state};
-ghost use Rattle.wf_board.specs.Steps.{IsStep, state_after_step};
-ghost use Rattle.wf_board.specs.Verdicts.{HasAnswered, HasUsed, IsRight, MayLackMemory, snap_of, snap_rows};
+ghost use Rattle.wf_board.specs.Steps.{state_after_step};
+ghost use Rattle.wf_board.specs.Verdicts.{HasAnswered, HasUsed, IsCertified, IsDecided, IsRight, MayLackMemory, snap_of, snap_rows};
 
+use crate::certified::accepts;
+use crate::decision::needs_verdict;
 use crate::taking::answer;
 use crate::{Answered, Decider, Snap, Verdict};
 use grant_table::Cases;
@@ -47,8 +49,15 @@ impl Board {
     pub fn new(alloc: Global, policy: Policy) -> Result<Board, AllocError>
         ensures { IfOk result (λ b. state_on b ≡ opening_state policy) }
     {
+        Board::of(alloc, Arc::new(alloc, policy)?)
+    }
+
+    /// A board of a policy that is shared, on which no case was opened.
+    pub fn of(alloc: Global, policy: Arc<Policy, Global>) -> Result<Board, AllocError>
+        ensures { IfOk result (λ b. state_on b ≡ opening_state (arc_value policy)) }
+    {
         Ok(Board {
-            policy: Arc::new(alloc, policy)?,
+            policy,
             cases: Cases::new(alloc)?,
             edits: 0,
         })
@@ -83,6 +92,24 @@ impl Board {
         answer(alloc, policy, &mut self.cases, ask, verdict)
     }
 
+    /// Whether nothing but whether a case can be completed is left to decide, so that the answer
+    /// needs a verdict. Takes no memory.
+    pub fn needs(&self, ask: &Ask) -> bool
+        ensures { result ≡ needs_verdict (decision_of (state_on self.now).book ask.now) }
+    {
+        let policy: &Policy = &self.policy;
+        needs_verdict(policy, &self.cases, ask)
+    }
+
+    /// Whether a verdict is a plan or a tree that decides what is asked, with no cause against it.
+    /// Takes no memory.
+    pub fn accepts(&self, ask: &Ask, verdict: &Verdict) -> bool
+        ensures { result ≡ true ↔ IsCertified (state_on self.now).book ask.now verdict.now }
+    {
+        let policy: &Policy = &self.policy;
+        accepts(policy, &self.cases, ask, verdict)
+    }
+
     /// What has to be known to find a verdict on what is asked: the one case of a claim.
     pub fn snap(&self, alloc: Global, ask: &Ask) -> Result<Snap, AllocError>
         ensures { IfOk result (λ s. s ≡ snap_of self.now ask.now s.cases.spare) }
@@ -91,22 +118,26 @@ impl Board {
         Ok(Snap::of(Arc::try_clone(&self.policy)?, cases))
     }
 
-    /// Answers what a line asks, with a verdict of the decider where one is needed, and takes the
-    /// step. No finish, return, release, withdrawal, view or bad line is answered with want of
-    /// memory.
-    pub fn decide<V: Decider>(&mut self, alloc: Global, decider: &V, ask: &Ask) -> Reply
+    /// Answers what a line asks, and takes the step, with a verdict, which has to be right. Where
+    /// one is needed and none is given, a decider's is.
+    pub fn decide<V: Decider>(
+        &mut self,
+        alloc: Global,
+        decider: &V,
+        ask: &Ask,
+        verdict: Verdict,
+    ) -> Reply
         requires ready { V.ready decider.now }
-        ensures step { IsStep (state_on self.old) ask.now result }
+        requires right { IsRight (state_on self.old).book ask.now verdict }
+        ensures decided { IsDecided self.old ask.now verdict result }
         ensures next { state_on self.new ≡ state_after_step (state_on self.old) ask.now result }
-        ensures memory { result ≡ Reply.NoMemory
-            → (needs_verdict (decision_of (state_on self.old).book ask.now) ≡ true)
-            ⊎ (takes_memory (decision_of (state_on self.old).book ask.now) ≡ true) }
+        ensures room { self.old.cases.spare ≤ self.new.cases.spare + 1 }
     {
-        let verdict = match self.answer(alloc, ask, Verdict::Nothing) {
+        let found = match self.answer(alloc, ask, verdict) {
             Answered::Done(reply) => return reply,
             Answered::Needs => self.verdict(alloc, decider, ask),
         };
-        match self.answer(alloc, ask, verdict) {
+        match self.answer(alloc, ask, found) {
             Answered::Done(reply) => reply,
             Answered::Needs => unreachable!(),
         }

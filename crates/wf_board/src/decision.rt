@@ -7,14 +7,15 @@ ghost use Rattle.denial_reasons.specs.Causes as causes;
 ghost use Rattle.wf_board.specs.Boards.{book_of};
 ghost use Rattle.wf_board.specs.Kept.{ArePlanned};
 ghost use Rattle.wf_board.specs.Found.{IsFound};
-ghost use Rattle.wf_board.specs.Decisions.{cause_aside, cause_full, decision_aside, decision_of, is_held_by, needs_plan, takes_memory};
+ghost use Rattle.wf_board.specs.Decisions.{cause_aside, cause_full, decision_aside, decision_of, is_held_by, needs_plan, needs_verdict, takes_memory};
+ghost use Rattle.wf_board.specs.Taking.{undenied};
 ghost use Rattle.wf_board.specs.Refusals.{denial_in};
 ghost use Rattle.wf_board.specs.States.{is_full};
 
 use crate::Deed;
 use crate::resolve::resolve;
 use case_record::Case;
-use denial_reasons::first_cause;
+use denial_reasons::{first_cause, has_cause};
 use grant_table::Cases;
 use policy_book::Policy;
 use std::alloc::{AllocError, Global};
@@ -78,6 +79,34 @@ pub(crate) fn decision_of(
     match cause_full(p, cases, &deed) {
         None => Ok(deed),
         Some(denial) => Err(Refused::Denied(denial)),
+    }
+}
+
+/// Whether nothing but whether a case can be completed is left to decide. Takes no memory.
+pub(crate) fn needs_verdict(p: &Policy, cases: &Cases, ask: &Ask) -> bool
+    requires { ArePlanned p.now cases.now.rows }
+    ensures { result ≡ needs_verdict (decision_of (book_of p.now cases.now) ask.now) }
+{
+    let Ok(deed) = resolve(p, cases, ask) else {
+        return false;
+    };
+    is_undecided(p, cases, &deed)
+}
+
+/// Whether a deed rests on whether a case can be completed, and no cause is against it.
+pub(crate) fn is_undecided(p: &Policy, cases: &Cases, deed: &Deed) -> bool
+    requires { IsFound p.now cases.now.rows deed.now }
+    ensures { result ≡ needs_verdict (undenied (book_of p.now cases.now) deed.now) }
+{
+    match deed {
+        Deed::Open { flow } => !p.retired(*flow) && !is_full(p, cases),
+        Deed::Claim {
+            case,
+            step,
+            user,
+            ..
+        } => !has_cause(p, case, *step, *user),
+        _ => false,
     }
 }
 

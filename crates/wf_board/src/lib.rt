@@ -3,6 +3,8 @@
 #![tactic(auto)]
 
 mod board;
+mod certified;
+mod counting;
 mod decider;
 mod decision;
 mod deed;
@@ -13,6 +15,7 @@ mod taking;
 mod verdict;
 
 pub use board::Board;
+pub use counting::counts;
 pub use decider::Decider;
 pub use decision::{Refused, decision_aside};
 pub use deed::Deed;

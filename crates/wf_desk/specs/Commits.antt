@@ -21,9 +21,9 @@ abbrev pub job_of_task : Task → Job
 job_of_task t = record { lane = t.lane; line = t.line; ask = t.ask }
 
 -- a task is that of a lane's next job, on the state as it is now
-pub record IsTask (d : DeskShape) (lane : ℕ) (t : Task) : Type 0 where
-  pub lane : t.lane ≡ lane
-  pub next : next_job d lane ≡ Some (job_of_task t)
+pub record IsTask (d : DeskShape) (of : ℕ) (t : Task) : Type 0 where
+  pub lane : t.lane ≡ of
+  pub next : next_job d of ≡ Some (job_of_task t)
   pub number : t.number ≡ length d.entries
   pub snap : t.snap ≡ snap_of d.board t.ask t.snap.cases.spare
 

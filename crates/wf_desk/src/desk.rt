@@ -1,13 +1,15 @@
 //! The desk, with its calls.
-ghost use Rattle.std.specs.Prelude.{◌≡◌, ◌≤◌, ◌<◌, ◌+◌, [], length, replicate, OnErr, OnOk, IfOk, None, Some, Option};
+ghost use Rattle.std.specs.Prelude.{◌≡◌, ◌≤◌, ◌<◌, ◌+◌, ◌↔◌, ◌≢◌, nat_le, true, false, [], length, replicate, OnErr, OnOk, IfOk, None, Some, Option};
 ghost use Rattle.wf_names.specs.declared.limits.TheConstants.{BATCH_LINE_LIMIT, LANE_LIMIT, ROUND_LIMIT};
 ghost use Rattle.wf_board.specs.Boards.{book_on, state_on};
-ghost use Rattle.wf_board.specs.Kept.{KeepsCompletable};
 ghost use Rattle.wf_board.specs.States.{opening_state};
-ghost use Rattle.wf_board.specs.Verdicts.{Decides};
-ghost use Rattle.wf_desk.specs.Desks.{AreOfLanes, IsDone, IsSoundDesk, left_of, next_job, with_batch, with_room};
-ghost use Rattle.wf_desk.specs.Commits.{HasCommitted, HasCommittedChecked, HasServed, IsRightFor, IsTask};
+ghost use Rattle.wf_board.specs.Verdicts.{Decides, IsDecided, IsRight};
+ghost use Rattle.wf_desk.specs.Desks.{AreOfLanes, HasAdded, IsDone, IsSoundDesk, left_of, next_job, no_loss, with_batch, with_room};
+ghost use Rattle.wf_desk.specs.Commits.{HasCommitted, HasCommittedChecked, HasServed, IsAgain, IsNext, IsRightFor, IsTask, floor_of, is_fresh, is_last_round, is_lost, job_of_task, with_loss};
+ghost use Rattle.wf_desk.specs.Keeping.{HasMissed};
 
+use crate::docket::{count_of_lane, first_places, go_on, job_at};
+use crate::journal::{add_entry, any_counts, any_of_lane, entries_from, last_counting};
 use crate::{Loss, Outcome, Task};
 use policy_book::Policy;
 use std::alloc::{AllocError, Global};
@@ -15,7 +17,7 @@ use std::marker::Model;
 use std::sync::Arc;
 use wf_board::{Board, Decider, Verdict};
 use wf_names::LANE_LIMIT;
-use wf_talk::{Job, Jobs, Journal};
+use wf_talk::{Job, Jobs, Journal, Reply};
 
 /// A journal with the board after it, and the jobs of one batch, lane by lane.
 #[derive(Drop)]
@@ -30,6 +32,23 @@ pub struct Desk {
     losses: [Loss; LANE_LIMIT as usize],
     /// For each lane the place of its next job among the jobs.
     places: [u32; LANE_LIMIT as usize],
+}
+
+impl Model for Desk {
+    ghost use Rattle.std.specs.Arc.{arc_value};
+    ghost use Rattle.std.specs.Coded.{codes};
+    ghost use Rattle.policy_book.specs.Shapes.{policy_code};
+    ghost use Rattle.refutation_tree.specs.Codes.{kids_code};
+    ghost use Rattle.wf_desk.specs.Desks.{DeskShape};
+    ghost use Rattle.wf_desk.specs.Keeping.{IsDesk};
+
+    ghost Value = { DeskShape };
+
+    ghost coded = { Prim.hlevel (codes, policy_code, kids_code) };
+
+    ghost view = { λ d. record { opening = arc_value d.opening; lanes = d.lanes; rounds = d.rounds; board = d.board; entries = d.journal.entries; spare = d.journal.spare; jobs = d.jobs; start = d.start; losses = d.losses } };
+
+    ghost invariant = { λ d. IsDesk (record { opening = arc_value d.opening; lanes = d.lanes; rounds = d.rounds; board = d.board; entries = d.journal.entries; spare = d.journal.spare; jobs = d.jobs; start = d.start; losses = d.losses }) d.places };
 }
 
 impl Desk {
@@ -47,12 +66,23 @@ impl Desk {
         ensures start { IfOk result (λ d. d.start ≡ 0) }
         ensures state { IfOk result (λ d. state_on d.board ≡ opening_state policy) }
     {
-        unreachable!()
+        let opening = Arc::new(alloc, policy)?;
+        Ok(Desk {
+            board: Board::of(alloc, Arc::try_clone(&opening)?)?,
+            opening,
+            lanes,
+            rounds,
+            journal: Journal::new(alloc),
+            jobs: Jobs::new(alloc),
+            start: 0,
+            losses: no_losses(),
+            places: first_places(&[]),
+        })
     }
 
     /// Takes the jobs of the next batch, and makes room for their entries and for the cases that
     /// they may open. Without memory the desk stays as it was.
-    pub fn load_batch(&mut self, jobs: &[Job]) -> Result<(), AllocError>
+    pub fn load_batch(&mut self, alloc: Global, jobs: &[Job]) -> Result<(), AllocError>
         requires done { IsDone self.old }
         requires few { length jobs.now ≤ BATCH_LINE_LIMIT }
         requires lanes { AreOfLanes self.old.lanes jobs.now }
@@ -60,7 +90,14 @@ impl Desk {
         ensures loaded { OnOk result (self.new ≡ with_room (with_batch self.old jobs.now) self.new.spare self.new.board.cases.spare) }
         ensures unchanged { OnErr result (self.new ≡ with_room self.old self.new.spare self.new.board.cases.spare) }
     {
-        unreachable!()
+        let start = self.number();
+        self.journal.reserve(jobs.len() as u32)?;
+        self.board.reserve(jobs.len() as u16)?;
+        self.jobs = Jobs::from_vec(Vec::from_slice(alloc, jobs)?);
+        self.start = start;
+        self.losses = no_losses();
+        self.places = first_places(jobs);
+        Ok(())
     }
 
     /// The task of a lane's next job, if it has one left.
@@ -68,8 +105,18 @@ impl Desk {
         requires { lane < self.now.lanes }
         ensures none { IfOk result (λ found. found ≡ None → next_job self.now lane ≡ None) }
         ensures task { IfOk result (λ found. (t : Task) → found ≡ Some t → IsTask self.now lane t) }
+        ensures memory { OnErr result (next_job self.now lane ≢ None) }
     {
-        unreachable!()
+        let Some(job) = self.next_job(lane) else {
+            return Ok(None);
+        };
+        Ok(Some(Task {
+            lane,
+            line: job.line,
+            ask: job.ask,
+            number: self.number(),
+            snap: self.board.snap(alloc, &job.ask)?,
+        }))
     }
 
     /// Takes a task's verdict, in a turn. Where nothing that it rests on has changed since, the
@@ -87,7 +134,14 @@ impl Desk {
         requires right { IsRightFor self.old task.now verdict }
         ensures { HasCommitted self.old self.new task.now verdict result }
     {
-        unreachable!()
+        let job = job_of(task);
+        if !self.is_next(&job) {
+            return Outcome::NotNext;
+        }
+        if self.is_fresh(task) {
+            return Outcome::Recorded(self.serve(alloc, decider, &job, verdict));
+        }
+        self.miss(alloc, decider, task, &job)
     }
 
     /// Takes a task's verdict, in a turn, whatever is known of it: a plan or a tree is checked
@@ -103,7 +157,16 @@ impl Desk {
         requires lane { task.now.lane < self.old.lanes }
         ensures { HasCommittedChecked self.old self.new task.now verdict result }
     {
-        unreachable!()
+        let job = job_of(task);
+        if !self.is_next(&job) {
+            Outcome::NotNext
+        } else if self.board.accepts(&job.ask, &verdict) {
+            Outcome::Recorded(self.serve(alloc, decider, &job, verdict))
+        } else if self.is_fresh(task) {
+            Outcome::Recorded(self.serve(alloc, decider, &job, Verdict::Nothing))
+        } else {
+            self.miss(alloc, decider, task, &job)
+        }
     }
 
     /// Decides a lane's next job inside the turn, and tells whether there was one. It is never
@@ -113,12 +176,17 @@ impl Desk {
         requires lane { lane < self.old.lanes }
         ensures { HasServed self.old self.new lane result }
     {
-        unreachable!()
+        let Some(job) = self.next_job(lane) else {
+            return false;
+        };
+        self.serve(alloc, decider, &job, Verdict::Nothing);
+        true
     }
 
     /// How many lanes there are.
     pub fn lanes(&self) -> u8
-        ensures { result ≡ self.now.lanes }
+        ensures count { result ≡ self.now.lanes }
+        ensures within { self.now.lanes ≤ LANE_LIMIT }
     {
         self.lanes
     }
@@ -127,7 +195,11 @@ impl Desk {
     pub fn left(&self, lane: u8) -> u32
         ensures { result ≡ left_of self.now lane }
     {
-        unreachable!()
+        if lane < self.lanes {
+            count_of_lane(&self.jobs.as_slice()[self.places[lane as usize] as usize..], lane)
+        } else {
+            0
+        }
     }
 
     /// The entries so far.
@@ -154,6 +226,170 @@ impl Desk {
     {
         (self.board, self.journal)
     }
+
+    // A lane's next job, if it has one left.
+    fn next_job(&self, lane: u8) -> Option<Job>
+        requires { lane < self.now.lanes }
+        ensures { result ≡ next_job self.now lane }
+    {
+        job_at(self.jobs.as_slice(), self.places[lane as usize])
+    }
+
+    // How many entries there are.
+    fn number(&self) -> u32
+        ensures { result ≡ length self.now.entries }
+    {
+        self.journal.len() as u32
+    }
+
+    // Whether this is its lane's next job.
+    fn is_next(&self, job: &Job) -> bool
+        requires { job.now.lane < self.now.lanes }
+        ensures { result ≡ true ↔ next_job self.now job.now.lane ≡ Some job.now }
+    {
+        match self.next_job(job.lane) {
+            Some(next) => next == *job,
+            None => false,
+        }
+    }
+
+    // Whether no entry since counts for what a task asks.
+    fn is_fresh(&self, task: &Task) -> bool
+        ensures fresh { result ≡ is_fresh self.now task.now }
+        ensures right { result ≡ true → (v : Verdict) → IsRightFor self.now task.now v
+            → IsRight (state_on self.now.board).book task.now.ask v }
+    {
+        !any_counts(entries_from(&self.journal, task.number), &task.ask)
+    }
+
+    // Whether a task that is stale is lost.
+    fn is_lost(&self, task: &Task) -> bool
+        requires { task.now.lane < self.now.lanes }
+        ensures { result ≡ is_lost self.now task.now }
+    {
+        1 <= self.rounds && self.board.needs(&task.ask) && self.is_past_floor(task)
+    }
+
+    // Whether all that a task missed may make it lost.
+    fn is_past_floor(&self, task: &Task) -> bool
+        requires { task.now.lane < self.now.lanes }
+        ensures { result ≡ nat_le (floor_of self.now task.now.lane) task.now.number }
+    {
+        let before = self.start.max(self.losses[task.lane as usize].end);
+        before <= task.number
+            && !any_of_lane(entries_from(&self.journal, task.number), task.lane)
+    }
+
+    // Whether one more loss of a lane's next job is the last that it may have.
+    fn is_last_round(&self, lane: u8) -> bool
+        requires { lane < self.now.lanes }
+        ensures { result ≡ is_last_round self.now lane }
+    {
+        self.rounds as u32 <= self.losses[lane as usize].count as u32 + 1
+    }
+
+    // What becomes of a task that is stale, without its verdict.
+    fn miss<V: Decider>(
+        &mut self,
+        alloc: Global,
+        decider: &V,
+        task: &Task,
+        job: &Job,
+    ) -> Outcome
+        requires ready { V.ready decider.now }
+        requires job { job.now ≡ job_of_task task.now }
+        requires lane { task.now.lane < self.old.lanes }
+        requires next { IsNext self.old task.now }
+        requires stale { is_fresh self.old task.now ≡ false }
+        ensures { HasMissed self.old self.new task.now result }
+    {
+        if !self.is_lost(task) {
+            Outcome::Recorded(self.serve(alloc, decider, job, Verdict::Nothing))
+        } else if self.is_last_round(task.lane) {
+            Outcome::Recorded(self.record_again(task, job))
+        } else {
+            self.lose(task);
+            Outcome::Lost
+        }
+    }
+
+    // Decides a lane's next job, with a verdict if there is one, and adds its entry.
+    fn serve<V: Decider>(
+        &mut self,
+        alloc: Global,
+        decider: &V,
+        job: &Job,
+        verdict: Verdict,
+    ) -> u32
+        requires ready { V.ready decider.now }
+        requires lane { job.now.lane < self.old.lanes }
+        requires next { next_job self.old job.now.lane ≡ Some job.now }
+        requires right { IsRight (state_on self.old.board).book job.now.ask verdict }
+        ensures { HasAdded self.old self.new job.now result (IsDecided self.old.board job.now.ask verdict) }
+    {
+        let reply = self.board.decide(alloc, decider, &job.ask, verdict);
+        let at = add_entry(&mut self.journal, job, reply);
+        go_on(&mut self.places, self.jobs.as_slice(), job.lane);
+        self.losses[job.lane as usize] = no_loss();
+        at
+    }
+
+    // Answers a lane's next job again, after its last round.
+    fn record_again(&mut self, task: &Task, job: &Job) -> u32
+        requires job { job.now ≡ job_of_task task.now }
+        requires lane { task.now.lane < self.old.lanes }
+        requires next { IsNext self.old task.now }
+        requires stale { is_fresh self.old task.now ≡ false }
+        requires lost { is_lost self.old task.now ≡ true }
+        requires last { is_last_round self.old task.now.lane ≡ true }
+        ensures { HasAdded self.old self.new job.now result (IsAgain self.old task.now) }
+    {
+        let reply = Reply::Again {
+            rounds: self.rounds,
+            at: last_counting(&self.journal, &job.ask),
+        };
+        let at = add_entry(&mut self.journal, job, reply);
+        go_on(&mut self.places, self.jobs.as_slice(), job.lane);
+        self.losses[job.lane as usize] = no_loss();
+        at
+    }
+
+    // One more loss of a lane's next job.
+    fn lose(&mut self, task: &Task)
+        requires lane { task.now.lane < self.old.lanes }
+        requires next { IsNext self.old task.now }
+        requires stale { is_fresh self.old task.now ≡ false }
+        requires lost { is_lost self.old task.now ≡ true }
+        requires some { is_last_round self.old task.now.lane ≡ false }
+        ensures { self.new ≡ with_loss self.old task.now.lane }
+    {
+        let end = self.number();
+        let count = self.losses[task.lane as usize].count + 1;
+        self.losses[task.lane as usize] = Loss { count, end };
+    }
+}
+
+// The job of a task.
+fn job_of(task: &Task) -> Job
+    ensures { result ≡ job_of_task task.now }
+{
+    Job {
+        lane: task.lane,
+        line: task.line,
+        ask: task.ask,
+    }
+}
+
+fn no_loss() -> Loss
+    ensures { result ≡ no_loss }
+{
+    Loss { count: 0, end: 0 }
+}
+
+fn no_losses() -> [Loss; LANE_LIMIT as usize]
+    ensures { result ≡ replicate LANE_LIMIT no_loss }
+{
+    [no_loss(); LANE_LIMIT as usize]
 }
 
 /// A verdict on a task, found on its snapshot.

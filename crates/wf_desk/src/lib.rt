@@ -3,11 +3,13 @@
 #![tactic(auto)]
 
 mod desk;
+mod docket;
+mod journal;
 mod loss;
 mod outcome;
 mod task;
 
-pub use desk::Desk;
+pub use desk::{Desk, solve_task};
 pub use loss::Loss;
 pub use outcome::Outcome;
 pub use task::Task;

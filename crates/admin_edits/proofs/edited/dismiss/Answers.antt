@@ -1,0 +1,16 @@
+use Rattle.std.proofs.Common.{◌≡◌, ◌∙◌, false, sym, ap}
+use Rattle.std.specs.FinSet as set
+use Rattle.pair_set.specs.PairLaws.{pair_cmp_total, pair_cmp-IsAntisymmetric, remove_absent}
+use Rattle.pair_set.specs.Pairs.{Pairs}
+use Rattle.rbac_state.specs.Rosters.{RosterShape}
+use Rattle.policy_book.specs.Policies.{with_roster}
+use Rattle.admin_edits.proofs.edited.dismiss.Goals as goal
+
+-- what is not there is not taken away
+pub returns-then-not-has : goal.returns-then-not-has
+returns-then-not-has c =
+    let members = c.args.p.now.roster.members in
+    let absent : set.contains members (c.args.user, c.args.role) ≡ false =
+    ap (λ (r : RosterShape). set.contains r.members (c.args.user, c.args.role)) (sym c.roster.ensures.roster) ∙ sym c.has.ensures ∙ c.if-not-has.true in
+    ap (λ (m : Pairs). with_roster c.args.p.now (record c.args.p.now.roster { members = m }))
+    (sym (remove_absent pair_cmp_total pair_cmp-IsAntisymmetric members (c.args.user, c.args.role) absent))

@@ -1,0 +1,139 @@
+//! The numbers for the names of an edit.
+ghost use Rattle.std.specs.Prelude.{◌≡◌, ◌<◌, length, IfOk};
+ghost use Rattle.first_fault.specs.Reading.{check, or_fault};
+ghost use Rattle.policy_book.specs.Policies.{flow_at};
+ghost use Rattle.user_relations.specs.Relations.{known_names};
+ghost use Rattle.wf_names.specs.Table.{place_of};
+ghost use Rattle.admin_edits.specs.Edits.{found, is_admin};
+ghost use Rattle.admin_edits.specs.Found.{IsFound};
+
+use crate::{Amendment, EditFault};
+use policy_book::Policy;
+use wf_names::{FlowId, Name, RelId, RoleId, StepId, UserId};
+use wf_talk::{Edit, Missing};
+
+/// What is changed, or the first name that the policy does not have.
+pub(crate) fn find(p: &Policy, e: &Edit) -> Result<Amendment, EditFault>
+    ensures found { result ≡ found p.now e.now }
+    ensures within { IfOk result (IsFound p.now) }
+{
+    match *e {
+        Edit::AddUser { user } => Ok(Amendment::AddUser { name: user }),
+        Edit::Leave { user } => Ok(Amendment::Leave {
+            user: find_user(p, &user)?,
+        }),
+        Edit::Enrol { role, user } => {
+            let user = find_user(p, &user)?;
+            let role = find_role(p, &role)?;
+            Ok(Amendment::Enrol { user, role })
+        }
+        Edit::Dismiss { role, user } => {
+            let user = find_user(p, &user)?;
+            let role = find_role(p, &role)?;
+            Ok(Amendment::Dismiss { user, role })
+        }
+        Edit::Relate {
+            first,
+            relation,
+            second,
+        } => {
+            let relation = find_relation(p, &relation)?;
+            let first = find_user(p, &first)?;
+            let second = find_user(p, &second)?;
+            Ok(Amendment::Relate {
+                relation,
+                first,
+                second,
+            })
+        }
+        Edit::Unrelate {
+            first,
+            relation,
+            second,
+        } => {
+            let relation = find_relation(p, &relation)?;
+            let first = find_user(p, &first)?;
+            let second = find_user(p, &second)?;
+            Ok(Amendment::Unrelate {
+                relation,
+                first,
+                second,
+            })
+        }
+        Edit::Permit { flow, role, step } => {
+            let flow = find_flow(p, &flow)?;
+            let step = find_step(p, flow, &step)?;
+            let role = find_role(p, &role)?;
+            Ok(Amendment::Permit { flow, role, step })
+        }
+        Edit::Forbid { flow, role, step } => {
+            let flow = find_flow(p, &flow)?;
+            let step = find_step(p, flow, &step)?;
+            let role = find_role(p, &role)?;
+            Ok(Amendment::Forbid { flow, role, step })
+        }
+        Edit::Retire { flow } => Ok(Amendment::Retire {
+            flow: find_flow(p, &flow)?,
+        }),
+    }
+}
+
+/// Refuses who does not administer.
+pub(crate) fn check_admin(p: &Policy, by: &Name) -> Result<(), EditFault>
+    ensures { result ≡ check (is_admin p.now by.now) EditFault.NotAdmin }
+{
+    match p.roster().users().find(by) {
+        Some(u) if p.roster().has(UserId(u), p.admin()) => Ok(()),
+        _ => Err(EditFault::NotAdmin),
+    }
+}
+
+fn find_user(p: &Policy, name: &Name) -> Result<UserId, EditFault>
+    ensures user { result ≡ or_fault (place_of p.now.roster.users name.now) (EditFault.Unknown Missing.User) }
+    ensures within { IfOk result (λ u. u < length p.now.roster.users) }
+{
+    match p.roster().users().find(name) {
+        Some(u) => Ok(UserId(u)),
+        None => Err(EditFault::Unknown(Missing::User)),
+    }
+}
+
+fn find_role(p: &Policy, name: &Name) -> Result<RoleId, EditFault>
+    ensures role { result ≡ or_fault (place_of p.now.roster.roles name.now) (EditFault.Unknown Missing.Role) }
+    ensures within { IfOk result (λ r. r < length p.now.roster.roles) }
+{
+    match p.roster().roles().find(name) {
+        Some(r) => Ok(RoleId(r as u8)),
+        None => Err(EditFault::Unknown(Missing::Role)),
+    }
+}
+
+fn find_relation(p: &Policy, name: &Name) -> Result<RelId, EditFault>
+    ensures { result ≡ or_fault (place_of (known_names p.now.relations) name.now) (EditFault.Unknown Missing.Relation) }
+{
+    match p.relations().find(name) {
+        Some(rho) => Ok(rho),
+        None => Err(EditFault::Unknown(Missing::Relation)),
+    }
+}
+
+fn find_flow(p: &Policy, name: &Name) -> Result<FlowId, EditFault>
+    ensures flow { result ≡ or_fault (place_of p.now.flow_names name.now) (EditFault.Unknown Missing.Flow) }
+    ensures within { IfOk result (λ f. f < length p.now.flows) }
+{
+    match p.find_flow(name) {
+        Some(f) => Ok(f),
+        None => Err(EditFault::Unknown(Missing::Flow)),
+    }
+}
+
+fn find_step(p: &Policy, f: FlowId, name: &Name) -> Result<StepId, EditFault>
+    requires { f < length p.now.flows }
+    ensures step { result ≡ or_fault (place_of (flow_at p.now f).flow.steps name.now) (EditFault.Unknown Missing.Step) }
+    ensures within { IfOk result (λ s. s < length (flow_at p.now f).flow.steps) }
+{
+    match p.flow(f).steps().find(name) {
+        Some(s) => Ok(StepId(s as u8)),
+        None => Err(EditFault::Unknown(Missing::Step)),
+    }
+}

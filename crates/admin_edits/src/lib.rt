@@ -1,0 +1,13 @@
+//! Edits of a policy by its administrators: why one is refused, and the policy after it.
+#![tactic(auto)]
+
+mod amendment;
+mod cause;
+mod edited;
+mod fault;
+mod find;
+
+pub use amendment::Amendment;
+pub use cause::edit_cause;
+pub use edited::apply;
+pub use fault::EditFault;

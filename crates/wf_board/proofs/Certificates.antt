@@ -1,0 +1,82 @@
+-- A plan or a tree that decides what is asked decides its deed.
+use Rattle.std.proofs.Common.{◌≡◌, ◌↔◌, ℕ, Bool, true, false, not, ◌&&◌, List, Option, None, Some, is_some, Result, Ok, Err, refl, sym, ap, subst, ◌∙◌}
+use Rattle.first_fault.specs.Reading.{◌>>=◌}
+use Rattle.constraint_forms.specs.Assigned.{no_steps, no_users}
+use Rattle.policy_book.specs.Shapes.{PolicyShape}
+use Rattle.policy_book.specs.Policies.{problem_of}
+use Rattle.policy_book.specs.Plans.{IsWithin}
+use Rattle.case_record.specs.Cases.{CaseShape, finished_of}
+use Rattle.grant_table.specs.declared.rows.Row.{Row}
+use Rattle.denial_reasons.specs.Causes.{assigned_with}
+use Rattle.wf_talk.specs.declared.request.Ask.{Ask}
+use Rattle.wf_talk.specs.declared.reply.Denial.{Denial}
+use Rattle.wf_board.specs.declared.deed.Deed.{Deed}
+use Rattle.wf_board.specs.declared.deed.Deed.TheVariants as deed
+use Rattle.wf_board.specs.declared.verdict.Verdict.{Verdict}
+use Rattle.wf_board.specs.declared.verdict.Verdict.TheVariants as verdict
+use Rattle.wf_board.specs.States.{Book}
+use Rattle.wf_board.specs.Resolved.{resolve}
+use Rattle.wf_board.specs.Decisions.{cause_aside, cause_full, decision_aside, decision_of, needs_plan, needs_verdict, unless_denied}
+use Rattle.wf_board.specs.Found.{AreFound}
+use Rattle.wf_board.specs.Kept.{ArePlanned}
+use Rattle.wf_board.specs.Taking.{full_or, undenied, IsCertificateOf}
+use Rattle.wf_board.specs.Verdicts.{IsCertificate, IsCertified, IsPlanFor, IsRight, IsTreeFor}
+use Rattle.wf_board.proofs.Planned.{plan_kept}
+use Rattle.wf_board.proofs.Within.{claimed_within, planned_within}
+
+-- what is assigned in a case with a claim's step given to its user is within its workflow and policy
+pub claim_within : (p : PolicyShape) (rows : List Row) (n : ℕ) (c : CaseShape) (t u : ℕ) → ArePlanned p rows → AreFound p rows n c t u → IsWithin (problem_of p c.flow) (assigned_with c t u)
+claim_within p rows n c t u planned found =
+    let kept = plan_kept p rows n c planned found.case.found found.case.live in
+    claimed_within p c t u found.case.known found.step found.user (planned_within p c kept.0 found.case.known kept.1)
+
+-- a plan or a tree that decides what is asked is right
+pub certified_right : (b : Book) (what : Ask) (v : Verdict) → IsCertified b what v → IsRight b what v
+certified_right b what verdict.Nothing is = tt
+certified_right b what verdict.NoMemory is = tt
+certified_right b what (verdict.Plan plan) is = aside (decision_aside b what) is
+  where
+    undone : (given : Deed) (o : Option Denial) → IsPlanFor b (unless_denied given o) plan → IsPlanFor b (Ok given) plan
+    undone given None has = has
+    undone given (Some d) has = absurd has
+
+    aside : (r : Result Deed Denial) → IsPlanFor b (r >>= (λ given. unless_denied given (cause_full b given))) plan → IsPlanFor b r plan
+    aside (Ok given) has = undone given (cause_full b given) has
+    aside (Err d) has = has
+certified_right b what (verdict.Refuted tree) is = aside (decision_aside b what) is
+  where
+    undone : (given : Deed) (o : Option Denial) → IsTreeFor b (unless_denied given o) tree → IsTreeFor b (Ok given) tree
+    undone given None has = has
+    undone given (Some d) has = absurd has
+
+    aside : (r : Result Deed Denial) → IsTreeFor b (r >>= (λ given. unless_denied given (cause_full b given))) tree → IsTreeFor b r tree
+    aside (Ok given) has = undone given (cause_full b given) has
+    aside (Err d) has = has
+
+-- ---- deeds
+
+pub certificate_same : (p : PolicyShape) (f g : ℕ) (a b : List (Option ℕ)) (d e : List Bool) (v : Verdict) (result : Bool) → g ≡ f → b ≡ a → e ≡ d →
+    result ≡ true ↔ IsCertificateOf (problem_of p g) b e v → result ≡ true ↔ IsCertificateOf (problem_of p f) a d v
+certificate_same p f g a b d e v result flow assigned finished is =
+    subst (λ x. result ≡ true ↔ IsCertificateOf (problem_of p f) a x v) finished
+    (subst (λ x. result ≡ true ↔ IsCertificateOf (problem_of p f) x e v) assigned
+    (subst (λ x. result ≡ true ↔ IsCertificateOf (problem_of p x) b e v) flow is))
+
+pub open_certificate : (b : Book) (f : ℕ) (v : Verdict) (result : Bool) → result ≡ true ↔ IsCertificateOf (problem_of b.policy f) no_users no_steps v →
+    result ≡ true ↔ IsCertificate b (Ok (deed.Open f)) v
+open_certificate b f verdict.Nothing result is = is
+open_certificate b f verdict.NoMemory result is = is
+open_certificate b f (verdict.Plan plan) result is = is
+open_certificate b f (verdict.Refuted tree) result is = is
+
+pub claim_certificate : (b : Book) (n : ℕ) (c : CaseShape) (t u : ℕ) (v : Verdict) (result : Bool) →
+    result ≡ true ↔ IsCertificateOf (problem_of b.policy c.flow) (assigned_with c t u) (finished_of c) v → result ≡ true ↔ IsCertificate b (Ok (deed.Claim n c t u)) v
+claim_certificate b n c t u verdict.Nothing result is = is
+claim_certificate b n c t u verdict.NoMemory result is = is
+claim_certificate b n c t u (verdict.Plan plan) result is = is
+claim_certificate b n c t u (verdict.Refuted tree) result is = is
+
+-- a claim is left to decide where there is no cause against it
+pub claim_needs : (b : Book) (n : ℕ) (c : CaseShape) (t u : ℕ) (cause : Option Denial) → not (is_some cause) ≡ needs_verdict (unless_denied (deed.Claim n c t u) cause >>= full_or b)
+claim_needs b n c t u None = refl
+claim_needs b n c t u (Some d) = refl

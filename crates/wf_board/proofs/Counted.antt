@@ -1,0 +1,78 @@
+-- How many entries pass a test, and where the last one stands, with one more entry.
+use Rattle.std.proofs.Common.{◌≡◌, ℕ, zero, suc, ◌+◌, ◌≤◌, Bool, true, false, List, [], ◌∷◌, ◌++◌, length, drop, if◌then◌else◌, refl, ap, ◌∙◌, arith}
+use Rattle.std.proofs.lemmas.List.{drop-append-le}
+use Rattle.wf_talk.specs.declared.entry.Entry.{Entry}
+use Rattle.wf_board.specs.Counting.{count_of, last_end_from}
+
+-- how many pass of two lists
+pub count_both : (test : Entry → Bool) (entries more : List Entry) → count_of test (entries ++ more) ≡ count_of test entries + count_of test more
+count_both test [] more = omega arith
+count_both test (x ∷ xs) more = let rest = count_both test xs more in omega (arith, rest)
+
+-- and with one more
+pub count_more : (test : Entry → Bool) (entries : List Entry) (e : Entry) → count_of test (entries ++ e ∷ []) ≡ count_of test entries + (if test e then 1 else 0)
+count_more test [] e = omega arith
+count_more test (x ∷ xs) e = let rest = count_more test xs e in omega (arith, rest)
+
+-- and from a place on
+pub count_from_more : (test : Entry → Bool) (n : ℕ) (entries : List Entry) (e : Entry) → n ≤ length entries →
+    count_of test (drop n (entries ++ e ∷ [])) ≡ count_of test (drop n entries) + (if test e then 1 else 0)
+count_from_more test n entries e within = ap (count_of test) (drop-append-le n entries (e ∷ []) within) ∙ count_more test (drop n entries) e
+
+count_some : (test : Entry → Bool) (n : ℕ) (entries : List Entry) → count_of test (drop n entries) ≤ count_of test entries
+count_some test zero entries = omega arith
+count_some test (suc n) [] = omega arith
+count_some test (suc n) (x ∷ xs) = let rest = count_some test n xs in omega (arith, rest)
+
+-- from a later place on no more pass
+pub count_later : (test : Entry → Bool) (entries : List Entry) (m n : ℕ) → m ≤ n → count_of test (drop n entries) ≤ count_of test (drop m entries)
+count_later test entries zero n later = count_some test n entries
+count_later test entries (suc m) zero later = absurd (omega (arith, later))
+count_later test [] (suc m) (suc n) later = omega arith
+count_later test (x ∷ xs) (suc m) (suc n) later = count_later test xs m n (omega (arith, later))
+
+-- behind the last entry none passes
+pub count_past : (test : Entry → Bool) (entries : List Entry) (n : ℕ) → length entries ≤ n → count_of test (drop n entries) ≡ 0
+count_past test [] zero past = refl
+count_past test [] (suc n) past = refl
+count_past test (x ∷ xs) zero past = absurd (omega (arith, past))
+count_past test (x ∷ xs) (suc n) past = count_past test xs n (omega (arith, past))
+
+-- the place behind the last that passes, with one more
+pub end_more : (n before : ℕ) (test : Entry → Bool) (entries : List Entry) (e : Entry) →
+    last_end_from n before test (entries ++ e ∷ []) ≡ (if test e then n + length entries + 1 else last_end_from n before test entries)
+end_more n before test [] e = let same : n + 1 ≡ n + 0 + 1 = omega arith in ap (λ m. if test e then m else before) same
+end_more n before test (x ∷ xs) e =
+    let same : n + 1 + length xs + 1 ≡ n + suc (length xs) + 1 = omega arith in
+    let next = if test x then n + 1 else before in
+    end_more (n + 1) next test xs e ∙ ap (λ m. if test e then m else last_end_from (n + 1) next test xs) same
+
+next_within : (n before : ℕ) (b : Bool) → before ≤ n → (if b then n + 1 else before) ≤ n + 1
+next_within n before true known = omega arith
+next_within n before false known = omega (arith, known)
+
+-- it is no place behind the entries
+pub end_within : (n before : ℕ) (test : Entry → Bool) (entries : List Entry) → before ≤ n → last_end_from n before test entries ≤ n + length entries
+end_within n before test [] known = omega (arith, known)
+end_within n before test (x ∷ xs) known =
+    let rest = end_within (n + 1) (if test x then n + 1 else before) test xs (next_within n before (test x) known) in
+    omega (arith, rest)
+
+-- nor before the place where none passes
+pub end_above : (n before : ℕ) (test : Entry → Bool) (entries : List Entry) → before ≤ n → before ≤ last_end_from n before test entries
+end_above n before test [] known = omega arith
+end_above n before test (x ∷ xs) known = by_test (test x) (end_above (n + 1) (n + 1) test xs (omega arith)) (end_above (n + 1) before test xs (omega (arith, known)))
+  where
+    by_test : (b : Bool) → n + 1 ≤ last_end_from (n + 1) (n + 1) test xs → before ≤ last_end_from (n + 1) before test xs → before ≤ last_end_from (n + 1) (if b then n + 1 else before) test xs
+    by_test true here later = omega (arith, here, known)
+    by_test false here later = later
+
+-- where one passes, it is behind the first
+pub end_there : (n before : ℕ) (test : Entry → Bool) (entries : List Entry) → 1 ≤ count_of test entries → n + 1 ≤ last_end_from n before test entries
+end_there n before test [] some = absurd (omega (arith, some))
+end_there n before test (x ∷ xs) some = by_test (test x) some (end_above (n + 1) (n + 1) test xs (omega arith)) (end_there (n + 1) before test xs)
+  where
+    by_test : (b : Bool) → 1 ≤ (if b then 1 else 0) + count_of test xs → n + 1 ≤ last_end_from (n + 1) (n + 1) test xs →
+        (1 ≤ count_of test xs → n + 1 + 1 ≤ last_end_from (n + 1) before test xs) → n + 1 ≤ last_end_from (n + 1) (if b then n + 1 else before) test xs
+    by_test true one here later = here
+    by_test false one here later = let rest = later (omega (arith, one)) in omega (arith, rest)

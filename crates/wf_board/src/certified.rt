@@ -1,0 +1,91 @@
+//! Plans and trees that come with what is asked.
+ghost use Rattle.std.specs.Prelude.{◌≡◌, ◌<◌, ◌↔◌, Ok, length, true, IsTrue};
+ghost use Rattle.wf_names.specs.declared.limits.TheConstants.{STEP_LIMIT};
+ghost use Rattle.refutation_tree.specs.Views.{shape_of};
+ghost use Rattle.policy_book.specs.Plans.{IsValidPlan, IsWithin};
+ghost use Rattle.policy_book.specs.Policies.{problem_of};
+ghost use Rattle.policy_book.specs.Refuting.{refutes};
+ghost use Rattle.case_record.specs.Cases.{assigned_of, finished_of};
+ghost use Rattle.denial_reasons.specs.Causes.{assigned_with};
+ghost use Rattle.wf_board.specs.Boards.{book_of};
+ghost use Rattle.wf_board.specs.Found.{AreFound, IsFound};
+ghost use Rattle.wf_board.specs.Kept.{ArePlanned};
+ghost use Rattle.wf_board.specs.Taking.{IsCertificateOf};
+ghost use Rattle.wf_board.specs.Verdicts.{IsCertificate, IsCertified};
+
+use crate::decision::is_undecided;
+use crate::resolve::resolve;
+use crate::{Deed, Verdict};
+use case_record::Case;
+use certificate_check::{check_tree, is_valid_plan};
+use constraint_forms::{Assign, StepSet};
+use grant_table::Cases;
+use policy_book::Policy;
+use wf_names::{CaseId, FlowId, StepId, UserId};
+use wf_talk::Ask;
+
+/// Whether a verdict is a plan or a tree that decides what is asked.
+pub(crate) fn accepts(p: &Policy, cases: &Cases, ask: &Ask, verdict: &Verdict) -> bool
+    requires { ArePlanned p.now cases.now.rows }
+    ensures { result ≡ true ↔ IsCertified (book_of p.now cases.now) ask.now verdict.now }
+{
+    let Ok(deed) = resolve(p, cases, ask) else {
+        return false;
+    };
+    is_undecided(p, cases, &deed) && decides(p, cases, &deed, verdict)
+}
+
+/// Whether a verdict is a plan or a tree that decides a deed.
+fn decides(p: &Policy, cases: &Cases, deed: &Deed, verdict: &Verdict) -> bool
+    requires planned { ArePlanned p.now cases.now.rows }
+    requires found { IsFound p.now cases.now.rows deed.now }
+    ensures { result ≡ true ↔ IsCertificate (book_of p.now cases.now) (Ok deed.now) verdict.now }
+{
+    match deed {
+        Deed::Open { flow } => {
+            is_certificate(p, *flow, &Assign::empty(), &StepSet::empty(), verdict)
+        }
+        Deed::Claim {
+            number,
+            case,
+            step,
+            user,
+        } => decides_claim(p, cases, *number, case, *step, *user, verdict),
+        _ => false,
+    }
+}
+
+/// Whether a verdict is a plan or a tree that decides a claim.
+fn decides_claim(
+    p: &Policy,
+    cases: &Cases,
+    number: CaseId,
+    case: &Case,
+    step: StepId,
+    user: UserId,
+    verdict: &Verdict,
+) -> bool
+    requires planned { ArePlanned p.now cases.now.rows }
+    requires found { AreFound p.now cases.now.rows number case.now step user }
+    ensures { result ≡ true ↔ IsCertificateOf (problem_of p.now case.now.flow) (assigned_with case.now step user)
+        (finished_of case.now) verdict.now }
+{
+    let _ = cases;
+    let _ = number;
+    let _within = case.steps();
+    let assigned = case.assigned().with(step, user);
+    is_certificate(p, case.flow(), &assigned, &case.finished(), verdict)
+}
+
+/// Whether a verdict is a valid plan, or a tree that refutes.
+fn is_certificate(p: &Policy, f: FlowId, a: &Assign, done: &StepSet, verdict: &Verdict) -> bool
+    requires flow { f < length p.now.flows }
+    requires within { IsWithin (problem_of p.now f) a.now }
+    ensures { result ≡ true ↔ IsCertificateOf (problem_of p.now f) a.now done.now verdict.now }
+{
+    match verdict {
+        Verdict::Plan(plan) => is_valid_plan(p, f, a, done, plan),
+        Verdict::Refuted(tree) => check_tree(p, f, a, done, tree),
+        _ => false,
+    }
+}

@@ -1,0 +1,59 @@
+//! Which entries count for a request.
+ghost use Rattle.std.specs.Prelude.{◌≡◌};
+ghost use Rattle.wf_board.specs.Counting.{case_of_ask, case_of_request, changed_case, counts_for};
+
+use wf_names::CaseId;
+use wf_talk::{Ask, Entry, Reply, Request};
+
+/// Whether an entry counts for what is asked: it changed what the decision rests on.
+pub fn counts(entry: &Entry, ask: &Ask) -> bool
+    ensures { result ≡ counts_for entry.now ask.now }
+{
+    let Ask::Request(Request::Claim { case, .. }) = *ask else {
+        return false;
+    };
+    match changed_case(&entry.ask, &entry.reply) {
+        Some(changed) => changed == case,
+        None => false,
+    }
+}
+
+/// The case that a reply changed, where this was asked.
+fn changed_case(ask: &Ask, reply: &Reply) -> Option<CaseId>
+    ensures { result ≡ changed_case ask.now reply.now }
+{
+    match reply {
+        Reply::Opened { case, .. } => Some(*case),
+        Reply::Granted(_)
+        | Reply::Finished { .. }
+        | Reply::Returned
+        | Reply::Released
+        | Reply::Withdrawn => case_of(ask),
+        _ => None,
+    }
+}
+
+/// The case that what was asked names.
+fn case_of(ask: &Ask) -> Option<CaseId>
+    ensures { result ≡ case_of_ask ask.now }
+{
+    match *ask {
+        Ask::Request(request) => case_of_request(&request),
+        Ask::Bad(_) => None,
+    }
+}
+
+/// The case that a request names by its number.
+fn case_of_request(request: &Request) -> Option<CaseId>
+    ensures { result ≡ case_of_request request.now }
+{
+    match *request {
+        Request::OpenCase { .. } => None,
+        Request::Claim { case, .. }
+        | Request::Finish { case, .. }
+        | Request::GiveBack { case, .. }
+        | Request::Release { case, .. }
+        | Request::Withdraw { case, .. }
+        | Request::Show { case } => Some(case),
+    }
+}

@@ -1,0 +1,392 @@
+-- Inside: a desk keeps what it is with one more entry, with one more loss, and with another batch.
+use Rattle.std.proofs.Common.{◌≡◌, ◌≢◌, ℕ, zero, suc, ◌+◌, ◌<◌, ◌≤◌, ◌⊎◌, inl, inr, max, Bool, true, false, nat_eq, nat_lt, nat_le, List, [], ◌∷◌, ◌++◌, length, take, drop, map, get_or, set, replicate, slice_get, slice_set, slice_index_or, IfSome, Option, None, Some, refl, sym, ap, subst, ◌∙◌, arith, ◌==◌, ◌&&◌, if◌then◌else◌}
+use Rattle.std.proofs.lemmas.Grind.{common_steps}
+use Rattle.std.proofs.lemmas.List.{length-append, length-drop, get_or-set_same, get_or-set_other, get_or-replicate, take_more}
+use Rattle.std.proofs.lemmas.Option.{get_or_from_slice_get, slice_get_within}
+use Rattle.std.proofs.Math.Seq.{drop-length}
+use Rattle.basics.proofs.Booleans.{and_both, bool_cases, eq_back, eq_is}
+use Rattle.wf_names.specs.declared.limits.TheConstants.{LANE_LIMIT}
+use Rattle.policy_book.specs.Shapes.{PolicyShape}
+use Rattle.wf_talk.specs.declared.entry.Entry.{Entry}
+use Rattle.wf_talk.specs.declared.job.Job.{Job}
+use Rattle.wf_talk.specs.declared.reply.Reply.TheVariants.{Again}
+use Rattle.wf_talk.specs.declared.request.Ask.{Ask}
+use Rattle.wf_board.specs.Boards.{BoardShape, state_on}
+use Rattle.wf_board.specs.Counting.{count_of, counted, counted_end, counts_for, lane_end}
+use Rattle.wf_board.specs.Decisions.{decision_of, needs_verdict}
+use Rattle.wf_board.specs.Histories.{EachAfter, IsRetry, IsRightAfter, IsWantRightful, MayRetry, RestsFrom, job_of_entry, lane_jobs, state_after}
+use Rattle.wf_board.specs.HistoryLaws.{after_more, each_more, rests_more, wants_more}
+use Rattle.wf_board.specs.States.{opening_state}
+use Rattle.wf_board.specs.Steps.{state_after_step}
+use Rattle.wf_board.proofs.Counted.{count_from_more, count_later, count_past, end_more, end_within}
+use Rattle.wf_desk.specs.declared.loss.Loss.{Loss}
+use Rattle.wf_desk.specs.declared.task.Task.{Task}
+use Rattle.wf_desk.specs.Desks.{AreOfLanes, DeskShape, IsSoundDesk, loss_of, next_job, no_loss, served, with_batch, with_room}
+use Rattle.wf_desk.specs.Commits.{IsAgain, IsNext, floor_of, is_fresh, is_last_round, is_lost, job_of_task, with_loss}
+use Rattle.wf_desk.specs.Keeping.{IsDesk, IsNextPlace, IsPlace, LossRests, own_start}
+use Rattle.wf_desk.specs.DocketLaws.{batch_short, batch_within, front_more, lane_both, lane_own, next_at, next_lane, served_other, served_own}
+
+-- with one more entry, of which the board is this one, and so much room left
+abbrev pub with_entry : DeskShape → Entry → BoardShape → ℕ → DeskShape
+with_entry d e b spare = record d { entries = d.entries ++ e ∷ []; board = b; spare = spare; losses = slice_set d.losses e.lane no_loss }
+
+-- ---- losses
+
+differs : (m n : ℕ) → nat_eq m n ≡ false → n ≢ m
+differs m n other same = let is : nat_eq m n ≡ true = eq_is m n (sym same) in absurd (cc)
+
+set_own : {A : Type 0} (P : A → Type 0) (xs : List A) (i : ℕ) (y d : A) → P y → P d → P (get_or (set xs i y) i d)
+set_own P [] i y d here none = none
+set_own P (x ∷ xs) zero y d here none = here
+set_own P (x ∷ xs) (suc i) y d here none = set_own P xs i y d here none
+
+loss_other : (losses : List Loss) (lane other : ℕ) (x : Loss) → nat_eq lane other ≡ false → loss_of (slice_set losses lane x) other ≡ loss_of losses other
+loss_other losses lane other x away = get_or-set_other losses lane other x no_loss (differs lane other away)
+
+no_loss_own : (losses : List Loss) (lane : ℕ) → loss_of (slice_set losses lane no_loss) lane ≡ no_loss
+no_loss_own losses lane = set_own (λ l. l ≡ no_loss) losses lane no_loss no_loss refl refl
+
+same_all : {A : Type 0} (x : A) (n i : ℕ) → slice_index_or (replicate n x) i x ≡ x
+same_all x zero i = refl
+same_all x (suc n) zero = refl
+same_all x (suc n) (suc i) = same_all x n i
+
+-- ---- what counts
+
+lane_end_within : (lane : ℕ) (d : DeskShape) → lane_end lane d.entries ≤ length d.entries
+lane_end_within lane d = let within = end_within 0 0 (λ e. nat_eq e.lane lane) d.entries (omega arith) in omega (arith, within)
+
+own_within : (d : DeskShape) (lane : ℕ) → d.start ≤ length d.entries → own_start d lane ≤ length d.entries
+own_within d lane begun = let within = lane_end_within lane d in omega (arith, within, begun)
+
+floor_within : (d : DeskShape) (lane : ℕ) → d.start ≤ length d.entries → (loss_of d.losses lane).end ≤ length d.entries → floor_of d lane ≤ length d.entries
+floor_within d lane begun ends = let within = lane_end_within lane d in omega (arith, within, begun, ends)
+
+-- where a lane's job was not lost, nothing is to be shown
+fresh_rests : (d : DeskShape) (lane : ℕ) (what : Ask) → loss_of d.losses lane ≡ no_loss → LossRests d lane what
+fresh_rests d lane what none =
+    let count : (loss_of d.losses lane).count ≡ 0 = ap (λ (l : Loss). l.count) none in
+    let later = count_later (λ e. counts_for e what) d.entries (own_start d lane) (floor_of d lane) (omega arith) in
+    omega (arith, count, later)
+
+end_other : (entries : List Entry) (e : Entry) (lane : ℕ) → nat_eq e.lane lane ≡ false → lane_end lane (entries ++ e ∷ []) ≡ lane_end lane entries
+end_other entries e lane other =
+    end_more 0 0 (λ x. nat_eq x.lane lane) entries e ∙ ap (λ b. if b then 0 + length entries + 1 else lane_end lane entries) other
+
+-- another lane's entry adds the same to both sides
+other_rests : (d : DeskShape) (e : Entry) (b : BoardShape) (spare lane : ℕ) (what : Ask) → d.start ≤ length d.entries → (loss_of d.losses lane).end ≤ length d.entries →
+    nat_eq e.lane lane ≡ false → LossRests d lane what → LossRests (with_entry d e b spare) lane what
+other_rests d e b spare lane what begun ends other rests =
+    let new = with_entry d e b spare in
+    let test : Entry → Bool = λ x. counts_for x what in
+    let loss = loss_other d.losses e.lane lane no_loss other in
+    let own : own_start new lane ≡ own_start d lane = ap (λ n. max n d.start) (end_other d.entries e lane other) in
+    let floor : floor_of new lane ≡ floor_of d lane = ap (λ n. max n (loss_of new.losses lane).end) own ∙ ap (λ (l : Loss). max (own_start d lane) l.end) loss in
+    let count = ap (λ (l : Loss). l.count) loss in
+    let above = ap (λ n. counted what (drop n new.entries)) floor ∙ count_from_more test (floor_of d lane) d.entries e (floor_within d lane begun ends) in
+    let all = ap (λ n. counted what (drop n new.entries)) own ∙ count_from_more test (own_start d lane) d.entries e (own_within d lane begun) in
+    omega (arith, count, above, all, rests)
+
+-- ---- one more entry
+
+next_other : (d : DeskShape) (e : Entry) (b : BoardShape) (spare lane : ℕ) → d.start ≤ length d.entries → nat_eq e.lane lane ≡ false →
+    next_job (with_entry d e b spare) lane ≡ next_job d lane
+next_other d e b spare lane begun other = ap (λ js. slice_get (lane_jobs lane d.jobs) (length js)) (served_other d.start d.entries e lane begun other)
+
+-- what an entry that is added meets
+pub record Grows (d : DeskShape) (places : List ℕ) (e : Entry) (b : BoardShape) (spare place : ℕ) : Type 0 where
+  pub next : next_job d e.lane ≡ Some (job_of_entry e)
+  pub known : e.lane < LANE_LIMIT
+  pub sized : e.lane < length places
+  pub right : IsRightAfter (opening_state d.opening) d.rounds d.entries e
+  pub rests : RestsFrom d.start d.entries e
+  pub want : IsWantRightful e
+  pub state : state_on b ≡ state_after_step (state_on d.board) e.ask e.reply
+  pub room : d.spare ≤ spare + 1
+  pub cases : d.board.cases.spare ≤ b.cases.spare + 1
+  pub moved : IsNextPlace d.jobs e.lane (slice_index_or places e.lane 0 + 1) place
+
+front_grown : (d : DeskShape) (places : List ℕ) (e : Entry) (b : BoardShape) (spare place lane : ℕ) → IsDesk d places → Grows d places e b spare place →
+    served (with_entry d e b spare) lane ≡ take (length (served (with_entry d e b spare) lane)) (lane_jobs lane d.jobs)
+front_grown d places e b spare place lane is grows = elim (bool_cases (nat_eq e.lane lane)) [
+  | inl own ↦
+    let same : e.lane ≡ lane = eq_back e.lane lane own in
+    let more = served_own d.start d.entries e lane is.sound.begun same in
+    let next : slice_get (lane_jobs lane d.jobs) (length (served d lane)) ≡ Some (job_of_entry e) = subst (λ n. next_job d n ≡ Some (job_of_entry e)) same grows.next in
+    subst (λ js. js ≡ take (length js) (lane_jobs lane d.jobs)) (sym more) (front_more (served d lane) (lane_jobs lane d.jobs) (job_of_entry e) (is.sound.front lane) next)
+  | inr other ↦
+    subst (λ js. js ≡ take (length js) (lane_jobs lane d.jobs)) (sym (served_other d.start d.entries e lane is.sound.begun other)) (is.sound.front lane)
+]
+
+sound_grown : (d : DeskShape) (places : List ℕ) (e : Entry) (b : BoardShape) (spare place : ℕ) → IsDesk d places → Grows d places e b spare place →
+    IsSoundDesk (with_entry d e b spare)
+sound_grown d places e b spare place is grows = record {
+  legal = each_more (IsRightAfter (opening_state d.opening) d.rounds) [] d.entries e is.sound.legal grows.right;
+  state = grows.state ∙ ap (λ s. state_after_step s e.ask e.reply) is.sound.state ∙ sym (after_more (opening_state d.opening) d.entries e);
+  begun = let begun = is.sound.begun in omega (arith, begun, length-append d.entries (e ∷ []));
+  front = λ lane. front_grown d places e b spare place lane is grows;
+  rests = rests_more d.start d.entries e is.sound.begun is.sound.rests grows.rests;
+  wants = wants_more d.entries e is.sound.wants grows.want;
+}
+
+own_place : (d : DeskShape) (places : List ℕ) (e : Entry) (b : BoardShape) (spare place : ℕ) → IsDesk d places → Grows d places e b spare place →
+    IsPlace (with_entry d e b spare) e.lane place
+own_place d places e b spare place is grows =
+    let from = slice_index_or places e.lane 0 in
+    let old = is.placed e.lane grows.known in
+    let job = job_of_entry e in
+    let stands : slice_get d.jobs from ≡ Some job = sym (next_at d e.lane from old) ∙ grows.next in
+    let taken : take (from + 1) d.jobs ≡ take from d.jobs ++ job ∷ [] =
+        take_more d.jobs from job (slice_get_within d.jobs from job stands) ∙ ap (λ j. take from d.jobs ++ j ∷ []) (get_or_from_slice_get d.jobs from job job stands) in
+    record {
+      within = grows.moved.within;
+      before = served_own d.start d.entries e e.lane is.sound.begun refl ∙ ap (λ js. js ++ job ∷ []) old.before
+          ∙ ap (λ js. lane_jobs e.lane (take from d.jobs) ++ js) (sym (lane_own e.lane job refl)) ∙ sym (lane_both e.lane (take from d.jobs) (job ∷ []))
+          ∙ ap (lane_jobs e.lane) (sym taken) ∙ sym grows.moved.same;
+      here = grows.moved.here;
+    }
+
+place_grown : (d : DeskShape) (places : List ℕ) (e : Entry) (b : BoardShape) (spare place lane : ℕ) → IsDesk d places → Grows d places e b spare place → lane < LANE_LIMIT →
+    IsPlace (with_entry d e b spare) lane (slice_index_or (slice_set places e.lane place) lane 0)
+place_grown d places e b spare place lane is grows known = elim (bool_cases (nat_eq e.lane lane)) [
+  | inl own ↦
+    let same : e.lane ≡ lane = eq_back e.lane lane own in
+    subst (λ n. IsPlace (with_entry d e b spare) n (slice_index_or (slice_set places e.lane place) n 0)) same
+    (subst (IsPlace (with_entry d e b spare) e.lane) (sym (get_or-set_same places e.lane place 0 grows.sized)) (own_place d places e b spare place is grows))
+  | inr other ↦
+    let old = is.placed lane known in
+    subst (IsPlace (with_entry d e b spare) lane) (sym (get_or-set_other places e.lane lane place 0 (differs e.lane lane other))) record {
+      within = old.within;
+      before = served_other d.start d.entries e lane is.sound.begun other ∙ old.before;
+      here = old.here;
+    }
+]
+
+ends_grown : (d : DeskShape) (places : List ℕ) (e : Entry) (b : BoardShape) (spare lane : ℕ) → IsDesk d places → (loss_of (slice_set d.losses e.lane no_loss) lane).end ≤ length (d.entries ++ e ∷ [])
+ends_grown d places e b spare lane is = elim (bool_cases (nat_eq e.lane lane)) [
+  | inl own ↦
+    let same : e.lane ≡ lane = eq_back e.lane lane own in
+    let none = ap (λ (l : Loss). l.end) (ap (loss_of (slice_set d.losses e.lane no_loss)) (sym same) ∙ no_loss_own d.losses e.lane) in
+    omega (arith, none)
+  | inr other ↦
+    let old = is.ends lane in
+    let same = ap (λ (l : Loss). l.end) (loss_other d.losses e.lane lane no_loss other) in
+    omega (arith, old, same, length-append d.entries (e ∷ []))
+]
+
+losses_grown : (d : DeskShape) (places : List ℕ) (e : Entry) (b : BoardShape) (spare lane : ℕ) (j : Job) → IsDesk d places → next_job (with_entry d e b spare) lane ≡ Some j →
+    LossRests (with_entry d e b spare) lane j.ask
+losses_grown d places e b spare lane j is next = elim (bool_cases (nat_eq e.lane lane)) [
+  | inl own ↦
+    let same : e.lane ≡ lane = eq_back e.lane lane own in
+    fresh_rests (with_entry d e b spare) lane j.ask (ap (loss_of (slice_set d.losses e.lane no_loss)) (sym same) ∙ no_loss_own d.losses e.lane)
+  | inr other ↦
+    other_rests d e b spare lane j.ask is.sound.begun (is.ends lane) other (is.losses lane j (sym (next_other d e b spare lane is.sound.begun other) ∙ next))
+]
+
+-- with one more entry
+pub desk_more : (d : DeskShape) (places : List ℕ) (e : Entry) (b : BoardShape) (spare place : ℕ) → IsDesk d places → Grows d places e b spare place →
+    IsDesk (with_entry d e b spare) (slice_set places e.lane place)
+desk_more d places e b spare place is grows =
+    let size = length-append d.entries (e ∷ []) in
+    record {
+      sound = sound_grown d places e b spare place is grows;
+      few = is.few;
+      of_lanes = is.of_lanes;
+      room = let old = is.room in let room = grows.room in omega (arith, old, room, size);
+      cases = let old = is.cases in let cases = grows.cases in omega (arith, old, cases, size);
+      small = is.small;
+      ends = λ lane. ends_grown d places e b spare lane is;
+      losses = λ lane j next. losses_grown d places e b spare lane j is next;
+      placed = λ lane known. place_grown d places e b spare place lane is grows known;
+    }
+
+-- ---- a loss
+
+-- something counts for a lane's next job from its floor on
+pub record MayLose (d : DeskShape) (lane : ℕ) (what : Ask) : Type 0 where
+  pub next : (j : Job) → next_job d lane ≡ Some j → j.ask ≡ what
+  pub some : 1 ≤ counted what (drop (floor_of d lane) d.entries)
+
+abbrev lost_now : DeskShape → ℕ → Loss
+lost_now d lane = record { count = (loss_of d.losses lane).count + 1; end = length d.entries }
+
+lost_ends : (d : DeskShape) (places : List ℕ) (lane other : ℕ) → IsDesk d places → (loss_of (with_loss d lane).losses other).end ≤ length d.entries
+lost_ends d places lane other is = elim (bool_cases (nat_eq lane other)) [
+  | inl own ↦
+    let same : lane ≡ other = eq_back lane other own in
+    subst (λ n. (loss_of (with_loss d lane).losses n).end ≤ length d.entries) same
+    (set_own (λ (l : Loss). l.end ≤ length d.entries) d.losses lane (lost_now d lane) no_loss (omega arith) (omega arith))
+  | inr away ↦
+    let old = is.ends other in
+    let same = ap (λ (l : Loss). l.end) (loss_other d.losses lane other (lost_now d lane) away) in
+    omega (arith, old, same)
+]
+
+abbrev rests_by : DeskShape → ℕ → Ask → Loss → Type 0
+rests_by d lane what loss = loss.count + counted what (drop (max (own_start d lane) loss.end) d.entries) ≤ counted what (drop (own_start d lane) d.entries)
+
+lost_own : (d : DeskShape) (lane : ℕ) (what : Ask) → 1 ≤ counted what (drop (floor_of d lane) d.entries) → LossRests d lane what → LossRests (with_loss d lane) lane what
+lost_own d lane what some rests =
+    let test : Entry → Bool = λ x. counts_for x what in
+    let own = own_start d lane in
+    set_own (rests_by d lane what) d.losses lane (lost_now d lane) no_loss
+    (let past = count_past test d.entries (max own (length d.entries)) (omega arith) in omega (arith, past, some, rests))
+    (let later = count_later test d.entries own (max own 0) (omega arith) in omega (arith, later))
+
+lost_losses : (d : DeskShape) (places : List ℕ) (lane : ℕ) (what : Ask) (other : ℕ) (j : Job) → IsDesk d places → MayLose d lane what → next_job d other ≡ Some j →
+    LossRests (with_loss d lane) other j.ask
+lost_losses d places lane what other j is may next = elim (bool_cases (nat_eq lane other)) [
+  | inl own ↦
+    let same : other ≡ lane = sym (eq_back lane other own) in
+    let asks : j.ask ≡ what = may.next j (subst (λ n. next_job d n ≡ Some j) same next) in
+    subst (λ n. LossRests (with_loss d lane) n j.ask) (sym same)
+    (lost_own d lane j.ask (subst (λ a. 1 ≤ counted a (drop (floor_of d lane) d.entries)) (sym asks) may.some) (subst (λ n. LossRests d n j.ask) same (is.losses other j next)))
+  | inr away ↦ subst (rests_by d other j.ask) (sym (loss_other d.losses lane other (lost_now d lane) away)) (is.losses other j next)
+]
+
+-- with one more loss
+pub desk_lost : (d : DeskShape) (places : List ℕ) (lane : ℕ) (what : Ask) → IsDesk d places → MayLose d lane what → IsDesk (with_loss d lane) places
+desk_lost d places lane what is may = record {
+  sound = record { legal = is.sound.legal; state = is.sound.state; begun = is.sound.begun; front = is.sound.front; rests = is.sound.rests; wants = is.sound.wants };
+  few = is.few;
+  of_lanes = is.of_lanes;
+  room = is.room;
+  cases = is.cases;
+  small = is.small;
+  ends = λ other. lost_ends d places lane other is;
+  losses = λ other j next. lost_losses d places lane what other j is may next;
+  placed = λ other known. let old = is.placed other known in record { within = old.within; before = old.before; here = old.here };
+}
+
+-- ---- another batch
+
+-- for each lane the place of its first job, with one more lane
+pub places_more : (jobs : List Job) (places : List ℕ) (lane place : ℕ) → lane < length places →
+    ((n : ℕ) → n < lane → IsNextPlace jobs n 0 (slice_index_or places n 0)) → IsNextPlace jobs lane 0 place →
+    (n : ℕ) → n < lane + 1 → IsNextPlace jobs n 0 (slice_index_or (slice_set places lane place) n 0)
+places_more jobs places lane place sized before here n below = elim (bool_cases (nat_eq lane n)) [
+  | inl own ↦
+    let same : lane ≡ n = eq_back lane n own in
+    subst (λ m. IsNextPlace jobs m 0 (slice_index_or (slice_set places lane place) m 0)) same
+    (subst (IsNextPlace jobs lane 0) (sym (get_or-set_same places lane place 0 sized)) here)
+  | inr other ↦
+    let less : n < lane = grind (arith, common_steps) in
+    subst (IsNextPlace jobs n 0) (sym (get_or-set_other places lane n place 0 (differs lane n other))) (before n less)
+]
+
+none_served : (entries : List Entry) (lane : ℕ) → lane_jobs lane (map job_of_entry (drop (length entries) entries)) ≡ []
+none_served entries lane = ap (λ es. lane_jobs lane (map job_of_entry es)) (drop-length entries)
+
+-- a desk that has taken the jobs of a batch
+pub record HasLoaded (d : DeskShape) (jobs : List Job) (spare cases : ℕ) (places : List ℕ) : Type 0 where
+  pub of_lanes : AreOfLanes d.lanes jobs
+  pub small : length d.entries + length jobs < 4294967296
+  pub room : length jobs ≤ spare
+  pub case_room : length jobs ≤ cases
+  pub placed : (lane : ℕ) → lane < LANE_LIMIT → IsNextPlace jobs lane 0 (slice_index_or places lane 0)
+
+pub desk_loaded : (d : DeskShape) (old : List ℕ) (jobs : List Job) (spare cases : ℕ) (places : List ℕ) → IsDesk d old → HasLoaded d jobs spare cases places →
+    IsDesk (with_room (with_batch d jobs) spare cases) places
+desk_loaded d old jobs spare cases places is loaded = record {
+  sound = record {
+    legal = is.sound.legal;
+    state = is.sound.state;
+    begun = omega arith;
+    front = λ lane. subst (λ js. js ≡ take (length js) (lane_jobs lane jobs)) (sym (none_served d.entries lane)) refl;
+    rests = subst (EachAfter (RestsFrom (length d.entries)) (take (length d.entries) d.entries)) (sym (drop-length d.entries)) tt;
+    wants = is.sound.wants;
+  };
+  few = is.few;
+  of_lanes = loaded.of_lanes;
+  room = let room = loaded.room in omega (arith, room);
+  cases = let room = loaded.case_room in omega (arith, room);
+  small = loaded.small;
+  ends = λ lane. let none = ap (λ (l : Loss). l.end) (same_all no_loss LANE_LIMIT lane) in omega (arith, none);
+  losses = λ lane j next. fresh_rests (with_room (with_batch d jobs) spare cases) lane j.ask (same_all no_loss LANE_LIMIT lane);
+  placed = λ lane known. let first = loaded.placed lane known in record {
+    within = first.within;
+    before = none_served d.entries lane ∙ sym first.same;
+    here = first.here;
+  };
+}
+
+-- and one that has only more room
+pub desk_roomier : (d : DeskShape) (places : List ℕ) (spare cases : ℕ) → IsDesk d places → d.spare ≤ spare → d.board.cases.spare ≤ cases → IsDesk (with_room d spare cases) places
+desk_roomier d places spare cases is more case_more = record {
+  sound = record { legal = is.sound.legal; state = is.sound.state; begun = is.sound.begun; front = is.sound.front; rests = is.sound.rests; wants = is.sound.wants };
+  few = is.few;
+  of_lanes = is.of_lanes;
+  room = let room = is.room in omega (arith, room, more);
+  cases = let room = is.cases in omega (arith, room, case_more);
+  small = is.small;
+  ends = is.ends;
+  losses = is.losses;
+  placed = λ lane known. let old = is.placed lane known in record { within = old.within; before = old.before; here = old.here };
+}
+
+-- a desk at its beginning
+abbrev pub first_desk : PolicyShape → ℕ → ℕ → BoardShape → ℕ → DeskShape
+first_desk p lanes rounds b spare = record {
+  opening = p;
+  lanes = lanes;
+  rounds = rounds;
+  board = b;
+  entries = [];
+  spare = spare;
+  jobs = [];
+  start = 0;
+  losses = replicate LANE_LIMIT no_loss;
+}
+
+pub desk_begins : (p : PolicyShape) (lanes rounds : ℕ) (b : BoardShape) (spare : ℕ) → lanes ≤ LANE_LIMIT → state_on b ≡ opening_state p →
+    IsDesk (first_desk p lanes rounds b spare) (replicate LANE_LIMIT 0)
+desk_begins p lanes rounds b spare few state = record {
+  sound = record { legal = tt; state = state; begun = omega arith; front = λ lane. refl; rests = tt; wants = tt };
+  few = few;
+  of_lanes = tt;
+  room = omega arith;
+  cases = omega arith;
+  small = omega arith;
+  ends = λ lane. let none = ap (λ (l : Loss). l.end) (same_all no_loss LANE_LIMIT lane) in omega (arith, none);
+  losses = λ lane j next. absurd (cc);
+  placed = λ lane known. subst (IsPlace (first_desk p lanes rounds b spare) lane) (sym (same_all 0 LANE_LIMIT lane)) record { within = omega arith; before = refl; here = tt };
+}
+
+-- ---- what the calls of a desk need of it
+
+pub desk_small : (d : DeskShape) (places : List ℕ) → IsDesk d places → length d.entries < 4294967296
+desk_small d places is = let within = batch_within d is.sound in let small = is.small in omega (arith, within, small)
+
+pub jobs_small : (d : DeskShape) (places : List ℕ) → IsDesk d places → length d.jobs < 4294967296
+jobs_small d places is = let small = is.small in omega (arith, small)
+
+pub has_room : (d : DeskShape) (places : List ℕ) (lane : ℕ) (j : Job) → IsDesk d places → next_job d lane ≡ Some j → 0 < d.spare
+has_room d places lane j is next =
+    let short = batch_short d lane j is.sound.begun is.sound.front next in
+    let room = is.room in
+    omega (arith, short, room)
+
+pub stands_here : (d : DeskShape) (places : List ℕ) (lane : ℕ) (j : Job) → IsDesk d places → lane < d.lanes → next_job d lane ≡ Some j →
+    slice_index_or places lane 0 < length d.jobs
+stands_here d places lane j is known next =
+    let few = is.few in
+    let place = slice_index_or places lane 0 in
+    slice_get_within d.jobs place j (sym (next_at d lane place (is.placed lane (omega (arith, few, known)))) ∙ next)
+
+-- the lane of an entry went on to its next job
+abbrev pub HasMoved : List Job → List ℕ → List ℕ → ℕ → Type 0
+HasMoved jobs places new lane = (place : ℕ) × ((new ≡ slice_set places lane place) × IsNextPlace jobs lane (slice_index_or places lane 0 + 1) place)
+
+-- with the parts that the calls change
+abbrev pub with_parts : DeskShape → ℕ → List Entry → BoardShape → ℕ → Loss → DeskShape
+with_parts d lane entries b spare loss = record d { entries = entries; board = b; spare = spare; losses = slice_set d.losses lane loss }
+
+pub desk_added : (d : DeskShape) (places new : List ℕ) (e : Entry) (entries : List Entry) (b : BoardShape) (spare : ℕ) (loss : Loss) → IsDesk d places →
+    ((place : ℕ) → IsNextPlace d.jobs e.lane (slice_index_or places e.lane 0 + 1) place → Grows d places e b spare place) →
+    entries ≡ d.entries ++ e ∷ [] → loss ≡ no_loss → HasMoved d.jobs places new e.lane → IsDesk (with_parts d e.lane entries b spare loss) new
+desk_added d places new e entries b spare loss is grows added none moved =
+    subst (IsDesk (with_parts d e.lane entries b spare loss)) (sym moved.1.0)
+    (subst (λ l. IsDesk (with_parts d e.lane entries b spare l) (slice_set places e.lane moved.0)) (sym none)
+    (subst (λ es. IsDesk (with_parts d e.lane es b spare no_loss) (slice_set places e.lane moved.0)) (sym added)
+    (desk_more d places e b spare moved.0 is (grows moved.0 moved.1.1))))

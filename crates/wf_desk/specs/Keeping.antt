@@ -1,0 +1,62 @@
+-- Inside: what a desk keeps beside what is said of it.
+use Rattle.std.specs.Prelude.{◌≡◌, ℕ, ◌+◌, ◌<◌, ◌≤◌, true, false, List, length, take, drop, max, slice_get, slice_index_or, IfSome, Some}
+use Rattle.wf_names.specs.declared.limits.TheConstants.{LANE_LIMIT}
+use Rattle.wf_talk.specs.declared.entry.Entry.{Entry}
+use Rattle.wf_talk.specs.declared.job.Job.{Job}
+use Rattle.wf_talk.specs.declared.reply.Reply.{Reply}
+use Rattle.wf_talk.specs.declared.request.Ask.{Ask}
+use Rattle.wf_board.specs.Counting.{counted, lane_end}
+use Rattle.wf_board.specs.Histories.{lane_jobs}
+use Rattle.wf_board.specs.declared.verdict.Verdict.TheVariants as verdict
+use Rattle.wf_desk.specs.declared.loss.Loss.{Loss}
+use Rattle.wf_desk.specs.declared.task.Task.{Task}
+use Rattle.wf_desk.specs.declared.outcome.Outcome.{Outcome}
+use Rattle.wf_desk.specs.declared.outcome.Outcome.TheVariants as outcome
+use Rattle.wf_desk.specs.Desks.{AreOfLanes, DeskShape, HasAdded, IsSoundDesk, loss_of, next_job, served}
+use Rattle.wf_desk.specs.Commits.{IsReplyWhere, floor_of, is_last_round, is_lost, job_of_task, with_loss}
+
+-- behind a lane's last entry of the batch
+abbrev pub own_start : DeskShape → ℕ → ℕ
+own_start d lane = max (lane_end lane d.entries) d.start
+
+-- the losses of a lane's next job, and the entries from its floor on that count for it, are no more than the entries of
+-- the batch behind the lane's last one that count for it
+abbrev pub LossRests : DeskShape → ℕ → Ask → Type 0
+LossRests d lane what =
+    (loss_of d.losses lane).count + counted what (drop (floor_of d lane) d.entries) ≤ counted what (drop (own_start d lane) d.entries)
+
+-- a place among jobs from which a lane goes on: it is the first of the lane's from another place on, or behind all
+pub record IsNextPlace (jobs : List Job) (lane from place : ℕ) : Type 0 where
+  pub within : place ≤ length jobs
+  pub same : lane_jobs lane (take place jobs) ≡ lane_jobs lane (take from jobs)
+  pub here : IfSome (slice_get jobs place) (λ j. j.lane ≡ lane)
+
+-- a lane's next job stands at a place among the jobs
+pub record IsPlace (d : DeskShape) (lane place : ℕ) : Type 0 where
+  pub within : place ≤ length d.jobs
+  pub before : served d lane ≡ lane_jobs lane (take place d.jobs)
+  pub here : IfSome (slice_get d.jobs place) (λ j. j.lane ≡ lane)
+
+-- a desk is sound, there is room for the entries and the cases of the batch, all numbers fit, a lost job rests on entries
+-- of the batch, and each lane's next job is known
+pub record IsDesk (d : DeskShape) (places : List ℕ) : Type 0 where
+  pub sound : IsSoundDesk d
+  pub few : d.lanes ≤ LANE_LIMIT
+  pub of_lanes : AreOfLanes d.lanes d.jobs
+  pub room : d.start + length d.jobs ≤ length d.entries + d.spare
+  pub cases : d.start + length d.jobs ≤ length d.entries + d.board.cases.spare
+  pub small : d.start + length d.jobs < 4294967296
+  pub ends : (lane : ℕ) → (loss_of d.losses lane).end ≤ length d.entries
+  pub losses : (lane : ℕ) (j : Job) → next_job d lane ≡ Some j → LossRests d lane j.ask
+  pub placed : (lane : ℕ) → lane < LANE_LIMIT → IsPlace d lane (slice_index_or places lane 0)
+
+-- the entry of a job at a place
+abbrev pub entry_for : Job → ℕ → Reply → Entry
+entry_for j at given = record { at = at; lane = j.lane; line = j.line; ask = j.ask; reply = given }
+
+-- what became of a task that was stale
+abbrev pub HasMissed : DeskShape → DeskShape → Task → Outcome → Type 0
+HasMissed before after t outcome.NotNext = ⊥
+HasMissed before after t outcome.Lost = (is_lost before t ≡ true) × ((is_last_round before t.lane ≡ false) × (after ≡ with_loss before t.lane))
+HasMissed before after t (outcome.Recorded place) =
+    HasAdded before after (job_of_task t) place (IsReplyWhere false (is_lost before t) before t verdict.Nothing)

@@ -1,0 +1,8 @@
+pub mod Desks
+pub mod Commits
+pub mod Keeping
+pub mod Fronts
+pub mod BatchLaws
+pub mod DocketLaws
+pub mod DeskLaws
+pub mod CommitLaws
