@@ -16,7 +16,7 @@ use Rattle.wf_board.specs.Histories.{AreAnsweredOnce, FillsJobs, batch_end, batc
 use Rattle.wf_board.specs.HistoryLaws.{once_all, policy_stays}
 use Rattle.wf_desk.specs.Desks.{DeskShape, IsDone, IsSoundDesk}
 use Rattle.wf_desk.specs.BatchLaws.{AnswersBatch, EndAt, batch_fills}
-use Rattle.wf_desk.specs.DoneLaws.{batch_done}
+use Rattle.wf_desk.specs.DocketLaws.{batch_done}
 use Rattle.wire_json.specs.Replies.{entry_text}
 use Rattle.line_cutter.specs.Cutter.{ends_after}
 use Rattle.run_record.specs.declared.fault.RunFault.{RunFault}

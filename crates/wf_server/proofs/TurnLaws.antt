@@ -10,7 +10,7 @@ use Rattle.wf_board.specs.Histories.{AreAnsweredOnce, lane_jobs}
 use Rattle.wf_board.specs.HistoryLaws.{once_all, step_once}
 use Rattle.wf_desk.specs.Desks.{AreOfLanes, DeskShape, IsDone, IsSoundDesk, next_job}
 use Rattle.wf_desk.specs.Commits.{HasServed}
-use Rattle.wf_desk.specs.DoneLaws.{batch_within}
+use Rattle.wf_desk.specs.DocketLaws.{batch_within}
 use Rattle.wf_server.specs.Sessions.{Setting}
 use Rattle.wf_server.specs.Turns.{HasServedOn, left_at, setting_of}
 
