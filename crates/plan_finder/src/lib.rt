@@ -18,4 +18,4 @@ mod runs;
 mod state;
 mod work;
 
-pub use runs::Finder;
+pub use runs::{Clue, Finder};

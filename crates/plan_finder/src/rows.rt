@@ -183,6 +183,26 @@ pub(crate) fn nth_user(row: &[u64], place: u32) -> Option<u16> {
     None
 }
 
+/// The least user who is in just one of two rows, other than these two.
+pub(crate) fn first_apart(row: &[u64], other: &[u64], u: u16, v: u16) -> Option<u16> {
+    for (at, (word, own)) in row.iter().zip(other.iter()).enumerate() {
+        let left = (*word ^ *own) & !word_of(at, u) & !word_of(at, v);
+        if left != 0 {
+            return Some(user_at(at, left.trailing_zeros()));
+        }
+    }
+    None
+}
+
+// The word at a place of the row of one user.
+fn word_of(at: usize, user: u16) -> u64 {
+    if at == (user >> 6) as usize {
+        1u64 << (user & 63)
+    } else {
+        0
+    }
+}
+
 /// The one user of a row, if there is just one.
 pub(crate) fn only_user(row: &[u64]) -> Option<u16> {
     if count(row) == 1 {

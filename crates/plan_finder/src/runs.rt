@@ -2,13 +2,13 @@
 ghost use Rattle.std.specs.Prelude.{◌<◌, length};
 
 use crate::advice::advised;
-use crate::bits::{NEW, bit};
+use crate::bits::{NEW, bit, has_bit};
 use crate::branch::Node;
 use crate::choice::{Choice, choose};
 use crate::laws::settle;
 use crate::matching::matched;
-use crate::problem::Problem;
-use crate::rows::{add_user, clear, has_user, is_empty, put};
+use crate::problem::{Over, Problem};
+use crate::rows::{add_user, clear, first_apart, has_user, is_empty, put};
 use crate::state::State;
 use crate::work::Work;
 use constraint_forms::{Assign, Plan, StepSet};
@@ -66,6 +66,57 @@ impl Finder {
     /// A step that is not assigned, which is a good one to try next; it may be another one all the same.
     pub fn next_step(&mut self, a: &Assign) -> Option<StepId> {
         advised(&self.problem, &mut self.work, a)
+    }
+
+    /// Where to look for what tells two users apart; they may differ elsewhere all the same.
+    pub fn clue(&self, u: UserId, v: UserId) -> Option<Clue> {
+        found_clue(&self.problem, u.0, v.0)
+    }
+}
+
+/// A rule whose relation may treat two users differently at a third one.
+#[derive(Clone, Copy)]
+pub struct Clue {
+    /// The number of the rule.
+    pub rule: u8,
+    /// The third user.
+    pub user: UserId,
+}
+
+// The first rule over each relation is enough.
+fn found_clue(problem: &Problem, u: u16, v: u16) -> Option<Clue> {
+    let mut seen = 0u32;
+    for (k, law) in problem.laws.as_slice().iter().enumerate() {
+        if let Over::Declared(at) = law.over {
+            if !has_bit(seen, at) {
+                seen |= bit(at);
+                if let Some(user) = third_user(problem, at, u, v) {
+                    return Some(Clue {
+                        rule: (k & 0xff) as u8,
+                        user: UserId(user),
+                    });
+                }
+            }
+        }
+    }
+    None
+}
+
+fn third_user(problem: &Problem, at: u8, u: u16, v: u16) -> Option<u16> {
+    let relation = problem.relations.get(at as usize)?;
+    match first_apart(
+        relation.ahead.row(u as usize),
+        relation.ahead.row(v as usize),
+        u,
+        v,
+    ) {
+        Some(user) => Some(user),
+        None => first_apart(
+            relation.back.row(u as usize),
+            relation.back.row(v as usize),
+            u,
+            v,
+        ),
     }
 }
 

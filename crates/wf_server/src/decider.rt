@@ -11,15 +11,15 @@ ghost use Rattle.wf_server.specs.Deciding.{DecidesDeed, DecidesFor, IsVerdictOf}
 
 use case_record::Case;
 use constraint_forms::{Assign, StepSet};
-use policy_book::Policy;
+use policy_book::{Plan, Policy};
 use std::alloc::Global;
 use wf_board::{Decider, Deed, Refused, Snap, Verdict, decision_aside};
 use wf_names::{CaseId, FlowId, StepId, UserId};
 use wf_talk::Ask;
-use wsp_solver::{Outcome, solve};
+use wsp_solver::{Outcome, plan_near, solve};
 
 /// Finds verdicts one after the other. The kept plan decides where it gives the step to the user,
-/// and else a search.
+/// else a plan near it where one is valid, and else a search.
 pub(crate) struct PlainDecider;
 
 impl Decider for PlainDecider {
@@ -82,12 +82,13 @@ fn claim_verdict(
         }
     }
     let assigned = assigned_with(case, step, user);
-    searched(
+    searched_near(
         alloc,
         snap.policy(),
         case.flow(),
         &assigned,
         &case.finished(),
+        snap.cases().plan(number),
     )
 }
 
@@ -100,6 +101,28 @@ fn assigned_with(case: &Case, step: StepId, user: UserId) -> Assign
 {
     let _ = case.steps();
     case.assigned().with(step, user)
+}
+
+// The verdict on an assignment: by a plan near a kept one where there is one, and else by a search.
+fn searched_near(
+    alloc: Global,
+    p: &Policy,
+    f: FlowId,
+    a: &Assign,
+    done: &StepSet,
+    kept: Option<Plan>,
+) -> Verdict
+    requires flow { f < length p.now.flows }
+    requires within { IsWithin (problem_of p.now f) a.now }
+    requires assigned { AreAssigned done.now a.now }
+    ensures { DecidesFor (problem_of p.now f) a.now done.now result }
+{
+    if let Some(plan) = kept {
+        if let Some(near) = plan_near(p, f, a, done, &plan) {
+            return Verdict::Plan(near);
+        }
+    }
+    searched(alloc, p, f, a, done)
 }
 
 // The verdict that a search finds.

@@ -1,3 +1,4 @@
+pub mod Crews
 pub mod Members
 pub mod Pushes
 pub mod Searching

@@ -1,7 +1,7 @@
 -- Sets of steps with one more, and what trees mention.
 use Rattle.std.proofs.Common.{◌≡◌, ◌≢◌, refl, sym, ap, ◌∙◌, ℕ, zero, suc, ◌+◌, ◌<◌, ◌≤◌, Bool, true, false, ◌&&◌, ◌||◌, ◌==◌, nat_lt, Option, None, Some, List, [], ◌∷◌, length, slice_set, ◌⊎◌, inl, inr, eqb, leb, arith}
 use Rattle.std.proofs.lemmas.Bool.Decides.{eqb_tells, leb_tells}
-use Rattle.std.proofs.lemmas.List.{get_or-set_same, get_or-set_other}
+use Rattle.std.proofs.lemmas.List.{get_or-set_same, get_or-set_other, length-set}
 use Rattle.constraint_forms.specs.declared.rule.Rule.{Rule}
 use Rattle.constraint_forms.specs.Assigned.{is_member}
 use Rattle.constraint_forms.specs.Rules.{names, IsRuleOf}
@@ -14,6 +14,9 @@ pub member_past : (set : List Bool) (t : ℕ) → length set ≤ t → is_member
 member_past [] t past = refl
 member_past (b ∷ bs) zero past = absurd (omega (arith, past))
 member_past (b ∷ bs) (suc t) past = member_past bs t (omega (arith, past))
+
+pub length_set : (set : List Bool) (s : ℕ) (b : Bool) → length (slice_set set s b) ≡ length set
+length_set set s b = length-set set s b
 
 or-true : (a : Bool) → (a || true) ≡ true
 or-true true = refl
@@ -57,7 +60,7 @@ passing_more p rest n t = at (eqb_tells t n) (leb_tells n t)
         ∙ ap (λ b. (rest || false) || (p n && b)) apart.0 ∙ gone false rest (p n)
         ∙ ap (λ b. rest || (b && p t)) (sym (lt_no t (n + 1) (omega (arith, past.1, apart.1))))
 
-eq_turned : (m n : ℕ) → (m == n) ≡ (n == m)
+pub eq_turned : (m n : ℕ) → (m == n) ≡ (n == m)
 eq_turned m n = same_by (m == n) (n == m) (λ e. eq_is n m (sym (eq_back m n e))) (λ e. eq_is m n (sym (eq_back n m e)))
 
 -- the set of one step has what its leaf mentions

@@ -1,16 +1,20 @@
 -- What a search may conclude from what it has tried.
-use Rattle.std.proofs.Common.{◌≡◌, ◌≢◌, refl, sym, ap, ◌∙◌, ℕ, zero, suc, ◌+◌, ◌-◌, ◌<◌, ◌≤◌, Bool, true, false, not, ◌&&◌, nat_lt, List, ◌∷◌, length, Option, None, Some, is_some, slice_set, if◌then◌else◌, arith, ◌⊎◌, inl, inr, eqb}
+use Rattle.std.proofs.Common.{◌≡◌, ◌≢◌, refl, sym, ap, ◌∙◌, ℕ, zero, suc, ◌+◌, ◌-◌, ◌<◌, ◌≤◌, Bool, true, false, not, ◌&&◌, nat_lt, List, ◌∷◌, length, Option, None, Some, is_some, slice_get, slice_set, if◌then◌else◌, arith, ◌⊎◌, inl, inr, eqb, leb}
 use Rattle.std.proofs.lemmas.Bool.{false≢true, lt-ltb}
-use Rattle.std.proofs.lemmas.Bool.Decides.{eqb_tells}
+use Rattle.std.proofs.lemmas.Bool.Decides.{eqb_tells, leb_tells}
+use Rattle.std.proofs.lemmas.Option.{slice_get_past}
+use Rattle.basics.proofs.Booleans.{and-false, bool_cases, second_false}
+use Rattle.constraint_forms.specs.declared.rule.Rule.{Rule}
+use Rattle.constraint_forms.specs.Rules.{names}
 use Rattle.constraint_forms.specs.Assigned.{user_at, planned, is_member}
 use Rattle.constraint_forms.proofs.RuleLaws.{totals_decide, falsified_by_named}
 use Rattle.refutation_tree.specs.Shapes.{Kids, no_kids}
 use Rattle.refutation_tree.proofs.ShapeLaws.{joined-none}
 use Rattle.policy_book.specs.Plans.{Problem, IsValidPlan, IsWellFormed, IsWithin}
-use Rattle.policy_book.specs.Refuting.{have_users, passing, is_misheld, is_broken}
+use Rattle.policy_book.specs.Refuting.{have_users, passing, is_misheld, is_broken, is_rule_naming}
 use Rattle.certificate_check.proofs.Assigned.{none_not_some, given_other, given_same}
 use Rattle.certificate_check.proofs.Trees.{passing_at}
-use Rattle.wsp_solver.specs.Searches.{AreOfUsersBelow, IsPlanOf, NoLeafRefutes, free_count}
+use Rattle.wsp_solver.specs.Searches.{AreOfUsersBelow, IsPlanOf, NoLeafRefutes, NoLeafRefutesWithout, free_count}
 
 -- ---- plans
 
@@ -45,6 +49,46 @@ valid_full p a done plan formed within none full = record {
       ∙ ap not (sym (falsified_by_named p.related r (user_at a) (λ s. Some (planned plan s)) (λ s named. full.given s (formed k r is s named)))
       ∙ ap (is_broken p a) (sym is) ∙ none.rules k);
 }
+
+-- ---- leaves
+
+-- a rule that does not name a step is falsified where it was before the step is given
+broken_alike : (p : Problem) (a : List (Option ℕ)) (s u : ℕ) (o : Option Rule) → is_rule_naming s o ≡ false → is_broken p (slice_set a s (Some u)) o ≡ is_broken p a o
+broken_alike p a s u None apart = refl
+broken_alike p a s u (Some r) apart =
+    falsified_by_named p.related r (user_at (slice_set a s (Some u))) (user_at a)
+    (λ t named. given_other a s u t (λ same. false≢true (sym apart ∙ ap (names r) (sym same) ∙ named)))
+
+-- where no leaf refutes, and a step is given to a user who is authorised for it, only a rule that names the step can
+pub quiet_given : (p : Problem) (a : List (Option ℕ)) (done : List Bool) (s u : ℕ) → s < length a → p.authorised s u ≡ true → NoLeafRefutes p a done → NoLeafRefutesWithout p (slice_set a s (Some u)) done s
+quiet_given p a done s u room may quiet = record {
+  holders = λ t. at t (eqb_tells t s);
+  rules = λ k apart. broken_alike p a s u (slice_get p.rules k) apart ∙ quiet.rules k;
+}
+  where
+    given : List (Option ℕ)
+    given = slice_set a s (Some u)
+
+    allowed : (t : ℕ) → t ≡ s → is_misheld p done t (Some u) ≡ false
+    allowed t same = ap (λ x. not (is_member done t) && not x) (ap (λ x. p.authorised x u) same ∙ may) ∙ and-false (not (is_member done t))
+
+    at : (t : ℕ) → ((eqb t s ≡ true) × (t ≡ s)) ⊎ ((eqb t s ≡ false) × (t ≢ s)) → (nat_lt t p.steps && is_misheld p done t (user_at given t)) ≡ false
+    at t (inl same) =
+        ap (λ o. nat_lt t p.steps && is_misheld p done t o) (ap (user_at given) same.1 ∙ given_same a s u room)
+        ∙ ap (λ b. nat_lt t p.steps && b) (allowed t same.1) ∙ and-false (nat_lt t p.steps)
+    at t (inr apart) = ap (λ o. nat_lt t p.steps && is_misheld p done t o) (given_other a s u t apart.1) ∙ quiet.holders t
+
+-- and where none does, no leaf refutes
+pub quiet_again : (p : Problem) (a : List (Option ℕ)) (done : List Bool) (s : ℕ) → NoLeafRefutesWithout p a done s → ((k : ℕ) → k < length p.rules → (is_rule_naming s (slice_get p.rules k) && is_broken p a (slice_get p.rules k)) ≡ false) → NoLeafRefutes p a done
+quiet_again p a done s others tried = record {
+  holders = others.holders;
+  rules = λ k. at k (leb_tells (length p.rules) k) (bool_cases (is_rule_naming s (slice_get p.rules k)));
+}
+  where
+    at : (k : ℕ) → ((leb (length p.rules) k ≡ true) × (length p.rules ≤ k)) ⊎ ((leb (length p.rules) k ≡ false) × (k < length p.rules)) → (is_rule_naming s (slice_get p.rules k) ≡ true) ⊎ (is_rule_naming s (slice_get p.rules k) ≡ false) → is_broken p a (slice_get p.rules k) ≡ false
+    at k (inl past) named = ap (is_broken p a) (slice_get_past p.rules k past.1)
+    at k (inr below) (inl named) = second_false (is_rule_naming s (slice_get p.rules k)) (is_broken p a (slice_get p.rules k)) (tried k below.1) named
+    at k (inr below) (inr apart) = others.rules k apart
 
 -- ---- branches
 

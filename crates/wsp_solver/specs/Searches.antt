@@ -1,10 +1,10 @@
 -- What a search answers, and how far it has come.
-use Rattle.std.specs.Prelude.{◌≡◌, ℕ, zero, suc, ◌+◌, ◌-◌, ◌<◌, Bool, false, List, Option, Some, is_some, if◌then◌else◌, IsTrue, length}
+use Rattle.std.specs.Prelude.{◌≡◌, ℕ, zero, suc, ◌+◌, ◌-◌, ◌<◌, Bool, false, List, Option, Some, is_some, if◌then◌else◌, IsTrue, length, slice_get}
 use Rattle.constraint_forms.specs.Assigned.{user_at, planned, is_member}
 use Rattle.refutation_tree.specs.Shapes.{Shape, Kids, holder, rule, joined}
 use Rattle.refutation_tree.specs.Views.{shape_of}
 use Rattle.policy_book.specs.Plans.{Problem, IsValidPlan}
-use Rattle.policy_book.specs.Refuting.{refutes, have_users, passing, mentions, any_mentions}
+use Rattle.policy_book.specs.Refuting.{refutes, have_users, is_rule_naming, passing, mentions, any_mentions}
 use Rattle.policy_book.specs.Lean.{is_lean}
 use Rattle.refutation_tree.specs.declared.tree.Tree.{Tree}
 use Rattle.constraint_forms.specs.declared.rule.Rule.{Rule}
@@ -46,6 +46,11 @@ HasSearched p assigned finished (searched.Refuted r) = IsRefutation p assigned f
 pub record NoLeafRefutes (p : Problem) (assigned : List (Option ℕ)) (finished : List Bool) : Type 0 where
   pub holders : (s : ℕ) → refutes p assigned finished (holder s) ≡ false
   pub rules : (k : ℕ) → refutes p assigned finished (rule k) ≡ false
+
+-- the same, of the rules that do not name a step
+pub record NoLeafRefutesWithout (p : Problem) (assigned : List (Option ℕ)) (finished : List Bool) (step : ℕ) : Type 0 where
+  pub holders : (s : ℕ) → refutes p assigned finished (holder s) ≡ false
+  pub rules : (k : ℕ) → is_rule_naming step (slice_get p.rules k) ≡ false → refutes p assigned finished (rule k) ≡ false
 
 -- a plan gives each of the first n steps to the user whom the assignment gives it to
 pub record IsPlanOf (n : ℕ) (assigned : List (Option ℕ)) (plan : List ℕ) : Type 0 where

@@ -32,8 +32,8 @@ pub(crate) fn found(
     }
 }
 
-// A plan that is valid, and no other one.
-fn checked(p: &Policy, f: FlowId, a: &Assign, done: &StepSet, plan: Plan) -> Option<Plan>
+/// A plan that is valid, and no other one.
+pub(crate) fn checked(p: &Policy, f: FlowId, a: &Assign, done: &StepSet, plan: Plan) -> Option<Plan>
     requires flow { f < length p.now.flows }
     requires within { IsWithin (problem_of p.now f) a.now }
     ensures { IfSome result (IsValidPlan (problem_of p.now f) a.now done.now) }
@@ -45,16 +45,16 @@ fn checked(p: &Policy, f: FlowId, a: &Assign, done: &StepSet, plan: Plan) -> Opt
     }
 }
 
-// Whether a plan has a user for each step.
-fn is_whole(p: &Policy, f: FlowId, plan: &Plan) -> bool
+/// Whether a plan has a user for each step.
+pub(crate) fn is_whole(p: &Policy, f: FlowId, plan: &Plan) -> bool
     requires { f < length p.now.flows }
     ensures { IsTrue result → length plan.now ≡ (problem_of p.now f).steps }
 {
     plan.len() as u16 == p.flow(f).steps().len()
 }
 
-// Whether the policy has every user of a plan.
-fn has_known(p: &Policy, plan: &Plan) -> bool
+/// Whether the policy has every user of a plan.
+pub(crate) fn has_known(p: &Policy, plan: &Plan) -> bool
     ensures { IsTrue result → (s : ℕ) → s < length plan.now → planned plan.now s < length p.now.roster.users }
 {
     'steps: for s in 0..plan.len() {

@@ -1,13 +1,14 @@
 //! Leaves that refute.
-ghost use Rattle.std.specs.Prelude.{◌≡◌, ◌<◌, ◌≤◌, ℕ, List, length, slice_get, Some, false, IsTrue, MatchOption};
+ghost use Rattle.std.specs.Prelude.{◌≡◌, ◌<◌, ◌≤◌, ◌&&◌, ℕ, List, length, slice_get, Some, false, IfSome, IsTrue, MatchOption};
 ghost use Rattle.wf_names.specs.declared.limits.TheConstants.{STEP_LIMIT};
 ghost use Rattle.constraint_forms.specs.declared.rule.Rule.{Rule as AnyRule};
 ghost use Rattle.refutation_tree.specs.Shapes.{holder, rule};
 ghost use Rattle.refutation_tree.specs.Views.{shape_of};
 ghost use Rattle.policy_book.specs.Plans.{IsWellFormed, IsWithin};
 ghost use Rattle.policy_book.specs.Policies.{problem_of};
-ghost use Rattle.policy_book.specs.Refuting.{refutes};
-ghost use Rattle.wsp_solver.specs.Searches.{AreMentioned, IsRefutation, NoLeafRefutes};
+ghost use Rattle.policy_book.specs.Refuting.{is_rule_naming, refutes};
+ghost use Rattle.policy_book.specs.Lean.{is_lean};
+ghost use Rattle.wsp_solver.specs.Searches.{AreMentioned, IsRefutation, NoLeafRefutes, NoLeafRefutesWithout};
 
 use crate::steps::{steps_named, with_if};
 use certificate_check::check_tree;
@@ -26,7 +27,8 @@ pub(crate) struct Refutation {
 pub(crate) fn refuting_leaf(p: &Policy, f: FlowId, a: &Assign, done: &StepSet) -> Option<Refutation>
     requires flow { f < length p.now.flows }
     requires within { IsWithin (problem_of p.now f) a.now }
-    ensures { MatchOption result (IsWellFormed (problem_of p.now f) × NoLeafRefutes (problem_of p.now f) a.now done.now) (IsRefutation (problem_of p.now f) a.now done.now) }
+    ensures leaf { MatchOption result (IsWellFormed (problem_of p.now f) × NoLeafRefutes (problem_of p.now f) a.now done.now) (IsRefutation (problem_of p.now f) a.now done.now) }
+    ensures lean { IfSome result (λ r. IsTrue (is_lean (problem_of p.now f) a.now (shape_of r.tree))) }
 {
     if let Some(s) = first_misheld(p, f, a, done) {
         return Some(held_wrongly(s));
@@ -101,4 +103,44 @@ fn first_falsified(p: &Policy, f: FlowId, a: &Assign, done: &StepSet) -> Option<
         }
     }
     None
+}
+
+/// The least rule that names a step and is falsified, where only such rules can be.
+pub(crate) fn first_falsified_with(
+    p: &Policy,
+    f: FlowId,
+    a: &Assign,
+    done: &StepSet,
+    s: StepId,
+) -> Option<u8>
+    requires flow { f < length p.now.flows }
+    requires within { IsWithin (problem_of p.now f) a.now }
+    requires others { NoLeafRefutesWithout (problem_of p.now f) a.now done.now s }
+    ensures { MatchOption result (NoLeafRefutes (problem_of p.now f) a.now done.now) (λ k. IsTrue (refutes (problem_of p.now f) a.now done.now (rule k))) }
+{
+    'rules: for k in 0..p.rules(f).len() {
+        if is_falsified_with(p, f, a, done, k as u8, s) {
+            return Some(k as u8);
+        }
+    }
+    None
+}
+
+// Whether a rule names a step and is falsified.
+fn is_falsified_with(p: &Policy, f: FlowId, a: &Assign, done: &StepSet, k: u8, s: StepId) -> bool
+    requires flow { f < length p.now.flows }
+    requires within { IsWithin (problem_of p.now f) a.now }
+    ensures { result ≡ (is_rule_naming s (slice_get (problem_of p.now f).rules k) && refutes (problem_of p.now f) a.now done.now (rule k)) }
+{
+    names_step(p, f, k, s) && check_tree(p, f, a, done, &Tree::Rule(k))
+}
+
+fn names_step(p: &Policy, f: FlowId, k: u8, s: StepId) -> bool
+    requires flow { f < length p.now.flows }
+    ensures { result ≡ is_rule_naming s (slice_get (problem_of p.now f).rules k) }
+{
+    match p.rules(f).as_slice().get(k as usize) {
+        Some(rule) => rule.names(s),
+        None => false,
+    }
 }

@@ -6,11 +6,14 @@ ghost use Rattle.refutation_tree.specs.Views.{kids_of_items, shape_of};
 ghost use Rattle.policy_book.specs.Plans.{IsWithin};
 ghost use Rattle.policy_book.specs.Policies.{problem_of};
 ghost use Rattle.policy_book.specs.Refuting.{all_refute, authorised_users, have_users, is_unassigned, refutes};
+ghost use Rattle.wsp_solver.specs.Crews.{IsCrewOf};
 ghost use Rattle.wsp_solver.specs.Trims.{IsTrimmed, IsTrimming};
 
+use crate::crew::Crew;
 use crate::leaf::{Refutation, falsified_rule, held_wrongly};
-use crate::steps::united;
+use crate::steps::{step_count, united};
 use crate::twin::twin_among;
+use plan_finder::Finder;
 use policy_book::{Assign, Policy, StepSet};
 use refutation_tree::{Branch, Branches, Kid, Tree};
 use std::alloc::{AllocError, Global};
@@ -31,19 +34,24 @@ pub fn trim(
     requires refutes { IsTrue (refutes (problem_of p.now f) a.now done.now (shape_of tree)) }
     ensures { IfOk result (IsTrimmed (problem_of p.now f) a.now done.now (shape_of tree)) }
 {
-    Ok(trim_tree(alloc, p, f, a, done, &tree)?.tree)
+    let finder = Finder::new(alloc, p, f)?;
+    let crew = Crew::new(alloc, p, f, &finder)?;
+    Ok(trim_tree(alloc, p, f, a, done, &crew, &tree)?.tree)
 }
 
+/// The same, with the steps that the tree mentions.
 #[cycle(trim)]
-fn trim_tree(
+pub(crate) fn trim_tree(
     alloc: Global,
     p: &Policy,
     f: FlowId,
     a: &Assign,
     done: &StepSet,
+    crew: &Crew,
     tree: &Tree,
 ) -> Result<Refutation, AllocError>
     requires flow { f < length p.now.flows }
+    requires crew { IsCrewOf (problem_of p.now f) crew.now }
     requires within { IsWithin (problem_of p.now f) a.now }
     requires refutes { IsTrue (refutes (problem_of p.now f) a.now done.now (shape_of tree.now)) }
     ensures { IfOk result (IsTrimming (problem_of p.now f) a.now done.now (shape_of tree.now)) }
@@ -54,17 +62,9 @@ fn trim_tree(
         Tree::Rule(k) => Ok(falsified_rule(p, f, *k)),
         Tree::Step(s, branches) => {
             let branches = branches.as_slice();
-            trim_node(alloc, p, f, a, done, *s, branches)
+            trim_node(alloc, p, f, a, done, crew, *s, branches)
         }
     }
-}
-
-fn step_count(p: &Policy, f: FlowId) -> usize
-    requires { f < length p.now.flows }
-    ensures count { result ≡ (problem_of p.now f).steps }
-    ensures few { result ≤ STEP_LIMIT }
-{
-    p.flow(f).steps().len() as usize
 }
 
 // Each branch becomes the leaf of a twin where it can, and else its tree is trimmed. A trimmed tree
@@ -77,10 +77,12 @@ fn trim_node(
     f: FlowId,
     a: &Assign,
     done: &StepSet,
+    crew: &Crew,
     s: StepId,
     branches: &[Branch],
 ) -> Result<Refutation, AllocError>
     requires flow { f < length p.now.flows }
+    requires crew { IsCrewOf (problem_of p.now f) crew.now }
     requires within { IsWithin (problem_of p.now f) a.now }
     requires room { s < STEP_LIMIT }
     requires free { IsTrue (is_unassigned (problem_of p.now f) a.now s) }
@@ -92,7 +94,7 @@ fn trim_node(
     let mut steps = StepSet::empty();
     'branches: for branch in branches {
         let user = branch.user;
-        if let Some(twin) = twin_among(p, f, a, &kept, user) {
+        if let Some(twin) = twin_among(p, f, a, crew, &kept, user) {
             kept.push(Branch {
                 user,
                 kid: Kid::Twin(twin),
@@ -101,9 +103,9 @@ fn trim_node(
         }
         match &branch.kid {
             Kid::Tree(tree) => {
-                let kid = trim_tree(alloc, p, f, &a.with(s, user), done, tree)?;
+                let kid = trim_tree(alloc, p, f, &a.with(s, user), done, crew, tree)?;
                 if !kid.steps.has(s) {
-                    return trim_tree(alloc, p, f, a, done, &kid.tree);
+                    return trim_tree(alloc, p, f, a, done, crew, &kid.tree);
                 }
                 steps = united(&steps, &kid.steps);
                 kept.push(Branch {

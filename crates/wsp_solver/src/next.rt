@@ -68,7 +68,8 @@ fn holder_of(a: &Assign, s: StepId) -> UserId
     }
 }
 
-fn no_users() -> [UserId; STEP_LIMIT]
+/// A list with a user for each step that there may be, to be written over.
+pub(crate) fn no_users() -> [UserId; STEP_LIMIT]
     ensures { length result ≡ STEP_LIMIT }
 {
     [UserId(0); STEP_LIMIT]

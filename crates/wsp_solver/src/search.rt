@@ -4,11 +4,13 @@ ghost use Rattle.wf_names.specs.declared.limits.TheConstants.{STEP_LIMIT};
 ghost use Rattle.policy_book.specs.Plans.{AreAssigned, IsWithin};
 ghost use Rattle.policy_book.specs.Policies.{problem_of};
 ghost use Rattle.policy_book.specs.Refuting.{is_unassigned};
-ghost use Rattle.wsp_solver.specs.Searches.{Decides, HasSearched};
+ghost use Rattle.wsp_solver.specs.Crews.{IsCrewOf};
+ghost use Rattle.wsp_solver.specs.Searches.{Decides, HasSearched, NoLeafRefutes, NoLeafRefutesWithout};
 
+use crate::crew::{Crew, duties_at};
 use crate::found::found;
-use crate::leaf::{Refutation, refuting_leaf};
-use crate::lean::trim;
+use crate::leaf::{Refutation, falsified_rule, first_falsified_with, refuting_leaf};
+use crate::lean::trim_tree;
 use crate::next::{next_step, plan_of};
 use crate::steps::united;
 use crate::twin::twin_among;
@@ -51,13 +53,20 @@ pub fn solve(
     if let Some(plan) = found(alloc, p, f, a, done, &mut finder)? {
         return Ok(Outcome::Plan(plan));
     }
-    match decide(alloc, p, f, a, done, &mut finder)? {
+    if let Some(leaf) = refuting_leaf(p, f, a, done) {
+        return Ok(Outcome::Refuted(leaf.tree));
+    }
+    let crew = Crew::new(alloc, p, f, &finder)?;
+    match decide(alloc, p, f, a, done, &crew, &mut finder)? {
         Searched::Plan(plan) => Ok(Outcome::Plan(plan)),
-        Searched::Refuted(found) => Ok(Outcome::Refuted(trim(alloc, p, f, a, done, found.tree)?)),
+        Searched::Refuted(found) => {
+            let lean = trim_tree(alloc, p, f, a, done, &crew, &found.tree)?;
+            Ok(Outcome::Refuted(lean.tree))
+        }
     }
 }
 
-// Tries everything, one free step after the other.
+// Tries everything, one free step after the other, where no leaf refutes.
 #[cycle(search)]
 fn decide(
     alloc: Global,
@@ -65,18 +74,19 @@ fn decide(
     f: FlowId,
     a: &Assign,
     done: &StepSet,
+    crew: &Crew,
     finder: &mut Finder,
 ) -> Result<Searched, AllocError>
     requires flow { f < length p.now.flows }
     requires within { IsWithin (problem_of p.now f) a.now }
     requires assigned { AreAssigned done.now a.now }
+    requires crew { IsCrewOf (problem_of p.now f) crew.now }
+    requires quiet { NoLeafRefutes (problem_of p.now f) a.now done.now }
     ensures { IfOk result (HasSearched (problem_of p.now f) a.now done.now) }
 {
-    if let Some(leaf) = refuting_leaf(p, f, a, done) {
-        return Ok(Searched::Refuted(leaf));
-    }
+    let _ = p.rules(f);
     match next_step(p, f, a, finder) {
-        Some(s) => try_users(alloc, p, f, a, done, s, finder),
+        Some(s) => try_users(alloc, p, f, a, done, s, crew, finder),
         None => Ok(Searched::Plan(plan_of(p, f, a))),
     }
 }
@@ -92,11 +102,14 @@ fn try_users(
     a: &Assign,
     done: &StepSet,
     s: StepId,
+    crew: &Crew,
     finder: &mut Finder,
 ) -> Result<Searched, AllocError>
     requires flow { f < length p.now.flows }
     requires within { IsWithin (problem_of p.now f) a.now }
     requires assigned { AreAssigned done.now a.now }
+    requires crew { IsCrewOf (problem_of p.now f) crew.now }
+    requires quiet { NoLeafRefutes (problem_of p.now f) a.now done.now }
     requires room { s < STEP_LIMIT }
     requires free { IsTrue (is_unassigned (problem_of p.now f) a.now s) }
     ensures { IfOk result (HasSearched (problem_of p.now f) a.now done.now) }
@@ -105,17 +118,17 @@ fn try_users(
     let mut steps = StepSet::empty();
     'users: for u in 0..p.roster().users().len() {
         let user = UserId(u);
-        if !is_authorised_user(p, f, s, user) {
+        if !is_authorised_user(p, f, crew, s, user) {
             continue;
         }
-        if let Some(twin) = twin_among(p, f, a, &branches, user) {
+        if let Some(twin) = twin_among(p, f, a, crew, &branches, user) {
             branches.push(Branch {
                 user,
                 kid: Kid::Twin(twin),
             })?;
             continue;
         }
-        match decide(alloc, p, f, &a.with(s, user), done, finder)? {
+        match try_user(alloc, p, f, &a.with(s, user), done, s, crew, finder)? {
             Searched::Plan(plan) => return Ok(Searched::Plan(plan)),
             Searched::Refuted(kid) => {
                 if !kid.steps.has(s) {
@@ -135,12 +148,37 @@ fn try_users(
     }))
 }
 
-/// Whether a user is authorised for a step.
-fn is_authorised_user(p: &Policy, f: FlowId, s: StepId, u: UserId) -> bool
+// Decides an assignment under which a leaf refutes only where it mentions the step that was given last.
+#[cycle(search)]
+fn try_user(
+    alloc: Global,
+    p: &Policy,
+    f: FlowId,
+    a: &Assign,
+    done: &StepSet,
+    s: StepId,
+    crew: &Crew,
+    finder: &mut Finder,
+) -> Result<Searched, AllocError>
     requires flow { f < length p.now.flows }
+    requires within { IsWithin (problem_of p.now f) a.now }
+    requires assigned { AreAssigned done.now a.now }
+    requires crew { IsCrewOf (problem_of p.now f) crew.now }
+    requires others { NoLeafRefutesWithout (problem_of p.now f) a.now done.now s }
+    ensures { IfOk result (HasSearched (problem_of p.now f) a.now done.now) }
+{
+    match first_falsified_with(p, f, a, done, s) {
+        Some(k) => Ok(Searched::Refuted(falsified_rule(p, f, k))),
+        None => decide(alloc, p, f, a, done, crew, finder),
+    }
+}
+
+// Whether a user is authorised for a step.
+fn is_authorised_user(p: &Policy, f: FlowId, crew: &Crew, s: StepId, u: UserId) -> bool
+    requires crew { IsCrewOf (problem_of p.now f) crew.now }
     requires step { s < (problem_of p.now f).steps }
     requires user { u < (problem_of p.now f).users }
     ensures { result ≡ (problem_of p.now f).authorised s u }
 {
-    p.authorised(f, s, u)
+    duties_at(&crew.duties, u).has(s)
 }

@@ -1,11 +1,13 @@
-//! Sets of steps.
-ghost use Rattle.std.specs.Prelude.{◌≡◌, ◌<◌, ◌||◌, ◌&&◌, ◌==◌, ℕ, nat_lt};
+//! Steps and sets of steps.
+ghost use Rattle.std.specs.Prelude.{◌≡◌, ◌<◌, ◌≤◌, length, ◌||◌, ◌&&◌, ◌==◌, ℕ, nat_lt, true, slice_set, if◌then◌else◌};
 ghost use Rattle.constraint_forms.specs.Assigned.{is_member};
 ghost use Rattle.constraint_forms.specs.Rules.{names};
+ghost use Rattle.policy_book.specs.Policies.{problem_of};
 ghost use Rattle.wf_names.specs.declared.limits.TheConstants.{STEP_LIMIT};
 
 use constraint_forms::{Rule, StepSet};
-use wf_names::{STEP_LIMIT, StepId};
+use policy_book::Policy;
+use wf_names::{FlowId, STEP_LIMIT, StepId};
 
 /// The steps of either set.
 pub(crate) fn united(a: &StepSet, b: &StepSet) -> StepSet
@@ -34,7 +36,17 @@ pub(crate) fn steps_named(rule: &Rule) -> StepSet
 /// A set, with one more step where that is wanted.
 pub(crate) fn with_if(set: &StepSet, s: StepId, wanted: bool) -> StepSet
     requires { s < STEP_LIMIT }
-    ensures { (t : ℕ) → is_member result t ≡ (is_member set.now t || (wanted && t == s)) }
+    ensures value { result ≡ (if wanted then slice_set set.now s true else set.now) }
+    ensures members { (t : ℕ) → is_member result t ≡ (is_member set.now t || (wanted && t == s)) }
 {
     if wanted { set.with(s) } else { *set }
+}
+
+/// How many steps a workflow has.
+pub(crate) fn step_count(p: &Policy, f: FlowId) -> usize
+    requires { f < length p.now.flows }
+    ensures count { result ≡ (problem_of p.now f).steps }
+    ensures few { result ≤ STEP_LIMIT }
+{
+    p.flow(f).steps().len() as usize
 }

@@ -1,47 +1,107 @@
 //! Twins among the branches of a node.
-ghost use Rattle.std.specs.Prelude.{◌≡◌, ◌<◌, [], length, true, false, MatchOption};
+ghost use Rattle.std.specs.Prelude.{◌≡◌, ◌<◌, [], length, true, false, IsTrue, MatchOption};
+ghost use Rattle.wf_names.specs.declared.limits.TheConstants.{STEP_LIMIT};
+ghost use Rattle.constraint_forms.specs.Assigned.{user_at};
 ghost use Rattle.policy_book.specs.Policies.{problem_of};
-ghost use Rattle.policy_book.specs.Twins.{are_twins, has_twin, is_one_of};
+ghost use Rattle.policy_book.specs.Twins.{are_twins, has_no_step, has_twin, is_given_to, is_one_of};
 ghost use Rattle.certificate_check.specs.Walks.{AreUsersBelow, user_onto};
 ghost use Rattle.refutation_tree.specs.Views.{kids_of_items};
+ghost use Rattle.wsp_solver.specs.Crews.{IsCrewOf, class_of};
 ghost use Rattle.wsp_solver.specs.Trims.{kid_users};
 
-use certificate_check::twins;
+use crate::crew::{Crew, class_at};
 use policy_book::{Assign, Policy};
 use refutation_tree::{Branch, Branches, Kid};
-use wf_names::{FlowId, UserId};
+use wf_names::{FlowId, STEP_LIMIT, StepId, UserId};
 
 /// A user whose branch has a tree, and who is a twin of this one; if there is one.
 pub(crate) fn twin_among(
     p: &Policy,
     f: FlowId,
     a: &Assign,
+    crew: &Crew,
     branches: &Branches,
     u: UserId,
 ) -> Option<UserId>
-    requires flow { f < length p.now.flows }
+    requires crew { IsCrewOf (problem_of p.now f) crew.now }
     requires users { AreUsersBelow (problem_of p.now f).users branches.now }
     requires user { u < (problem_of p.now f).users }
     ensures { MatchOption result (has_twin (problem_of p.now f) a.now u (kid_users [] branches.now) ≡ false) (λ v. (is_one_of (kid_users [] branches.now) v ≡ true) × (are_twins (problem_of p.now f) a.now u v ≡ true)) }
 {
+    if !has_no_step(a, u) {
+        return None;
+    }
+    let class = class_at(&crew.classes, u);
     let items = branches.as_slice();
     'branches: for branch in items {
-        if is_twin_branch(p, f, a, branch, u) {
+        if is_twin_branch(p, f, a, crew, branch, u, class) {
             return Some(branch.user);
         }
     }
     None
 }
 
-// Whether a branch has a tree, and its user is a twin of this one.
-fn is_twin_branch(p: &Policy, f: FlowId, a: &Assign, branch: &Branch, u: UserId) -> bool
-    requires flow { f < length p.now.flows }
+// Whether a branch has a tree, and its user is a twin of this one, who has no step.
+fn is_twin_branch(
+    p: &Policy,
+    f: FlowId,
+    a: &Assign,
+    crew: &Crew,
+    branch: &Branch,
+    u: UserId,
+    class: UserId,
+) -> bool
+    requires crew { IsCrewOf (problem_of p.now f) crew.now }
     requires first { branch.now.user < (problem_of p.now f).users }
     requires user { u < (problem_of p.now f).users }
+    requires idle { IsTrue (has_no_step a.now u) }
+    requires class { class ≡ class_of crew.now.classes.items u }
     ensures { result ≡ has_twin (problem_of p.now f) a.now u (user_onto branch.now.kid branch.now.user []) }
 {
     match &branch.kid {
-        Kid::Tree(_) => twins(p, f, a, u, branch.user),
+        Kid::Tree(_) => are_twins(p, f, a, crew, branch.user, u, class),
         Kid::Twin(_) => false,
+    }
+}
+
+// Whether a user is a twin of another one, who has no step.
+fn are_twins(
+    p: &Policy,
+    f: FlowId,
+    a: &Assign,
+    crew: &Crew,
+    v: UserId,
+    u: UserId,
+    class: UserId,
+) -> bool
+    requires crew { IsCrewOf (problem_of p.now f) crew.now }
+    requires first { v < (problem_of p.now f).users }
+    requires user { u < (problem_of p.now f).users }
+    requires idle { IsTrue (has_no_step a.now u) }
+    requires class { class ≡ class_of crew.now.classes.items u }
+    ensures { result ≡ are_twins (problem_of p.now f) a.now u v }
+{
+    class == class_at(&crew.classes, v) && has_no_step(a, v)
+}
+
+// Whether no step is given to a user.
+fn has_no_step(a: &Assign, u: UserId) -> bool
+    ensures { result ≡ has_no_step a.now u }
+{
+    'steps: for s in 0..STEP_LIMIT {
+        if is_given_to(a, StepId(s as u8), u) {
+            return false;
+        }
+    }
+    true
+}
+
+fn is_given_to(a: &Assign, s: StepId, u: UserId) -> bool
+    ensures given { result ≡ is_given_to u (user_at a.now s) }
+    ensures len { length a.now ≡ STEP_LIMIT }
+{
+    match a.at(s) {
+        Some(v) => v == u,
+        None => false,
     }
 }

@@ -23,17 +23,17 @@ returns-then-eq c =
     let gives : planned c.in-Some.plan c.args.step ≡ c.args.user = grind (arith, common_steps, c.at.ensures, c.eq.ensures, c.if-eq.true) in
     valid_with (problem_of p k.flow) k c.args.step c.args.user c.in-Some.plan gives valid
 
-pub searched-requires-clause-within : goal.searched-requires-clause-within
-searched-requires-clause-within c =
+pub searched_near-requires-clause-within : goal.searched_near-requires-clause-within
+searched_near-requires-clause-within c =
     rw (c.policy.ensures.policy, c.flow.ensures, c.assigned_with-assigned.ensures.given)
     (search_within c.args.snap.now.policy c.args.snap.now.cases.rows c.args.number c.args.case.now c.args.step c.args.user c.policy.ensures.kept c.requires)
 
-pub searched-requires-clause-assigned : goal.searched-requires-clause-assigned
-searched-requires-clause-assigned c =
+pub searched_near-requires-clause-assigned : goal.searched_near-requires-clause-assigned
+searched_near-requires-clause-assigned c =
     rw (c.finished.ensures.value, c.assigned_with-assigned.ensures.given)
     (search_assigned c.args.case.now c.args.step c.args.user (omega (arith, c.assigned_with-assigned.ensures.len, c.assigned_with-assigned.ensures.within)))
 
 pub returns : goal.returns
 returns c =
-    decides_same c.args.snap.now.policy c.policy.result.now c.args.case.now.flow c.flow.result _ c.assigned_with-assigned.result _ c.finished.result c.searched.result
-    c.policy.ensures.policy c.flow.ensures c.assigned_with-assigned.ensures.given c.finished.ensures.value c.searched.ensures
+    decides_same c.args.snap.now.policy c.policy.result.now c.args.case.now.flow c.flow.result _ c.assigned_with-assigned.result _ c.finished.result c.searched_near.result
+    c.policy.ensures.policy c.flow.ensures c.assigned_with-assigned.ensures.given c.finished.ensures.value c.searched_near.ensures

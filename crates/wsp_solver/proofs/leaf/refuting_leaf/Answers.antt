@@ -4,8 +4,8 @@ use Rattle.policy_book.specs.Refuting.{refutes}
 use Rattle.wsp_solver.specs.Searches.{AreMentioned}
 use Rattle.wsp_solver.proofs.leaf.refuting_leaf.Goals as goal
 
-pub returns-in-Some : goal.returns-in-Some
-returns-in-Some c =
+pub returns-in-Some-clause-leaf : goal.returns-in-Some-clause-leaf
+returns-in-Some-clause-leaf c =
     let p = problem_of c.args.p.now c.args.f in
     let found = c.held_wrongly.ensures in record {
       refutes = ap (refutes p c.args.a.now c.args.done.now) found.tree ∙ c.in-Some.ensures.1;

@@ -54,7 +54,7 @@ trim_tree-trim_node-requires t c =
     let here = subst (λ (tree : Tree). refutes p c.args.a.now c.args.done.now (shape_of tree) ≡ true) c.in-Step.is c.requires.refutes in
     let parts = node_parts p c.args.a.now c.args.done.now c.in-Step.s kids here in
     let nodes = ap (λ (tree : Tree). nodes_of (shape_of tree)) c.in-Step.is in
-    (omega (arith, c.decreases, nodes, ap nodes_of_kids items), (c.requires.flow, (c.requires.within, (omega (arith, parts.step, c.step_count.ensures.count, c.step_count.ensures.few), (parts.free, (ap (have_users (authorised_users p c.in-Step.s)) (sym items) ∙ parts.users, ap (all_refute p c.args.a.now c.args.done.now c.in-Step.s []) (sym items) ∙ parts.each))))))
+    (omega (arith, c.decreases, nodes, ap nodes_of_kids items), (c.requires.flow, (c.requires.crew, (c.requires.within, (omega (arith, parts.step, c.step_count.ensures.count, c.step_count.ensures.few), (parts.free, (ap (have_users (authorised_users p c.in-Step.s)) (sym items) ∙ parts.users, ap (all_refute p c.args.a.now c.args.done.now c.in-Step.s []) (sym items) ∙ parts.each)))))))
 
 pub trim_tree-returns-in-Holder : goal.trim_tree-returns-in-Holder
 trim_tree-returns-in-Holder t c =
@@ -96,9 +96,12 @@ trim_node-trim_tree-requires t c =
       (
         c.requires.flow,
         (
-          subst (IsWithin p) (sym c.with.ensures.given) (within_given p a c.args.s b.user c.requires.within c.requires.free known),
-          ap (λ x. refutes p x c.args.done.now (shape_of c.in-Tree.tree)) c.with.ensures.given
-              ∙ tree_refutes p a c.args.done.now c.args.s bs i b c.branches.kept c.branches.steps c.in-Tree.tree c.branches-test.true c.branch-item.is c.in-Tree.is c.branches.invariant,
+          c.requires.crew,
+          (
+            subst (IsWithin p) (sym c.with.ensures.given) (within_given p a c.args.s b.user c.requires.within c.requires.free known),
+            ap (λ x. refutes p x c.args.done.now (shape_of c.in-Tree.tree)) c.with.ensures.given
+                ∙ tree_refutes p a c.args.done.now c.args.s bs i b c.branches.kept c.branches.steps c.in-Tree.tree c.branches-test.true c.branch-item.is c.in-Tree.is c.branches.invariant,
+          ),
         ),
       ),
     )
@@ -131,8 +134,11 @@ trim_node-trim_tree-requires-then-not-has t c =
       (
         c.requires.flow,
         (
-          c.requires.within,
-          unmentioned p a c.with.result c.args.done.now c.args.s b.user (shape_of c.in-Tree.tree) kid.kid (omega (arith, c.requires.room, c.with.ensures.len)) c.with.ensures.given c.requires.free kid.ensures (sym c.if-not-has.ensures.flag),
+          c.requires.crew,
+          (
+            c.requires.within,
+            unmentioned p a c.with.result c.args.done.now c.args.s b.user (shape_of c.in-Tree.tree) kid.kid (omega (arith, c.requires.room, c.with.ensures.len)) c.with.ensures.given c.requires.free kid.ensures (sym c.if-not-has.ensures.flag),
+          ),
         ),
       ),
     )

@@ -10,16 +10,16 @@ use Rattle.certificate_check.proofs.Assigned.{not_some}
 use Rattle.certificate_check.proofs.Refuted.{assigned_given}
 use Rattle.certificate_check.proofs.Trees.{within_given}
 use Rattle.certificate_check.specs.Walks.{AreUsersBelow}
-use Rattle.wsp_solver.specs.Searches.{AreOfUsersBelow, AreMentionedIn, HasSearched, free_count}
+use Rattle.wsp_solver.specs.Searches.{AreOfUsersBelow, AreMentionedIn, HasSearched, NoLeafRefutesWithout, free_count}
 use Rattle.wsp_solver.proofs.Members.{mentioned_push, mentioned_push_twin}
 use Rattle.certificate_check.proofs.Dropped.{unmentioned_step_drops as drops}
-use Rattle.wsp_solver.proofs.Searching.{valid_full, valid_without, users_skip, users_end, count_less}
+use Rattle.wsp_solver.proofs.Searching.{quiet_given, valid_full, valid_without, users_skip, users_end, count_less}
 use Rattle.wsp_solver.proofs.Pushes.{below_push, below_push_twin, refute_push, refute_push_twin, users_push, users_push_twin}
 use Rattle.wsp_solver.proofs.search.+search.Goals as goal
 
 pub decide-returns-in-None : goal.decide-returns-in-None
 decide-returns-in-None t c =
-    valid_full (problem_of c.args.p.now c.args.f) c.args.a.now c.args.done.now c.plan_of.result c.in_default.ensures.0 c.requires.within c.in_default.ensures.1 c.plan_of.ensures
+    valid_full (problem_of c.args.p.now c.args.f) c.args.a.now c.args.done.now c.plan_of.result c.rules.ensures.well_formed c.requires.within c.requires.quiet c.plan_of.ensures
 
 -- the number of users, as the loop has it
 users_known : (n : ℕ) (names users : List (List ℕ)) → n ≡ length names → names ≡ users → n ≡ length users
@@ -39,8 +39,8 @@ try_users-users-preserved-then-not-is_authorised_user t c =
     let known = users_known _ _ _ c.len-u-end.ensures.count (c.users-2.ensures.names ∙ ap (λ r. r.users) c.roster.ensures.roster) in
     (users_skip (p.authorised c.args.s) c.users.u p.users c.users.branches (omega (arith, known, c.users-test.true)) (sym c.if-not-is_authorised_user.ensures) c.users.invariant.0, c.users.invariant.1, c.users.invariant.2, c.users.invariant.3)
 
-pub try_users-decide-requires : goal.try_users-decide-requires
-try_users-decide-requires t c =
+pub try_users-try_user-requires : goal.try_users-try_user-requires
+try_users-try_user-requires t c =
     let p = problem_of c.args.p.now c.args.f in
     let a = c.args.a.now in
     let s = c.args.s in
@@ -52,7 +52,13 @@ try_users-decide-requires t c =
         c.requires.flow,
         (
           subst (IsWithin p) (sym c.with.ensures.given) (within_given p a s c.users.u c.requires.within c.requires.free (omega (arith, known, c.users-test.true))),
-          subst (AreAssigned c.args.done.now) (sym c.with.ensures.given) (assigned_given a c.args.done.now s c.users.u c.requires.assigned (step_open p a s c.requires.free)),
+          (
+            subst (AreAssigned c.args.done.now) (sym c.with.ensures.given) (assigned_given a c.args.done.now s c.users.u c.requires.assigned (step_open p a s c.requires.free)),
+            (
+              c.requires.crew,
+              subst (λ x. NoLeafRefutesWithout p x c.args.done.now s) (sym c.with.ensures.given) (quiet_given p a c.args.done.now s c.users.u (omega (arith, c.requires.room, c.with.ensures.len)) (sym c.if-not-is_authorised_user.ensures) c.requires.quiet),
+            ),
+          ),
         ),
       ),
     )

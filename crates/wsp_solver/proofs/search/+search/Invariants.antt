@@ -6,10 +6,13 @@ use Rattle.wsp_solver.specs.Searches.{AreOfUsersBelow, AreMentionedIn, free_coun
 use Rattle.wsp_solver.proofs.search.+search.Given as goal
 
 abbrev pub decreases-decide : goal.decreases-decide
-decreases-decide l = 2 * free_count l.a.now (problem_of l.p.now l.f).steps + 1
+decreases-decide l = 3 * free_count l.a.now (problem_of l.p.now l.f).steps + 1
 
 abbrev pub decreases-try_users : goal.decreases-try_users
-decreases-try_users l = 2 * free_count l.a.now (problem_of l.p.now l.f).steps
+decreases-try_users l = 3 * free_count l.a.now (problem_of l.p.now l.f).steps
+
+abbrev pub decreases-try_user : goal.decreases-try_user
+decreases-try_user l = 3 * free_count l.a.now (problem_of l.p.now l.f).steps + 2
 
 abbrev pub invariant-try_users-users : goal.invariant-try_users-users
 invariant-try_users-users l =

@@ -10,7 +10,7 @@ steps-init c = λ t. c.empty-named.ensures.none t ∙ sym (ap (λ b. b && names 
 
 pub steps-preserved : goal.steps-preserved
 steps-preserved c = λ t.
-    c.with_if-named.ensures t ∙ ap (λ b. b || (c.names.result && t == c.steps.s)) (c.steps.invariant t)
+    c.with_if-named.ensures.members t ∙ ap (λ b. b || (c.names.result && t == c.steps.s)) (c.steps.invariant t)
     ∙ ap (λ b. (nat_lt t c.steps.s && names c.args.rule.now t) || (b && t == c.steps.s)) c.names.ensures
     ∙ passing_more (names c.args.rule.now) false c.steps.s t
 

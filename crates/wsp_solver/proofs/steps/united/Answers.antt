@@ -10,7 +10,7 @@ steps-init c = λ t. sym (ap (λ b. is_member c.args.a.now t || (b && is_member 
 
 pub steps-preserved : goal.steps-preserved
 steps-preserved c = λ t.
-    c.with_if-both.ensures t ∙ ap (λ b. b || (c.has.result && t == c.steps.s)) (c.steps.invariant t)
+    c.with_if-both.ensures.members t ∙ ap (λ b. b || (c.has.result && t == c.steps.s)) (c.steps.invariant t)
     ∙ ap (λ b. (is_member c.args.a.now t || (nat_lt t c.steps.s && is_member c.args.b.now t)) || (b && t == c.steps.s)) c.has.ensures.flag
     ∙ passing_more (is_member c.args.b.now) (is_member c.args.a.now t) c.steps.s t
 

@@ -7,6 +7,7 @@ use Rattle.basics.proofs.Booleans.{or_left}
 use Rattle.certificate_check.specs.Walks.{AreUsersBelow, tree_users, user_onto}
 use Rattle.certificate_check.proofs.Trees.{one_of_all, one_of_more, tree_users-more, user_below}
 use Rattle.wsp_solver.specs.Trims.{kid_users}
+use Rattle.wsp_solver.proofs.Crews.{busy_alone}
 use Rattle.wsp_solver.proofs.TwinUsers.{kid_users-items, twin_here, twin_onto}
 use Rattle.wsp_solver.proofs.twin.twin_among.Goals as goal
 
@@ -42,3 +43,6 @@ returns c =
     let bs = c.as_slice-items.result.now in
     let all : take c.branches.branch-index bs ≡ bs = take_all c.branches.branch-index bs c.branches-test.false in
     ap (has_twin p c.args.a.now c.args.u) (ap (kid_users []) c.as_slice-items.ensures ∙ kid_users-items bs [] ∙ ap (tree_users []) (sym all)) ∙ c.branches.invariant
+
+pub returns-then-not-has_no_step : goal.returns-then-not-has_no_step
+returns-then-not-has_no_step c = busy_alone (problem_of c.args.p.now c.args.f) c.args.a.now c.args.u (kid_users [] c.args.branches.now) (sym c.if-not-has_no_step.ensures)

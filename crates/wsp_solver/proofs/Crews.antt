@@ -1,0 +1,192 @@
+-- What a search knows of each user.
+use Rattle.std.proofs.Common.{◌≡◌, ◌≢◌, refl, sym, ap, ◌∙◌, ℕ, zero, suc, ◌+◌, ◌<◌, ◌≤◌, Bool, true, false, not, ◌&&◌, ◌||◌, ◌==◌, nat_lt, List, [], ◌∷◌, ◌++◌, length, replicate, Option, None, Some, slice_get, slice_set, if◌then◌else◌, eqb, ◌⊎◌, inl, inr, arith}
+use Rattle.std.proofs.lemmas.Bool.{false≢true}
+use Rattle.std.proofs.lemmas.Bool.Decides.{eqb_tells}
+use Rattle.std.proofs.Math.Seq.{get_or-append_seam}
+use Rattle.std.proofs.lemmas.List.{get_or_append_left, length-append, length-replicate}
+use Rattle.std.proofs.lemmas.Option.{slice_get_within}
+use Rattle.basics.proofs.Booleans.{and-false, and_both, and_swap, eq_is, lt_back, lt_no, lt_yes, not_true, or-false, same_by}
+use Rattle.wf_names.specs.declared.limits.TheConstants.{STEP_LIMIT}
+use Rattle.constraint_forms.specs.declared.rule.Rule.{Rule}
+use Rattle.constraint_forms.specs.Assigned.{is_member, no_steps, user_at}
+use Rattle.constraint_forms.specs.Rules.{relation_of}
+use Rattle.policy_book.specs.Plans.{Problem}
+use Rattle.policy_book.specs.Twins.{agree, are_related_alike, are_twins, has_no_step, has_twin, is_alike_to, is_given_to, is_rule_alike, may_do_the_same}
+use Rattle.certificate_check.proofs.Below.{all_pass, one_fails}
+use Rattle.certificate_check.proofs.TwinLaws.{mean_twins, twins_chain, twins_mean, twins_turned}
+use Rattle.wsp_solver.specs.Crews.{AreClassesBelow, AreDuties, class_of, duties_below, duties_of, is_told_apart, tells_apart}
+use Rattle.wsp_solver.proofs.Members.{eq_turned, length_set, member_added, passing_more}
+
+-- ---- steps
+
+duties-length : (p : Problem) (u n : ℕ) → length no_steps ≡ STEP_LIMIT → length (duties_below p u n) ≡ STEP_LIMIT
+duties-length p u zero none = none
+duties-length p u (suc n) none = at (p.authorised n u) (duties-length p u n none)
+  where
+    at : (b : Bool) → length (duties_below p u n) ≡ STEP_LIMIT → length (if b then slice_set (duties_below p u n) n true else duties_below p u n) ≡ STEP_LIMIT
+    at true known = length_set (duties_below p u n) n true ∙ known
+    at false known = known
+
+-- who is in a set with one more step where that is wanted
+pub member_if : (set : List Bool) (n t : ℕ) (b : Bool) → n < length set → is_member (if b then slice_set set n true else set) t ≡ (is_member set t || (b && t == n))
+member_if set n t true below = member_added set n t below
+member_if set n t false below = sym (or-false (is_member set t))
+
+duties-member : (p : Problem) (u n t : ℕ) → length no_steps ≡ STEP_LIMIT → ((s : ℕ) → is_member no_steps s ≡ false) → n ≤ STEP_LIMIT → is_member (duties_below p u n) t ≡ (nat_lt t n && p.authorised t u)
+duties-member p u zero t long none few = none t ∙ sym (ap (λ b. b && p.authorised t u) (lt_no t 0 (omega arith)))
+duties-member p u (suc n) t long none few =
+    let below : n < length (duties_below p u n) = omega (arith, few, duties-length p u n long) in
+    let last : n + 1 ≡ suc n = omega arith in
+    member_if (duties_below p u n) n t (p.authorised n u) below
+    ∙ ap (λ b. b || (p.authorised n u && t == n)) (duties-member p u n t long none (omega (arith, few)))
+    ∙ passing_more (λ s. p.authorised s u) false n t
+    ∙ ap (λ k. nat_lt t k && p.authorised t u) last
+
+no_steps-length : length no_steps ≡ STEP_LIMIT
+unfolding no_steps
+no_steps-length = length-replicate STEP_LIMIT false
+
+no_steps-none : (s : ℕ) → is_member no_steps s ≡ false
+unfolding no_steps
+no_steps-none s = none_in STEP_LIMIT s
+  where
+    none_in : (n s : ℕ) → is_member (replicate n false) s ≡ false
+    none_in zero s = refl
+    none_in (suc n) zero = refl
+    none_in (suc n) (suc s) = none_in n s
+
+-- the steps of a user tell whether the user is authorised
+pub duties-known : (p : Problem) (u s : ℕ) → p.steps ≤ STEP_LIMIT → s < p.steps → is_member (duties_below p u p.steps) s ≡ p.authorised s u
+duties-known p u s few below = duties-member p u p.steps s no_steps-length no_steps-none few ∙ ap (λ b. b && p.authorised s u) (lt_yes s p.steps below)
+
+duties-same : (p : Problem) (u v n : ℕ) → ((s : ℕ) → s < n → p.authorised s u ≡ p.authorised s v) → duties_below p u n ≡ duties_below p v n
+duties-same p u v zero same = refl
+duties-same p u v (suc n) same =
+    ap (λ b. if b then slice_set (duties_below p u n) n true else duties_below p u n) (same n (omega arith))
+    ∙ ap (λ d. if p.authorised n v then slice_set d n true else d) (duties-same p u v n (λ s below. same s (omega (arith, below))))
+
+-- users with different steps are no twins
+pub apart_by_duties : (p : Problem) (duties : List (List Bool)) (u v : ℕ) → u < p.users → v < p.users → AreDuties p duties → duties_of duties u ≢ duties_of duties v → are_twins p [] u v ≡ false
+apart_by_duties p duties u v u_in v_in right differ =
+    not_true (are_twins p [] u v) (λ twins. differ (right u u_in ∙ duties-same p u v p.steps (twins_mean p [] u v twins).steps ∙ sym (right v v_in)))
+
+-- ---- twins where nothing is assigned
+
+pub idle_when_free : (a : List (Option ℕ)) (u : ℕ) → ((s : ℕ) → user_at a s ≡ None) → has_no_step a u ≡ true
+idle_when_free a u free = all_pass (length a) (λ s. not (is_given_to u (user_at a s))) (λ s below. ap (λ o. not (is_given_to u o)) (free s))
+
+-- users without a step are twins exactly where they are where nothing is assigned
+pub idle_twins : (p : Problem) (a : List (Option ℕ)) (u v : ℕ) → has_no_step a u ≡ true → are_twins p a u v ≡ (are_twins p [] u v && has_no_step a v)
+idle_twins p a u v idle =
+    ap (λ b. (b && has_no_step a v) && (may_do_the_same p u v && are_related_alike p u v)) idle
+    ∙ and_swap (has_no_step a v) (may_do_the_same p u v && are_related_alike p u v)
+
+pub twins_when_free : (p : Problem) (a : List (Option ℕ)) (u v : ℕ) → ((s : ℕ) → user_at a s ≡ None) → are_twins p a u v ≡ are_twins p [] u v
+twins_when_free p a u v free = idle_twins p a u v (idle_when_free a u free) ∙ ap (λ b. are_twins p [] u v && b) (idle_when_free a v free) ∙ and_true (are_twins p [] u v)
+  where
+    and_true : (b : Bool) → (b && true) ≡ b
+    and_true true = refl
+    and_true false = refl
+
+pub busy_no_twin : (p : Problem) (a : List (Option ℕ)) (u v : ℕ) → has_no_step a u ≡ false → are_twins p a u v ≡ false
+busy_no_twin p a u v busy = ap (λ b. (b && has_no_step a v) && (may_do_the_same p u v && are_related_alike p u v)) busy
+
+turned : (p : Problem) (u v : ℕ) → are_twins p [] u v ≡ true → are_twins p [] v u ≡ true
+turned p u v h = mean_twins p [] v u (twins_turned p [] u v (twins_mean p [] u v h))
+
+pub twins_turned_same : (p : Problem) (u v : ℕ) → are_twins p [] u v ≡ are_twins p [] v u
+twins_turned_same p u v = same_by (are_twins p [] u v) (are_twins p [] v u) (turned p u v) (turned p v u)
+
+pub twins_own : (p : Problem) (u : ℕ) → are_twins p [] u u ≡ true
+twins_own p u = mean_twins p [] u u (record {
+  first = λ s is. none_some u is;
+  second = λ s is. none_some u is;
+  steps = λ s below. refl;
+  rules = λ k r is. record { towards = λ w below nu nv. refl; «from» = λ w below nu nv. refl; own = refl; mutually = refl };
+})
+  where
+    none_some : (u : ℕ) → None ≡ Some u → ⊥
+    none_some u e = cc
+
+-- a user is a twin of one of two twins exactly where of the other
+pub twins_of_twins : (p : Problem) (u v w : ℕ) → u < p.users → v < p.users → w < p.users → are_twins p [] v u ≡ true → are_twins p [] w v ≡ are_twins p [] w u
+twins_of_twins p u v w u_in v_in w_in twins =
+    same_by (are_twins p [] w v) (are_twins p [] w u)
+    (λ h. twins_chain p [] w v u w_in v_in u_in h twins)
+    (λ h. twins_chain p [] w u v w_in u_in v_in h (turned p v u twins))
+
+-- a rule that treats two users differently at a third one tells them apart
+apart_by_rule : (p : Problem) (k : ℕ) (r : Rule) (u v w : ℕ) → k < length p.rules → slice_get p.rules k ≡ Some r → w < p.users → tells_apart (p.related (relation_of r)) u v w ≡ true → are_related_alike p u v ≡ false
+apart_by_rule p k r u v w known is below apart =
+    one_fails (length p.rules) k (λ j. is_rule_alike p u v (slice_get p.rules j)) known
+    (ap (is_rule_alike p u v) is ∙ ap (λ b. b && rest) (one_fails p.users w test below (unlike (test w) apart)))
+  where
+    holds : ℕ → ℕ → Bool
+    holds = p.related (relation_of r)
+
+    test : ℕ → Bool
+    test x = (x == u || x == v) || is_alike_to holds u v x
+
+    rest : Bool
+    rest = agree (holds u u) (holds v v) && agree (holds u v) (holds v u)
+
+    unlike : (b : Bool) → not b ≡ true → b ≡ false
+    unlike true h = absurd (false≢true h)
+    unlike false h = refl
+
+pub told_apart : (p : Problem) (k u v w : ℕ) (o : Option Rule) → slice_get p.rules k ≡ o → is_told_apart p u v w o ≡ true → are_related_alike p u v ≡ false
+told_apart p k u v w None is apart = absurd (false≢true apart)
+told_apart p k u v w (Some r) is apart =
+    let both = and_both (nat_lt w p.users) (tells_apart (p.related (relation_of r)) u v w) apart in
+    apart_by_rule p k r u v w (slice_get_within p.rules k r is) is (lt_back w p.users both.0) both.1
+
+pub apart_by_rules : (p : Problem) (u v : ℕ) → are_related_alike p u v ≡ false → are_twins p [] u v ≡ false
+apart_by_rules p u v apart = ap (λ b. may_do_the_same p u v && b) apart ∙ and-false (may_do_the_same p u v)
+
+-- a user who has a step has no twin
+pub busy_alone : (p : Problem) (a : List (Option ℕ)) (u : ℕ) (users : List ℕ) → has_no_step a u ≡ false → has_twin p a u users ≡ false
+busy_alone p a u [] busy = refl
+busy_alone p a u (v ∷ vs) busy = ap (λ b. b || has_twin p a u vs) (busy_no_twin p a u v busy) ∙ busy_alone p a u vs busy
+
+-- ---- classes
+
+pub classes_start : (p : Problem) → AreClassesBelow p 0 []
+classes_start p = record { whole = refl; least = λ u below. absurd (omega (arith, below)); alike = λ u v below. absurd (omega (arith, below)) }
+
+pub classes_push : (p : Problem) (n c : ℕ) (classes : List ℕ) → AreClassesBelow p n classes → ((v : ℕ) → v < n → (class_of classes v == c) ≡ are_twins p [] v n) → c < n + 1 → AreClassesBelow p (n + 1) (classes ++ c ∷ [])
+classes_push p n c classes so_far next small = record {
+  whole = length-append classes (c ∷ []) ∙ ap (λ k. k + 1) so_far.whole;
+  least = λ u below. at_least u below (eqb_tells u n);
+  alike = λ u v u_in v_in. at u v u_in v_in (eqb_tells u n) (eqb_tells v n);
+}
+  where
+    new : List ℕ
+    new = classes ++ c ∷ []
+
+    before : (u : ℕ) → u < n → class_of new u ≡ class_of classes u
+    before u below = get_or_append_left classes (c ∷ []) 0 u (omega (arith, below, so_far.whole))
+
+    last : class_of new n ≡ c
+    last = ap (class_of new) (sym so_far.whole) ∙ get_or-append_seam classes c [] 0
+
+    at_least : (u : ℕ) → u < n + 1 → ((eqb u n ≡ true) × (u ≡ n)) ⊎ ((eqb u n ≡ false) × (u ≢ n)) → class_of new u < u + 1
+    at_least u below (inl is) = omega (arith, ap (class_of new) is.1, last, small, is.1)
+    at_least u below (inr other) =
+        let low : u < n = omega (arith, below, other.1) in omega (arith, before u low, so_far.least u low)
+
+    at : (u v : ℕ) → u < n + 1 → v < n + 1 → ((eqb u n ≡ true) × (u ≡ n)) ⊎ ((eqb u n ≡ false) × (u ≢ n)) → ((eqb v n ≡ true) × (v ≡ n)) ⊎ ((eqb v n ≡ false) × (v ≢ n)) → (class_of new u == class_of new v) ≡ are_twins p [] u v
+    at u v u_in v_in (inl u_is) (inl v_is) =
+        eq_is (class_of new u) (class_of new v) (ap (class_of new) (u_is.1 ∙ sym v_is.1))
+        ∙ sym (twins_own p u) ∙ ap (are_twins p [] u) (u_is.1 ∙ sym v_is.1)
+    at u v u_in v_in (inl u_is) (inr v_other) =
+        let low : v < n = omega (arith, v_in, v_other.1) in
+        ap (λ x. x == class_of new v) (ap (class_of new) u_is.1 ∙ last) ∙ ap (λ x. c == x) (before v low)
+        ∙ eq_turned c (class_of classes v) ∙ next v low ∙ twins_turned_same p v n ∙ ap (λ x. are_twins p [] x v) (sym u_is.1)
+    at u v u_in v_in (inr u_other) (inl v_is) =
+        let low : u < n = omega (arith, u_in, u_other.1) in
+        ap (λ x. x == class_of new v) (before u low) ∙ ap (λ x. class_of classes u == x) (ap (class_of new) v_is.1 ∙ last)
+        ∙ next u low ∙ ap (are_twins p [] u) (sym v_is.1)
+    at u v u_in v_in (inr u_other) (inr v_other) =
+        let u_low : u < n = omega (arith, u_in, u_other.1) in
+        let v_low : v < n = omega (arith, v_in, v_other.1) in
+        ap (λ x. x == class_of new v) (before u u_low) ∙ ap (λ x. class_of classes u == x) (before v v_low) ∙ so_far.alike u v u_low v_low

@@ -1,0 +1,48 @@
+-- Inside: what a search knows of each user.
+use Rattle.std.specs.Prelude.{◌≡◌, ℕ, zero, suc, ◌<◌, ◌≤◌, ◌+◌, Bool, true, false, not, ◌&&◌, ◌||◌, ◌==◌, nat_lt, List, [], length, Option, None, Some, if◌then◌else◌, slice_index_or, slice_set}
+use Rattle.wf_names.specs.declared.limits.TheConstants.{STEP_LIMIT}
+use Rattle.constraint_forms.specs.declared.rule.Rule.{Rule}
+use Rattle.constraint_forms.specs.Assigned.{no_steps}
+use Rattle.constraint_forms.specs.Rules.{relation_of}
+use Rattle.policy_book.specs.Plans.{Problem}
+use Rattle.policy_book.specs.Twins.{are_twins, is_alike_to}
+use Rattle.wsp_solver.specs.declared.crew.Crew.{Crew}
+
+-- the steps below n for which a user is authorised
+abbrev pub duties_below : Problem → ℕ → ℕ → List Bool
+duties_below p u zero = no_steps
+duties_below p u (suc n) = if p.authorised n u then slice_set (duties_below p u n) n true else duties_below p u n
+
+-- the steps of a user in a table
+abbrev pub duties_of : List (List Bool) → ℕ → List Bool
+duties_of duties u = slice_index_or duties u no_steps
+
+-- a table has the steps for which each user is authorised
+abbrev pub AreDuties : Problem → List (List Bool) → Type 0
+AreDuties p duties = (u : ℕ) → u < p.users → duties_of duties u ≡ duties_below p u p.steps
+
+-- the class of a user in a table
+abbrev pub class_of : List ℕ → ℕ → ℕ
+class_of classes u = slice_index_or classes u 0
+
+-- a table has a class of each of the first n users; those who are twins where nothing is assigned,
+-- and no others, have one class
+pub record AreClassesBelow (p : Problem) (n : ℕ) (classes : List ℕ) : Type 0 where
+  pub whole : length classes ≡ n
+  pub least : (u : ℕ) → u < n → class_of classes u < u + 1
+  pub alike : (u v : ℕ) → u < n → v < n → (class_of classes u == class_of classes v) ≡ are_twins p [] u v
+
+-- what a search knows of each user is right
+pub record IsCrewOf (p : Problem) (crew : Crew) : Type 0 where
+  pub few : p.steps ≤ STEP_LIMIT
+  pub duties : AreDuties p crew.duties.items
+  pub classes : AreClassesBelow p p.users crew.classes.items
+
+-- a relation treats two users differently at a third one
+abbrev pub tells_apart : (ℕ → ℕ → Bool) → ℕ → ℕ → ℕ → Bool
+tells_apart holds u v w = not ((w == u || w == v) || is_alike_to holds u v w)
+
+-- there is a rule, and its relation treats two users differently at a third one
+abbrev pub is_told_apart : Problem → ℕ → ℕ → ℕ → Option Rule → Bool
+is_told_apart p u v w None = false
+is_told_apart p u v w (Some rule) = nat_lt w p.users && tells_apart (p.related (relation_of rule)) u v w

@@ -1,0 +1,197 @@
+//! What a search knows of each user: the steps for which the user is authorised, and a class, so that
+//! users of one class are twins wherever neither has a step.
+ghost use Rattle.std.specs.Prelude.{◌≡◌, ◌<◌, ◌+◌, ◌==◌, ℕ, [], length, slice_get, false, IfOk, IsTrue};
+ghost use Rattle.policy_book.specs.Policies.{problem_of};
+ghost use Rattle.constraint_forms.specs.Rules.{relation_of};
+ghost use Rattle.policy_book.specs.Twins.{are_related_alike, are_twins};
+ghost use Rattle.wsp_solver.specs.Crews.{AreClassesBelow, AreDuties, IsCrewOf, class_of, duties_below, duties_of, is_told_apart, tells_apart};
+
+use crate::steps::{step_count, with_if};
+use certificate_check::twins;
+use constraint_forms::{Holds, Rule};
+use plan_finder::Finder;
+use policy_book::{Assign, Policy, StepSet};
+use std::alloc::{AllocError, Global};
+use wf_names::{FlowId, RelId, STEP_LIMIT, StepId, UserId};
+
+/// The users of a policy, as the search for a tree sees them.
+#[derive(Drop)]
+pub(crate) struct Crew {
+    /// The steps for which each user is authorised.
+    pub(crate) duties: Vec<StepSet>,
+    /// The class of each user: the least user who is a twin where nothing is assigned.
+    pub(crate) classes: Vec<UserId>,
+}
+
+impl Crew {
+    /// The users of a workflow's policy.
+    pub(crate) fn new(
+        alloc: Global,
+        p: &Policy,
+        f: FlowId,
+        finder: &Finder,
+    ) -> Result<Crew, AllocError>
+        requires flow { f < length p.now.flows }
+        ensures { IfOk result (IsCrewOf (problem_of p.now f)) }
+    {
+        prove!(step_count(p, f) <= STEP_LIMIT);
+        let duties = all_duties(alloc, p, f)?;
+        let classes = all_classes(alloc, p, f, finder, &duties)?;
+        Ok(Crew { duties, classes })
+    }
+}
+
+fn all_duties(alloc: Global, p: &Policy, f: FlowId) -> Result<Vec<StepSet>, AllocError>
+    requires flow { f < length p.now.flows }
+    ensures { IfOk result (λ rows. AreDuties (problem_of p.now f) rows.items) }
+{
+    let mut rows = Vec::new(alloc);
+    'users: for u in 0..p.roster().users().len() {
+        rows.push(duties(p, f, UserId(u)))?;
+    }
+    Ok(rows)
+}
+
+// The steps for which a user is authorised.
+fn duties(p: &Policy, f: FlowId, u: UserId) -> StepSet
+    requires flow { f < length p.now.flows }
+    requires user { u < (problem_of p.now f).users }
+    ensures { result ≡ duties_below (problem_of p.now f) u (problem_of p.now f).steps }
+{
+    let mut set = StepSet::empty();
+    'steps: for s in 0..p.flow(f).steps().len() {
+        let step = StepId(s as u8);
+        set = with_if(&set, step, p.authorised(f, step, u));
+    }
+    set
+}
+
+fn all_classes(
+    alloc: Global,
+    p: &Policy,
+    f: FlowId,
+    finder: &Finder,
+    duties: &[StepSet],
+) -> Result<Vec<UserId>, AllocError>
+    requires flow { f < length p.now.flows }
+    requires duties { AreDuties (problem_of p.now f) duties.now }
+    ensures { IfOk result (λ classes. AreClassesBelow (problem_of p.now f) (problem_of p.now f).users classes.items) }
+{
+    let mut classes = Vec::new(alloc);
+    'users: for u in 0..p.roster().users().len() {
+        let class = next_class(p, f, finder, duties, &classes, UserId(u));
+        classes.push(class)?;
+    }
+    Ok(classes)
+}
+
+// The class of the next user: that of an earlier twin, or else the user's own number.
+fn next_class(
+    p: &Policy,
+    f: FlowId,
+    finder: &Finder,
+    duties: &[StepSet],
+    classes: &[UserId],
+    u: UserId,
+) -> UserId
+    requires flow { f < length p.now.flows }
+    requires user { u < (problem_of p.now f).users }
+    requires duties { AreDuties (problem_of p.now f) duties.now }
+    requires classes { AreClassesBelow (problem_of p.now f) u classes.now }
+    ensures alike { (v : ℕ) → v < u → (class_of classes.now v == result) ≡ are_twins (problem_of p.now f) [] v u }
+    ensures least { result < u + 1 }
+{
+    'earlier: for v in 0..u.0 {
+        if are_alike(p, f, finder, duties, UserId(v), u) {
+            return class_at(classes, UserId(v));
+        }
+    }
+    u
+}
+
+/// The class of a user.
+pub(crate) fn class_at(classes: &[UserId], u: UserId) -> UserId
+    ensures { result ≡ class_of classes.now u }
+{
+    match classes.get(u.0 as usize) {
+        Some(class) => *class,
+        None => UserId(0),
+    }
+}
+
+/// The steps for which a user is authorised.
+pub(crate) fn duties_at(duties: &[StepSet], u: UserId) -> StepSet
+    ensures { result ≡ duties_of duties.now u }
+{
+    match duties.get(u.0 as usize) {
+        Some(steps) => *steps,
+        None => StepSet::empty(),
+    }
+}
+
+// Whether two users are twins where nothing is assigned. Most who are not are told apart by their
+// steps, and most others by one third user.
+fn are_alike(
+    p: &Policy,
+    f: FlowId,
+    finder: &Finder,
+    duties: &[StepSet],
+    u: UserId,
+    v: UserId,
+) -> bool
+    requires flow { f < length p.now.flows }
+    requires duties { AreDuties (problem_of p.now f) duties.now }
+    requires first { u < (problem_of p.now f).users }
+    requires second { v < (problem_of p.now f).users }
+    ensures { result ≡ are_twins (problem_of p.now f) [] u v }
+{
+    if duties_at(duties, u) != duties_at(duties, v) {
+        return false;
+    }
+    if are_told_apart(p, f, finder, u, v) {
+        return false;
+    }
+    twins(p, f, &Assign::empty(), u, v)
+}
+
+// Whether the relation of some rule is known to tell two users apart.
+fn are_told_apart(p: &Policy, f: FlowId, finder: &Finder, u: UserId, v: UserId) -> bool
+    requires flow { f < length p.now.flows }
+    ensures { IsTrue result → are_related_alike (problem_of p.now f) u v ≡ false }
+{
+    match finder.clue(u, v) {
+        Some(clue) => tells_apart(p, f, clue.rule, u, v, clue.user),
+        None => false,
+    }
+}
+
+// Whether a rule's relation treats two users differently at a third one.
+fn tells_apart(p: &Policy, f: FlowId, k: u8, u: UserId, v: UserId, w: UserId) -> bool
+    requires flow { f < length p.now.flows }
+    ensures { result ≡ is_told_apart (problem_of p.now f) u v w (slice_get (problem_of p.now f).rules k) }
+{
+    match p.rules(f).as_slice().get(k as usize) {
+        Some(rule) => {
+            w.0 < p.roster().users().len() && is_treated_apart(p, f, relation_of(rule), u, v, w)
+        }
+        None => false,
+    }
+}
+
+fn is_treated_apart(p: &Policy, f: FlowId, rho: RelId, u: UserId, v: UserId, w: UserId) -> bool
+    ensures { result ≡ tells_apart ((problem_of p.now f).related rho) u v w }
+{
+    w != u
+        && w != v
+        && (p.holds(rho, u, w) != p.holds(rho, v, w) || p.holds(rho, w, u) != p.holds(rho, w, v))
+}
+
+fn relation_of(rule: &Rule) -> RelId
+    ensures { result ≡ relation_of rule.now }
+{
+    match *rule {
+        Rule::Pair { rho, .. } => rho,
+        Rule::SomeOf { rho, .. } => rho,
+        Rule::AllOf { rho, .. } => rho,
+    }
+}

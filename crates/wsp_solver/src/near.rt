@@ -1,0 +1,118 @@
+//! Valid plans near another plan.
+ghost use Rattle.std.specs.Prelude.{◌≡◌, ◌<◌, ◌≤◌, length, IfSome};
+ghost use Rattle.wf_names.specs.declared.limits.TheConstants.{STEP_LIMIT};
+ghost use Rattle.policy_book.specs.Plans.{IsWithin, IsValidPlan};
+ghost use Rattle.policy_book.specs.Policies.{problem_of};
+
+use crate::found::{checked, has_known, is_whole};
+use crate::next::no_users;
+use certificate_check::{PlanFault, check_plan};
+use constraint_forms::Rule;
+use policy_book::{Assign, Plan, Policy, StepSet};
+use wf_names::{FlowId, STEP_LIMIT, StepId, UserId};
+
+/// A valid plan that gives each step that is not assigned to the same user as another plan, but for
+/// at most one. Where there is none, there may be a valid plan all the same. Takes no memory.
+pub fn plan_near(p: &Policy, f: FlowId, a: &Assign, done: &StepSet, plan: &Plan) -> Option<Plan>
+    requires flow { f < length p.now.flows }
+    requires within { IsWithin (problem_of p.now f) a.now }
+    ensures { IfSome result (IsValidPlan (problem_of p.now f) a.now done.now) }
+{
+    let moved = with_assigned(plan, a);
+    if !is_whole(p, f, &moved) || !has_known(p, &moved) {
+        return None;
+    }
+    match check_plan(p, f, a, done, &moved) {
+        Ok(()) => Some(moved),
+        Err(fault) => mended(p, f, a, done, &moved, fault),
+    }
+}
+
+// A valid plan that gives one step of the rule at fault to another user.
+fn mended(
+    p: &Policy,
+    f: FlowId,
+    a: &Assign,
+    done: &StepSet,
+    plan: &Plan,
+    fault: PlanFault,
+) -> Option<Plan>
+    requires flow { f < length p.now.flows }
+    requires within { IsWithin (problem_of p.now f) a.now }
+    ensures { IfSome result (IsValidPlan (problem_of p.now f) a.now done.now) }
+{
+    match fault {
+        PlanFault::Rule(k) => match p.rules(f).as_slice().get(k as usize) {
+            Some(rule) => mended_for(p, f, a, done, plan, rule),
+            None => None,
+        },
+        _ => None,
+    }
+}
+
+fn mended_for(
+    p: &Policy,
+    f: FlowId,
+    a: &Assign,
+    done: &StepSet,
+    plan: &Plan,
+    rule: &Rule,
+) -> Option<Plan>
+    requires flow { f < length p.now.flows }
+    requires within { IsWithin (problem_of p.now f) a.now }
+    ensures { IfSome result (IsValidPlan (problem_of p.now f) a.now done.now) }
+{
+    for s in 0..p.flow(f).steps().len() {
+        let step = StepId(s as u8);
+        if rule.names(step) && a.at(step).is_none() {
+            if let Some(mended) = mended_at(p, f, a, done, plan, step) {
+                return Some(mended);
+            }
+        }
+    }
+    None
+}
+
+fn mended_at(
+    p: &Policy,
+    f: FlowId,
+    a: &Assign,
+    done: &StepSet,
+    plan: &Plan,
+    step: StepId,
+) -> Option<Plan>
+    requires flow { f < length p.now.flows }
+    requires within { IsWithin (problem_of p.now f) a.now }
+    requires step { step < (problem_of p.now f).steps }
+    requires room { step < STEP_LIMIT }
+    ensures { IfSome result (IsValidPlan (problem_of p.now f) a.now done.now) }
+{
+    for u in 0..p.roster().users().len() {
+        if p.authorised(f, step, UserId(u)) {
+            let other = with_assigned(plan, &a.with(step, UserId(u)));
+            if let Some(mended) = checked(p, f, a, done, other) {
+                return Some(mended);
+            }
+        }
+    }
+    None
+}
+
+// A plan with what is assigned in it.
+fn with_assigned(plan: &Plan, a: &Assign) -> Plan {
+    let len = plan.len();
+    let mut users = no_users();
+    'steps: for s in 0..len {
+        users[s as usize] = assigned_or_planned(plan, a, StepId(s));
+    }
+    Plan::of(&users[..len as usize])
+}
+
+fn assigned_or_planned(plan: &Plan, a: &Assign, s: StepId) -> UserId
+    requires { s < length plan.now }
+{
+    match a.at(s) {
+        Some(user) => user,
+        None => plan.at(s),
+    }
+}
