@@ -2,3 +2,4 @@ pub mod Values
 pub mod Floats
 pub mod Branches
 pub mod Texts
+pub mod PlainLines

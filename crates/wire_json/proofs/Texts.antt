@@ -1,12 +1,11 @@
 -- Text that is added in parts.
-use Rattle.std.proofs.Common.{◌≡◌, ℕ, List, [], ◌∷◌, ◌++◌, Bool, true, false, refl, ap, ◌∙◌, arith, append_assoc, append-nil}
-use Rattle.std.specs.Prelude.{◌&&◌, ◌||◌, ◌==◌, nat_le, nat_lt}
+use Rattle.std.proofs.Common.{◌≡◌, ℕ, List, [], ◌∷◌, ◌++◌, Bool, true, refl, ap, ◌∙◌, arith, append_assoc}
 use Rattle.std.specs.List.{list_all}
 use Rattle.std.proofs.lemmas.Grind.{common_steps}
-use Rattle.json.specs.Print.{escape_byte, escape, quoted}
+use Rattle.json.specs.Print.{escape_byte, escape}
 use Rattle.serde_json.specs.Data.{Data, Items, item}
 use Rattle.serde_json.specs.Written.{comma_if, compact_text, items_text}
-use Rattle.wf_names.specs.Names.{is_letter, is_name_byte, starts_with_letter, is_name}
+use Rattle.wf_names.specs.Names.{is_name_byte, is_name}
 
 pub added_2 : (x0 x1 x2 a b : List ℕ) → x1 ≡ x0 ++ a → x2 ≡ x1 ++ b → x2 ≡ x0 ++ (a ++ b)
 added_2 x0 x1 x2 a b e1 e2 = e2 ∙ ap (λ x. x ++ b) e1 ∙ append_assoc x0 a b

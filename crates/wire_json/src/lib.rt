@@ -3,6 +3,7 @@
 
 mod entry;
 mod finding;
+mod plain;
 mod reply;
 mod request;
 #[cfg(test)]

@@ -11,6 +11,7 @@ ghost use Rattle.wire_json.specs.Values.{value_of};
 ghost use Rattle.wire_json.specs.Requests as read;
 ghost use Rattle.wire_json.specs.Words.{row_of_word};
 
+use crate::plain::read_plain;
 use crate::word::Word;
 use serde_json::{Map, Value};
 use std::alloc::{AllocError, Global};
@@ -27,8 +28,18 @@ pub struct Asked {
 
 /// What a line asks, and of which of so many lanes. A line that is not exactly of the form of a
 /// request is bad, for the first cause in the order in which its parts are checked.
-#[tactic(auto, unfolding(crate::specs::Requests::asked_of))]
 pub fn read_request(alloc: Global, line: &[u8], lanes: u8) -> Result<Asked, AllocError>
+    ensures { IfOk result (λ asked. asked ≡ read.asked_of lanes line.now) }
+{
+    match read_plain(line, lanes) {
+        Some(asked) => Ok(asked),
+        None => read_any(alloc, line, lanes),
+    }
+}
+
+// What a line of any form asks.
+#[tactic(auto, unfolding(crate::specs::Requests::asked_of))]
+fn read_any(alloc: Global, line: &[u8], lanes: u8) -> Result<Asked, AllocError>
     ensures { IfOk result (λ asked. asked ≡ read.asked_of lanes line.now) }
 {
     let Some(value) = read_value(alloc, line)? else {
