@@ -1,5 +1,5 @@
 -- Inside: how the entries of a batch follow those before.
-use Rattle.std.proofs.Common.{◌≡◌, ℕ, zero, suc, ◌+◌, ◌<◌, ◌≤◌, ◌⊎◌, inl, inr, Bool, true, false, nat_lt, List, [], ◌∷◌, ◌++◌, length, take, drop, map, slice_index_or, refl, sym, ap, subst, ◌∙◌, arith}
+use Rattle.std.proofs.Common.{◌≡◌, ℕ, zero, suc, ◌+◌, ◌<◌, ◌≤◌, inl, inr, nat_lt, List, [], ◌∷◌, ◌++◌, length, take, drop, map, sym, ap, subst, ◌∙◌, arith}
 use Rattle.std.proofs.lemmas.Grind.{common_steps}
 use Rattle.std.proofs.lemmas.List.{map-append, length-map, length-append, take-append-le, get_or_append_left}
 use Rattle.std.proofs.Math.Seq.{drop-append_seam, take-length, get_or-append_seam}
@@ -61,7 +61,7 @@ old_jobs es new js more ends x k lane fills are lt =
     let begins = start_before ends x k (omega (arith, lt)) in
     let stops = end_before ends x k lt in
     ap (lane_jobs lane) (part_moved _ s _ e (map job_of_entry (es ++ new)) begins stops ∙ ap (λ zs. drop s (take e zs)) (map-append job_of_entry es new)
-        ∙ part_old s e ys (map job_of_entry new) (omega (arith, within, size)))
+    ∙ part_old s e ys (map job_of_entry new) (omega (arith, within, size)))
     ∙ fills.batches k lt lane
     ∙ sym (ap (lane_jobs lane) (part_moved _ s _ e (js ++ more) begins stops ∙ part_old s e js more within))
 
@@ -118,13 +118,13 @@ batch_fills es new js more ends fills are answers = record {
   batches = λ k lt lane. elim (bool_cases (nat_lt k (length ends))) [
     | inl old ↦ old_jobs es new js more ends (length js + length more) k lane fills are (grind (arith, common_steps))
     | inr late ↦
-      let last : k ≡ length ends = grind (arith, common_steps) in
-      rw last (new_jobs es new js more ends lane fills are answers)
+        let last : k ≡ length ends = grind (arith, common_steps) in
+        rw last (new_jobs es new js more ends lane fills are answers)
   ];
   rests = λ k lt. elim (bool_cases (nat_lt k (length ends))) [
     | inl old ↦ old_rests es new js ends (length js + length more) k fills are (grind (arith, common_steps))
     | inr late ↦
-      let last : k ≡ length ends = grind (arith, common_steps) in
-      rw last (new_rests es new js more ends fills are answers)
+        let last : k ≡ length ends = grind (arith, common_steps) in
+        rw last (new_rests es new js more ends fills are answers)
   ];
 }

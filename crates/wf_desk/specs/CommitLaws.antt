@@ -1,33 +1,34 @@
 -- Inside: what is needed of a desk where a task is committed.
-use Rattle.std.proofs.Common.{◌≡◌, ℕ, zero, suc, ◌+◌, ◌-◌, get_or, ◌<◌, ◌≤◌, ◌⊎◌, inl, inr, max, Bool, true, false, not, nat_eq, nat_lt, nat_le, List, [], ◌∷◌, ◌++◌, length, take, drop, map, replicate, slice_get, slice_set, slice_index_or, IfSome, Option, None, Some, Result, Ok, Err, refl, sym, ap, subst, ◌∙◌, arith, ◌==◌, ◌&&◌, if◌then◌else◌}
+use Rattle.std.proofs.Common.{◌≡◌, ℕ, zero, suc, ◌+◌, ◌-◌, get_or, ◌<◌, ◌≤◌, ◌⊎◌, inl, inr, max, Bool, true, false, not, nat_eq, nat_lt, nat_le, List, [], ◌∷◌, ◌++◌, length, take, drop, slice_set, slice_index_or, Some, refl, sym, ap, subst, ◌∙◌, arith, ◌==◌, if◌then◌else◌}
 use Rattle.std.proofs.lemmas.Grind.{common_steps}
 use Rattle.std.proofs.lemmas.List.{take_more, length-take-le}
-use Rattle.std.proofs.Math.Seq.{drop-length}
 use Rattle.basics.proofs.Booleans.{and_both, bool_cases, eq_is, same_by}
 use Rattle.wf_names.specs.declared.limits.TheConstants.{LANE_LIMIT}
-use Rattle.policy_book.specs.Shapes.{PolicyShape}
 use Rattle.wf_talk.specs.declared.entry.Entry.{Entry}
 use Rattle.wf_talk.specs.declared.job.Job.{Job}
 use Rattle.wf_talk.specs.declared.reply.Reply.{Reply}
 use Rattle.wf_talk.specs.declared.reply.Reply.TheVariants as reply
 use Rattle.wf_talk.specs.declared.request.Ask.{Ask}
 use Rattle.wf_board.specs.declared.verdict.Verdict.{Verdict}
+use Rattle.wf_board.specs.declared.verdict.Verdict.TheVariants as verdict
 use Rattle.wf_board.specs.Boards.{BoardShape, SnapShape, state_on}
 use Rattle.wf_board.specs.Counting.{count_of, counted, counted_end, counts_for, lane_end, last_end_from}
 use Rattle.wf_board.specs.Decisions.{decision_of, needs_verdict}
-use Rattle.wf_board.specs.Histories.{IsRetry, IsRightAfter, IsWantRightful, MayRetry, RestsFrom, job_of_entry, state_after}
+use Rattle.wf_board.specs.Histories.{IsRightAfter}
 use Rattle.wf_board.specs.HistoryLaws.{again_rests, again_stays, step_rests}
 use Rattle.wf_board.specs.States.{opening_state}
 use Rattle.wf_board.specs.Steps.{IsStep, state_after_step}
-use Rattle.wf_board.specs.Verdicts.{IsDecided, IsRight, snap_of}
+use Rattle.wf_board.specs.Verdicts.{IsCertified, IsDecided, IsRight, snap_of}
 use Rattle.wf_board.proofs.Counted.{count_later, end_more, end_there}
 use Rattle.wf_board.proofs.Fresh.{fresh_right}
 use Rattle.wf_board.proofs.Wanting.{decided_rightly}
 use Rattle.wf_desk.specs.declared.loss.Loss.{Loss}
 use Rattle.wf_desk.specs.declared.task.Task.{Task}
-use Rattle.wf_desk.specs.Desks.{DeskShape, loss_of, next_job, no_loss, served}
-use Rattle.wf_desk.specs.Commits.{IsAgain, IsNext, IsRightFor, IsTask, floor_of, is_fresh, is_last_round, is_lost, job_of_task, with_loss}
-use Rattle.wf_desk.specs.Keeping.{IsDesk, IsNextPlace, LossRests, entry_for, own_start}
+use Rattle.wf_desk.specs.declared.outcome.Outcome.{Outcome}
+use Rattle.wf_desk.specs.declared.outcome.Outcome.TheVariants as outcome
+use Rattle.wf_desk.specs.Desks.{DeskShape, HasAdded, loss_of, next_job, no_loss, served}
+use Rattle.wf_desk.specs.Commits.{HasCommittedChecked, IsNext, IsReplyWhere, IsRightFor, IsTask, floor_of, is_fresh, is_last_round, is_lost, job_of_task}
+use Rattle.wf_desk.specs.Keeping.{HasCommittedNone, IsDesk, IsNextPlace, entry_for, own_start}
 use Rattle.wf_desk.specs.DeskLaws.{Grows, HasMoved, MayLose, desk_added, desk_lost, with_parts}
 use Rattle.wf_desk.specs.DocketLaws.{next_lane}
 
@@ -79,14 +80,25 @@ pub again_right : (d : DeskShape) (places : List ℕ) (t : Task) (place : ℕ) �
 again_right d places t place is next stale lost last end =
     let facts = lost_facts d t lost in
     let enough = enough_rounds d places t is next (may_lose d t next stale lost) last in
-    let later = count_later (λ e. counts_for e t.ask) d.entries (lane_end t.lane d.entries) (own_start d t.lane) (omega arith) in
-    (refl, inr (d.rounds, (place, (refl, record {
-      undecided = subst (λ s. needs_verdict (decision_of s.book t.ask) ≡ true) is.sound.state facts.undecided;
-      positive = facts.positive;
-      all = refl;
-      enough = omega (arith, enough, later);
-      last = end;
-    }))))
+    let later = count_later (λ e. counts_for e t.ask) d.entries (lane_end t.lane d.entries) (own_start d t.lane) (omega arith) in (
+      refl,
+      inr (
+        d.rounds,
+        (
+          place,
+          (
+            refl,
+            record {
+              undecided = subst (λ s. needs_verdict (decision_of s.book t.ask) ≡ true) is.sound.state facts.undecided;
+              positive = facts.positive;
+              all = refl;
+              enough = omega (arith, enough, later);
+              last = end;
+            },
+          ),
+        ),
+      ),
+    )
 
 pub again_grows : (d : DeskShape) (places : List ℕ) (t : Task) (place spare next_place : ℕ) → IsDesk d places → IsNext d t → is_fresh d t ≡ false → is_lost d t ≡ true →
     is_last_round d t.lane ≡ true → place + 1 ≡ counted_end t.ask d.entries → t.lane < LANE_LIMIT → t.lane < length places → d.spare ≤ spare + 1 →
@@ -159,13 +171,13 @@ lane_end_test lane n entries =
     let test : Entry → Bool = λ e. nat_eq e.lane lane in
     elim (bool_cases (nat_lt 0 (count_of test (drop n entries)))) [
       | inl some ↦
-        let one : 1 ≤ count_of test (drop n entries) = grind (arith, common_steps) in
-        let past = end_past test 0 0 n entries one in
-        rw some (grind (arith, common_steps, past))
+          let one : 1 ≤ count_of test (drop n entries) = grind (arith, common_steps) in
+          let past = end_past test 0 0 n entries one in
+          rw some (grind (arith, common_steps, past))
       | inr none ↦
-        let zero_of : count_of test (drop n entries) ≡ 0 = grind (arith, common_steps) in
-        let within = end_up_to test 0 0 n entries (omega arith) zero_of in
-        rw none (grind (arith, common_steps, within))
+          let zero_of : count_of test (drop n entries) ≡ 0 = grind (arith, common_steps) in
+          let within = end_up_to test 0 0 n entries (omega arith) zero_of in
+          rw none (grind (arith, common_steps, within))
     ]
 
 -- ---- the last entry that counts
@@ -225,7 +237,7 @@ again_keeps d places new t j place entries spare loss is same known sized next s
     subst (λ k. IsDesk (with_parts d k.lane entries d.board spare loss) new) (sym same)
     (desk_added d places new e entries d.board spare loss is
     (λ next_place goes_on. again_grows d places t place spare next_place is next stale lost last (subst (λ k. place + 1 ≡ counted_end k.ask d.entries) same end) (omega (arith, few, known))
-        (subst (λ k. k.lane < length places) same sized) room goes_on)
+    (subst (λ k. k.lane < length places) same sized) room goes_on)
     (subst (λ k. entries ≡ d.entries ++ entry_for k (length d.entries) (reply.Again d.rounds place) ∷ []) same added) none (subst (λ k. HasMoved d.jobs places new k.lane) same moved))
 
 -- something counts where a task is stale
@@ -278,3 +290,45 @@ by_count n none = elim (bool_cases (nat_lt 0 n)) [
 
 pub fresh_test : (d : DeskShape) (t : Task) → not (nat_lt 0 (counted t.ask (drop t.number d.entries))) ≡ true → is_fresh d t ≡ true
 fresh_test d t none = by_count (counted t.ask (drop t.number d.entries)) none
+
+-- ---- what became of a task
+
+added_as : (d e : DeskShape) (j : Job) (place : ℕ) (P Q : Reply → Type 0) → ((given : Reply) → P given → Q given) → HasAdded d e j place P → HasAdded d e j place Q
+added_as d e j place P Q as_well added = record {
+  entry = added.entry;
+  last = added.last;
+  stands = added.stands;
+  answers = added.answers;
+  reply = as_well added.entry.reply added.reply;
+  added = added.added;
+  opening = added.opening;
+  lanes = added.lanes;
+  rounds = added.rounds;
+  jobs = added.jobs;
+  start = added.start;
+  losses = added.losses;
+}
+
+-- where its verdict is none that decides
+pub checked_none : (d e : DeskShape) (t : Task) (v : Verdict) (out : Outcome) → IsNext d t → ¬ IsCertified (state_on d.board).book t.ask v → HasCommittedNone d e t out →
+    HasCommittedChecked d e t v out
+checked_none d e t v outcome.NotNext next none has = absurd has
+checked_none d e t v outcome.Lost next none has = (next, (none, has))
+checked_none d e t v (outcome.Recorded place) next none has = (
+  next,
+  added_as d e (job_of_task t) place (IsReplyWhere (is_fresh d t) (is_lost d t) d t verdict.Nothing)
+      (λ given. (IsCertified (state_on d.board).book t.ask v × IsDecided d.board t.ask v given)
+      ⊎ (¬ IsCertified (state_on d.board).book t.ask v × IsReplyWhere (is_fresh d t) (is_lost d t) d t verdict.Nothing given))
+      (λ given is. inr (none, is)) has,
+)
+
+-- and where it does
+pub checked_by : (d e : DeskShape) (t : Task) (v : Verdict) (place : ℕ) → IsNext d t → IsCertified (state_on d.board).book t.ask v →
+    HasAdded d e (job_of_task t) place (IsDecided d.board t.ask v) → HasCommittedChecked d e t v (outcome.Recorded place)
+checked_by d e t v place next certified has = (
+  next,
+  added_as d e (job_of_task t) place (IsDecided d.board t.ask v)
+      (λ given. (IsCertified (state_on d.board).book t.ask v × IsDecided d.board t.ask v given)
+      ⊎ (¬ IsCertified (state_on d.board).book t.ask v × IsReplyWhere (is_fresh d t) (is_lost d t) d t verdict.Nothing given))
+      (λ given is. inl (certified, is)) has,
+)

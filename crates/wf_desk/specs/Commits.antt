@@ -1,5 +1,5 @@
 -- What becomes of a job: decided inside the turn, or with the verdict of a task that was found outside it.
-use Rattle.std.specs.Prelude.{◌≡◌, ℕ, ◌+◌, ◌==◌, ◌&&◌, nat_le, Bool, true, false, List, length, drop, max, slice_set, None, Some}
+use Rattle.std.specs.Prelude.{◌≡◌, ℕ, ◌+◌, ◌==◌, ◌&&◌, nat_le, Bool, true, false, length, drop, max, slice_set, None, Some}
 use Rattle.std.proofs.Common.{◌⊎◌}
 use Rattle.wf_talk.specs.declared.job.Job.{Job}
 use Rattle.wf_talk.specs.declared.reply.Reply.{Reply}
@@ -10,7 +10,6 @@ use Rattle.wf_board.specs.Boards.{state_on}
 use Rattle.wf_board.specs.Counting.{counted, counted_end, lane_end}
 use Rattle.wf_board.specs.Decisions.{decision_of, needs_verdict}
 use Rattle.wf_board.specs.Verdicts.{IsCertified, IsDecided, IsRight, snap_of}
-use Rattle.wf_desk.specs.declared.loss.Loss.{Loss}
 use Rattle.wf_desk.specs.declared.task.Task.{Task}
 use Rattle.wf_desk.specs.declared.outcome.Outcome.{Outcome}
 use Rattle.wf_desk.specs.declared.outcome.Outcome.TheVariants as outcome

@@ -1,30 +1,27 @@
 -- Inside: a desk keeps what it is with one more entry, with one more loss, and with another batch.
-use Rattle.std.proofs.Common.{◌≡◌, ◌≢◌, ℕ, zero, suc, ◌+◌, ◌<◌, ◌≤◌, ◌⊎◌, inl, inr, max, Bool, true, false, nat_eq, nat_lt, nat_le, List, [], ◌∷◌, ◌++◌, length, take, drop, map, get_or, set, replicate, slice_get, slice_set, slice_index_or, IfSome, Option, None, Some, refl, sym, ap, subst, ◌∙◌, arith, ◌==◌, ◌&&◌, if◌then◌else◌}
+use Rattle.std.proofs.Common.{◌≡◌, ◌≢◌, ℕ, zero, suc, ◌+◌, ◌<◌, ◌≤◌, inl, inr, max, Bool, true, false, nat_eq, List, [], ◌∷◌, ◌++◌, length, take, drop, map, get_or, set, replicate, slice_get, slice_set, slice_index_or, Some, refl, sym, ap, subst, ◌∙◌, arith, if◌then◌else◌}
 use Rattle.std.proofs.lemmas.Grind.{common_steps}
-use Rattle.std.proofs.lemmas.List.{length-append, length-drop, get_or-set_same, get_or-set_other, get_or-replicate, take_more}
+use Rattle.std.proofs.lemmas.List.{length-append, get_or-set_same, get_or-set_other, take_more}
 use Rattle.std.proofs.lemmas.Option.{get_or_from_slice_get, slice_get_within}
 use Rattle.std.proofs.Math.Seq.{drop-length}
-use Rattle.basics.proofs.Booleans.{and_both, bool_cases, eq_back, eq_is}
+use Rattle.basics.proofs.Booleans.{bool_cases, eq_back, eq_is}
 use Rattle.wf_names.specs.declared.limits.TheConstants.{LANE_LIMIT}
 use Rattle.policy_book.specs.Shapes.{PolicyShape}
 use Rattle.wf_talk.specs.declared.entry.Entry.{Entry}
 use Rattle.wf_talk.specs.declared.job.Job.{Job}
-use Rattle.wf_talk.specs.declared.reply.Reply.TheVariants.{Again}
 use Rattle.wf_talk.specs.declared.request.Ask.{Ask}
 use Rattle.wf_board.specs.Boards.{BoardShape, state_on}
-use Rattle.wf_board.specs.Counting.{count_of, counted, counted_end, counts_for, lane_end}
-use Rattle.wf_board.specs.Decisions.{decision_of, needs_verdict}
-use Rattle.wf_board.specs.Histories.{EachAfter, IsRetry, IsRightAfter, IsWantRightful, MayRetry, RestsFrom, job_of_entry, lane_jobs, state_after}
+use Rattle.wf_board.specs.Counting.{counted, counts_for, lane_end}
+use Rattle.wf_board.specs.Histories.{EachAfter, IsRightAfter, IsWantRightful, RestsFrom, job_of_entry, lane_jobs}
 use Rattle.wf_board.specs.HistoryLaws.{after_more, each_more, rests_more, wants_more}
 use Rattle.wf_board.specs.States.{opening_state}
 use Rattle.wf_board.specs.Steps.{state_after_step}
 use Rattle.wf_board.proofs.Counted.{count_from_more, count_later, count_past, end_more, end_within}
 use Rattle.wf_desk.specs.declared.loss.Loss.{Loss}
-use Rattle.wf_desk.specs.declared.task.Task.{Task}
 use Rattle.wf_desk.specs.Desks.{AreOfLanes, DeskShape, IsSoundDesk, loss_of, next_job, no_loss, served, with_batch, with_room}
-use Rattle.wf_desk.specs.Commits.{IsAgain, IsNext, floor_of, is_fresh, is_last_round, is_lost, job_of_task, with_loss}
+use Rattle.wf_desk.specs.Commits.{floor_of, with_loss}
 use Rattle.wf_desk.specs.Keeping.{IsDesk, IsNextPlace, IsPlace, LossRests, own_start}
-use Rattle.wf_desk.specs.DocketLaws.{batch_short, batch_within, front_more, lane_both, lane_own, next_at, next_lane, served_other, served_own}
+use Rattle.wf_desk.specs.DocketLaws.{batch_short, batch_within, front_more, lane_both, lane_own, next_at, served_other, served_own}
 
 -- with one more entry, of which the board is this one, and so much room left
 abbrev pub with_entry : DeskShape → Entry → BoardShape → ℕ → DeskShape
@@ -110,12 +107,12 @@ front_grown : (d : DeskShape) (places : List ℕ) (e : Entry) (b : BoardShape) (
     served (with_entry d e b spare) lane ≡ take (length (served (with_entry d e b spare) lane)) (lane_jobs lane d.jobs)
 front_grown d places e b spare place lane is grows = elim (bool_cases (nat_eq e.lane lane)) [
   | inl own ↦
-    let same : e.lane ≡ lane = eq_back e.lane lane own in
-    let more = served_own d.start d.entries e lane is.sound.begun same in
-    let next : slice_get (lane_jobs lane d.jobs) (length (served d lane)) ≡ Some (job_of_entry e) = subst (λ n. next_job d n ≡ Some (job_of_entry e)) same grows.next in
-    subst (λ js. js ≡ take (length js) (lane_jobs lane d.jobs)) (sym more) (front_more (served d lane) (lane_jobs lane d.jobs) (job_of_entry e) (is.sound.front lane) next)
+      let same : e.lane ≡ lane = eq_back e.lane lane own in
+      let more = served_own d.start d.entries e lane is.sound.begun same in
+      let next : slice_get (lane_jobs lane d.jobs) (length (served d lane)) ≡ Some (job_of_entry e) = subst (λ n. next_job d n ≡ Some (job_of_entry e)) same grows.next in
+      subst (λ js. js ≡ take (length js) (lane_jobs lane d.jobs)) (sym more) (front_more (served d lane) (lane_jobs lane d.jobs) (job_of_entry e) (is.sound.front lane) next)
   | inr other ↦
-    subst (λ js. js ≡ take (length js) (lane_jobs lane d.jobs)) (sym (served_other d.start d.entries e lane is.sound.begun other)) (is.sound.front lane)
+      subst (λ js. js ≡ take (length js) (lane_jobs lane d.jobs)) (sym (served_other d.start d.entries e lane is.sound.begun other)) (is.sound.front lane)
 ]
 
 sound_grown : (d : DeskShape) (places : List ℕ) (e : Entry) (b : BoardShape) (spare place : ℕ) → IsDesk d places → Grows d places e b spare place →
@@ -137,7 +134,7 @@ own_place d places e b spare place is grows =
     let job = job_of_entry e in
     let stands : slice_get d.jobs from ≡ Some job = sym (next_at d e.lane from old) ∙ grows.next in
     let taken : take (from + 1) d.jobs ≡ take from d.jobs ++ job ∷ [] =
-        take_more d.jobs from job (slice_get_within d.jobs from job stands) ∙ ap (λ j. take from d.jobs ++ j ∷ []) (get_or_from_slice_get d.jobs from job job stands) in
+    take_more d.jobs from job (slice_get_within d.jobs from job stands) ∙ ap (λ j. take from d.jobs ++ j ∷ []) (get_or_from_slice_get d.jobs from job job stands) in
     record {
       within = grows.moved.within;
       before = served_own d.start d.entries e e.lane is.sound.begun refl ∙ ap (λ js. js ++ job ∷ []) old.before
@@ -150,38 +147,38 @@ place_grown : (d : DeskShape) (places : List ℕ) (e : Entry) (b : BoardShape) (
     IsPlace (with_entry d e b spare) lane (slice_index_or (slice_set places e.lane place) lane 0)
 place_grown d places e b spare place lane is grows known = elim (bool_cases (nat_eq e.lane lane)) [
   | inl own ↦
-    let same : e.lane ≡ lane = eq_back e.lane lane own in
-    subst (λ n. IsPlace (with_entry d e b spare) n (slice_index_or (slice_set places e.lane place) n 0)) same
-    (subst (IsPlace (with_entry d e b spare) e.lane) (sym (get_or-set_same places e.lane place 0 grows.sized)) (own_place d places e b spare place is grows))
+      let same : e.lane ≡ lane = eq_back e.lane lane own in
+      subst (λ n. IsPlace (with_entry d e b spare) n (slice_index_or (slice_set places e.lane place) n 0)) same
+      (subst (IsPlace (with_entry d e b spare) e.lane) (sym (get_or-set_same places e.lane place 0 grows.sized)) (own_place d places e b spare place is grows))
   | inr other ↦
-    let old = is.placed lane known in
-    subst (IsPlace (with_entry d e b spare) lane) (sym (get_or-set_other places e.lane lane place 0 (differs e.lane lane other))) record {
-      within = old.within;
-      before = served_other d.start d.entries e lane is.sound.begun other ∙ old.before;
-      here = old.here;
-    }
+      let old = is.placed lane known in
+      subst (IsPlace (with_entry d e b spare) lane) (sym (get_or-set_other places e.lane lane place 0 (differs e.lane lane other))) record {
+        within = old.within;
+        before = served_other d.start d.entries e lane is.sound.begun other ∙ old.before;
+        here = old.here;
+      }
 ]
 
 ends_grown : (d : DeskShape) (places : List ℕ) (e : Entry) (b : BoardShape) (spare lane : ℕ) → IsDesk d places → (loss_of (slice_set d.losses e.lane no_loss) lane).end ≤ length (d.entries ++ e ∷ [])
 ends_grown d places e b spare lane is = elim (bool_cases (nat_eq e.lane lane)) [
   | inl own ↦
-    let same : e.lane ≡ lane = eq_back e.lane lane own in
-    let none = ap (λ (l : Loss). l.end) (ap (loss_of (slice_set d.losses e.lane no_loss)) (sym same) ∙ no_loss_own d.losses e.lane) in
-    omega (arith, none)
+      let same : e.lane ≡ lane = eq_back e.lane lane own in
+      let none = ap (λ (l : Loss). l.end) (ap (loss_of (slice_set d.losses e.lane no_loss)) (sym same) ∙ no_loss_own d.losses e.lane) in
+      omega (arith, none)
   | inr other ↦
-    let old = is.ends lane in
-    let same = ap (λ (l : Loss). l.end) (loss_other d.losses e.lane lane no_loss other) in
-    omega (arith, old, same, length-append d.entries (e ∷ []))
+      let old = is.ends lane in
+      let same = ap (λ (l : Loss). l.end) (loss_other d.losses e.lane lane no_loss other) in
+      omega (arith, old, same, length-append d.entries (e ∷ []))
 ]
 
 losses_grown : (d : DeskShape) (places : List ℕ) (e : Entry) (b : BoardShape) (spare lane : ℕ) (j : Job) → IsDesk d places → next_job (with_entry d e b spare) lane ≡ Some j →
     LossRests (with_entry d e b spare) lane j.ask
 losses_grown d places e b spare lane j is next = elim (bool_cases (nat_eq e.lane lane)) [
   | inl own ↦
-    let same : e.lane ≡ lane = eq_back e.lane lane own in
-    fresh_rests (with_entry d e b spare) lane j.ask (ap (loss_of (slice_set d.losses e.lane no_loss)) (sym same) ∙ no_loss_own d.losses e.lane)
+      let same : e.lane ≡ lane = eq_back e.lane lane own in
+      fresh_rests (with_entry d e b spare) lane j.ask (ap (loss_of (slice_set d.losses e.lane no_loss)) (sym same) ∙ no_loss_own d.losses e.lane)
   | inr other ↦
-    other_rests d e b spare lane j.ask is.sound.begun (is.ends lane) other (is.losses lane j (sym (next_other d e b spare lane is.sound.begun other) ∙ next))
+      other_rests d e b spare lane j.ask is.sound.begun (is.ends lane) other (is.losses lane j (sym (next_other d e b spare lane is.sound.begun other) ∙ next))
 ]
 
 -- with one more entry
@@ -214,13 +211,13 @@ lost_now d lane = record { count = (loss_of d.losses lane).count + 1; end = leng
 lost_ends : (d : DeskShape) (places : List ℕ) (lane other : ℕ) → IsDesk d places → (loss_of (with_loss d lane).losses other).end ≤ length d.entries
 lost_ends d places lane other is = elim (bool_cases (nat_eq lane other)) [
   | inl own ↦
-    let same : lane ≡ other = eq_back lane other own in
-    subst (λ n. (loss_of (with_loss d lane).losses n).end ≤ length d.entries) same
-    (set_own (λ (l : Loss). l.end ≤ length d.entries) d.losses lane (lost_now d lane) no_loss (omega arith) (omega arith))
+      let same : lane ≡ other = eq_back lane other own in
+      subst (λ n. (loss_of (with_loss d lane).losses n).end ≤ length d.entries) same
+      (set_own (λ (l : Loss). l.end ≤ length d.entries) d.losses lane (lost_now d lane) no_loss (omega arith) (omega arith))
   | inr away ↦
-    let old = is.ends other in
-    let same = ap (λ (l : Loss). l.end) (loss_other d.losses lane other (lost_now d lane) away) in
-    omega (arith, old, same)
+      let old = is.ends other in
+      let same = ap (λ (l : Loss). l.end) (loss_other d.losses lane other (lost_now d lane) away) in
+      omega (arith, old, same)
 ]
 
 abbrev rests_by : DeskShape → ℕ → Ask → Loss → Type 0
@@ -238,10 +235,10 @@ lost_losses : (d : DeskShape) (places : List ℕ) (lane : ℕ) (what : Ask) (oth
     LossRests (with_loss d lane) other j.ask
 lost_losses d places lane what other j is may next = elim (bool_cases (nat_eq lane other)) [
   | inl own ↦
-    let same : other ≡ lane = sym (eq_back lane other own) in
-    let asks : j.ask ≡ what = may.next j (subst (λ n. next_job d n ≡ Some j) same next) in
-    subst (λ n. LossRests (with_loss d lane) n j.ask) (sym same)
-    (lost_own d lane j.ask (subst (λ a. 1 ≤ counted a (drop (floor_of d lane) d.entries)) (sym asks) may.some) (subst (λ n. LossRests d n j.ask) same (is.losses other j next)))
+      let same : other ≡ lane = sym (eq_back lane other own) in
+      let asks : j.ask ≡ what = may.next j (subst (λ n. next_job d n ≡ Some j) same next) in
+      subst (λ n. LossRests (with_loss d lane) n j.ask) (sym same)
+      (lost_own d lane j.ask (subst (λ a. 1 ≤ counted a (drop (floor_of d lane) d.entries)) (sym asks) may.some) (subst (λ n. LossRests d n j.ask) same (is.losses other j next)))
   | inr away ↦ subst (rests_by d other j.ask) (sym (loss_other d.losses lane other (lost_now d lane) away)) (is.losses other j next)
 ]
 
@@ -267,12 +264,12 @@ pub places_more : (jobs : List Job) (places : List ℕ) (lane place : ℕ) → l
     (n : ℕ) → n < lane + 1 → IsNextPlace jobs n 0 (slice_index_or (slice_set places lane place) n 0)
 places_more jobs places lane place sized before here n below = elim (bool_cases (nat_eq lane n)) [
   | inl own ↦
-    let same : lane ≡ n = eq_back lane n own in
-    subst (λ m. IsNextPlace jobs m 0 (slice_index_or (slice_set places lane place) m 0)) same
-    (subst (IsNextPlace jobs lane 0) (sym (get_or-set_same places lane place 0 sized)) here)
+      let same : lane ≡ n = eq_back lane n own in
+      subst (λ m. IsNextPlace jobs m 0 (slice_index_or (slice_set places lane place) m 0)) same
+      (subst (IsNextPlace jobs lane 0) (sym (get_or-set_same places lane place 0 sized)) here)
   | inr other ↦
-    let less : n < lane = grind (arith, common_steps) in
-    subst (IsNextPlace jobs n 0) (sym (get_or-set_other places lane n place 0 (differs lane n other))) (before n less)
+      let less : n < lane = grind (arith, common_steps) in
+      subst (IsNextPlace jobs n 0) (sym (get_or-set_other places lane n place 0 (differs lane n other))) (before n less)
 ]
 
 none_served : (entries : List Entry) (lane : ℕ) → lane_jobs lane (map job_of_entry (drop (length entries) entries)) ≡ []

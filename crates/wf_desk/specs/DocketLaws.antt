@@ -1,21 +1,19 @@
 -- Inside: the lanes of a docket, job after job.
-use Rattle.std.proofs.Common.{◌≡◌, ℕ, zero, suc, ◌+◌, ◌-◌, ◌<◌, ◌≤◌, ◌⊎◌, inl, inr, Bool, true, false, nat_eq, nat_lt, List, [], ◌∷◌, ◌++◌, length, take, drop, map, get_or, slice_get, IfSome, Option, None, Some, refl, sym, ap, subst, ◌∙◌, arith, append-nil}
-use Rattle.std.specs.List.{filter}
+use Rattle.std.proofs.Common.{◌≡◌, ℕ, zero, suc, ◌+◌, ◌-◌, ◌<◌, ◌≤◌, inl, inr, false, nat_eq, List, [], ◌∷◌, ◌++◌, length, take, drop, map, get_or, slice_get, IfSome, None, Some, refl, sym, ap, subst, ◌∙◌, arith, append-nil}
 use Rattle.std.proofs.lemmas.Grind.{common_steps}
 use Rattle.std.proofs.lemmas.List.{map-append, length-map, length-append, length-drop, take-append-drop, drop-append-le, take_more, take_rest, take_all, length-take-le}
 use Rattle.std.proofs.lemmas.List.Elements.{filter-append}
-use Rattle.std.proofs.lemmas.Option.{slice_get_past, slice_get_within, get_or_from_slice_get}
+use Rattle.std.proofs.lemmas.Option.{slice_get_within, get_or_from_slice_get}
 use Rattle.std.proofs.Math.ListN.{drop_of_length-le}
 use Rattle.std.proofs.Math.Seq.{take-length}
 use Rattle.basics.proofs.Booleans.{bool_cases, eq_back, eq_is}
-use Rattle.wf_names.specs.declared.limits.TheConstants.{LANE_LIMIT}
 use Rattle.wf_talk.specs.declared.entry.Entry.{Entry}
 use Rattle.wf_talk.specs.declared.job.Job.{Job}
 use Rattle.wf_board.specs.Histories.{EachAfter, RestsFrom, job_of_entry, lane_jobs}
 use Rattle.wf_desk.specs.Desks.{AreOfLanes, DeskShape, IsDone, IsSoundDesk, left_of, next_job, served, served_jobs}
-use Rattle.wf_desk.specs.Keeping.{IsNextPlace, IsPlace}
+use Rattle.wf_desk.specs.Keeping.{IsPlace}
 use Rattle.wf_desk.specs.BatchLaws.{AnswersBatch}
-use Rattle.wf_desk.specs.Fronts.{Begins, Fronts, fronts_short, fronts_within}
+use Rattle.wf_desk.specs.Fronts.{Fronts, fronts_short, fronts_within}
 
 -- the jobs of a lane of two lists
 pub lane_both : (lane : ℕ) (xs ys : List Job) → lane_jobs lane (xs ++ ys) ≡ lane_jobs lane xs ++ lane_jobs lane ys
@@ -170,7 +168,7 @@ batch_done d sound done =
     let same : (lane : ℕ) → served d lane ≡ lane_jobs lane d.jobs = λ lane. lane_done d lane (sound.front lane) (done lane) in
     let answered = map job_of_entry (drop d.start d.entries) in
     let back : Fronts (λ (j : Job). j.lane) d.jobs answered =
-        record { front = λ lane. subst (λ js. take (length (lane_jobs lane d.jobs)) js ≡ lane_jobs lane d.jobs) (sym (same lane)) (take-length (lane_jobs lane d.jobs)) } in
+    record { front = λ lane. subst (λ js. take (length (lane_jobs lane d.jobs)) js ≡ lane_jobs lane d.jobs) (sym (same lane)) (take-length (lane_jobs lane d.jobs)) } in
     let above = fronts_within (λ (j : Job). j.lane) d.jobs answered back in
     let below = fronts_within (λ (j : Job). j.lane) answered d.jobs (lanes_front d sound.front) in
     let size = length-map (drop d.start d.entries) job_of_entry in

@@ -1,5 +1,5 @@
 -- Inside: of each lane the first items are done, of a list of items.
-use Rattle.std.proofs.Common.{◌≡◌, ℕ, ◌+◌, ◌<◌, ◌≤◌, ◌⊎◌, inl, inr, Bool, true, false, nat_eq, List, [], ◌∷◌, ◌++◌, length, take, if◌then◌else◌, refl, sym, ap, subst, ◌∙◌, arith}
+use Rattle.std.proofs.Common.{◌≡◌, ℕ, ◌+◌, ◌<◌, ◌≤◌, inl, inr, true, false, nat_eq, List, [], ◌∷◌, length, take, if◌then◌else◌, refl, sym, ap, subst, arith}
 use Rattle.std.specs.List.{filter}
 use Rattle.std.proofs.lemmas.Grind.{common_steps}
 use Rattle.basics.proofs.Booleans.{bool_cases}
@@ -57,12 +57,12 @@ next_fronts : {A : Type 0} (key : A → ℕ) (x : A) (done all : List A) → Fro
 next_fronts key x done all fronts = record {
   front = λ lane. elim (bool_cases (nat_eq (key x) lane)) [
     | inl hit ↦
-      let same : key x ≡ lane = grind (arith, common_steps) in
-      let cut = begins_cons x (of_lane key lane done) (of_lane key lane all) (rw hit at (fronts.front lane)) in
-      rw same (subst (Begins (of_lane key lane done)) (sym (own_lane key lane all)) cut.1)
+        let same : key x ≡ lane = grind (arith, common_steps) in
+        let cut = begins_cons x (of_lane key lane done) (of_lane key lane all) (rw hit at (fronts.front lane)) in
+        rw same (subst (Begins (of_lane key lane done)) (sym (own_lane key lane all)) cut.1)
     | inr miss ↦
-      let own : nat_eq lane (key x) ≡ false = grind (arith, common_steps) in
-      subst (Begins (of_lane key lane done)) (sym (other_lane key (key x) lane all own)) (rw miss at (fronts.front lane))
+        let own : nat_eq lane (key x) ≡ false = grind (arith, common_steps) in
+        subst (Begins (of_lane key lane done)) (sym (other_lane key (key x) lane all own)) (rw miss at (fronts.front lane))
   ];
 }
 
@@ -95,13 +95,13 @@ fronts_short key lane (x ∷ done) all fronts short =
     let size = one_less key (key x) all has in
     let left : length (of_lane key lane done) < length (of_lane key lane (without key (key x) all)) = elim (bool_cases (nat_eq (key x) lane)) [
       | inl hit ↦
-        let same : key x ≡ lane = grind (arith, common_steps) in
-        let len = rest_length (of_lane key lane all) (subst (λ l. 0 < length (of_lane key l all)) same has) in
-        let now = rw hit at short in
-        rw same (rw (own_lane key lane all) (omega (arith, now, len)))
+          let same : key x ≡ lane = grind (arith, common_steps) in
+          let len = rest_length (of_lane key lane all) (subst (λ l. 0 < length (of_lane key l all)) same has) in
+          let now = rw hit at short in
+          rw same (rw (own_lane key lane all) (omega (arith, now, len)))
       | inr miss ↦
-        let own : nat_eq lane (key x) ≡ false = grind (arith, common_steps) in
-        rw (other_lane key (key x) lane all own) (rw miss at short)
+          let own : nat_eq lane (key x) ≡ false = grind (arith, common_steps) in
+          rw (other_lane key (key x) lane all own) (rw miss at short)
     ] in
     let less = fronts_short key lane done (without key (key x) all) (next_fronts key x done all fronts) left in
     omega arith

@@ -8,12 +8,11 @@ use Rattle.wf_talk.specs.declared.request.Ask.{Ask}
 use Rattle.wf_board.specs.Counting.{counted, lane_end}
 use Rattle.wf_board.specs.Histories.{lane_jobs}
 use Rattle.wf_board.specs.declared.verdict.Verdict.TheVariants as verdict
-use Rattle.wf_desk.specs.declared.loss.Loss.{Loss}
 use Rattle.wf_desk.specs.declared.task.Task.{Task}
 use Rattle.wf_desk.specs.declared.outcome.Outcome.{Outcome}
 use Rattle.wf_desk.specs.declared.outcome.Outcome.TheVariants as outcome
 use Rattle.wf_desk.specs.Desks.{AreOfLanes, DeskShape, HasAdded, IsSoundDesk, loss_of, next_job, served}
-use Rattle.wf_desk.specs.Commits.{IsReplyWhere, floor_of, is_last_round, is_lost, job_of_task, with_loss}
+use Rattle.wf_desk.specs.Commits.{IsReplyWhere, floor_of, is_fresh, is_last_round, is_lost, job_of_task, with_loss}
 
 -- behind a lane's last entry of the batch
 abbrev pub own_start : DeskShape → ℕ → ℕ
@@ -60,3 +59,11 @@ HasMissed before after t outcome.NotNext = ⊥
 HasMissed before after t outcome.Lost = (is_lost before t ≡ true) × ((is_last_round before t.lane ≡ false) × (after ≡ with_loss before t.lane))
 HasMissed before after t (outcome.Recorded place) =
     HasAdded before after (job_of_task t) place (IsReplyWhere false (is_lost before t) before t verdict.Nothing)
+
+-- what became of a task without a verdict
+abbrev pub HasCommittedNone : DeskShape → DeskShape → Task → Outcome → Type 0
+HasCommittedNone before after t outcome.NotNext = ⊥
+HasCommittedNone before after t outcome.Lost =
+    (is_fresh before t ≡ false) × ((is_lost before t ≡ true) × ((is_last_round before t.lane ≡ false) × (after ≡ with_loss before t.lane)))
+HasCommittedNone before after t (outcome.Recorded place) =
+    HasAdded before after (job_of_task t) place (IsReplyWhere (is_fresh before t) (is_lost before t) before t verdict.Nothing)

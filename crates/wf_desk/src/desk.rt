@@ -6,7 +6,7 @@ ghost use Rattle.wf_board.specs.States.{opening_state};
 ghost use Rattle.wf_board.specs.Verdicts.{Decides, IsDecided, IsRight};
 ghost use Rattle.wf_desk.specs.Desks.{AreOfLanes, HasAdded, IsDone, IsSoundDesk, left_of, next_job, no_loss, with_batch, with_room};
 ghost use Rattle.wf_desk.specs.Commits.{HasCommitted, HasCommittedChecked, HasServed, IsAgain, IsNext, IsRightFor, IsTask, floor_of, is_fresh, is_last_round, is_lost, job_of_task, with_loss};
-ghost use Rattle.wf_desk.specs.Keeping.{HasMissed};
+ghost use Rattle.wf_desk.specs.Keeping.{HasCommittedNone, HasMissed};
 
 use crate::docket::{count_of_lane, first_places, go_on, job_at};
 use crate::journal::{add_entry, any_counts, any_of_lane, entries_from, last_counting};
@@ -162,10 +162,8 @@ impl Desk {
             Outcome::NotNext
         } else if self.board.accepts(&job.ask, &verdict) {
             Outcome::Recorded(self.serve(alloc, decider, &job, verdict))
-        } else if self.is_fresh(task) {
-            Outcome::Recorded(self.serve(alloc, decider, &job, Verdict::Nothing))
         } else {
-            self.miss(alloc, decider, task, &job)
+            self.commit_none(alloc, decider, task, &job)
         }
     }
 
@@ -196,7 +194,10 @@ impl Desk {
         ensures { result ≡ left_of self.now lane }
     {
         if lane < self.lanes {
-            count_of_lane(&self.jobs.as_slice()[self.places[lane as usize] as usize..], lane)
+            count_of_lane(
+                &self.jobs.as_slice()[self.places[lane as usize] as usize..],
+                lane,
+            )
         } else {
             0
         }
@@ -276,8 +277,7 @@ impl Desk {
         ensures { result ≡ nat_le (floor_of self.now task.now.lane) task.now.number }
     {
         let before = self.start.max(self.losses[task.lane as usize].end);
-        before <= task.number
-            && !any_of_lane(entries_from(&self.journal, task.number), task.lane)
+        before <= task.number && !any_of_lane(entries_from(&self.journal, task.number), task.lane)
     }
 
     // Whether one more loss of a lane's next job is the last that it may have.
@@ -288,14 +288,28 @@ impl Desk {
         self.rounds as u32 <= self.losses[lane as usize].count as u32 + 1
     }
 
-    // What becomes of a task that is stale, without its verdict.
-    fn miss<V: Decider>(
+    // What becomes of a task without a verdict.
+    fn commit_none<V: Decider>(
         &mut self,
         alloc: Global,
         decider: &V,
         task: &Task,
         job: &Job,
     ) -> Outcome
+        requires ready { V.ready decider.now }
+        requires job { job.now ≡ job_of_task task.now }
+        requires lane { task.now.lane < self.old.lanes }
+        requires next { IsNext self.old task.now }
+        ensures { HasCommittedNone self.old self.new task.now result }
+    {
+        if self.is_fresh(task) {
+            return Outcome::Recorded(self.serve(alloc, decider, job, Verdict::Nothing));
+        }
+        self.miss(alloc, decider, task, job)
+    }
+
+    // What becomes of a task that is stale.
+    fn miss<V: Decider>(&mut self, alloc: Global, decider: &V, task: &Task, job: &Job) -> Outcome
         requires ready { V.ready decider.now }
         requires job { job.now ≡ job_of_task task.now }
         requires lane { task.now.lane < self.old.lanes }
@@ -314,13 +328,7 @@ impl Desk {
     }
 
     // Decides a lane's next job, with a verdict if there is one, and adds its entry.
-    fn serve<V: Decider>(
-        &mut self,
-        alloc: Global,
-        decider: &V,
-        job: &Job,
-        verdict: Verdict,
-    ) -> u32
+    fn serve<V: Decider>(&mut self, alloc: Global, decider: &V, job: &Job, verdict: Verdict) -> u32
         requires ready { V.ready decider.now }
         requires lane { job.now.lane < self.old.lanes }
         requires next { next_job self.old job.now.lane ≡ Some job.now }

@@ -13,7 +13,11 @@ pub(crate) fn entries_from(journal: &Journal, place: u32) -> &[Entry]
 {
     let entries = journal.as_slice();
     let len = entries.len();
-    let from = if (place as usize) < len { place as usize } else { len };
+    let from = if (place as usize) < len {
+        place as usize
+    } else {
+        len
+    };
     &entries[from..]
 }
 

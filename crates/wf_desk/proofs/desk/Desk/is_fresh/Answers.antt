@@ -1,4 +1,4 @@
-use Rattle.std.proofs.Common.{◌≡◌, ap, drop, nat_lt, not, sym, subst, true, ◌∙◌}
+use Rattle.std.proofs.Common.{ap, drop, nat_lt, not, sym, subst, ◌∙◌}
 use Rattle.wf_board.specs.Counting.{counted}
 use Rattle.wf_desk.specs.Keeping.{IsDesk}
 use Rattle.wf_desk.specs.CommitLaws.{fresh_test, fresh_verdict}

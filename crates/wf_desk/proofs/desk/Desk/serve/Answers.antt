@@ -1,4 +1,3 @@
-use Rattle.std.proofs.Common.{sym, subst}
 use Rattle.wf_desk.specs.CommitLaws.{serve_keeps}
 use Rattle.wf_desk.specs.DeskLaws.{desk_small, has_room, stands_here}
 use Rattle.wf_desk.proofs.desk.Desk.serve.Goals as goal
