@@ -193,8 +193,8 @@ answers_to held mid aft old d before batch after text es (Ok done) h is new all 
     fills = batch_filled held mid old d before batch after h;
     ends = rw (h.added.jobs, h.added.ends) (ends_more before.jobs batch before.batch_ends h.answered.ends);
     written =
-      all ∙ ap (with_bytes mid) is ∙ ap (λ m. with_bytes m (entries_text old.opening h.new)) h.answered.written ∙ more_put held (entries_text old.opening before.entries) (entries_text old.opening h.new)
-      ∙ ap (with_bytes held) (sym (batch_text old.opening before.entries after.entries h.new h.entries) ∙ ap (λ (s : Setting). entries_text s.policy after.entries) (sym h.setting));
+        all ∙ ap (with_bytes mid) is ∙ ap (λ m. with_bytes m (entries_text old.opening h.new)) h.answered.written ∙ more_put held (entries_text old.opening before.entries) (entries_text old.opening h.new)
+        ∙ ap (with_bytes held) (sym (batch_text old.opening before.entries after.entries h.new h.entries) ∙ ap (λ (s : Setting). entries_text s.policy after.entries) (sym h.setting));
   },
 )
 answers_to held mid aft old d before batch after text es (Err fault.NoMemory) h is new all part some ending =
@@ -212,11 +212,14 @@ pub answers_none : (held aft : Option (List ℕ)) (old d : DeskShape) (before : 
     → HasAnswered held aft old before → setting_of d ≡ setting_of old → after ≡ before → result ≡ Err fault.NoMemory → AnswersTo held aft before batch d after result
 answers_none held aft old d before batch after result answered setting same memory =
     let policy : d.opening ≡ old.opening = ap (λ (s : Setting). s.policy) setting in
-    rw (memory, same) (inl refl, record {
-      once = answered.once;
-      fills = answered.fills;
-      written = subst (λ p. WritesLast p held aft before) (sym policy) (writes_whole old.opening held aft before answered.written);
-    })
+    rw (memory, same) (
+      inl refl,
+      record {
+        once = answered.once;
+        fills = answered.fills;
+        written = subst (λ p. WritesLast p held aft before) (sym policy) (writes_whole old.opening held aft before answered.written);
+      },
+    )
 
 -- the text of entries with the names of the board's policy
 pub text_on : (d : DeskShape) (q : PolicyShape) (es : List Entry) → IsSoundDesk d → q ≡ d.board.policy → entries_text q es ≡ entries_text d.opening es

@@ -69,10 +69,13 @@ turned_served a b c lane lanes had turned served =
 pub turned_passed : (a b c : DeskShape) (lane : ℕ) (had : Bool) → HasTurned a b lane had → HasServed b c lane false → HasTurned a c (lane + 1) had
 turned_passed a b c lane had turned served = record {
   on = rw served.1 turned.on;
-  none = λ e. let none = turned.none e in (served.1 ∙ none.0, λ k below. elim (bool_cases (nat_eq k lane)) [
-    | inl here ↦ let same : k ≡ lane = grind (arith, nat_tests) in rw same (subst (λ d. next_job d lane ≡ None) none.0 served.0)
-    | inr other ↦ none.1 k (grind (arith, nat_tests))
-  ]);
+  none = λ e. let none = turned.none e in (
+    served.1 ∙ none.0,
+    λ k below. elim (bool_cases (nat_eq k lane)) [
+      | inl here ↦ let same : k ≡ lane = grind (arith, nat_tests) in rw same (subst (λ d. next_job d lane ≡ None) none.0 served.0)
+      | inr other ↦ none.1 k (grind (arith, nat_tests))
+    ],
+  );
   some = λ e. rw served.1 (turned.some e);
 }
 

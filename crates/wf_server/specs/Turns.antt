@@ -21,4 +21,3 @@ pub record HasServedOn (before after : DeskShape) : Type 0 where
 -- how many jobs of the batch have no entry yet
 abbrev pub left_at : DeskShape → ℕ
 left_at d = d.start + length d.jobs - length d.entries
-

@@ -16,11 +16,11 @@ turn-preserved c =
     elim c.if-serve_next.branch [
       | then-serve_next w ↦ record {
         turned = subst (λ had. HasTurned a d (lane + 1) had) (sym w.served-is)
-        (turned_served a b d lane (lane + 1) c.turn.served turned (subst (λ had. HasServed b d lane had) w.if-serve_next.true served));
+            (turned_served a b d lane (lane + 1) c.turn.served turned (subst (λ had. HasServed b d lane had) w.if-serve_next.true served));
       }
       | else-serve_next w ↦ record {
         turned = subst (λ had. HasTurned a d (lane + 1) had) (sym w.served-is)
-        (turned_passed a b d lane c.turn.served turned (subst (λ had. HasServed b d lane had) w.if-serve_next.false served));
+            (turned_passed a b d lane c.turn.served turned (subst (λ had. HasServed b d lane had) w.if-serve_next.false served));
       }
     ]
 
