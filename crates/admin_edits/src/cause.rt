@@ -19,14 +19,14 @@ use wf_talk::Edit;
 pub fn edit_cause(p: &Policy, by: &Name, e: &Edit) -> Option<EditFault>
     ensures { result ≡ edit_cause p.now by.now e.now }
 {
-    match amendment(p, by, e) {
+    match amendment_of(p, by, e) {
         Ok(_) => None,
         Err(fault) => Some(fault),
     }
 }
 
-/// What an edit changes, or its first fault.
-pub(crate) fn amendment(p: &Policy, by: &Name, e: &Edit) -> Result<Amendment, EditFault>
+/// What an edit changes, with numbers in place of names, or its first fault. Takes no memory.
+pub fn amendment_of(p: &Policy, by: &Name, e: &Edit) -> Result<Amendment, EditFault>
     ensures amendment { result ≡ amendment_of p.now by.now e.now }
     ensures within { IfOk result (IsFound p.now) }
     ensures allowed { IfOk result (λ a. allowed p.now a ≡ Ok tt) }

@@ -5,7 +5,7 @@ ghost use Rattle.admin_edits.specs.declared.fault.EditFault.{EditFault};
 ghost use Rattle.admin_edits.specs.Edits.{allowed, amended, edit_cause, edited_policy};
 ghost use Rattle.admin_edits.specs.Found.{AreMember, ArePair, IsFound};
 
-use crate::cause::amendment;
+use crate::cause::amendment_of;
 use crate::{Amendment, EditFault};
 use policy_book::Policy;
 use rbac_state::RosterFault;
@@ -21,7 +21,7 @@ pub fn apply(p: &Policy, by: &Name, e: &Edit) -> Result<Policy, EditFault>
     ensures edited { edit_cause p.now by.now e.now ≡ None → IfOk result (λ q. q ≡ edited_policy p.now by.now e.now) }
     ensures memory { edit_cause p.now by.now e.now ≡ None → OnErr result (result ≡ Err EditFault.NoMemory) }
 {
-    let amendment = amendment(p, by, e)?;
+    let amendment = amendment_of(p, by, e)?;
     match amended(p, amendment) {
         Ok(edited) => Ok(edited),
         Err(_) => Err(EditFault::NoMemory),

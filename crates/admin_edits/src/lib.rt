@@ -6,8 +6,11 @@ mod cause;
 mod edited;
 mod fault;
 mod find;
+mod hurting;
+pub mod laws;
 
 pub use amendment::Amendment;
-pub use cause::edit_cause;
+pub use cause::{amendment_of, edit_cause};
 pub use edited::apply;
 pub use fault::EditFault;
+pub use hurting::may_hurt;

@@ -5,6 +5,8 @@ mod batch;
 #[cfg(test)]
 mod change_tests;
 mod decider;
+#[cfg(test)]
+mod edit_tests;
 mod run;
 mod serve;
 mod session;
