@@ -33,6 +33,7 @@ fn serve_turn(alloc: Global, desk: &mut Desk) -> bool
             served = true;
         }
     }
+    // What a desk keeps: no more jobs are answered than there are, so turns end.
     let _kept = desk.journal();
     served
 }
