@@ -69,8 +69,8 @@ fn count_candidates(problem: &Problem, work: &mut Work, a: &Assign, s: u8) -> u3
     count(work.spare.row(0))
 }
 
-// Keeps in the spare row those whom a rule admits for a step.
-fn restrict(problem: &Problem, work: &mut Work, law: &Law, a: &Assign, s: u8) {
+/// Keeps in the spare row those whom a rule admits for a step.
+pub(crate) fn restrict(problem: &Problem, work: &mut Work, law: &Law, a: &Assign, s: u8) {
     if law.some {
         restrict_some(problem, work, law, a, s);
     } else if law.step == s {

@@ -13,6 +13,7 @@ mod laws;
 mod links;
 mod matching;
 mod problem;
+mod reasons;
 mod rows;
 mod runs;
 mod state;

@@ -194,6 +194,23 @@ pub(crate) fn first_apart(row: &[u64], other: &[u64], u: u16, v: u16) -> Option<
     None
 }
 
+/// Writes a number to the place of each user who is in the first row and not in the second.
+pub(crate) fn number_struck(before: &[u64], after: &[u64], numbers: &mut [u8], number: u8) {
+    for (at, (word, left)) in before.iter().zip(after.iter()).enumerate() {
+        let mut struck = *word & !*left;
+        for _ in 0..64u8 {
+            if struck == 0 {
+                break;
+            }
+            let user = user_at(at, struck.trailing_zeros()) as usize;
+            struck &= struck.wrapping_sub(1);
+            if user < numbers.len() {
+                numbers[user] = number;
+            }
+        }
+    }
+}
+
 // The word at a place of the row of one user.
 fn word_of(at: usize, user: u16) -> u64 {
     if at == (user >> 6) as usize {

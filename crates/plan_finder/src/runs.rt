@@ -8,6 +8,7 @@ use crate::choice::{Choice, choose};
 use crate::laws::settle;
 use crate::matching::matched;
 use crate::problem::{Over, Problem};
+use crate::reasons::Reasons;
 use crate::rows::{add_user, clear, first_apart, has_user, is_empty, put};
 use crate::state::State;
 use crate::work::Work;
@@ -37,6 +38,7 @@ enum Ending {
 pub struct Finder {
     problem: Problem,
     work: Work,
+    reasons: Reasons,
 }
 
 impl Finder {
@@ -46,7 +48,12 @@ impl Finder {
     {
         let problem = Problem::new(alloc, p, f)?;
         let work = Work::new(alloc, problem.width)?;
-        Ok(Finder { problem, work })
+        let reasons = Reasons::new(alloc);
+        Ok(Finder {
+            problem,
+            work,
+            reasons,
+        })
     }
 
     /// Looks for a plan that extends an assignment, where the finished steps need no authorised
@@ -66,6 +73,23 @@ impl Finder {
     /// A step that is not assigned, which is a good one to try next; it may be another one all the same.
     pub fn next_step(&mut self, a: &Assign) -> Option<StepId> {
         advised(&self.problem, &mut self.work, a)
+    }
+
+    /// Makes room for reasons; none is found before.
+    pub fn make_room(&mut self, alloc: Global) -> Result<(), AllocError> {
+        let users = self.problem.width.saturating_mul(64);
+        self.reasons.make_room(alloc, users)
+    }
+
+    /// Finds for each user a rule that keeps the user from a step, at a depth of a search.
+    pub fn find_reasons(&mut self, a: &Assign, depth: u8, s: StepId) {
+        self.reasons
+            .find(&self.problem, &mut self.work, a, depth, s.0);
+    }
+
+    /// The number of a rule that may keep a user from the step at a depth; 255 where none is known.
+    pub fn reason(&self, depth: u8, u: UserId) -> u8 {
+        self.reasons.rule(depth, u.0)
     }
 
     /// Where to look for what tells two users apart; they may differ elsewhere all the same.

@@ -14,6 +14,8 @@ pub(crate) struct Work {
     seed: u64,
     /// A row to work on.
     pub(crate) spare: Rows,
+    /// A row as it was before.
+    pub(crate) before: Rows,
     /// The users who alone stand for a block.
     pub(crate) taken: Rows,
 }
@@ -27,6 +29,7 @@ impl Work {
             steps: Cells::all(1),
             seed: 1,
             spare: Rows::new(alloc, 1, width)?,
+            before: Rows::new(alloc, 1, width)?,
             taken: Rows::new(alloc, 1, width)?,
         })
     }

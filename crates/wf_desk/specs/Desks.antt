@@ -1,5 +1,5 @@
 -- The desk: one history, the state after it, and the jobs of a batch.
-use Rattle.std.specs.Prelude.{◌≡◌, ℕ, ◌-◌, ◌≤◌, ◌<◌, List, [], ◌∷◌, ◌++◌, length, take, drop, map, replicate, slice_get, slice_index_or, slice_set, Option, None}
+use Rattle.std.specs.Prelude.{◌≡◌, ℕ, ◌+◌, ◌-◌, ◌≤◌, ◌<◌, List, [], ◌∷◌, ◌++◌, length, take, drop, map, replicate, slice_get, slice_index_or, slice_set, Option, None}
 use Rattle.wf_names.specs.declared.limits.TheConstants.{LANE_LIMIT}
 use Rattle.policy_book.specs.Shapes.{PolicyShape}
 use Rattle.wf_talk.specs.declared.entry.Entry.{Entry}
@@ -49,8 +49,8 @@ abbrev pub IsDone : DeskShape → Type 0
 IsDone d = (lane : ℕ) → next_job d lane ≡ None
 
 -- what the type of a desk keeps: the entries are a legal history, and the board shows the state after it; each lane's
--- entries of the batch answer its first jobs, in order; what is answered again rests on entries of the batch; and only
--- an opening or a claim is answered with want of memory
+-- entries of the batch answer its first jobs, in order; what is answered again rests on entries of the batch; only an
+-- opening or a claim is answered with want of memory; and there is room for a case for each job that is left
 pub record IsSoundDesk (d : DeskShape) : Type 0 where
   pub legal : IsLegal (opening_state d.opening) d.rounds d.entries
   pub state : state_on d.board ≡ state_after (opening_state d.opening) d.entries
@@ -58,6 +58,7 @@ pub record IsSoundDesk (d : DeskShape) : Type 0 where
   pub front : (lane : ℕ) → served d lane ≡ take (length (served d lane)) (lane_jobs lane d.jobs)
   pub rests : EachAfter (RestsFrom d.start) (take d.start d.entries) (drop d.start d.entries)
   pub wants : AreWantsRightful d.entries
+  pub room : d.start + length d.jobs ≤ length d.entries + d.board.cases.spare
 
 -- each of these jobs is of one of so many lanes
 abbrev pub AreOfLanes : ℕ → List Job → Type 0

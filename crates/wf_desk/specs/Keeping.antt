@@ -36,14 +36,13 @@ pub record IsPlace (d : DeskShape) (lane place : ℕ) : Type 0 where
   pub before : served d lane ≡ lane_jobs lane (take place d.jobs)
   pub here : IfSome (slice_get d.jobs place) (λ j. j.lane ≡ lane)
 
--- a desk is sound, there is room for the entries and the cases of the batch, all numbers fit, a lost job rests on entries
+-- a desk is sound, there is room for the entries of the batch, all numbers fit, a lost job rests on entries
 -- of the batch, and each lane's next job is known
 pub record IsDesk (d : DeskShape) (places : List ℕ) : Type 0 where
   pub sound : IsSoundDesk d
   pub few : d.lanes ≤ LANE_LIMIT
   pub of_lanes : AreOfLanes d.lanes d.jobs
   pub room : d.start + length d.jobs ≤ length d.entries + d.spare
-  pub cases : d.start + length d.jobs ≤ length d.entries + d.board.cases.spare
   pub small : d.start + length d.jobs < 4294967296
   pub ends : (lane : ℕ) → (loss_of d.losses lane).end ≤ length d.entries
   pub losses : (lane : ℕ) (j : Job) → next_job d lane ≡ Some j → LossRests d lane j.ask

@@ -4,5 +4,5 @@ pub mod Keeping
 pub mod Fronts
 pub mod BatchLaws
 pub mod DocketLaws
-pub mod DeskLaws
-pub mod CommitLaws
+pub mod Schedules
+pub mod Holding

@@ -1,5 +1,5 @@
 -- Text that is added in parts.
-use Rattle.std.proofs.Common.{◌≡◌, ℕ, List, [], ◌∷◌, ◌++◌, Bool, true, refl, ap, ◌∙◌, arith, append_assoc}
+use Rattle.std.proofs.Common.{◌≡◌, ℕ, List, [], ◌∷◌, ◌++◌, Bool, true, refl, sym, ap, ◌∙◌, arith, append_assoc}
 use Rattle.std.specs.List.{list_all}
 use Rattle.std.proofs.lemmas.Grind.{common_steps}
 use Rattle.json.specs.Print.{escape_byte, escape}
@@ -25,6 +25,18 @@ added_6 x0 x1 x2 x3 x4 x5 x6 a b c d e f e1 e2 e3 e4 e5 e6 = added_3 x0 x1 x2 x6
 pub added_7 : (x0 x1 x2 x3 x4 x5 x6 x7 a b c d e f g : List ℕ) → x1 ≡ x0 ++ a → x2 ≡ x1 ++ b → x3 ≡ x2 ++ c → x4 ≡ x3 ++ d → x5 ≡ x4 ++ e → x6 ≡ x5 ++ f → x7 ≡ x6 ++ g
     → x7 ≡ x0 ++ (a ++ (b ++ (c ++ (d ++ (e ++ (f ++ g))))))
 added_7 x0 x1 x2 x3 x4 x5 x6 x7 a b c d e f g e1 e2 e3 e4 e5 e6 e7 = added_3 x0 x1 x2 x7 a b (c ++ (d ++ (e ++ (f ++ g)))) e1 e2 (added_5 x2 x3 x4 x5 x6 x7 c d e f g e3 e4 e5 e6 e7)
+
+-- ---- objects within objects, whose braces are added at once
+
+pub added_in_two : (x0 x1 x2 x3 a b : List ℕ) → x1 ≡ x0 ++ a → x2 ≡ x1 ++ b → x3 ≡ x2 ++ 125 ∷ 125 ∷ [] → x3 ≡ x0 ++ (a ++ ((b ++ 125 ∷ []) ++ 125 ∷ []))
+added_in_two x0 x1 x2 x3 a b e1 e2 e3 = added_3 x0 x1 x2 x3 a b _ e1 e2 e3 ∙ ap (λ x. x0 ++ (a ++ x)) (sym (append_assoc b (125 ∷ []) (125 ∷ [])))
+
+pub number_added_in_two : (x0 x1 x2 x3 x4 a n b d : List ℕ) → x1 ≡ x0 ++ (a ++ n) → x2 ≡ x1 ++ b → x3 ≡ x2 ++ d → x4 ≡ x3 ++ 125 ∷ 125 ∷ []
+    → x4 ≡ x0 ++ (a ++ ((n ++ (b ++ (d ++ 125 ∷ []))) ++ 125 ∷ []))
+number_added_in_two x0 x1 x2 x3 x4 a n b d e1 e2 e3 e4 = rw (e4, e3, e2, e1) (simp append_assoc)
+
+pub numbers_added_in_two : (x0 x1 x2 x3 a n b m : List ℕ) → x1 ≡ x0 ++ (a ++ n) → x2 ≡ x1 ++ (b ++ m) → x3 ≡ x2 ++ 125 ∷ 125 ∷ [] → x3 ≡ x0 ++ (a ++ ((n ++ (b ++ (m ++ 125 ∷ []))) ++ 125 ∷ []))
+numbers_added_in_two x0 x1 x2 x3 a n b m e1 e2 e3 = rw (e3, e2, e1) (simp append_assoc)
 
 -- one more item behind a text, and the others behind it
 pub one_more : (old new : List ℕ) (later : Bool) (d : Data) (rest : Items) → new ≡ old ++ (comma_if later ++ compact_text d) → new ++ items_text true rest ≡ old ++ items_text later (item d rest)

@@ -143,6 +143,7 @@ fn guess_number(text: &[u8]) -> u16 {
 }
 
 // What follows some bytes at the front of a text.
+#[inline(always)]
 fn take<'t>(text: &'t [u8], front: &[u8]) -> Option<&'t [u8]>
     ensures { IfSome result (λ rest. text.now ≡ front.now ++ rest.now) }
 {

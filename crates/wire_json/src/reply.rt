@@ -6,7 +6,7 @@ ghost use Rattle.serde_json.specs.Written.{comma_if, compact_text};
 ghost use Rattle.refutation_tree.specs.Views.{shape_of};
 ghost use Rattle.wire_json.specs.Entries.{single, named, names_data, step_data, plan_data, state_data, seen_data, phase_data, bad_data};
 ghost use Rattle.wire_json.specs.Trees.{tree_data};
-ghost use Rattle.wire_json.specs.Replies.{denial_data, opened_data, face_data, again_data, reply_data, entry_data, entry_text};
+ghost use Rattle.wire_json.specs.Replies.{denial_data, face_data, again_data, reply_data, entry_data, entry_text};
 
 use crate::text::{
     push, push_comma, push_name, push_name_in, push_number, push_plan, push_quoted, push_roles,
@@ -19,7 +19,7 @@ use wf_names::{CaseId, FlowId, Name, Phase, RoleId, StepId, StepState};
 use wf_talk::{Bad, Denial, Entry, Face, Line, Reply, States};
 
 // The room that most lines need.
-const LINE_ROOM: usize = 128;
+const LINE_ROOM: usize = 256;
 
 /// The line that is written for an entry, with its line end. A number that names no user or step
 /// of the policy is written as an empty text.
@@ -67,19 +67,9 @@ fn push_reply(alloc: Global, out: &mut Vec<u8>, p: &Policy, reply: &Reply) -> Re
 fn push_granted(out: &mut Vec<u8>, p: &Policy, plan: &Plan) -> Result<(), AllocError>
     ensures { OnOk result (out.new.items ≡ out.old.items ++ compact_text (reply_data p.now (Reply.Granted plan.now))) }
 {
-    push(out, b"{\"granted\":")?;
-    push_kept(out, p, plan)?;
-    push(out, b"}")?;
-    Ok(())
-}
-
-// Adds an object with a plan.
-fn push_kept(out: &mut Vec<u8>, p: &Policy, plan: &Plan) -> Result<(), AllocError>
-    ensures { OnOk result (out.new.items ≡ out.old.items ++ compact_text (single (codes "plan") (plan_data p.now.roster.users plan.now))) }
-{
-    push(out, b"{\"plan\":")?;
+    push(out, b"{\"granted\":{\"plan\":")?;
     push_users(out, p, plan)?;
-    push(out, b"}")?;
+    push(out, b"}}")?;
     Ok(())
 }
 
@@ -104,46 +94,26 @@ fn push_finished(out: &mut Vec<u8>, done: bool) -> Result<(), AllocError>
 fn push_opened(out: &mut Vec<u8>, p: &Policy, case: CaseId, plan: &Plan) -> Result<(), AllocError>
     ensures { OnOk result (out.new.items ≡ out.old.items ++ compact_text (reply_data p.now (Reply.Opened case plan.now))) }
 {
-    push(out, b"{\"opened\":")?;
-    push_case(out, p, case, plan)?;
-    push(out, b"}")?;
-    Ok(())
-}
-
-// Adds an object with a case and its plan.
-fn push_case(out: &mut Vec<u8>, p: &Policy, case: CaseId, plan: &Plan) -> Result<(), AllocError>
-    ensures { OnOk result (out.new.items ≡ out.old.items ++ compact_text (opened_data p.now case plan.now)) }
-{
-    push(out, b"{\"case\":")?;
-    push_case_number(out, case)?;
+    push_case(out, b"{\"opened\":{\"case\":", case)?;
     push(out, b",\"plan\":")?;
     push_users(out, p, plan)?;
-    push(out, b"}")?;
+    push(out, b"}}")?;
     Ok(())
 }
 
-fn push_case_number(out: &mut Vec<u8>, case: CaseId) -> Result<(), AllocError>
-    ensures { OnOk result (out.new.items ≡ out.old.items ++ decimal case) }
+// Adds bytes and the number of a case.
+fn push_case(out: &mut Vec<u8>, before: &[u8], case: CaseId) -> Result<(), AllocError>
+    ensures { OnOk result (out.new.items ≡ out.old.items ++ (before.now ++ decimal case)) }
 {
-    push_number(out, b"", case.0 as u32)
+    push_number(out, before, case.0 as u32)
 }
 
 fn push_again(out: &mut Vec<u8>, rounds: u8, at: u32) -> Result<(), AllocError>
     ensures { OnOk result (out.new.items ≡ out.old.items ++ compact_text (single (codes "again") (again_data rounds at))) }
 {
-    push(out, b"{\"again\":")?;
-    push_lost(out, rounds, at)?;
-    push(out, b"}")?;
-    Ok(())
-}
-
-// Adds an object with how often a decision was lost, and where for the last time.
-fn push_lost(out: &mut Vec<u8>, rounds: u8, at: u32) -> Result<(), AllocError>
-    ensures { OnOk result (out.new.items ≡ out.old.items ++ compact_text (again_data rounds at)) }
-{
-    push_number(out, b"{\"at\":", at)?;
+    push_number(out, b"{\"again\":{\"at\":", at)?;
     push_number(out, b",\"rounds\":", rounds as u32)?;
-    push(out, b"}")?;
+    push(out, b"}}")?;
     Ok(())
 }
 
@@ -164,18 +134,9 @@ fn push_bad(out: &mut Vec<u8>, bad: Bad) -> Result<(), AllocError>
 fn push_bad_key(out: &mut Vec<u8>, key: &Name) -> Result<(), AllocError>
     ensures { OnOk result (out.new.items ≡ out.old.items ++ compact_text (single (codes "bad") (bad_data (Bad.Key key.now)))) }
 {
-    push(out, b"{\"bad\":")?;
-    push_key(out, key)?;
-    push(out, b"}")?;
-    Ok(())
-}
-
-fn push_key(out: &mut Vec<u8>, key: &Name) -> Result<(), AllocError>
-    ensures { OnOk result (out.new.items ≡ out.old.items ++ compact_text (bad_data (Bad.Key key.now))) }
-{
-    push(out, b"{\"key\":")?;
+    push(out, b"{\"bad\":{\"key\":")?;
     push_quoted(out, key)?;
-    push(out, b"}")?;
+    push(out, b"}}")?;
     Ok(())
 }
 

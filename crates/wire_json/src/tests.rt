@@ -213,7 +213,7 @@ fn is_asked(alloc: Global, line: &str, wanted: &Asked) -> Result<bool, AllocErro
     }
 }
 
-fn requests(flow: Name, by: Name, step: Name, user: Name) -> [(&'static str, u8, Request); 9] {
+fn requests(flow: Name, by: Name, step: Name, user: Name) -> [(&'static str, u8, Request); 12] {
     let case = CaseId(3);
     [
         (
@@ -235,6 +235,21 @@ fn requests(flow: Name, by: Name, step: Name, user: Name) -> [(&'static str, u8,
             r#"{"do":"give_back","case":3,"step":"approve","user":"bob","lane":0}"#,
             0,
             Request::GiveBack { case, step, user },
+        ),
+        (
+            r#"{"do":"finish","case":3,"step":"approve","user":"bob","lane":1}"#,
+            1,
+            Request::Finish { case, step, user },
+        ),
+        (
+            r#"{"do":"claim","case":3,"step":"approve","user":"bob" }"#,
+            0,
+            Request::Claim { case, step, user },
+        ),
+        (
+            r#"{"do":"claim","case":3,"step":"approve","user":"b\u006fb"}"#,
+            0,
+            Request::Claim { case, step, user },
         ),
         (
             r#"{"do":"release","by":"eve","case":3,"step":"approve"}"#,
@@ -272,8 +287,29 @@ fn bad_lines_are_of_the_first_lane(rt: HostRuntime) -> Result<(), Fail> {
 }
 
 // Lines with what is wrong with them: the key's name where it is a key.
-fn bad_lines() -> [(&'static str, &'static str); 35] {
+fn bad_lines() -> [(&'static str, &'static str); 41] {
     [
+        (
+            r#"{"do":"claim","case":3,"step":"pay","user":"bob"}}"#,
+            "syntax",
+        ),
+        (
+            r#"{"do":"claim","case":03,"step":"pay","user":"bob"}"#,
+            "syntax",
+        ),
+        (
+            r#"{"do":"claim","case":3,"step":"pay","user":"bob","lane":2}"#,
+            "lane",
+        ),
+        (
+            r#"{"do":"claim","case":65536,"step":"pay","user":"bob"}"#,
+            "case",
+        ),
+        (r#"{"do":"claim","case":3,"step":"","user":"bob"}"#, "step"),
+        (
+            r#"{"do":"finish","case":3,"step":"pay","user":"bob","lane":1,"x":1}"#,
+            "extra",
+        ),
         (r#"{"do":"claim","case":3"#, "syntax"),
         (r#"{"do":"view","case":3}}"#, "syntax"),
         (r#"["claim"]"#, "object"),

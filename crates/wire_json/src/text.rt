@@ -11,6 +11,7 @@ use std::alloc::AllocError;
 use wf_names::{Name, NameTable, RoleId, StepId};
 
 /// Adds bytes.
+#[inline(always)]
 pub(crate) fn push(out: &mut Vec<u8>, bytes: &[u8]) -> Result<(), AllocError>
     ensures { OnOk result (out.new.items ≡ out.old.items ++ bytes.now) }
 {

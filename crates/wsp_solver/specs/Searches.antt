@@ -37,10 +37,12 @@ pub record IsRefutation (p : Problem) (assigned : List (Option ℕ)) (finished :
   pub refutes : IsTrue (refutes p assigned finished (shape_of r.tree))
   pub steps : AreMentioned p.rules (shape_of r.tree) r.steps
 
--- a plan that is valid, or a tree that refutes with the steps that it mentions
-abbrev pub HasSearched : Problem → List (Option ℕ) → List Bool → Searched → Type 0
-HasSearched p assigned finished (searched.Plan plan) = IsValidPlan p assigned finished plan
-HasSearched p assigned finished (searched.Refuted r) = IsRefutation p assigned finished r
+-- a plan that is valid, or a tree that refutes with the steps that it mentions; or neither, where
+-- the search is bounded
+abbrev pub HasSearched : Problem → List (Option ℕ) → List Bool → Bool → Searched → Type 0
+HasSearched p assigned finished bounded (searched.Plan plan) = IsValidPlan p assigned finished plan
+HasSearched p assigned finished bounded (searched.Refuted r) = IsRefutation p assigned finished r
+HasSearched p assigned finished bounded searched.Stopped = IsTrue bounded
 
 -- no step is held by a user who is not authorised for it, and no rule is falsified
 pub record NoLeafRefutes (p : Problem) (assigned : List (Option ℕ)) (finished : List Bool) : Type 0 where

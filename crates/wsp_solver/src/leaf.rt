@@ -105,19 +105,23 @@ fn first_falsified(p: &Policy, f: FlowId, a: &Assign, done: &StepSet) -> Option<
     None
 }
 
-/// The least rule that names a step and is falsified, where only such rules can be.
-pub(crate) fn first_falsified_with(
+/// A rule that is falsified, where only rules that name a step can be. One is looked at first.
+pub(crate) fn falsified_with(
     p: &Policy,
     f: FlowId,
     a: &Assign,
     done: &StepSet,
     s: StepId,
+    first: u8,
 ) -> Option<u8>
     requires flow { f < length p.now.flows }
     requires within { IsWithin (problem_of p.now f) a.now }
     requires others { NoLeafRefutesWithout (problem_of p.now f) a.now done.now s }
     ensures { MatchOption result (NoLeafRefutes (problem_of p.now f) a.now done.now) (λ k. IsTrue (refutes (problem_of p.now f) a.now done.now (rule k))) }
 {
+    if check_tree(p, f, a, done, &Tree::Rule(first)) {
+        return Some(first);
+    }
     'rules: for k in 0..p.rules(f).len() {
         if is_falsified_with(p, f, a, done, k as u8, s) {
             return Some(k as u8);

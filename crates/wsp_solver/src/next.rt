@@ -21,7 +21,8 @@ pub(crate) fn next_step(p: &Policy, f: FlowId, a: &Assign, finder: &mut Finder) 
     }
 }
 
-fn is_unassigned(p: &Policy, f: FlowId, a: &Assign, s: StepId) -> bool
+/// Whether a step is one of the workflow that is not assigned.
+pub(crate) fn is_unassigned(p: &Policy, f: FlowId, a: &Assign, s: StepId) -> bool
     requires flow { f < length p.now.flows }
     ensures within { IsTrue result → s < STEP_LIMIT }
     ensures free { result ≡ is_unassigned (problem_of p.now f) a.now s }

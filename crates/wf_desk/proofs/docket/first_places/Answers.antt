@@ -1,5 +1,5 @@
 use Rattle.std.proofs.Common.{◌<◌, length, length-set, ◌∙◌, arith}
-use Rattle.wf_desk.specs.DeskLaws.{places_more}
+use Rattle.wf_desk.proofs.DeskLaws.{places_more}
 use Rattle.wf_desk.proofs.docket.first_places.Goals as goal
 
 pub lanes-preserved : goal.lanes-preserved

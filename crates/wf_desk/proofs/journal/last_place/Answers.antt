@@ -1,5 +1,5 @@
 use Rattle.std.proofs.Common.{sym, ◌∙◌, arith}
-use Rattle.wf_desk.specs.CommitLaws.{last_before, last_here, last_nowhere}
+use Rattle.wf_desk.proofs.CommitLaws.{last_before, last_here, last_nowhere}
 use Rattle.wf_desk.proofs.journal.last_place.Goals as goal
 
 pub returns-then-counts-clause-last : goal.returns-then-counts-clause-last

@@ -45,18 +45,18 @@ try_users-try_user-requires t c =
     let a = c.args.a.now in
     let s = c.args.s in
     let known = users_known _ _ _ c.len-u-end.ensures.count (c.users-2.ensures.names ∙ ap (λ r. r.users) c.roster.ensures.roster) in
-    let less = count_less a s c.users.u p.steps (omega (arith, c.requires.room, c.with.ensures.len)) (step_open p a s c.requires.free) (step_known p a s c.requires.free) in
-    let same = ap (λ x. free_count x p.steps) c.with.ensures.given in (
+    let less = count_less a s c.users.u p.steps (omega (arith, c.requires.room, c.with-given.ensures.len)) (step_open p a s c.requires.free) (step_known p a s c.requires.free) in
+    let same = ap (λ x. free_count x p.steps) c.with-given.ensures.given in (
       omega (arith, c.decreases, less, same),
       (
         c.requires.flow,
         (
-          subst (IsWithin p) (sym c.with.ensures.given) (within_given p a s c.users.u c.requires.within c.requires.free (omega (arith, known, c.users-test.true))),
+          subst (IsWithin p) (sym c.with-given.ensures.given) (within_given p a s c.users.u c.requires.within c.requires.free (omega (arith, known, c.users-test.true))),
           (
-            subst (AreAssigned c.args.done.now) (sym c.with.ensures.given) (assigned_given a c.args.done.now s c.users.u c.requires.assigned (step_open p a s c.requires.free)),
+            subst (AreAssigned c.args.done.now) (sym c.with-given.ensures.given) (assigned_given a c.args.done.now s c.users.u c.requires.assigned (step_open p a s c.requires.free)),
             (
               c.requires.crew,
-              subst (λ x. NoLeafRefutesWithout p x c.args.done.now s) (sym c.with.ensures.given) (quiet_given p a c.args.done.now s c.users.u (omega (arith, c.requires.room, c.with.ensures.len)) (sym c.if-not-is_authorised_user.ensures) c.requires.quiet),
+              subst (λ x. NoLeafRefutesWithout p x c.args.done.now s) (sym c.with-given.ensures.given) (quiet_given p a c.args.done.now s c.users.u (omega (arith, c.requires.room, c.with-given.ensures.len)) (sym c.if-not-is_authorised_user.ensures) c.requires.quiet),
             ),
           ),
         ),
@@ -67,9 +67,12 @@ pub try_users-returns-in-Plan : goal.try_users-returns-in-Plan
 try_users-returns-in-Plan t c =
     let p = problem_of c.args.p.now c.args.f in
     let done = c.args.done.now in
-    let found = subst (HasSearched p c.with.result done) c.in-Plan.is c.in_ok-plan.ensures in
+    let found = subst (HasSearched p c.with-given.result done c.args.bounded) c.in-Plan.is c.in_ok-plan.ensures in
     valid_without p c.args.a.now done c.in-Plan.plan c.args.s c.users.u (step_open p c.args.a.now c.args.s c.requires.free)
-    (subst (λ x. IsValidPlan p x done c.in-Plan.plan) c.with.ensures.given found)
+    (subst (λ x. IsValidPlan p x done c.in-Plan.plan) c.with-given.ensures.given found)
+
+pub try_users-returns-in-Stopped : goal.try_users-returns-in-Stopped
+try_users-returns-in-Stopped t c = subst (HasSearched (problem_of c.args.p.now c.args.f) c.with-given.result c.args.done.now c.args.bounded) c.in-Stopped.is c.in_ok-plan.ensures
 
 pub try_users-returns-then-not-has : goal.try_users-returns-then-not-has
 try_users-returns-then-not-has t c =
@@ -78,10 +81,10 @@ try_users-returns-then-not-has t c =
     let a = c.args.a.now in
     let s = c.args.s in
     let kid = c.in-Refuted.kid in
-    let found = subst (HasSearched p c.with.result done) c.in-Refuted.is c.in_ok-plan.ensures in
-    let here = subst (λ x. refutes p x done (shape_of kid.tree) ≡ true) c.with.ensures.given found.refutes in
+    let found = subst (HasSearched p c.with-given.result done c.args.bounded) c.in-Refuted.is c.in_ok-plan.ensures in
+    let here = subst (λ x. refutes p x done (shape_of kid.tree) ≡ true) c.with-given.ensures.given found.refutes in
     let quiet = found.steps s ∙ sym c.if-not-has.ensures.flag in record {
-      refutes = drops p a done s c.users.u (shape_of kid.tree) (omega (arith, c.requires.room, c.with.ensures.len)) (step_open p a s c.requires.free) quiet here;
+      refutes = drops p a done s c.users.u (shape_of kid.tree) (omega (arith, c.requires.room, c.with-given.ensures.len)) (step_open p a s c.requires.free) quiet here;
       steps = found.steps;
     }
 
@@ -112,8 +115,8 @@ try_users-users-preserved t c =
     let kid = c.in-Refuted.kid in
     let tree = shape_of kid.tree in
     let known = users_known _ _ _ c.len-u-end.ensures.count (c.users-2.ensures.names ∙ ap (λ r. r.users) c.roster.ensures.roster) in
-    let found = subst (HasSearched p c.with.result done) c.in-Refuted.is c.in_ok-plan.ensures in
-    let here = subst (λ x. refutes p x done tree ≡ true) c.with.ensures.given found.refutes in
+    let found = subst (HasSearched p c.with-given.result done c.args.bounded) c.in-Refuted.is c.in_ok-plan.ensures in
+    let here = subst (λ x. refutes p x done tree ≡ true) c.with-given.ensures.given found.refutes in
     let said = mentioned_push p.rules front u tree c.users.steps kid.steps c.united-steps.result c.users.invariant.2 found.steps c.united-steps.ensures in
     let pushed = c.in_ok-push-in-Refuted.ensures.ok in (
       subst (AreOfUsersBelow (p.authorised s) (u + 1) p.users) (sym pushed) (users_push (p.authorised s) u p.users front tree (omega (arith, known, c.users-test.true)) (sym c.if-not-is_authorised_user.ensures) c.users.invariant.0),

@@ -1,6 +1,6 @@
 use Rattle.std.proofs.Common.{ap, sym, ◌∙◌}
 use Rattle.wf_board.specs.Verdicts.{snap_of}
-use Rattle.wf_desk.specs.CommitLaws.{task_is}
+use Rattle.wf_desk.proofs.CommitLaws.{task_is}
 use Rattle.wf_desk.proofs.desk.Desk.begin.Goals as goal
 
 pub returns-clause-task : goal.returns-clause-task

@@ -3,7 +3,7 @@ use Rattle.wf_board.specs.Boards.{state_on}
 use Rattle.wf_board.specs.Verdicts.{IsCertified}
 use Rattle.wf_board.proofs.Certificates.{certified_right}
 use Rattle.wf_desk.specs.Desks.{next_job}
-use Rattle.wf_desk.specs.CommitLaws.{checked_none}
+use Rattle.wf_desk.proofs.CommitLaws.{checked_none}
 use Rattle.wf_desk.proofs.desk.Desk.commit_checked.Goals as goal
 
 pub serve-requires-clause-right : goal.serve-requires-clause-right

@@ -1,7 +1,7 @@
 use Rattle.std.proofs.Common.{ap, drop, nat_lt, not, sym, subst, ◌∙◌}
 use Rattle.wf_board.specs.Counting.{counted}
 use Rattle.wf_desk.specs.Keeping.{IsDesk}
-use Rattle.wf_desk.specs.CommitLaws.{fresh_test, fresh_verdict}
+use Rattle.wf_desk.proofs.CommitLaws.{fresh_test, fresh_verdict}
 use Rattle.wf_desk.proofs.desk.Desk.is_fresh.Goals as goal
 
 pub returns-clause-right : goal.returns-clause-right

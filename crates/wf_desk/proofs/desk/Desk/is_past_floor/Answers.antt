@@ -1,7 +1,7 @@
 use Rattle.std.proofs.Common.{◌≤◌, ap, drop, max, nat_eq, nat_lt, not, subst, ◌∙◌}
 use Rattle.wf_board.specs.Counting.{count_of}
 use Rattle.wf_desk.specs.Desks.{loss_of}
-use Rattle.wf_desk.specs.CommitLaws.{floor_test}
+use Rattle.wf_desk.proofs.CommitLaws.{floor_test}
 use Rattle.wf_desk.proofs.desk.Desk.is_past_floor.Goals as goal
 
 pub returns-then-before-task : goal.returns-then-before-task

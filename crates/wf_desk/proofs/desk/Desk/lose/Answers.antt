@@ -1,4 +1,4 @@
-use Rattle.wf_desk.specs.CommitLaws.{lose_keeps}
+use Rattle.wf_desk.proofs.CommitLaws.{lose_keeps}
 use Rattle.wf_desk.proofs.desk.Desk.lose.Goals as goal
 
 pub invariant_of-self : goal.invariant_of-self

@@ -1,5 +1,5 @@
 use Rattle.std.proofs.Common.{arith}
-use Rattle.wf_desk.specs.DeskLaws.{desk_small}
+use Rattle.wf_desk.proofs.DeskLaws.{desk_small}
 use Rattle.wf_desk.proofs.desk.Desk.number.Goals as goal
 
 pub overflow_cast-result : goal.overflow_cast-result

@@ -1,7 +1,7 @@
 use Rattle.std.proofs.Common.{◌≤◌, sym, subst}
 use Rattle.wf_board.specs.Counting.{counted}
-use Rattle.wf_desk.specs.CommitLaws.{again_keeps, stale_counts}
-use Rattle.wf_desk.specs.DeskLaws.{desk_small, has_room, stands_here}
+use Rattle.wf_desk.proofs.CommitLaws.{again_keeps, stale_counts}
+use Rattle.wf_desk.proofs.DeskLaws.{desk_small, has_room, stands_here}
 use Rattle.wf_desk.proofs.desk.Desk.record_again.Goals as goal
 
 pub last_counting-requires-clause-some : goal.last_counting-requires-clause-some

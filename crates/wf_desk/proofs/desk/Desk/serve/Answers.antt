@@ -1,5 +1,5 @@
-use Rattle.wf_desk.specs.CommitLaws.{serve_keeps}
-use Rattle.wf_desk.specs.DeskLaws.{desk_small, has_room, stands_here}
+use Rattle.wf_desk.proofs.CommitLaws.{serve_keeps}
+use Rattle.wf_desk.proofs.DeskLaws.{desk_small, has_room, stands_here}
 use Rattle.wf_desk.proofs.desk.Desk.serve.Goals as goal
 
 pub add_entry-at-requires-clause-room : goal.add_entry-at-requires-clause-room

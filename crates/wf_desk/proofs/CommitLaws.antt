@@ -1,4 +1,4 @@
--- Inside: what is needed of a desk where a task is committed.
+-- What is needed of a desk where a task is committed.
 use Rattle.std.proofs.Common.{◌≡◌, ℕ, zero, suc, ◌+◌, ◌-◌, get_or, ◌<◌, ◌≤◌, ◌⊎◌, inl, inr, max, Bool, true, false, not, nat_eq, nat_lt, nat_le, List, [], ◌∷◌, ◌++◌, length, take, drop, slice_set, slice_index_or, Some, refl, sym, ap, subst, ◌∙◌, arith, ◌==◌, if◌then◌else◌}
 use Rattle.std.proofs.lemmas.Grind.{common_steps}
 use Rattle.std.proofs.lemmas.List.{take_more, length-take-le}
@@ -29,7 +29,7 @@ use Rattle.wf_desk.specs.declared.outcome.Outcome.TheVariants as outcome
 use Rattle.wf_desk.specs.Desks.{DeskShape, HasAdded, loss_of, next_job, no_loss, served}
 use Rattle.wf_desk.specs.Commits.{HasCommittedChecked, IsNext, IsReplyWhere, IsRightFor, IsTask, floor_of, is_fresh, is_last_round, is_lost, job_of_task}
 use Rattle.wf_desk.specs.Keeping.{HasCommittedNone, IsDesk, IsNextPlace, entry_for, own_start}
-use Rattle.wf_desk.specs.DeskLaws.{Grows, HasMoved, MayLose, desk_added, desk_lost, with_parts}
+use Rattle.wf_desk.proofs.DeskLaws.{Grows, HasMoved, MayLose, desk_added, desk_lost, with_parts}
 use Rattle.wf_desk.specs.DocketLaws.{next_lane}
 
 -- a verdict that was right stays so where nothing came that counts

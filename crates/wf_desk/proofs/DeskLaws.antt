@@ -1,24 +1,22 @@
--- Inside: a desk keeps what it is with one more entry, with one more loss, and with another batch.
-use Rattle.std.proofs.Common.{◌≡◌, ◌≢◌, ℕ, zero, suc, ◌+◌, ◌<◌, ◌≤◌, inl, inr, max, Bool, true, false, nat_eq, List, [], ◌∷◌, ◌++◌, length, take, drop, map, get_or, set, replicate, slice_get, slice_set, slice_index_or, Some, refl, sym, ap, subst, ◌∙◌, arith, if◌then◌else◌}
+-- A desk keeps what it is with one more entry, with one more loss, and with another batch.
+use Rattle.std.proofs.Common.{◌≡◌, ◌≢◌, ℕ, zero, suc, ◌+◌, ◌<◌, ◌≤◌, inl, inr, max, Bool, true, false, nat_eq, List, [], ◌∷◌, ◌++◌, length, take, drop, get_or, set, replicate, slice_get, slice_set, slice_index_or, Some, refl, sym, ap, subst, ◌∙◌, arith, if◌then◌else◌}
 use Rattle.std.proofs.lemmas.Grind.{common_steps}
 use Rattle.std.proofs.lemmas.List.{length-append, get_or-set_same, get_or-set_other, take_more}
 use Rattle.std.proofs.lemmas.Option.{get_or_from_slice_get, slice_get_within}
-use Rattle.std.proofs.Math.Seq.{drop-length}
 use Rattle.basics.proofs.Booleans.{bool_cases, eq_back, eq_is}
 use Rattle.wf_names.specs.declared.limits.TheConstants.{LANE_LIMIT}
-use Rattle.policy_book.specs.Shapes.{PolicyShape}
 use Rattle.wf_talk.specs.declared.entry.Entry.{Entry}
 use Rattle.wf_talk.specs.declared.job.Job.{Job}
 use Rattle.wf_talk.specs.declared.request.Ask.{Ask}
 use Rattle.wf_board.specs.Boards.{BoardShape, state_on}
 use Rattle.wf_board.specs.Counting.{counted, counts_for, lane_end}
-use Rattle.wf_board.specs.Histories.{EachAfter, IsRightAfter, IsWantRightful, RestsFrom, job_of_entry, lane_jobs}
+use Rattle.wf_board.specs.Histories.{IsRightAfter, IsWantRightful, RestsFrom, job_of_entry, lane_jobs}
 use Rattle.wf_board.specs.HistoryLaws.{after_more, each_more, rests_more, wants_more}
 use Rattle.wf_board.specs.States.{opening_state}
 use Rattle.wf_board.specs.Steps.{state_after_step}
 use Rattle.wf_board.proofs.Counted.{count_from_more, count_later, count_past, end_more, end_within}
 use Rattle.wf_desk.specs.declared.loss.Loss.{Loss}
-use Rattle.wf_desk.specs.Desks.{AreOfLanes, DeskShape, IsSoundDesk, loss_of, next_job, no_loss, served, with_batch, with_room}
+use Rattle.wf_desk.specs.Desks.{DeskShape, IsSoundDesk, loss_of, next_job, no_loss, served}
 use Rattle.wf_desk.specs.Commits.{floor_of, with_loss}
 use Rattle.wf_desk.specs.Keeping.{IsDesk, IsNextPlace, IsPlace, LossRests, own_start}
 use Rattle.wf_desk.specs.DocketLaws.{batch_short, batch_within, front_more, lane_both, lane_own, next_at, served_other, served_own}
@@ -124,6 +122,7 @@ sound_grown d places e b spare place is grows = record {
   front = λ lane. front_grown d places e b spare place lane is grows;
   rests = rests_more d.start d.entries e is.sound.begun is.sound.rests grows.rests;
   wants = wants_more d.entries e is.sound.wants grows.want;
+  room = let old = is.sound.room in let cases = grows.cases in omega (arith, old, cases, length-append d.entries (e ∷ []));
 }
 
 own_place : (d : DeskShape) (places : List ℕ) (e : Entry) (b : BoardShape) (spare place : ℕ) → IsDesk d places → Grows d places e b spare place →
@@ -191,7 +190,6 @@ desk_more d places e b spare place is grows =
       few = is.few;
       of_lanes = is.of_lanes;
       room = let old = is.room in let room = grows.room in omega (arith, old, room, size);
-      cases = let old = is.cases in let cases = grows.cases in omega (arith, old, cases, size);
       small = is.small;
       ends = λ lane. ends_grown d places e b spare lane is;
       losses = λ lane j next. losses_grown d places e b spare lane j is next;
@@ -245,11 +243,10 @@ lost_losses d places lane what other j is may next = elim (bool_cases (nat_eq la
 -- with one more loss
 pub desk_lost : (d : DeskShape) (places : List ℕ) (lane : ℕ) (what : Ask) → IsDesk d places → MayLose d lane what → IsDesk (with_loss d lane) places
 desk_lost d places lane what is may = record {
-  sound = record { legal = is.sound.legal; state = is.sound.state; begun = is.sound.begun; front = is.sound.front; rests = is.sound.rests; wants = is.sound.wants };
+  sound = record { legal = is.sound.legal; state = is.sound.state; begun = is.sound.begun; front = is.sound.front; rests = is.sound.rests; wants = is.sound.wants; room = is.sound.room };
   few = is.few;
   of_lanes = is.of_lanes;
   room = is.room;
-  cases = is.cases;
   small = is.small;
   ends = λ other. lost_ends d places lane other is;
   losses = λ other j next. lost_losses d places lane what other j is may next;
@@ -271,84 +268,6 @@ places_more jobs places lane place sized before here n below = elim (bool_cases 
       let less : n < lane = grind (arith, common_steps) in
       subst (IsNextPlace jobs n 0) (sym (get_or-set_other places lane n place 0 (differs lane n other))) (before n less)
 ]
-
-none_served : (entries : List Entry) (lane : ℕ) → lane_jobs lane (map job_of_entry (drop (length entries) entries)) ≡ []
-none_served entries lane = ap (λ es. lane_jobs lane (map job_of_entry es)) (drop-length entries)
-
--- a desk that has taken the jobs of a batch
-pub record HasLoaded (d : DeskShape) (jobs : List Job) (spare cases : ℕ) (places : List ℕ) : Type 0 where
-  pub of_lanes : AreOfLanes d.lanes jobs
-  pub small : length d.entries + length jobs < 4294967296
-  pub room : length jobs ≤ spare
-  pub case_room : length jobs ≤ cases
-  pub placed : (lane : ℕ) → lane < LANE_LIMIT → IsNextPlace jobs lane 0 (slice_index_or places lane 0)
-
-pub desk_loaded : (d : DeskShape) (old : List ℕ) (jobs : List Job) (spare cases : ℕ) (places : List ℕ) → IsDesk d old → HasLoaded d jobs spare cases places →
-    IsDesk (with_room (with_batch d jobs) spare cases) places
-desk_loaded d old jobs spare cases places is loaded = record {
-  sound = record {
-    legal = is.sound.legal;
-    state = is.sound.state;
-    begun = omega arith;
-    front = λ lane. subst (λ js. js ≡ take (length js) (lane_jobs lane jobs)) (sym (none_served d.entries lane)) refl;
-    rests = subst (EachAfter (RestsFrom (length d.entries)) (take (length d.entries) d.entries)) (sym (drop-length d.entries)) tt;
-    wants = is.sound.wants;
-  };
-  few = is.few;
-  of_lanes = loaded.of_lanes;
-  room = let room = loaded.room in omega (arith, room);
-  cases = let room = loaded.case_room in omega (arith, room);
-  small = loaded.small;
-  ends = λ lane. let none = ap (λ (l : Loss). l.end) (same_all no_loss LANE_LIMIT lane) in omega (arith, none);
-  losses = λ lane j next. fresh_rests (with_room (with_batch d jobs) spare cases) lane j.ask (same_all no_loss LANE_LIMIT lane);
-  placed = λ lane known. let first = loaded.placed lane known in record {
-    within = first.within;
-    before = none_served d.entries lane ∙ sym first.same;
-    here = first.here;
-  };
-}
-
--- and one that has only more room
-pub desk_roomier : (d : DeskShape) (places : List ℕ) (spare cases : ℕ) → IsDesk d places → d.spare ≤ spare → d.board.cases.spare ≤ cases → IsDesk (with_room d spare cases) places
-desk_roomier d places spare cases is more case_more = record {
-  sound = record { legal = is.sound.legal; state = is.sound.state; begun = is.sound.begun; front = is.sound.front; rests = is.sound.rests; wants = is.sound.wants };
-  few = is.few;
-  of_lanes = is.of_lanes;
-  room = let room = is.room in omega (arith, room, more);
-  cases = let room = is.cases in omega (arith, room, case_more);
-  small = is.small;
-  ends = is.ends;
-  losses = is.losses;
-  placed = λ lane known. let old = is.placed lane known in record { within = old.within; before = old.before; here = old.here };
-}
-
--- a desk at its beginning
-abbrev pub first_desk : PolicyShape → ℕ → ℕ → BoardShape → ℕ → DeskShape
-first_desk p lanes rounds b spare = record {
-  opening = p;
-  lanes = lanes;
-  rounds = rounds;
-  board = b;
-  entries = [];
-  spare = spare;
-  jobs = [];
-  start = 0;
-  losses = replicate LANE_LIMIT no_loss;
-}
-
-pub desk_begins : (p : PolicyShape) (lanes rounds : ℕ) (b : BoardShape) (spare : ℕ) → lanes ≤ LANE_LIMIT → state_on b ≡ opening_state p →
-    IsDesk (first_desk p lanes rounds b spare) (replicate LANE_LIMIT 0)
-desk_begins p lanes rounds b spare few state = record {
-  sound = record { legal = tt; state = state; begun = omega arith; front = λ lane. refl; rests = tt; wants = tt };
-  few = few;
-  of_lanes = tt;
-  room = omega arith;
-  cases = omega arith;
-  small = omega arith;
-  ends = λ lane. let none = ap (λ (l : Loss). l.end) (same_all no_loss LANE_LIMIT lane) in omega (arith, none);
-  losses = λ lane j next. absurd (cc);
-  placed = λ lane known. subst (IsPlace (first_desk p lanes rounds b spare) lane) (sym (same_all 0 LANE_LIMIT lane)) record { within = omega arith; before = refl; here = tt };
-}
 
 -- ---- what the calls of a desk need of it
 

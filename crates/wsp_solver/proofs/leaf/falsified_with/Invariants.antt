@@ -1,7 +1,7 @@
 use Rattle.std.proofs.Common.{◌≡◌, ◌<◌, ℕ, ◌&&◌, false, slice_get}
 use Rattle.policy_book.specs.Policies.{problem_of}
 use Rattle.policy_book.specs.Refuting.{is_broken, is_rule_naming}
-use Rattle.wsp_solver.proofs.leaf.first_falsified_with.Given as goal
+use Rattle.wsp_solver.proofs.leaf.falsified_with.Given as goal
 
 abbrev pub invariant-rules : goal.invariant-rules
 invariant-rules l =

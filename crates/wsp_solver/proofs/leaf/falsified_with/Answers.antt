@@ -3,7 +3,7 @@ use Rattle.std.proofs.lemmas.Bool.Decides.{eqb_tells}
 use Rattle.policy_book.specs.Policies.{problem_of}
 use Rattle.policy_book.specs.Refuting.{is_broken, is_rule_naming}
 use Rattle.wsp_solver.proofs.Searching.{quiet_again}
-use Rattle.wsp_solver.proofs.leaf.first_falsified_with.Goals as goal
+use Rattle.wsp_solver.proofs.leaf.falsified_with.Goals as goal
 
 pub rules-preserved : goal.rules-preserved
 rules-preserved c = λ j below. at j below (eqb_tells j c.rules.k)

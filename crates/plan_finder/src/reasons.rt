@@ -1,0 +1,106 @@
+//! Rules that keep users from a step, found for all users at once.
+
+use crate::advice::restrict;
+use crate::bits::{Cells, bit, has_bit, pop};
+use crate::problem::{Law, Problem};
+use crate::rows::{number_struck, put};
+use crate::work::Work;
+use constraint_forms::Assign;
+use std::alloc::{AllocError, Global};
+use wf_names::{STEP_LIMIT, StepId};
+
+/// The number that stands where no rule is known.
+pub(crate) const NO_RULE: u8 = 0xff;
+
+/// For each depth of a search a rule for each user, which keeps the user from the step that is given
+/// there; and the depth at which each step was given.
+#[derive(Drop)]
+pub(crate) struct Reasons {
+    rules: Vec<u8>,
+    users: usize,
+    depths: Cells,
+}
+
+impl Reasons {
+    /// No reasons yet.
+    pub(crate) fn new(alloc: Global) -> Reasons {
+        Reasons {
+            rules: Vec::new(alloc),
+            users: 0,
+            depths: Cells::all(0),
+        }
+    }
+
+    /// Makes room for those of so many users.
+    pub(crate) fn make_room(&mut self, alloc: Global, users: usize) -> Result<(), AllocError> {
+        self.rules = vec![in alloc; NO_RULE; users.saturating_mul(STEP_LIMIT)]?;
+        self.users = users;
+        Ok(())
+    }
+
+    /// The rule of a user at a depth.
+    pub(crate) fn rule(&self, depth: u8, user: u16) -> u8 {
+        let at = (depth as usize)
+            .saturating_mul(self.users)
+            .saturating_add(user as usize);
+        match self.rules.get(at) {
+            Some(rule) => *rule,
+            None => NO_RULE,
+        }
+    }
+
+    fn row_mut(&mut self, depth: u8) -> &mut [u8] {
+        let from = (depth as usize).saturating_mul(self.users);
+        let to = from.saturating_add(self.users);
+        if from <= to && to <= self.rules.len() {
+            &mut self.rules[from..to]
+        } else {
+            &mut []
+        }
+    }
+
+    /// Finds the rules that keep users from a step at a depth. Of two rules the one whose steps were
+    /// given earlier is taken, so that a tree mentions few of the later ones.
+    pub(crate) fn find(
+        &mut self,
+        problem: &Problem,
+        work: &mut Work,
+        a: &Assign,
+        depth: u8,
+        s: u8,
+    ) {
+        self.depths.set(s, depth as u32);
+        for rule in self.row_mut(depth).iter_mut() {
+            *rule = NO_RULE;
+        }
+        put(work.spare.row_mut(0), problem.allowed.row(s as usize));
+        for deepest in 0..depth {
+            for (k, law) in problem.laws.as_slice().iter().enumerate() {
+                if has_bit(law.scope, s) && self.depth_of(law, a, s) == deepest {
+                    put(work.before.row_mut(0), work.spare.row(0));
+                    restrict(problem, work, law, a, s);
+                    number_struck(
+                        work.before.row(0),
+                        work.spare.row(0),
+                        self.row_mut(depth),
+                        (k & 0xff) as u8,
+                    );
+                }
+            }
+        }
+    }
+
+    // The greatest depth of the other steps of a rule that are assigned.
+    fn depth_of(&self, law: &Law, a: &Assign, s: u8) -> u8 {
+        let mut left = law.scope & !bit(s);
+        let mut deepest = 0;
+        for _ in 0..32u8 {
+            let Some(t) = pop(&mut left) else { break };
+            let depth = (self.depths.at(t) & 0xff) as u8;
+            if a.at(StepId(t)).is_some() && depth > deepest {
+                deepest = depth;
+            }
+        }
+        deepest
+    }
+}

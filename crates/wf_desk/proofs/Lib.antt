@@ -1,0 +1,3 @@
+pub mod DeskLaws
+pub mod CommitLaws
+pub mod Scheduling

@@ -1,0 +1,227 @@
+-- What lanes hold stays right while a schedule is gone through.
+use Rattle.std.proofs.Common.{◌≡◌, ℕ, zero, suc, ◌+◌, ◌-◌, ◌<◌, ◌≤◌, ◌⊎◌, inl, inr, Bool, true, false, List, [], ◌∷◌, ◌++◌, length, take, drop, map, get_or, slice_index_or, slice_set, replicate, Option, None, Some, append_assoc, append-nil, refl, sym, ap, subst, ◌∙◌, arith}
+use Rattle.std.specs.List.{filter}
+use Rattle.std.proofs.lemmas.List.{drop-append-le, drop-take, length-append, map-append, take-append-le}
+use Rattle.std.proofs.lemmas.List.Elements.{filter-append}
+use Rattle.std.proofs.Math.Seq.{drop-append_seam, take-length}
+use Rattle.wf_names.specs.declared.limits.TheConstants.{LANE_LIMIT}
+use Rattle.wf_talk.specs.declared.entry.Entry.{Entry}
+use Rattle.wf_talk.specs.declared.job.Job.{Job}
+use Rattle.wf_talk.specs.declared.reply.Reply.{Reply}
+use Rattle.wf_board.specs.declared.verdict.Verdict.{Verdict}
+use Rattle.wf_board.specs.Boards.{BoardShape, SnapShape, book_on, state_on}
+use Rattle.wf_board.specs.Histories.{EachAfter, IsRightAfter, job_of_entry, lane_jobs, state_after}
+use Rattle.wf_board.specs.States.{State, opening_state}
+use Rattle.wf_board.specs.Verdicts.{Decides, IsRight, snap_of}
+use Rattle.wf_board.proofs.Snaps.{snaps_suffice}
+use Rattle.wf_desk.specs.declared.outcome.Outcome.{Outcome}
+use Rattle.wf_desk.specs.declared.outcome.Outcome.TheVariants as outcome
+use Rattle.wf_desk.specs.declared.task.Task.{Task}
+use Rattle.wf_desk.specs.declared.schedule.Event.{Event}
+use Rattle.wf_desk.specs.declared.schedule.Event.TheVariants.{Commit}
+use Rattle.wf_desk.specs.declared.schedule.Mark.{Mark}
+use Rattle.wf_desk.specs.declared.schedule.Solved.{Solved}
+use Rattle.wf_desk.specs.Desks.{DeskShape, HasAdded, IsSoundDesk, served, state_at}
+use Rattle.wf_desk.specs.Commits.{HasCommitted, HasServed, IsRightFor, IsTask, job_of_task, with_loss}
+use Rattle.wf_desk.specs.Schedules.{AreEventsOf, HasDone, HasDoneAll, HasGoneOn, HasGrown, Standing, held_by, lane_answers, lane_left, lane_of, mark_of}
+use Rattle.wf_desk.specs.Holding.{AreHeld, IsHeld}
+
+-- ---- more entries
+
+pub grown_none : (d e : DeskShape) → e ≡ d → HasGrown d e
+grown_none d e same = record {
+  more = [];
+  extends = ap (λ (x : DeskShape). x.entries) same ∙ sym (append-nil d.entries);
+  opening = ap (λ (x : DeskShape). x.opening) same;
+  lanes = ap (λ (x : DeskShape). x.lanes) same;
+  rounds = ap (λ (x : DeskShape). x.rounds) same;
+  jobs = ap (λ (x : DeskShape). x.jobs) same;
+  start = ap (λ (x : DeskShape). x.start) same;
+}
+
+grown_lost : (d e : DeskShape) (lane : ℕ) → e ≡ with_loss d lane → HasGrown d e
+grown_lost d e lane same = record {
+  more = [];
+  extends = ap (λ (x : DeskShape). x.entries) same ∙ sym (append-nil d.entries);
+  opening = ap (λ (x : DeskShape). x.opening) same;
+  lanes = ap (λ (x : DeskShape). x.lanes) same;
+  rounds = ap (λ (x : DeskShape). x.rounds) same;
+  jobs = ap (λ (x : DeskShape). x.jobs) same;
+  start = ap (λ (x : DeskShape). x.start) same;
+}
+
+pub grown_added : (d e : DeskShape) (job : Job) (place : ℕ) (Is : Reply → Type 0) → HasAdded d e job place Is → HasGrown d e
+grown_added d e job place Is added = record {
+  more = added.entry ∷ [];
+  extends = added.added;
+  opening = added.opening;
+  lanes = added.lanes;
+  rounds = added.rounds;
+  jobs = added.jobs;
+  start = added.start;
+}
+
+pub grown_then : (d e f : DeskShape) → HasGrown d e → HasGrown e f → HasGrown d f
+grown_then d e f first later = record {
+  more = first.more ++ later.more;
+  extends = later.extends ∙ ap (λ es. es ++ later.more) first.extends ∙ append_assoc d.entries first.more later.more;
+  opening = later.opening ∙ first.opening;
+  lanes = later.lanes ∙ first.lanes;
+  rounds = later.rounds ∙ first.rounds;
+  jobs = later.jobs ∙ first.jobs;
+  start = later.start ∙ first.start;
+}
+
+pub grown_committed : (d e : DeskShape) (t : Task) (v : Verdict) (result : Outcome) → HasCommitted d e t v result → HasGrown d e
+grown_committed d e t v outcome.NotNext done = grown_none d e done.1
+grown_committed d e t v outcome.Lost done = grown_lost d e t.lane done.1.1.1.1
+grown_committed d e t v (outcome.Recorded place) done = grown_added d e (job_of_task t) place _ done.1
+
+pub grown_served : (d e : DeskShape) (lane : ℕ) (any : Bool) → HasServed d e lane any → HasGrown d e
+grown_served d e lane true done = grown_added d e done.0 (length d.entries) _ done.1.1
+grown_served d e lane false done = grown_none d e done.1
+
+-- each lane's further entries are its next jobs
+pub goes_on : (d e : DeskShape) → IsSoundDesk d → IsSoundDesk e → HasGrown d e → HasGoneOn d e
+goes_on d e before after grown = record { grown = grown; next = next }
+  where
+    further : (lane : ℕ) → served e lane ≡ served d lane ++ lane_answers grown.more lane
+    further lane =
+        ap (λ n. lane_jobs lane (map job_of_entry (drop n e.entries))) grown.start
+        ∙ ap (λ es. lane_jobs lane (map job_of_entry (drop d.start es))) grown.extends
+        ∙ ap (λ es. lane_jobs lane (map job_of_entry es)) (drop-append-le d.start d.entries grown.more before.begun)
+        ∙ ap (lane_jobs lane) (map-append job_of_entry (drop d.start d.entries) grown.more)
+        ∙ filter-append _ (map job_of_entry (drop d.start d.entries)) (map job_of_entry grown.more)
+
+    next : (lane : ℕ) → lane_answers grown.more lane ≡ take (length (lane_answers grown.more lane)) (lane_left d lane)
+    next lane =
+        let old = served d lane in
+        let new = lane_answers grown.more lane in
+        let all = lane_jobs lane d.jobs in
+        let whole : old ++ new ≡ take (length old + length new) all =
+        sym (further lane) ∙ after.front lane
+        ∙ ap (λ js. take (length (served e lane)) (lane_jobs lane js)) grown.jobs
+        ∙ ap (λ js. take (length js) all) (further lane)
+        ∙ ap (λ n. take n all) (length-append old new) in
+        sym (drop-append_seam old new) ∙ ap (drop (length old)) whole ∙ drop-take (length old) (length new) all
+
+-- ---- what lanes hold
+
+state_stays : (d e : DeskShape) (n : ℕ) → HasGrown d e → n ≤ length d.entries → state_at e n ≡ state_at d n
+state_stays d e n grown within =
+    ap (λ p. state_after (opening_state p) (take n e.entries)) grown.opening
+    ∙ ap (λ es. state_after (opening_state d.opening) (take n es)) grown.extends
+    ∙ ap (state_after (opening_state d.opening)) (take-append-le n d.entries grown.more within)
+
+-- a task that is held stays right
+pub held_on : (d e : DeskShape) (lane : ℕ) (x : Solved) → HasGrown d e → IsHeld d lane x → IsHeld e lane x
+held_on d e lane x grown held = record {
+  lane = held.lane;
+  number =
+      let longer = ap length grown.extends ∙ length-append d.entries grown.more in
+      let within = held.number in
+      omega (arith, longer, within);
+  right = subst (λ s. IsRight s.book x.task.ask x.verdict) (sym (state_stays d e x.task.number grown held.number)) held.right;
+}
+
+pub all_held_on : (d e : DeskShape) (held : List (Option Solved)) → HasGrown d e → AreHeld d held → AreHeld e held
+all_held_on d e held grown are lane x is = held_on d e lane x grown (are lane x is)
+
+-- what a lane holds after a change: what was put there, or what it held before
+read_put : (held : List (Option Solved)) (lane m : ℕ) (put : Option Solved) (x : Solved) → held_by (slice_set held lane put) m ≡ Some x → ((m ≡ lane) × (put ≡ Some x)) ⊎ (held_by held m ≡ Some x)
+read_put [] lane m put x is = inr is
+read_put (y ∷ ys) zero zero put x is = inl (refl, is)
+read_put (y ∷ ys) zero (suc m) put x is = inr is
+read_put (y ∷ ys) (suc lane) zero put x is = inr is
+read_put (y ∷ ys) (suc lane) (suc m) put x is = up (read_put ys lane m put x is)
+  where
+    up : ((m ≡ lane) × (put ≡ Some x)) ⊎ (held_by ys m ≡ Some x) → ((suc m ≡ suc lane) × (put ≡ Some x)) ⊎ (held_by ys m ≡ Some x)
+    up (inl here) = inl (ap suc here.0, here.1)
+    up (inr before) = inr before
+
+unsome : (x y : Solved) → Some x ≡ Some y → x ≡ y
+unsome x y h = cc
+
+pub held_put : (d : DeskShape) (held : List (Option Solved)) (lane : ℕ) (x : Solved) → AreHeld d held → IsHeld d lane x → AreHeld d (slice_set held lane (Some x))
+held_put d held lane x are here m y is = by_read (read_put held lane m (Some x) y is)
+  where
+    by_read : ((m ≡ lane) × (Some x ≡ Some y)) ⊎ (held_by held m ≡ Some y) → IsHeld d m y
+    by_read (inl put) = subst (λ n. IsHeld d n y) (sym put.0) (subst (IsHeld d lane) (unsome x y put.1) here)
+    by_read (inr before) = are m y before
+
+pub held_none : (d : DeskShape) (held : List (Option Solved)) (lane : ℕ) → AreHeld d held → AreHeld d (slice_set held lane None)
+held_none d held lane are m y is = by_read (read_put held lane m None y is)
+  where
+    by_read : ((m ≡ lane) × (None ≡ Some y)) ⊎ (held_by held m ≡ Some y) → IsHeld d m y
+    by_read (inl put) = let no = put.1 in cc
+    by_read (inr before) = are m y before
+
+none_held : (n lane : ℕ) (x : Solved) {X : Type 0} → held_by (replicate n None) lane ≡ Some x → X
+none_held zero lane x is = cc
+none_held (suc n) zero x is = cc
+none_held (suc n) (suc lane) x is = none_held n lane x is
+
+pub none_are_held : (d : DeskShape) → AreHeld d (replicate LANE_LIMIT None)
+none_are_held d lane x is = none_held LANE_LIMIT lane x is
+
+-- a task that was just taken is held
+pub begun_held : (d : DeskShape) (lane : ℕ) (x : Solved) → IsSoundDesk d → IsTask d lane x.task → Decides (book_on x.task.snap) x.task.ask x.verdict → IsHeld d lane x
+begun_held d lane x sound task decides = record {
+  lane = task.lane;
+  number = let same = task.number in omega (arith, same);
+  right =
+      let on_snap = subst (λ (s : SnapShape). IsRight (book_on s) x.task.ask x.verdict) task.snap decides.right in
+      let on_board = snaps_suffice d.board x.task.ask x.task.snap.cases.spare x.verdict on_snap in
+      let now : state_on d.board ≡ state_at d x.task.number =
+      sound.state ∙ ap (state_after (opening_state d.opening)) (sym (ap (λ n. take n d.entries) task.number ∙ take-length d.entries)) in
+      subst (λ s. IsRight s.book x.task.ask x.verdict) now on_board;
+}
+
+-- ---- events
+
+-- the events so far, and one more
+pub done_more : (s : Standing) (events : List Event) (marks : List Mark) (e : Event) (m : Mark) (t u : Standing) → HasDoneAll s events marks t → HasDone t e m u →
+    HasDoneAll s (events ++ e ∷ []) (marks ++ m ∷ []) u
+done_more s [] [] e m t u all one = (u, (subst (λ x. HasDone x e m u) all one, refl))
+done_more s (x ∷ xs) (y ∷ ys) e m t u all one = (all.0, (all.1.0, done_more all.0 xs ys e m t u all.1.1 one))
+done_more s [] (y ∷ ys) e m t u all one = absurd all
+done_more s (x ∷ xs) [] e m t u all one = absurd all
+
+-- each event's lane is one of them
+pub lane_in : (lanes : ℕ) (events : List Event) (i : ℕ) (e : Event) → AreEventsOf lanes events → i < length events → lane_of (get_or events i e) < lanes
+lane_in lanes [] i e are below = absurd (omega (arith, below))
+lane_in lanes (x ∷ xs) zero e are below = are.0
+lane_in lanes (x ∷ xs) (suc i) e are below = lane_in lanes xs i e are.1 (omega (arith, below))
+
+-- ---- places
+
+-- each entry of a legal history has its place
+placed_after : (s : State) (rounds : ℕ) (earlier entries : List Entry) (i : ℕ) (d : Entry) → EachAfter (IsRightAfter s rounds) earlier entries → i < length entries →
+    (slice_index_or entries i d).at ≡ length earlier + i
+placed_after s rounds earlier [] i d legal below = absurd (omega (arith, below))
+placed_after s rounds earlier (e ∷ es) zero d legal below = let at = legal.0.0 in omega (arith, at)
+placed_after s rounds earlier (e ∷ es) (suc i) d legal below =
+    let rest = placed_after s rounds (earlier ++ e ∷ []) es i d legal.1 (omega (arith, below)) in
+    let longer = length-append earlier (e ∷ []) in
+    omega (arith, rest, longer)
+
+-- the last entry of a desk stands at its end
+pub last_placed : (d : DeskShape) (entries : List Entry) (e : Entry) → IsSoundDesk d → entries ≡ d.entries → 0 < length d.entries →
+    (slice_index_or entries (length entries - 1) e).at + 1 ≡ length d.entries
+last_placed d entries e sound same some =
+    let at = placed_after (opening_state d.opening) d.rounds [] d.entries (length d.entries - 1) e sound.legal (omega (arith, some)) in
+    let here = ap (λ es. (slice_index_or es (length es - 1) e).at) same in
+    omega (arith, at, here, some)
+
+-- a lane that holds nothing holds nothing once it is taken away
+pub none_stays : (held : List (Option Solved)) (lane : ℕ) → held_by held lane ≡ None → slice_set held lane None ≡ held
+none_stays [] lane none = refl
+none_stays (y ∷ ys) zero none = ap (λ o. o ∷ ys) (sym none)
+none_stays (y ∷ ys) (suc lane) none = ap (λ os. y ∷ os) (none_stays ys lane none)
+
+-- what a commit did, by its mark
+pub committed_done : (s : Standing) (lane : ℕ) (x : Solved) (result : Outcome) (m : Mark) (t : Standing) → m ≡ mark_of result → held_by s.held lane ≡ Some x →
+    HasCommitted s.desk t.desk x.task x.verdict result → t.held ≡ slice_set s.held lane None → HasDone s (Commit lane) m t
+committed_done s lane x outcome.NotNext m t is held done none = subst (λ k. HasDone s (Commit lane) k t) (sym is) (x, (held, (done, none)))
+committed_done s lane x outcome.Lost m t is held done none = subst (λ k. HasDone s (Commit lane) k t) (sym is) (x, (held, (done, none)))
+committed_done s lane x (outcome.Recorded place) m t is held done none = subst (λ k. HasDone s (Commit lane) k t) (sym is) (x, (held, (done, none)))

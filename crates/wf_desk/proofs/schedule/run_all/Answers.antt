@@ -1,0 +1,35 @@
+use Rattle.std.proofs.Common.{◌≡◌, ◌<◌, ◌++◌, ◌∷◌, [], ◌∙◌, get_or, take, sym, subst, arith}
+use Rattle.std.proofs.lemmas.List.{take_more}
+use Rattle.wf_desk.specs.declared.schedule.Event.TheVariants.{Begin}
+use Rattle.wf_desk.specs.Holding.{standing}
+use Rattle.wf_desk.specs.Schedules.{HasDoneAll, lane_of, no_tasks}
+use Rattle.wf_desk.proofs.Scheduling.{done_more, grown_then, lane_in}
+use Rattle.wf_desk.proofs.schedule.run_all.Goals as goal
+
+pub take_turn-mark-requires-clause-lane : goal.take_turn-mark-requires-clause-lane
+take_turn-mark-requires-clause-lane g c =
+    let events = c.args.events.now in
+    let i = c.events.event-index in
+    subst (λ n. lane_of (get_or events i (Begin 0)) < n) (sym c.events.invariant.grown.lanes) (lane_in c.args.desk.now.lanes events i (Begin 0) c.requires.lanes c.events-test.true)
+
+pub events-preserved : goal.events-preserved
+events-preserved g c =
+    let events = c.args.events.now in
+    let i = c.events.event-index in
+    let inv = c.events.invariant in
+    let start = standing c.args.desk.now no_tasks in
+    let before = standing c.events.desk c.events.held in
+    let after = standing c.take_turn-mark.new.desk c.take_turn-mark.new.held in
+    let front = take i events in
+    let event = get_or events i (Begin 0) in
+    let marks = c.events.marks.items in
+    let mark = c.take_turn-mark.result in
+    record {
+      run = subst (λ es. HasDoneAll start es c.push_reserved.new.self.items after) (sym (take_more events i (Begin 0) c.events-test.true))
+          (subst (λ ms. HasDoneAll start (front ++ event ∷ []) ms after) (sym c.push_reserved.ensures.items)
+          (done_more start front marks event mark before after inv.run c.take_turn-mark.ensures.done));
+      held = c.take_turn-mark.ensures.held;
+      grown = grown_then c.args.desk.now c.events.desk c.take_turn-mark.new.desk inv.grown c.take_turn-mark.ensures.grown;
+      count = omega (arith, c.push_reserved.ensures.len, inv.count);
+      room = c.push_reserved.ensures.capacity ∙ inv.room;
+    }
