@@ -10,7 +10,9 @@ use Rattle.wf_commands.specs.Load.{GivesPolicy, IsLoadEnding, PolicyOf}
 use Rattle.wf_server.specs.declared.serve.TheConstants.{PIECE}
 use Rattle.wf_server.specs.Sessions.{Served}
 use Rattle.wf_board.specs.Histories.{AreAnsweredOnce}
-use Rattle.wf_server.specs.Serving.{alone, EndsBefore, ServesFile}
+use Rattle.wf_board.specs.Histories.{AreWantsRightful}
+use Rattle.wf_server.specs.Words.{Options}
+use Rattle.wf_server.specs.Serving.{setting, EndsBefore, ServesFile}
 
 ends_before : (file : List ℕ) (fault : RunFault) → PolicyOf file (Err fault) → IsLoadEnding fault → EndsBefore file fault
 ends_before file FileTooLong gives ending = gives
@@ -27,18 +29,19 @@ ends_before file TooManyLines gives ending = absurd ending
 ends_before file (BadInput e) gives ending = absurd ending
 
 -- no policy was there
-pub not_served : (f : Filed) (r : Run) → GivesPolicy f (Err r.fault) → IsLoadEnding r.fault → IsUntouched r
-    → OverFile f r.fault (λ file. ServesFile file r)
-not_served untold r gives ending nothing = tt
-not_served missing r gives ending nothing = cc
-not_served (told file) r gives ending nothing = inl (ends_before file r.fault gives ending, nothing)
+pub not_served : (f : Filed) (options : Options) (r : Run) → GivesPolicy f (Err r.fault) → IsLoadEnding r.fault → IsUntouched r
+    → OverFile f r.fault (λ file. ServesFile file options r)
+not_served untold options r gives ending nothing = tt
+not_served missing options r gives ending nothing = cc
+not_served (told file) options r gives ending nothing = inl (ends_before file r.fault gives ending, nothing)
 
 -- the policy was there, and was served
-pub is_served : (f : Filed) (p : PolicyShape) (r : Run) → GivesPolicy f (Ok p)
-    → Served (alone p) PIECE r.before r.after r.told r.fault → AreAnsweredOnce r.told.entries → OverFile f r.fault (λ file. ServesFile file r)
-is_served untold p r gives served once = tt
-is_served missing p r gives served once = cc
-is_served (told file) p r gives served once = inr (record { policy = p; within = gives.0; read = gives.1; served = served; once = once })
+pub is_served : (f : Filed) (p : PolicyShape) (options : Options) (r : Run) → GivesPolicy f (Ok p)
+    → Served (setting p options) PIECE r.before r.after r.told r.fault → AreAnsweredOnce r.told.entries → AreWantsRightful r.told.entries → OverFile f r.fault (λ file. ServesFile file options r)
+is_served untold p options r gives served once wants = tt
+is_served missing p options r gives served once wants = cc
+is_served (told file) p options r gives served once wants =
+    inr (record { policy = p; within = gives.0; read = gives.1; served = served; once = once; wants = wants })
 
 -- a session does not end with a load fault
 pub loads_late : (fault : RunFault) (before after : ℕ) → is_before_input fault ≡ false → after ≡ before → CountsLoads fault before after

@@ -1,24 +1,26 @@
 -- How the batches of a session follow one another.
-use Rattle.std.proofs.Common.{◌≡◌, ℕ, ◌+◌, ◌<◌, ◌≤◌, true, false, List, [], ◌∷◌, ◌++◌, length, take, drop, Option, Some, None, Err, inl, inr, refl, sym, ◌∙◌, ap, subst, arith}
+use Rattle.std.proofs.Common.{◌≡◌, ℕ, zero, suc, ◌+◌, ◌<◌, ◌≤◌, true, false, List, [], ◌∷◌, ◌++◌, length, take, drop, Option, Some, None, Err, inl, inr, refl, sym, ◌∙◌, ap, subst, arith, append_assoc}
 use Rattle.std.specs.Prelude.{◌≢◌}
-use Rattle.std.proofs.lemmas.List.{length-append, length-take}
-use Rattle.wf_names.specs.declared.limits.TheConstants.{DEFAULT_LANES, DEFAULT_ROUNDS, SESSION_LINE_LIMIT}
+use Rattle.std.proofs.lemmas.List.{length-append, length-take, take-append-drop}
+use Rattle.wf_names.specs.declared.limits.TheConstants.{BATCH_LINE_LIMIT, SESSION_LINE_LIMIT}
 use Rattle.wf_outside.specs.Outside.{HasPart, HasTaken, with_bytes}
 use Rattle.wf_outside.proofs.OutsideLaws.{nothing_taken, nothing_put}
 use Rattle.policy_book.specs.Shapes.{PolicyShape}
 use Rattle.wf_talk.specs.declared.job.Job.{Job}
 use Rattle.line_cutter.specs.declared.stop.Stop.TheVariants as stop
-use Rattle.line_cutter.specs.Jobs.{start, jobs_of_input}
-use Rattle.line_cutter.specs.Cutter.{after_handing}
-use Rattle.line_cutter.specs.Laws.{JobsAreInOrder}
+use Rattle.line_cutter.specs.Jobs.{start, jobs_of_input, last_or}
+use Rattle.line_cutter.specs.Cutter.{after_handing, ends_after}
+use Rattle.line_cutter.specs.Laws.{JobsAreInOrder, LeadTo}
+use Rattle.line_cutter.specs.Laws as cutting
 use Rattle.batch_reader.specs.declared.reader.Paused.{Paused}
 use Rattle.batch_reader.specs.declared.reader.Paused.TheVariants as paused
 use Rattle.batch_reader.specs.Reading.{ReaderShape, Handed, handed_more, HasRead, IsReadUp, ReadsTo, CountsAs}
 use Rattle.wf_board.specs.States.{State, opening_state}
 use Rattle.wf_talk.specs.declared.entry.Entry.{Entry}
 use Rattle.wf_board.specs.Steps.{state_after_step}
-use Rattle.wf_board.specs.Histories.{FillsJobs, state_after}
-use Rattle.wf_board.specs.HistoryLaws.{batch_rests, policy_stays}
+use Rattle.wf_board.specs.Histories.{FillsJobs, IsLegal, state_after}
+use Rattle.wf_board.specs.HistoryLaws.{policy_stays}
+use Rattle.wf_desk.specs.Desks.{AreOfLanes, DeskShape, IsSoundDesk}
 use Rattle.policy_book.specs.Facts.{IsSoundPolicy}
 use Rattle.wf_board.specs.Laws.{HistoriesKeepCompletable}
 use Rattle.run_record.specs.declared.fault.RunFault.{RunFault}
@@ -28,10 +30,10 @@ use Rattle.run_record.specs.Report.{Told, nothing_told}
 use Rattle.run_record.specs.Run.{Streams}
 use Rattle.wire_json.specs.Replies.{entry_text}
 use Rattle.wf_server.specs.Transcripts.{transcript_text}
-use Rattle.wf_server.specs.Sessions.{ReadsFor, Served, WritesFor, WritesPart, last_start}
-use Rattle.wf_server.specs.Serving.{alone}
-use Rattle.wf_server.specs.Batches.{entries_text, handed_on, Serves, FillsLanes, WritesBy, HasAnswered, IsAdded, AnswersTo, IsServing, BatchEnds, IsWriteEnding, ending_of}
-use Rattle.wf_server.proofs.BatchLaws.{history_stays, writes_whole}
+use Rattle.wf_server.specs.Sessions.{ReadsFor, Served, Setting, WritesFor, WritesPart, handed_in, last_start}
+use Rattle.wf_server.specs.Turns.{setting_of}
+use Rattle.wf_server.specs.Batches.{entries_text, Serves, WritesBy, HasAnswered, IsAdded, IsBatch, AnswersTo, IsServing, BatchEnds, IsWriteEnding, ending_of}
+use Rattle.wf_server.proofs.BatchLaws.{ends_some, history_stays, writes_whole}
 
 -- no count of faults falls
 counts_le : (how : Paused) (before after : ℕ) → CountsAs how before after → before ≤ after
@@ -41,123 +43,165 @@ counts_le paused.Failed before after counts = counts.0
 counts_le (paused.Stopped stop) before after counts = omega (arith, counts)
 counts_le paused.NoMemory before after counts = counts
 
--- the jobs of a session are few
-pub few_jobs : (before after : Option (List ℕ)) (told : Told) (more : List Job) → JobsAreInOrder DEFAULT_LANES → IsReadUp before after (handed_more (handed_on told) more)
-    → length told.jobs + length more ≤ SESSION_LINE_LIMIT
-few_jobs before after told more order up =
-    let few = (order up.bytes up.ended).few in
+-- each job of a part is of one of the lanes
+rest_of_lanes : (lanes : ℕ) (front jobs : List Job) → cutting.AreOfLanes lanes (front ++ jobs) → AreOfLanes lanes jobs
+rest_of_lanes lanes [] jobs all = same jobs all
+  where
+    same : (xs : List Job) → cutting.AreOfLanes lanes xs → AreOfLanes lanes xs
+    same [] all = tt
+    same (x ∷ xs) all = (all.0, same xs all.1)
+rest_of_lanes lanes (j ∷ front) jobs all = rest_of_lanes lanes front jobs all.1
+
+first_of_lanes : (lanes n : ℕ) (jobs : List Job) → cutting.AreOfLanes lanes jobs → cutting.AreOfLanes lanes (take n jobs)
+first_of_lanes lanes zero jobs all = tt
+first_of_lanes lanes (suc n) [] all = tt
+first_of_lanes lanes (suc n) (j ∷ jobs) all = (all.0, first_of_lanes lanes n jobs all.1)
+
+-- an end is near the one before it
+near_end : (before x total : ℕ) (ends rest : List ℕ) → LeadTo before (ends ++ (x ∷ rest)) total → x ≤ last_or before ends + BATCH_LINE_LIMIT
+near_end before x total [] rest leads = leads.1
+near_end before x total (e ∷ ends) rest leads = near_end e x total ends rest leads.2
+
+-- a batch has not too many jobs
+short_batch : (before k total : ℕ) (batch : List Job) (ends all : List ℕ) → LeadTo 0 all total → last_or 0 ends ≡ before → ends_after ends before batch ≡ take k all
+    → length batch ≤ BATCH_LINE_LIMIT
+short_batch before k total [] ends all leads closed is = omega arith
+short_batch before k total (j ∷ batch) ends all leads closed is =
+    let x = before + length (j ∷ batch) in
+    let whole : all ≡ ends ++ (x ∷ drop k all) =
+    sym (take-append-drop k all) ∙ ap (λ es. es ++ drop k all) (sym is ∙ ends_some ends before j batch) ∙ append_assoc ends (x ∷ []) (drop k all) in
+    let near = near_end 0 x total ends (drop k all) (subst (λ es. LeadTo 0 es total) whole leads) in
+    omega (arith, near, closed)
+
+-- what is handed over next is a batch
+pub next_batch : (lanes : ℕ) (before after : Option (List ℕ)) (told : Told) (more : List Job) → JobsAreInOrder lanes → last_or 0 told.batch_ends ≡ length told.jobs
+    → IsReadUp before after (handed_more (handed_in lanes told) more) → IsBatch lanes (length told.jobs) more
+next_batch lanes before after told more order closed up =
+    let all = jobs_of_input up.bytes up.ended lanes in
+    let whole = order up.bytes up.ended in
+    let few = whole.few in
     let front = ap length up.up.within in
-    omega (arith, few, length-append told.jobs more, simp length-take at front)
+    record {
+      few = omega (arith, few, length-append told.jobs more, simp length-take at front);
+      short = short_batch (length told.jobs) up.up.ends.0 (length all.jobs) more told.batch_ends all.ends whole.ends closed up.up.ends.1;
+      of_lanes = rest_of_lanes lanes told.jobs more (subst (cutting.AreOfLanes lanes) (sym up.up.within) (first_of_lanes lanes _ all.jobs whole.of_lanes));
+    }
 
 -- what is told with one more batch
-added_handed : (before : Told) (batch : List Job) (after : Told) → IsAdded before batch after → handed_more (handed_on before) batch ≡ handed_on after
-added_handed before batch after added = rw (added.jobs, added.ends) refl
+added_handed : (lanes : ℕ) (before : Told) (batch : List Job) (after : Told) → IsAdded before batch after → handed_more (handed_in lanes before) batch ≡ handed_in lanes after
+added_handed lanes before batch after added = rw (added.jobs, added.ends) refl
+
+pub lanes_of : (d e : DeskShape) → setting_of e ≡ setting_of d → e.lanes ≡ d.lanes
+lanes_of d e same = ap (λ (s : Setting). s.lanes) same
+
+-- how the jobs of another batch are handed over
+handed_next : (d e : DeskShape) (before : Told) (batch : List Job) (after : Told) → setting_of e ≡ setting_of d → IsAdded before batch after
+    → handed_more (handed_in d.lanes before) batch ≡ handed_in e.lanes after
+handed_next d e before batch after same added = added_handed d.lanes before batch after added ∙ ap (λ n. handed_in n after) (sym (lanes_of d e same))
 
 -- memory was refused while a batch was read
-pub memory_serves : (p : PolicyShape) (room : ℕ) (before mid aft : Streams) (r : ReaderShape) (s : State) (told : Told) (how : Paused)
-    → IsServing p before mid r s told → IsReadUp before.input aft.input (handed_on told) → aft.output ≡ mid.output → CountsAs how mid.read_faults aft.read_faults
-    → aft.write_faults ≡ mid.write_faults → Serves p room before aft told fault.NoMemory
-memory_serves p room before mid aft r s told how serving up output reads writes = record {
+pub memory_serves : (room : ℕ) (before mid aft : Streams) (r : ReaderShape) (d : DeskShape) (told : Told) (how : Paused)
+    → IsServing before mid r d told → IsReadUp before.input aft.input (handed_in d.lanes told) → aft.output ≡ mid.output → CountsAs how mid.read_faults aft.read_faults
+    → aft.write_faults ≡ mid.write_faults → Serves (setting_of d) room before aft told fault.NoMemory
+memory_serves room before mid aft r d told how serving up output reads writes = record {
   reads = up;
-  legal = serving.answered.leads.legal;
-  once = serving.answered.leads.once;
+  once = serving.answered.once;
   fills = serving.answered.fills;
-  writes = writes_whole p before.output aft.output told (output ∙ serving.answered.written);
+  writes = writes_whole d.opening before.output aft.output told (output ∙ serving.answered.written);
   read_faults = let le = counts_le how mid.read_faults aft.read_faults reads in let same = serving.read_faults in omega arith;
   write_faults = writes ∙ serving.write_faults;
 }
 
 -- the session after a batch that is answered
-pub done_ends : (p : PolicyShape) (before mid aft : Streams) (r t : ReaderShape) (s next : State) (told after : Told) (batch : List Job) (how : Paused)
-    → IsServing p before mid r s told → ReadsTo before.input aft.input t.room (handed_more (handed_on told) batch) how
-    → (how ≡ paused.Batch → HasRead before.input aft.input (handed_more (handed_on told) batch) t)
-    → IsAdded told batch after → HasAnswered p before.output aft.output next after
-    → CountsAs how mid.read_faults aft.read_faults → aft.write_faults ≡ mid.write_faults → BatchEnds p before aft t next after (ending_of how)
-done_ends p before mid aft r t s next told after batch paused.Batch serving reads goes_on added answered counts writes = record {
-  read = subst (λ (h : Handed). HasRead before.input aft.input h t) (added_handed told batch after added) (goes_on refl);
+pub done_ends : (before mid aft : Streams) (r t : ReaderShape) (d e : DeskShape) (told after : Told) (batch : List Job) (how : Paused)
+    → IsServing before mid r d told → setting_of e ≡ setting_of d → ReadsTo before.input aft.input t.room (handed_more (handed_in d.lanes told) batch) how
+    → (how ≡ paused.Batch → HasRead before.input aft.input (handed_more (handed_in d.lanes told) batch) t)
+    → IsAdded told batch after → HasAnswered before.output aft.output e after
+    → CountsAs how mid.read_faults aft.read_faults → aft.write_faults ≡ mid.write_faults → BatchEnds before aft t e after (ending_of how)
+done_ends before mid aft r t d e told after batch paused.Batch serving same reads goes_on added answered counts writes = record {
+  read = subst (λ (h : Handed). HasRead before.input aft.input h t) (handed_next d e told batch after same added) (goes_on refl);
   answered = answered;
   read_faults = counts ∙ serving.read_faults;
   write_faults = writes ∙ serving.write_faults;
 }
-done_ends p before mid aft r t s next told after batch paused.End serving reads goes_on added answered counts writes = record {
-  reads = subst (λ (h : Handed). ReadsTo before.input aft.input t.room h paused.End) (added_handed told batch after added) reads;
-  legal = answered.leads.legal;
-  once = answered.leads.once;
+done_ends before mid aft r t d e told after batch paused.End serving same reads goes_on added answered counts writes = record {
+  reads = subst (λ (h : Handed). ReadsTo before.input aft.input t.room h paused.End) (handed_next d e told batch after same added) reads;
+  once = answered.once;
   fills = answered.fills;
   writes = answered.written;
   read_faults = counts ∙ serving.read_faults;
   write_faults = writes ∙ serving.write_faults;
 }
-done_ends p before mid aft r t s next told after batch paused.Failed serving reads goes_on added answered counts writes = record {
-  reads = subst (λ (h : Handed). ReadsTo before.input aft.input t.room h paused.Failed) (added_handed told batch after added) reads;
-  legal = answered.leads.legal;
-  once = answered.leads.once;
+done_ends before mid aft r t d e told after batch paused.Failed serving same reads goes_on added answered counts writes = record {
+  reads = subst (λ (h : Handed). ReadsTo before.input aft.input t.room h paused.Failed) (handed_next d e told batch after same added) reads;
+  once = answered.once;
   fills = answered.fills;
   writes = answered.written;
-  read_faults = λ small. let rose = counts.1 small in let same = serving.read_faults in omega arith;
+  read_faults = λ small. let rose = counts.1 small in let same_count = serving.read_faults in omega arith;
   write_faults = writes ∙ serving.write_faults;
 }
-done_ends p before mid aft r t s next told after batch (paused.Stopped (stop.LineTooLong line)) serving reads goes_on added answered counts writes = record {
-  reads = subst (λ (h : Handed). ReadsTo before.input aft.input t.room h (paused.Stopped (stop.LineTooLong line))) (added_handed told batch after added) reads;
-  legal = answered.leads.legal;
-  once = answered.leads.once;
+done_ends before mid aft r t d e told after batch (paused.Stopped (stop.LineTooLong line)) serving same reads goes_on added answered counts writes = record {
+  reads = subst (λ (h : Handed). ReadsTo before.input aft.input t.room h (paused.Stopped (stop.LineTooLong line))) (handed_next d e told batch after same added) reads;
+  once = answered.once;
   fills = answered.fills;
   writes = answered.written;
   read_faults = counts ∙ serving.read_faults;
   write_faults = writes ∙ serving.write_faults;
 }
-done_ends p before mid aft r t s next told after batch (paused.Stopped stop.TooManyLines) serving reads goes_on added answered counts writes = record {
-  reads = subst (λ (h : Handed). ReadsTo before.input aft.input t.room h (paused.Stopped stop.TooManyLines)) (added_handed told batch after added) reads;
-  legal = answered.leads.legal;
-  once = answered.leads.once;
+done_ends before mid aft r t d e told after batch (paused.Stopped stop.TooManyLines) serving same reads goes_on added answered counts writes = record {
+  reads = subst (λ (h : Handed). ReadsTo before.input aft.input t.room h (paused.Stopped stop.TooManyLines)) (handed_next d e told batch after same added) reads;
+  once = answered.once;
   fills = answered.fills;
   writes = answered.written;
   read_faults = counts ∙ serving.read_faults;
   write_faults = writes ∙ serving.write_faults;
 }
-done_ends p before mid aft r t s next told after batch paused.NoMemory serving reads goes_on added answered counts writes = record {
-  reads = subst (λ (h : Handed). IsReadUp before.input aft.input h) (added_handed told batch after added) reads;
-  legal = answered.leads.legal;
-  once = answered.leads.once;
+done_ends before mid aft r t d e told after batch paused.NoMemory serving same reads goes_on added answered counts writes = record {
+  reads = subst (λ (h : Handed). IsReadUp before.input aft.input h) (handed_next d e told batch after same added) reads;
+  once = answered.once;
   fills = answered.fills;
-  writes = writes_whole p before.output aft.output after answered.written;
-  read_faults = let le = counts_le paused.NoMemory mid.read_faults aft.read_faults counts in let same = serving.read_faults in omega arith;
+  writes = writes_whole e.opening before.output aft.output after answered.written;
+  read_faults = let le = counts_le paused.NoMemory mid.read_faults aft.read_faults counts in let same_count = serving.read_faults in omega arith;
   write_faults = writes ∙ serving.write_faults;
 }
 
 -- the session after a batch whose answering failed
-pub fault_ends : (p : PolicyShape) (room : ℕ) (before mid aft : Streams) (r : ReaderShape) (s next : State) (told after : Told) (batch : List Job) (how : Paused) (ending : RunFault)
-    → IsServing p before mid r s told → ReadsTo before.input aft.input room (handed_more (handed_on told) batch) how → how ≢ paused.NoMemory
-    → IsReadUp before.input aft.input (handed_more (handed_on told) batch) → IsReadUp before.input aft.input (handed_on told)
-    → AnswersTo p before.output aft.output next told batch after (Err ending) → IsWriteEnding ending → CountsAs how mid.read_faults aft.read_faults
-    → CountsWrites ending mid.write_faults aft.write_faults → Serves p room before aft after ending
-fault_ends p room before mid aft r s next told after batch how fault.Write serving reads memory up up_before answers end counts writes = record {
-  reads = (how, memory, subst (λ (h : Handed). ReadsTo before.input aft.input room h how) (added_handed told batch after answers.0) reads);
-  legal = answers.1.legal;
+pub fault_ends : (room : ℕ) (before mid aft : Streams) (r : ReaderShape) (d e : DeskShape) (told after : Told) (batch : List Job) (how : Paused) (ending : RunFault)
+    → IsServing before mid r d told → setting_of e ≡ setting_of d → ReadsTo before.input aft.input room (handed_more (handed_in d.lanes told) batch) how → how ≢ paused.NoMemory
+    → IsReadUp before.input aft.input (handed_more (handed_in d.lanes told) batch) → IsReadUp before.input aft.input (handed_in d.lanes told)
+    → AnswersTo before.output aft.output told batch e after (Err ending) → IsWriteEnding ending → CountsAs how mid.read_faults aft.read_faults
+    → CountsWrites ending mid.write_faults aft.write_faults → Serves (setting_of e) room before aft after ending
+fault_ends room before mid aft r d e told after batch how fault.Write serving same reads memory up up_before answers end counts writes = record {
+  reads = (how, memory, subst (λ (h : Handed). ReadsTo before.input aft.input room h how) (handed_next d e told batch after same answers.0) reads);
   once = answers.1.once;
   fills = answers.1.fills;
   writes = answers.1.written;
-  read_faults = let le = counts_le how mid.read_faults aft.read_faults counts in let same = serving.read_faults in omega arith;
-  write_faults = λ small. let rose = writes small in let same = serving.write_faults in omega arith;
+  read_faults = let le = counts_le how mid.read_faults aft.read_faults counts in let same_count = serving.read_faults in omega arith;
+  write_faults = λ small. let rose = writes small in let same_count = serving.write_faults in omega arith;
 }
-fault_ends p room before mid aft r s next told after batch how fault.NoMemory serving reads memory up up_before answers end counts writes = record {
+fault_ends room before mid aft r d e told after batch how fault.NoMemory serving same reads memory up up_before answers end counts writes = record {
   reads = elim answers.0 [
-    | inl same ↦ subst (λ (t : Told). IsReadUp before.input aft.input (handed_on t)) (sym same) up_before
-    | inr added ↦ subst (λ (h : Handed). IsReadUp before.input aft.input h) (added_handed told batch after added) up
+    | inl stays ↦ subst (λ n. IsReadUp before.input aft.input (handed_in n after)) (sym (lanes_of d e same)) (subst (λ (t : Told). IsReadUp before.input aft.input (handed_in d.lanes t)) (sym stays) up_before)
+    | inr added ↦ subst (λ (h : Handed). IsReadUp before.input aft.input h) (handed_next d e told batch after same added) up
   ];
-  legal = answers.1.legal;
   once = answers.1.once;
   fills = answers.1.fills;
   writes = answers.1.written;
-  read_faults = let le = counts_le how mid.read_faults aft.read_faults counts in let same = serving.read_faults in omega arith;
+  read_faults = let le = counts_le how mid.read_faults aft.read_faults counts in let same_count = serving.read_faults in omega arith;
   write_faults = writes ∙ serving.write_faults;
 }
-fault_ends p room before mid aft r s next told after batch how ending serving reads memory up up_before answers end counts writes = absurd end
+fault_ends room before mid aft r d e told after batch how ending serving same reads memory up up_before answers end counts writes = absurd end
+
+none_ends : (k : ℕ) → k < length {A = ℕ} [] → ⊥
+none_ends k lt = omega (arith, lt)
+
+none_filled : FillsJobs [] [] []
+none_filled = record { whole = refl; batches = λ k lt lane. absurd (none_ends k lt); rests = λ k lt. absurd (none_ends k lt) }
 
 -- before the first batch
-pub opening_serves : (p : PolicyShape) (streams : Streams) (r : ReaderShape) (s : State) (told : Told) → s ≡ opening_state p → told ≡ nothing_told → r.cut ≡ start DEFAULT_LANES → r.pending ≡ []
-    → IsServing p streams streams r s told
-opening_serves p streams r s told opening none begun empty = rw none (record {
+pub opening_serves : (streams : Streams) (r : ReaderShape) (d : DeskShape) (told : Told) → d.jobs ≡ [] → d.entries ≡ [] → told ≡ nothing_told → r.cut ≡ start d.lanes → r.pending ≡ []
+    → IsServing streams streams r d told
+opening_serves streams r d told jobs entries none begun empty = rw none (record {
   read = record {
     bytes = [];
     taken = subst (λ xs. HasTaken streams.input streams.input xs) (sym empty) (nothing_taken streams.input);
@@ -165,9 +209,10 @@ opening_serves p streams r s told opening none begun empty = rw none (record {
     closed = refl;
   };
   answered = record {
-    leads = record { legal = tt; once = tt; state = sym opening };
-    fills = record { whole = refl; batches = λ k lt lane. absurd (omega (arith, lt)) };
-    ends = record { within = λ k lt. absurd (omega (arith, lt)); closed = refl };
+    done = λ lane. rw jobs refl;
+    once = tt;
+    fills = none_filled;
+    ends = record { within = λ k lt. absurd (none_ends k lt); closed = refl };
     written = sym (nothing_put streams.output);
   };
   read_faults = refl;
@@ -175,8 +220,8 @@ opening_serves p streams r s told opening none begun empty = rw none (record {
 })
 
 -- where there was no memory for a session
-pub bare_serves : (p : PolicyShape) (room : ℕ) (streams : Streams) (told : Told) (ending : RunFault) → told ≡ nothing_told → ending ≡ fault.NoMemory → Serves p room streams streams told ending
-bare_serves p room streams told ending nothing memory = rw (nothing, memory) (record {
+pub bare_serves : (set : Setting) (room : ℕ) (streams : Streams) (told : Told) (ending : RunFault) → told ≡ nothing_told → ending ≡ fault.NoMemory → Serves set room streams streams told ending
+bare_serves set room streams told ending nothing memory = rw (nothing, memory) (record {
   reads = record {
     bytes = [];
     ended = false;
@@ -184,9 +229,8 @@ bare_serves p room streams told ending nothing memory = rw (nothing, memory) (re
     at_end = λ e. cc;
     up = record { ends = (0, refl); within = refl };
   };
-  legal = tt;
   once = tt;
-  fills = record { whole = refl; batches = λ k lt lane. absurd (omega (arith, lt)) };
+  fills = none_filled;
   writes = record { count = 0; within = omega arith; held = sym (nothing_put (with_bytes streams.output []) ∙ nothing_put streams.output) };
   read_faults = omega arith;
   write_faults = refl;
@@ -229,15 +273,15 @@ writes_for p before after told (fault.LineTooLong line) h = writes_all p before 
 writes_for p before after told fault.TooManyLines h = writes_all p before after told.entries h
 writes_for p before after told (fault.BadInput e) h = writes_all p before after told.entries h
 
--- a session on one lane is a session as it is promised
-pub serves_kept : (p : PolicyShape) (room : ℕ) (before after : Streams) (told : Told) (ending : RunFault) → IsSoundPolicy p → HistoriesKeepCompletable
-    → Serves p room before after told ending → Served (alone p) room before after told ending
-serves_kept p room before after told ending sound keeps h = record {
+-- a session is one as it is promised
+pub serves_kept : (set : Setting) (room : ℕ) (before after : Streams) (told : Told) (ending : RunFault) → IsSoundPolicy set.policy → HistoriesKeepCompletable
+    → IsLegal (opening_state set.policy) set.rounds told.entries → Serves set room before after told ending → Served set room before after told ending
+serves_kept set room before after told ending sound keeps legal h = record {
   reads = h.reads;
-  legal = h.legal;
-  fills = record { whole = h.fills.whole; batches = h.fills.batches; rests = λ k lt. batch_rests told.batch_ends k told.entries h.once };
-  writes = writes_for p before.output after.output told ending h.writes;
-  kept = keeps p DEFAULT_ROUNDS told.entries sound h.legal;
+  legal = legal;
+  fills = h.fills;
+  writes = writes_for set.policy before.output after.output told ending h.writes;
+  kept = keeps set.policy set.rounds told.entries sound legal;
   read_faults = h.read_faults;
   write_faults = h.write_faults;
 }
@@ -257,5 +301,5 @@ late_reads before after room handed fault.Load h = absurd h
 late_reads before after room handed fault.FileTooLong h = absurd h
 late_reads before after room handed (fault.BadInput e) h = absurd h
 
-pub serves_late : (p : PolicyShape) (room : ℕ) (before after : Streams) (told : Told) (ending : RunFault) → Serves p room before after told ending → is_before_input ending ≡ false
-serves_late p room before after told ending h = late_reads before.input after.input room (handed_on told) ending h.reads
+pub serves_late : (set : Setting) (room : ℕ) (before after : Streams) (told : Told) (ending : RunFault) → Serves set room before after told ending → is_before_input ending ≡ false
+serves_late set room before after told ending h = late_reads before.input after.input room (handed_in set.lanes told) ending h.reads

@@ -1,44 +1,33 @@
 -- Inside: where a session stands between its batches.
-use Rattle.std.specs.Prelude.{◌≡◌, ℕ, ◌+◌, ◌<◌, ◌≤◌, List, [], ◌∷◌, ◌++◌, length, take, drop, map, Option, None, Some, Result, Ok, Err}
+use Rattle.std.specs.Prelude.{◌≡◌, ℕ, ◌+◌, ◌-◌, ◌≤◌, List, [], ◌∷◌, ◌++◌, length, take, drop, Option, None, Some, Result, Ok, Err}
 use Rattle.std.proofs.Common.{◌⊎◌}
-use Rattle.wf_names.specs.declared.limits.TheConstants.{DEFAULT_LANES, DEFAULT_ROUNDS}
+use Rattle.wf_names.specs.declared.limits.TheConstants.{BATCH_LINE_LIMIT, SESSION_LINE_LIMIT}
 use Rattle.wf_outside.specs.Outside.{HasPart, with_bytes}
 use Rattle.wf_talk.specs.declared.entry.Entry.{Entry}
 use Rattle.wf_talk.specs.declared.job.Job.{Job}
-use Rattle.basics.specs.Logs.{LogShape}
-use Rattle.line_cutter.specs.Jobs.{last_or}
 use Rattle.line_cutter.specs.Cutter.{ends_after}
 use Rattle.line_cutter.specs.declared.stop.Stop.TheVariants as stop
 use Rattle.batch_reader.specs.declared.reader.Paused.{Paused}
 use Rattle.batch_reader.specs.declared.reader.Paused.TheVariants as paused
-use Rattle.batch_reader.specs.Reading.{Handed, ReaderShape, HasRead}
+use Rattle.batch_reader.specs.Reading.{ReaderShape, HasRead}
 use Rattle.wire_json.specs.Replies.{entry_text}
 use Rattle.policy_book.specs.Shapes.{PolicyShape}
-use Rattle.wf_board.specs.States.{State, opening_state}
-use Rattle.wf_board.specs.Steps.{IsStep, state_after_step}
-use Rattle.wf_board.specs.Histories.{AreAnsweredOnce, IsLegal, batch_end, batch_jobs, job_of_entry, lane_jobs, state_after}
+use Rattle.wf_board.specs.Histories.{AreAnsweredOnce, FillsJobs}
+use Rattle.wf_desk.specs.BatchLaws.{EndAt}
+use Rattle.wf_desk.specs.Desks.{AreOfLanes, DeskShape, IsDone}
 use Rattle.run_record.specs.declared.fault.RunFault.{RunFault}
 use Rattle.run_record.specs.declared.fault.RunFault.TheVariants.{Nothing, Read, Write, NoMemory, LineTooLong, TooManyLines}
 use Rattle.run_record.specs.Fault.{CountsReads, CountsWrites}
 use Rattle.run_record.specs.Report.{Told}
 use Rattle.run_record.specs.Run.{Streams}
 use Rattle.wf_server.specs.declared.batch.Answered.{Answered}
-use Rattle.wf_server.specs.Sessions.{handed_in, last_start, ReadsFor}
-
--- the jobs that a session tells, as they were read
-abbrev pub handed_on : Told → Handed
-handed_on told = handed_in DEFAULT_LANES told
+use Rattle.wf_server.specs.Sessions.{Setting, handed_in, last_start, ReadsFor}
+use Rattle.wf_server.specs.Turns.{setting_of}
 
 -- the texts of entries, in order, with the names of one policy
 abbrev pub entries_text : PolicyShape → List Entry → List ℕ
 entries_text p [] = []
 entries_text p (e ∷ es) = entry_text p e ++ entries_text p es
-
--- batch after batch, and within a batch each lane's in order, the entries hold each job once
-pub record FillsLanes (entries : List Entry) (jobs : List Job) (batch_ends : List ℕ) : Type 0 where
-  pub whole : length entries ≡ length jobs
-  pub batches : (k : ℕ) → k < length batch_ends → (lane : ℕ) →
-      lane_jobs lane (batch_jobs batch_ends k (map job_of_entry entries)) ≡ lane_jobs lane (batch_jobs batch_ends k jobs)
 
 -- the entries of all batches but the last are written, and of the last one's a part
 abbrev pub WritesLast : PolicyShape → Option (List ℕ) → Option (List ℕ) → Told → Type 0
@@ -52,52 +41,37 @@ WritesBy p before after told Write = WritesLast p before after told
 WritesBy p before after told NoMemory = WritesLast p before after told
 WritesBy p before after told fault = after ≡ with_bytes before (entries_text p told.entries)
 
--- a session on one lane, in which no step changes the policy
-pub record Serves (p : PolicyShape) (room : ℕ) (before after : Streams) (told : Told) (fault : RunFault) : Type 0 where
-  pub reads : ReadsFor before.input after.input room (handed_on told) fault
-  pub legal : IsLegal (opening_state p) DEFAULT_ROUNDS told.entries
+-- a session in which no step changes the policy, but that its history is legal
+pub record Serves (set : Setting) (room : ℕ) (before after : Streams) (told : Told) (fault : RunFault) : Type 0 where
+  pub reads : ReadsFor before.input after.input room (handed_in set.lanes told) fault
   pub once : AreAnsweredOnce told.entries
-  pub fills : FillsLanes told.entries told.jobs told.batch_ends
-  pub writes : WritesBy p before.output after.output told fault
+  pub fills : FillsJobs told.entries told.jobs told.batch_ends
+  pub writes : WritesBy set.policy before.output after.output told fault
   pub read_faults : CountsReads fault before.read_faults after.read_faults
   pub write_faults : CountsWrites fault before.write_faults after.write_faults
 
--- what a session tells
-abbrev pub told_of : Answered → Told
-told_of a = record { entries = a.entries.entries; jobs = a.jobs; batch_ends = a.batch_ends }
+-- what a session at a desk tells
+abbrev pub told_of : DeskShape → Answered → Told
+told_of d a = record { entries = d.entries; jobs = a.jobs; batch_ends = a.batch_ends }
 
--- the entries are a legal history that leads to a state
-pub record LeadsTo (start : State) (entries : List Entry) (s : State) : Type 0 where
-  pub legal : IsLegal start DEFAULT_ROUNDS entries
-  pub once : AreAnsweredOnce entries
-  pub state : state_after start entries ≡ s
-
--- there is one more entry: it answers a job in a state, and leads to the next
-pub record HasAnsweredOne (before after : List Entry) (s next : State) (job : Job) : Type 0 where
-  pub entry : Entry
-  pub at : entry.at ≡ length before
-  pub answers : job_of_entry entry ≡ job
-  pub step : IsStep s entry.ask entry.reply
-  pub state : next ≡ state_after_step s entry.ask entry.reply
-  pub pushed : after ≡ before ++ entry ∷ []
-
--- each end of a batch is a count of the jobs, and the last one is that of all
-pub record AreEnds (batch_ends : List ℕ) (count : ℕ) : Type 0 where
-  pub within : (k : ℕ) → k < length batch_ends → batch_end batch_ends k ≤ count
-  pub closed : last_or 0 batch_ends ≡ count
+-- a batch behind so many jobs: it is short, and each of its jobs is of one of the lanes
+pub record IsBatch (lanes before : ℕ) (batch : List Job) : Type 0 where
+  pub few : before + length batch ≤ SESSION_LINE_LIMIT
+  pub short : length batch ≤ BATCH_LINE_LIMIT
+  pub of_lanes : AreOfLanes lanes batch
 
 -- the jobs so far are answered, and the entries written
-pub record HasAnswered (p : PolicyShape) (held held-after : Option (List ℕ)) (s : State) (told : Told) : Type 0 where
-  pub leads : LeadsTo (opening_state p) told.entries s
-  pub fills : FillsLanes told.entries told.jobs told.batch_ends
-  pub ends : AreEnds told.batch_ends (length told.jobs)
-  pub written : held-after ≡ with_bytes held (entries_text p told.entries)
+pub record HasAnswered (held held-after : Option (List ℕ)) (d : DeskShape) (told : Told) : Type 0 where
+  pub done : IsDone d
+  pub once : AreAnsweredOnce told.entries
+  pub fills : FillsJobs told.entries told.jobs told.batch_ends
+  pub ends : EndAt told.batch_ends (length told.jobs)
+  pub written : held-after ≡ with_bytes held (entries_text d.opening told.entries)
 
 -- the jobs so far are answered, and the entries of the last batch written in part
 pub record HasAnsweredPart (p : PolicyShape) (held held-after : Option (List ℕ)) (told : Told) : Type 0 where
-  pub legal : IsLegal (opening_state p) DEFAULT_ROUNDS told.entries
   pub once : AreAnsweredOnce told.entries
-  pub fills : FillsLanes told.entries told.jobs told.batch_ends
+  pub fills : FillsJobs told.entries told.jobs told.batch_ends
   pub written : WritesLast p held held-after told
 
 -- the jobs of one more batch are told, with its end
@@ -106,11 +80,12 @@ pub record IsAdded (before : Told) (batch : List Job) (after : Told) : Type 0 wh
   pub ends : after.batch_ends ≡ ends_after before.batch_ends (length before.jobs) batch
 
 -- what came of answering a batch
-abbrev pub AnswersTo : PolicyShape → Option (List ℕ) → Option (List ℕ) → State → Told → List Job → Told → Result (Unit {0}) RunFault → Type 0
-AnswersTo p held held-after s before batch after (Ok done) = IsAdded before batch after × HasAnswered p held held-after s after
-AnswersTo p held held-after s before batch after (Err NoMemory) =
-    ((after ≡ before) ⊎ IsAdded before batch after) × HasAnsweredPart p held held-after after
-AnswersTo p held held-after s before batch after (Err fault) = IsAdded before batch after × HasAnsweredPart p held held-after after
+abbrev pub AnswersTo : Option (List ℕ) → Option (List ℕ) → Told → List Job → DeskShape → Told → Result (Unit {0}) RunFault → Type 0
+AnswersTo held held-after before batch d after (Ok done) = IsAdded before batch after × HasAnswered held held-after d after
+AnswersTo held held-after before batch d after (Err NoMemory) =
+    ((after ≡ before) ⊎ IsAdded before batch after) × HasAnsweredPart d.opening held held-after after
+AnswersTo held held-after before batch d after (Err fault) =
+    IsAdded before batch after × HasAnsweredPart d.opening held held-after after
 
 -- the endings of answering a batch
 abbrev pub IsWriteEnding : RunFault → Type 0
@@ -128,13 +103,13 @@ ending_of (paused.Stopped stop.TooManyLines) = Some TooManyLines
 ending_of paused.NoMemory = Some NoMemory
 
 -- between two batches: all that was handed over is answered and written, and no call has failed
-pub record IsServing (p : PolicyShape) (before after : Streams) (r : ReaderShape) (s : State) (told : Told) : Type 0 where
-  pub read : HasRead before.input after.input (handed_on told) r
-  pub answered : HasAnswered p before.output after.output s told
+pub record IsServing (before after : Streams) (r : ReaderShape) (d : DeskShape) (told : Told) : Type 0 where
+  pub read : HasRead before.input after.input (handed_in d.lanes told) r
+  pub answered : HasAnswered before.output after.output d told
   pub read_faults : after.read_faults ≡ before.read_faults
   pub write_faults : after.write_faults ≡ before.write_faults
 
 -- after a batch the session goes on, or ends
-abbrev pub BatchEnds : PolicyShape → Streams → Streams → ReaderShape → State → Told → Option RunFault → Type 0
-BatchEnds p before after r s told None = IsServing p before after r s told
-BatchEnds p before after r s told (Some fault) = Serves p r.room before after told fault
+abbrev pub BatchEnds : Streams → Streams → ReaderShape → DeskShape → Told → Option RunFault → Type 0
+BatchEnds before after r d told None = IsServing before after r d told
+BatchEnds before after r d told (Some fault) = Serves (setting_of d) r.room before after told fault

@@ -3,6 +3,7 @@ pub mod Asked
 pub mod Deciding
 pub mod Transcripts
 pub mod Sessions
+pub mod Turns
 pub mod Batches
 pub mod Serving
 pub mod Run

@@ -14,4 +14,4 @@ Does None r = IsOrderly r × (r.fault ≡ Usage)
 Does (Some (plan policy flow)) r = Plans policy flow r
 Does (Some (show policy)) r = Shows policy r
 Does (Some (solve policy)) r = Solves policy r
-Does (Some (serve policy)) r = ServesRun policy r
+Does (Some (serve policy options)) r = ServesRun policy options r

@@ -1,7 +1,7 @@
 -- The command `serve`, from its policy file on.
 use Rattle.std.specs.Prelude.{◌≡◌, ℕ, ◌<◌, ◌≤◌, List, length, Ok, Err}
 use Rattle.std.proofs.Common.{◌⊎◌}
-use Rattle.wf_names.specs.declared.limits.TheConstants.{DEFAULT_LANES, DEFAULT_ROUNDS, POLICY_FILE_LIMIT}
+use Rattle.wf_names.specs.declared.limits.TheConstants.{POLICY_FILE_LIMIT}
 use Rattle.policy_book.specs.Shapes.{PolicyShape}
 use Rattle.policy_reader.specs.Files.{policy_of_file}
 use Rattle.run_record.specs.declared.fault.RunFault.{RunFault}
@@ -9,7 +9,9 @@ use Rattle.run_record.specs.declared.fault.RunFault.TheVariants.{Policy, Load, N
 use Rattle.run_record.specs.Run.{Run, IsUntouched, IsOrderly, OverFile}
 use Rattle.wf_server.specs.declared.serve.TheConstants.{PIECE}
 use Rattle.wf_board.specs.Histories.{AreAnsweredOnce}
+use Rattle.wf_board.specs.Histories.{AreWantsRightful}
 use Rattle.wf_server.specs.Sessions.{Served, Setting}
+use Rattle.wf_server.specs.Words.{Options}
 
 -- how a run may end before its session: the file is too long, or has a fault, or loading or memory failed
 abbrev pub EndsBefore : List ℕ → RunFault → Type 0
@@ -19,23 +21,24 @@ EndsBefore file Load = Unit {0}
 EndsBefore file NoMemory = Unit {0}
 EndsBefore file fault = ⊥
 
--- one lane, and the rounds that there are where none are asked for
-abbrev pub alone : PolicyShape → Setting
-alone p = record { policy = p; lanes = DEFAULT_LANES; rounds = DEFAULT_ROUNDS }
+-- a policy is served as the options ask
+abbrev pub setting : PolicyShape → Options → Setting
+setting p options = record { policy = p; lanes = options.lanes; rounds = options.rounds }
 
--- the policy of a file is served on one lane, and no request is answered again
-pub record ServesPolicy (file : List ℕ) (r : Run) : Type 0 where
+-- the policy of a file is served; no request is answered again, and only an opening or a claim with want of memory
+pub record ServesPolicy (file : List ℕ) (options : Options) (r : Run) : Type 0 where
   pub policy : PolicyShape
   pub within : length file ≤ POLICY_FILE_LIMIT
   pub read : policy_of_file file ≡ Ok policy
-  pub served : Served (alone policy) PIECE r.before r.after r.told r.fault
+  pub served : Served (setting policy options) PIECE r.before r.after r.told r.fault
   pub once : AreAnsweredOnce r.told.entries
+  pub wants : AreWantsRightful r.told.entries
 
 -- a run over a policy file ends before its session, or serves the policy
-abbrev pub ServesFile : List ℕ → Run → Type 0
-ServesFile file r = (EndsBefore file r.fault × IsUntouched r) ⊎ ServesPolicy file r
+abbrev pub ServesFile : List ℕ → Options → Run → Type 0
+ServesFile file options r = (EndsBefore file r.fault × IsUntouched r) ⊎ ServesPolicy file options r
 
--- a run of `serve` with a policy file
-pub record ServesRun (policy : List ℕ) (r : Run) : Type 0 where
-  pub serves : OverFile (r.files policy) r.fault (λ file. ServesFile file r)
+-- a run of `serve` with a policy file and options
+pub record ServesRun (policy : List ℕ) (options : Options) (r : Run) : Type 0 where
+  pub serves : OverFile (r.files policy) r.fault (λ file. ServesFile file options r)
   pub orderly : IsOrderly r

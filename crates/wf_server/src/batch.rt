@@ -1,28 +1,27 @@
 //! Answering the jobs of a batch, and writing the entries.
-ghost use Rattle.std.specs.Prelude.{◌≡◌, ◌≤◌, ◌<◌, ◌+◌, ℕ, List, [], ◌∷◌, ◌++◌, length, take, drop, map, Option, IfErr, OnOk, OnErr};
+ghost use Rattle.std.specs.Prelude.{◌≡◌, ◌≤◌, ◌<◌, ◌+◌, ℕ, List, [], ◌∷◌, ◌++◌, length, drop, Option, IfErr, OnOk, OnErr};
 ghost use Rattle.wf_outside.specs.Outside.{HasPart, with_bytes};
 ghost use Rattle.wf_names.specs.declared.limits.TheConstants.{SESSION_LINE_LIMIT};
-ghost use Rattle.policy_book.specs.Shapes.{PolicyShape};
-ghost use Rattle.wf_board.specs.Boards.{state_on};
-ghost use Rattle.wf_board.specs.States.{State};
-ghost use Rattle.wf_board.specs.Histories.{job_of_entry};
+ghost use Rattle.line_cutter.specs.Cutter.{ends_after};
+ghost use Rattle.wf_desk.specs.Desks.{IsDone};
 ghost use Rattle.wire_json.specs.Replies.{entry_text};
 ghost use Rattle.run_record.specs.Fault.{fault_in, CountsWrites};
-ghost use Rattle.wf_server.specs.Batches.{entries_text, told_of, LeadsTo, HasAnswered, HasAnsweredOne, IsAdded, AnswersTo, IsWriteEnding};
+ghost use Rattle.wf_server.specs.Batches.{entries_text, told_of, HasAnswered, IsBatch, AnswersTo, IsWriteEnding};
+ghost use Rattle.wf_server.specs.Turns.{setting_of};
 
-use crate::decider::PlainDecider;
+use crate::turns::serve_by_turns;
 use policy_book::Policy;
 use run_record::RunFault;
 use std::alloc::{AllocError, Global};
-use wf_board::Board;
+use wf_desk::Desk;
 use wf_outside::{Sink, put_all};
 use wf_talk::{Ends, Entry, Job, Jobs, Journal};
 use wire_json::write_entry;
 
-/// What a session has read and answered so far.
+/// The jobs that a session has answered, with the ends of their batches. Their entries are at its
+/// desk.
 #[derive(Drop)]
 pub(crate) struct Answered {
-    pub(crate) entries: Journal,
     pub(crate) jobs: Jobs,
     pub(crate) batch_ends: Ends,
 }
@@ -30,12 +29,10 @@ pub(crate) struct Answered {
 impl Answered {
     /// Of a session before its first batch.
     pub(crate) fn new(alloc: Global) -> Answered
-        ensures entries { result.entries.entries ≡ [] }
         ensures jobs { result.jobs ≡ [] }
         ensures ends { result.batch_ends ≡ [] }
     {
         Answered {
-            entries: Journal::new(alloc),
             jobs: Jobs::new(alloc),
             batch_ends: Ends::new(alloc),
         }
@@ -45,40 +42,42 @@ impl Answered {
 /// Answers the jobs of a batch, and writes their entries.
 pub(crate) fn answer_batch<K: Sink>(
     alloc: Global,
-    board: &mut Board,
+    desk: &mut Desk,
     told: &mut Answered,
     batch: &[Job],
     sink: &mut K,
 ) -> Result<(), RunFault>
-    requires whole { length told.old.entries.entries ≡ length told.old.jobs }
-    requires few { length told.old.jobs + length batch.now ≤ SESSION_LINE_LIMIT }
-    ensures answers { (p : PolicyShape) (held : Option (List ℕ)) →
-        HasAnswered p held (K.held sink.old) (state_on board.old) (told_of told.old) →
-        AnswersTo p held (K.held sink.new) (state_on board.new) (told_of told.old) batch.now (told_of told.new) result }
+    requires done { IsDone desk.old }
+    requires whole { length desk.old.entries ≡ length told.old.jobs }
+    requires batch { IsBatch desk.old.lanes (length told.old.jobs) batch.now }
+    ensures setting { setting_of desk.new ≡ setting_of desk.old }
+    ensures answers { (held : Option (List ℕ)) →
+        HasAnswered held (K.held sink.old) desk.old (told_of desk.old told.old) →
+        AnswersTo held (K.held sink.new) (told_of desk.old told.old) batch.now desk.new (told_of desk.new told.new) result }
     ensures ending { IfErr result IsWriteEnding }
     ensures counts { CountsWrites (fault_in result) (K.faults sink.old) (K.faults sink.new) }
 {
+    let done = desk.journal().len();
+    desk.load_batch(alloc, batch)?;
     add_batch(told, batch)?;
-    let done = told.entries.len();
-    answer_jobs(alloc, board, &mut told.entries, batch);
+    serve_by_turns(alloc, desk);
     write_entries(
         alloc,
-        board.policy(),
-        entries_after(&told.entries, done),
+        desk.board().policy(),
+        entries_after(desk.journal(), done),
         sink,
     )
 }
 
-// Adds the jobs of a batch and its end, and makes room for their entries.
+// Adds the jobs of a batch and its end.
 #[tactic(auto, using(crate::proofs::BatchLaws::end_added))]
 fn add_batch(told: &mut Answered, batch: &[Job]) -> Result<(), AllocError>
     requires few { length told.old.jobs + length batch.now ≤ SESSION_LINE_LIMIT }
-    ensures added { OnOk result (IsAdded (told_of told.old) batch.now (told_of told.new)) }
-    ensures room { OnOk result (length batch.now ≤ told.new.entries.spare) }
-    ensures entries { told.new.entries.entries ≡ told.old.entries.entries }
-    ensures unchanged { OnErr result (told_of told.new ≡ told_of told.old) }
+    ensures jobs { OnOk result (told.new.jobs ≡ told.old.jobs ++ batch.now) }
+    ensures ends { OnOk result (told.new.batch_ends ≡ ends_after told.old.batch_ends (length told.old.jobs) batch.now) }
+    ensures jobs_stay { OnErr result (told.new.jobs ≡ told.old.jobs) }
+    ensures ends_stay { OnErr result (told.new.batch_ends ≡ told.old.batch_ends) }
 {
-    told.entries.reserve(batch.len() as u32)?;
     let count = told.jobs.len();
     told.jobs.push_all(batch)?;
     match add_end(&mut told.batch_ends, count, batch.len()) {
@@ -110,37 +109,6 @@ fn entries_after(journal: &Journal, done: usize) -> &[Entry]
     ensures { result.now ≡ drop done journal.now.entries }
 {
     &journal.as_slice()[done..]
-}
-
-// Answers each job; there is room for their entries.
-fn answer_jobs(alloc: Global, board: &mut Board, journal: &mut Journal, jobs: &[Job])
-    requires room { length jobs.now ≤ journal.old.spare }
-    requires few { length journal.old.entries + length jobs.now ≤ SESSION_LINE_LIMIT }
-    ensures leads { (start : State) → LeadsTo start journal.old.entries (state_on board.old) → LeadsTo start journal.new.entries (state_on board.new) }
-    ensures filled { map job_of_entry journal.new.entries ≡ map job_of_entry journal.old.entries ++ jobs.now }
-    ensures kept { take (length journal.old.entries) journal.new.entries ≡ journal.old.entries }
-{
-    'answering: for job in jobs {
-        answer_job(alloc, board, journal, job);
-    }
-}
-
-// Answers one job; there is room for its entry.
-fn answer_job(alloc: Global, board: &mut Board, journal: &mut Journal, job: &Job)
-    requires room { 0 < journal.old.spare }
-    requires few { length journal.old.entries ≤ SESSION_LINE_LIMIT }
-    ensures one { HasAnsweredOne journal.old.entries journal.new.entries (state_on board.old) (state_on board.new) job.now }
-    ensures room { journal.old.spare ≤ journal.new.spare + 1 }
-{
-    let reply = board.decide(alloc, &PlainDecider, &job.ask);
-    let entry = Entry {
-        at: journal.len() as u32,
-        lane: job.lane,
-        line: job.line,
-        ask: job.ask,
-        reply,
-    };
-    journal.push(entry).unwrap();
 }
 
 // Writes the lines of entries, one after the other.

@@ -14,6 +14,7 @@ mod session;
 mod solve_tests;
 #[cfg(test)]
 mod tests;
+mod turns;
 mod words;
 
 pub use run::run_alone;

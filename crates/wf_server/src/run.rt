@@ -56,7 +56,9 @@ pub fn run_alone<F: Shelf, S: Source, K: Sink>(
         Some(Command::Solve { policy }) => {
             answer_once(alloc, policy, &Question::Solve, shelf, source, sink)
         }
-        Some(Command::Serve { policy }) => run_serve(alloc, policy, shelf, source, sink),
+        Some(Command::Serve { policy, options }) => {
+            run_serve(alloc, policy, options, shelf, source, sink)
+        }
         None => bare_report(alloc, RunFault::Usage),
     }
 }

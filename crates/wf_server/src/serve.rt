@@ -3,10 +3,14 @@ ghost use Rattle.std.specs.Prelude.{◌≡◌, false};
 ghost use Rattle.run_record.specs.Fault.{status_of, is_before_input};
 ghost use Rattle.run_record.specs.Report.{told_by};
 ghost use Rattle.wf_board.specs.Histories.{AreAnsweredOnce};
+ghost use Rattle.wf_board.specs.Histories.{AreWantsRightful};
 ghost use Rattle.wf_server.specs.Sessions.{Served};
-ghost use Rattle.wf_server.specs.Serving.{alone, ServesRun};
+ghost use Rattle.wf_server.specs.Words.{AreOptions};
+ghost use Rattle.wf_server.specs.Asked.{options_in};
+ghost use Rattle.wf_server.specs.Serving.{setting, ServesRun};
 
 use crate::session::run_session;
+use crate::words::Options;
 use policy_book::Policy;
 use run_record::{Report, RunFault, bare_report};
 use std::alloc::Global;
@@ -21,13 +25,15 @@ const PIECE: usize = 65_536;
 pub(crate) fn run_serve<F: Shelf, S: Source, K: Sink>(
     alloc: Global,
     policy: &str,
+    options: Options,
     shelf: &mut F,
     source: &mut S,
     sink: &mut K,
 ) -> Report
+    requires { AreOptions (options_in options) }
     ensures status { result.status ≡ status_of result.fault }
     ensures usage { result.fault ≡ RunFault.Usage → ⊥ }
-    ensures serves { ServesRun policy.now (record {
+    ensures serves { ServesRun policy.now (options_in options) (record {
       files = F.file shelf.old;
       load_faults = F.faults shelf.old;
       load_faults_after = F.faults shelf.new;
@@ -48,7 +54,7 @@ pub(crate) fn run_serve<F: Shelf, S: Source, K: Sink>(
     }) }
 {
     match load_policy(alloc, shelf, policy) {
-        Ok(p) => serve_policy(alloc, p, source, sink),
+        Ok(p) => serve_policy(alloc, p, options, source, sink),
         Err(fault) => bare_report(alloc, fault),
     }
 }
@@ -57,10 +63,12 @@ pub(crate) fn run_serve<F: Shelf, S: Source, K: Sink>(
 fn serve_policy<S: Source, K: Sink>(
     alloc: Global,
     policy: Policy,
+    options: Options,
     source: &mut S,
     sink: &mut K,
 ) -> Report
-    ensures served { Served (alone policy) PIECE
+    requires { AreOptions (options_in options) }
+    ensures served { Served (setting policy (options_in options)) PIECE
         (record {
           input = S.left source.old;
           output = K.held sink.old;
@@ -75,10 +83,11 @@ fn serve_policy<S: Source, K: Sink>(
         })
         (told_by result) result.fault }
     ensures once { AreAnsweredOnce (told_by result).entries }
+    ensures wants { AreWantsRightful (told_by result).entries }
     ensures late { is_before_input result.fault ≡ false }
     ensures status { result.status ≡ status_of result.fault }
 {
     let _ = policy.admin();
     histories_keep_completable();
-    run_session(alloc, policy, PIECE, source, sink)
+    run_session(alloc, policy, options, PIECE, source, sink)
 }

@@ -1,24 +1,28 @@
 //! The session: batch after batch is read, answered and written.
-ghost use Rattle.std.specs.Prelude.{◌≡◌, ◌≤◌, ◌<◌, ◌+◌, ℕ, List, [], length, Option, None, Some};
-ghost use Rattle.wf_names.specs.declared.limits.TheConstants.{DEFAULT_LANES, SESSION_LINE_LIMIT};
-ghost use Rattle.policy_book.specs.Shapes.{PolicyShape};
-ghost use Rattle.wf_board.specs.Boards.{state_on};
+ghost use Rattle.std.specs.Prelude.{◌≡◌, ◌<◌, [], None};
 ghost use Rattle.wf_board.specs.States.{opening_state};
+ghost use Rattle.wf_board.specs.Histories.{IsLegal};
+ghost use Rattle.wf_board.specs.Histories.{AreWantsRightful};
+ghost use Rattle.wf_desk.specs.Desks.{IsSoundDesk};
 ghost use Rattle.line_cutter.specs.Jobs.{start};
 ghost use Rattle.batch_reader.specs.Reading.{IsReady, left_to_read};
 ghost use Rattle.run_record.specs.Fault.{status_of};
 ghost use Rattle.run_record.specs.Report.{told_by};
 ghost use Rattle.run_record.specs.Run.{Streams};
+ghost use Rattle.wf_server.specs.Words.{AreOptions};
+ghost use Rattle.wf_server.specs.Asked.{options_in};
+ghost use Rattle.wf_server.specs.Serving.{setting};
 ghost use Rattle.wf_server.specs.Batches.{told_of, ending_of, IsServing, BatchEnds, Serves};
+ghost use Rattle.wf_server.specs.Turns.{setting_of};
 
 use crate::batch::{Answered, answer_batch};
+use crate::words::Options;
 use batch_reader::{Paused, Reader, Reading};
 use line_cutter::{Stop, jobs_are_in_order};
 use policy_book::Policy;
 use run_record::{Report, RunFault, bare_report};
 use std::alloc::Global;
-use wf_board::Board;
-use wf_names::DEFAULT_LANES;
+use wf_desk::Desk;
 use wf_outside::{Sink, Source};
 
 /// Answers the lines of the source under a policy, batch by batch, and writes the entries to the
@@ -26,48 +30,56 @@ use wf_outside::{Sink, Source};
 pub(crate) fn run_session<S: Source, K: Sink>(
     alloc: Global,
     policy: Policy,
+    options: Options,
     room: usize,
     source: &mut S,
     sink: &mut K,
 ) -> Report
-    requires { 0 < room }
-    ensures serves { Serves policy room
+    requires room { 0 < room }
+    requires options { AreOptions (options_in options) }
+    ensures serves { Serves (setting policy (options_in options)) room
         (record { input = S.left source.old; output = K.held sink.old; read_faults = S.faults source.old; write_faults = K.faults sink.old })
         (record { input = S.left source.new; output = K.held sink.new; read_faults = S.faults source.new; write_faults = K.faults sink.new })
         (told_by result) result.fault }
+    ensures legal { IsLegal (opening_state policy) options.rounds (told_by result).entries }
+    ensures wants { AreWantsRightful (told_by result).entries }
     ensures status { result.status ≡ status_of result.fault }
 {
-    let Ok(board) = Board::new(alloc, policy) else {
+    let Ok(desk) = Desk::new(alloc, policy, options.lanes, options.rounds) else {
         return bare_report(alloc, RunFault::NoMemory);
     };
-    let Ok(mut reader) = Reader::new(alloc, DEFAULT_LANES, room) else {
+    let Ok(mut reader) = Reader::new(alloc, options.lanes, room) else {
         return bare_report(alloc, RunFault::NoMemory);
     };
-    serve_batches(alloc, &mut reader, board, source, sink)
+    serve_batches(alloc, &mut reader, desk, source, sink)
 }
 
 // Serves batch after batch.
 fn serve_batches<S: Source, K: Sink>(
     alloc: Global,
     reader: &mut Reader,
-    mut board: Board,
+    mut desk: Desk,
     source: &mut S,
     sink: &mut K,
 ) -> Report
-    requires start { reader.old.cut ≡ start DEFAULT_LANES }
+    requires start { reader.old.cut ≡ start desk.lanes }
     requires nothing { reader.old.pending ≡ [] }
-    requires opening { state_on board ≡ opening_state board.policy }
-    ensures serves { Serves board.policy reader.old.room
+    requires lanes { 0 < desk.lanes }
+    requires entries { desk.entries ≡ [] }
+    requires jobs { desk.jobs ≡ [] }
+    ensures serves { Serves (setting_of desk) reader.old.room
         (record { input = S.left source.old; output = K.held sink.old; read_faults = S.faults source.old; write_faults = K.faults sink.old })
         (record { input = S.left source.new; output = K.held sink.new; read_faults = S.faults source.new; write_faults = K.faults sink.new })
         (told_by result) result.fault }
+    ensures legal { IsLegal (opening_state desk.opening) desk.rounds (told_by result).entries }
+    ensures wants { AreWantsRightful (told_by result).entries }
     ensures status { result.status ≡ status_of result.fault }
 {
     let mut told = Answered::new(alloc);
     'serving: loop {
-        match serve_batch(alloc, reader, &mut board, &mut told, source, sink) {
+        match serve_batch(alloc, reader, &mut desk, &mut told, source, sink) {
             None => {}
-            Some(fault) => return report_of(fault, told),
+            Some(fault) => return report_of(fault, desk, told),
         }
     }
 }
@@ -76,31 +88,33 @@ fn serve_batches<S: Source, K: Sink>(
 fn serve_batch<S: Source, K: Sink>(
     alloc: Global,
     reader: &mut Reader,
-    board: &mut Board,
+    desk: &mut Desk,
     told: &mut Answered,
     source: &mut S,
     sink: &mut K,
 ) -> Option<RunFault>
     requires ready { IsReady reader.old }
-    requires serving { (p : PolicyShape) × (before : Streams) × IsServing p before
+    requires lanes { 0 < desk.old.lanes }
+    requires serving { (before : Streams) × IsServing before
         (record { input = S.left source.old; output = K.held sink.old; read_faults = S.faults source.old; write_faults = K.faults sink.old })
-        reader.old (state_on board.old) (told_of told.old) }
-    ensures batch { (p : PolicyShape) (before : Streams) → IsServing p before
+        reader.old desk.old (told_of desk.old told.old) }
+    ensures batch { (before : Streams) → IsServing before
         (record { input = S.left source.old; output = K.held sink.old; read_faults = S.faults source.old; write_faults = K.faults sink.old })
-        reader.old (state_on board.old) (told_of told.old) →
-        BatchEnds p before
+        reader.old desk.old (told_of desk.old told.old) →
+        BatchEnds before
         (record { input = S.left source.new; output = K.held sink.new; read_faults = S.faults source.new; write_faults = K.faults sink.new })
-        reader.new (state_on board.new) (told_of told.new) result }
+        reader.new desk.new (told_of desk.new told.new) result }
+    ensures setting { setting_of desk.new ≡ setting_of desk.old }
     ensures ready { result ≡ None → IsReady reader.new }
     ensures less { result ≡ None → left_to_read reader.new < left_to_read reader.old }
     ensures room { reader.new.room ≡ reader.old.room }
 {
-    jobs_are_in_order(DEFAULT_LANES);
+    jobs_are_in_order(desk.lanes());
     let Reading { jobs, paused } = reader.next_batch(source);
     if let Paused::NoMemory = paused {
         return Some(RunFault::NoMemory);
     }
-    match answer_batch(alloc, board, told, jobs.as_slice(), sink) {
+    match answer_batch(alloc, desk, told, jobs.as_slice(), sink) {
         Ok(()) => ending_of(paused),
         Err(fault) => Some(fault),
     }
@@ -120,16 +134,15 @@ fn ending_of(paused: Paused) -> Option<RunFault>
     }
 }
 
-fn report_of(fault: RunFault, told: Answered) -> Report
+// The report of a session that ended so.
+fn report_of(fault: RunFault, desk: Desk, told: Answered) -> Report
     ensures status { result.status ≡ status_of fault }
     ensures fault { result.fault ≡ fault }
-    ensures told { told_by result ≡ told_of told }
+    ensures told { told_by result ≡ told_of desk told }
+    ensures sound { IsSoundDesk desk }
 {
-    let Answered {
-        entries,
-        jobs,
-        batch_ends,
-    } = told;
+    let (_, entries) = desk.into_parts();
+    let Answered { jobs, batch_ends } = told;
     Report {
         status: fault.status(),
         fault,

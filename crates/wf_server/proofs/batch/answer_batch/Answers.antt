@@ -1,31 +1,59 @@
-use Rattle.std.proofs.Common.{◌++◌, ◌∙◌, ap, sym, subst, length, map, take, drop, arith}
+use Rattle.std.proofs.Common.{◌≡◌, ◌++◌, ◌∙◌, refl, ap, sym, subst, length, take, drop, arith}
 use Rattle.std.proofs.lemmas.Grind.{common_steps}
-use Rattle.wf_board.specs.Boards.{state_on}
-use Rattle.wf_board.specs.States.{opening_state}
-use Rattle.wf_board.specs.Histories.{job_of_entry}
-use Rattle.wf_server.specs.Batches.{told_of, LeadsTo}
-use Rattle.wf_server.proofs.BatchLaws.{answers_to, answers_none, text_on}
+use Rattle.std.proofs.Math.Seq.{drop-append_seam}
+use Rattle.wf_desk.specs.Desks.{DeskShape}
+use Rattle.wf_board.specs.Boards.{BoardShape}
+use Rattle.wf_server.specs.Sessions.{Setting}
+use Rattle.wf_server.specs.Turns.{setting_of}
+use Rattle.wf_server.specs.Batches.{entries_text, told_of}
+use Rattle.wf_server.proofs.BatchLaws.{answers_to, answers_none, same_told, text_on}
 use Rattle.wf_server.proofs.batch.answer_batch.Goals as goal
 
-pub returns-in_err-add_batch-clause-answers : goal.returns-in_err-add_batch-clause-answers
-returns-in_err-add_batch-clause-answers g c p held answered =
-    answers_none p held (g.K.Sink.held c.args.sink.now) (state_on c.args.board.now) _ (told_of c.args.told.now) c.args.batch.now _ c.from_residual.result answered c.in_err-add_batch.ensures.unchanged (grind (arith, common_steps))
-
 pub returns-clause-answers : goal.returns-clause-answers
-returns-clause-answers g c p held answered =
-    let old = c.args.told.now.entries.entries in
-    let new = c.answer_jobs.new.journal.entries in
-    let next = state_on c.answer_jobs.new.board in
-    let same = c.add_batch.ensures.entries in
-    let leads = c.answer_jobs.ensures.leads (opening_state p) (subst (λ es. LeadsTo (opening_state p) es (state_on c.args.board.now)) (sym same) answered.leads) in
-    let text = text_on p c.policy.result.now next old new c.entries_after.result.now _ leads c.policy.ensures.policy (c.len-done.ensures ∙ ap length same) c.entries_after.ensures in
-    answers_to p held _ _ (state_on c.args.board.now) next (told_of c.args.told.now) c.args.batch.now _ _ c.entries_after.result.now c.write_entries.result
+returns-clause-answers g c held answered =
+    let old = c.args.desk.now in
+    let loaded = c.in_ok-load_batch.ensures.loaded in
+    let on = c.serve_by_turns.ensures.on in
+    let d = c.serve_by_turns.new.desk in
+    let before = told_of old c.args.told.now in
+    let after = told_of d c.add_batch.new.told in
+    let entries = on.entries ∙ ap (λ (x : DeskShape). x.entries ++ on.new) loaded in
+    let new : c.entries_after.result.now ≡ on.new = c.entries_after.ensures ∙ grind (arith, common_steps) in
+    let setting = on.setting ∙ ap setting_of loaded in
+    let found = c.policy.ensures.policy ∙ ap (λ (b : BoardShape). b.policy) c.board.ensures.board in
+    let text =
+    text_on d c.policy.result.now c.entries_after.result.now c.board.ensures.sound found ∙ ap (λ (s : Setting). entries_text s.policy c.entries_after.result.now) setting
+    ∙ ap (entries_text old.opening) new in
+    answers_to held _ _ old d before c.args.batch.now after _ c.entries_after.result.now c.write_entries.result
     (record {
       answered = answered;
-      added = record { jobs = c.in_ok-add_batch.ensures.added.jobs; ends = c.in_ok-add_batch.ensures.added.ends };
-      whole = c.requires.whole;
-      leads = leads;
-      filled = c.answer_jobs.ensures.filled ∙ ap (λ es. map job_of_entry es ++ c.args.batch.now) same;
-      kept = ap (λ es. take (length es) new) (sym same) ∙ c.answer_jobs.ensures.kept ∙ same;
+      sound = c.board.ensures.sound;
+      done = c.serve_by_turns.ensures.done;
+      setting = setting;
+      jobs = on.jobs ∙ ap (λ (x : DeskShape). x.jobs) loaded;
+      start = on.start ∙ ap (λ (x : DeskShape). x.start) loaded;
+      new = on.new;
+      entries = entries;
+      same = refl;
+      once = on.once;
+      added = record { jobs = c.in_ok-add_batch.ensures.jobs; ends = c.in_ok-add_batch.ensures.ends };
     })
-    text (c.entries_after.ensures ∙ ap (λ n. drop n new) (c.len-done.ensures ∙ ap length same)) c.write_entries.ensures.all c.write_entries.ensures.part c.write_entries.ensures.some c.write_entries.ensures.ending
+    text new c.write_entries.ensures.all c.write_entries.ensures.part c.write_entries.ensures.some c.write_entries.ensures.ending
+
+pub returns-in_err-load_batch-clause-answers : goal.returns-in_err-load_batch-clause-answers
+returns-in_err-load_batch-clause-answers g c held answered =
+    let old = c.args.desk.now in
+    let d = c.load_batch.new.self in
+    let stays = c.in_err-load_batch.ensures.unchanged in
+    answers_none held (g.K.Sink.held c.args.sink.now) old d (told_of old c.args.told.now) c.args.batch.now _ c.from_residual.result answered (ap setting_of stays)
+    (ap (λ (x : DeskShape). told_of x c.args.told.now) stays) (grind (arith, common_steps))
+
+pub returns-in_err-add_batch-clause-answers : goal.returns-in_err-add_batch-clause-answers
+returns-in_err-add_batch-clause-answers g c held answered =
+    let old = c.args.desk.now in
+    let d = c.load_batch.new.self in
+    let loaded = c.in_ok-load_batch.ensures.loaded in
+    let jobs = c.in_err-add_batch.ensures.jobs_stay in
+    let ends = c.in_err-add_batch.ensures.ends_stay in
+    answers_none held (g.K.Sink.held c.args.sink.now) old d (told_of old c.args.told.now) c.args.batch.now _ c.from_residual-in_err-add_batch.result answered (ap setting_of loaded)
+    (same_told old d c.args.told.now c.add_batch.new.told (ap (λ (x : DeskShape). x.entries) loaded) jobs ends) (grind (arith, common_steps))

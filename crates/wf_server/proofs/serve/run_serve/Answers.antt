@@ -1,9 +1,10 @@
 use Rattle.wf_server.proofs.ServeLaws.{is_served, loads_late, not_served, unread_counts}
+use Rattle.wf_server.specs.Asked.{options_in}
 use Rattle.wf_server.proofs.serve.run_serve.Goals as goal
 
 pub returns-in-Ok-clause-serves : goal.returns-in-Ok-clause-serves
 returns-in-Ok-clause-serves g c = record {
-  serves = is_served (g.F.Shelf.file c.args.shelf.now c.args.policy.now) c.in-Ok.p _ c.in-Ok.ensures.policy c.serve_policy.ensures.served c.serve_policy.ensures.once;
+  serves = is_served (g.F.Shelf.file c.args.shelf.now c.args.policy.now) c.in-Ok.p (options_in c.args.options) _ c.in-Ok.ensures.policy c.serve_policy.ensures.served c.serve_policy.ensures.once c.serve_policy.ensures.wants;
   orderly = record {
     early = λ e. let late = c.serve_policy.ensures.late in cc;
     loads = loads_late _ _ _ c.serve_policy.ensures.late c.in-Ok.ensures.loads;

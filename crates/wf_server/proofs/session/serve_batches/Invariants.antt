@@ -1,7 +1,7 @@
 use Rattle.std.proofs.Common.{◌≡◌}
-use Rattle.wf_board.specs.Boards.{state_on}
 use Rattle.batch_reader.specs.Reading.{IsReady, left_to_read}
 use Rattle.wf_server.specs.Batches.{told_of, IsServing}
+use Rattle.wf_server.specs.Turns.{setting_of}
 use Rattle.wf_server.proofs.session.serve_batches.Given as goal
 
 abbrev pub invariant-serving : goal.invariant-serving
@@ -9,10 +9,11 @@ invariant-serving g l =
     record {
       ready : IsReady l.reader;
       room : l.reader.room ≡ l.fn.reader.room;
-      serving : IsServing l.fn.board.policy
+      setting : setting_of l.desk ≡ setting_of l.fn.desk;
+      serving : IsServing
           (record { input = g.S.Source.left l.fn.source; output = g.K.Sink.held l.fn.sink; read_faults = g.S.Source.faults l.fn.source; write_faults = g.K.Sink.faults l.fn.sink })
           (record { input = g.S.Source.left l.source; output = g.K.Sink.held l.sink; read_faults = g.S.Source.faults l.source; write_faults = g.K.Sink.faults l.sink })
-          l.reader (state_on l.board) (told_of l.told);
+          l.reader l.desk (told_of l.desk l.told);
     }
 
 abbrev pub decreases-serving : goal.decreases-serving
