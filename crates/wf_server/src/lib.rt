@@ -8,6 +8,8 @@ mod decider;
 #[cfg(test)]
 mod edit_tests;
 mod run;
+#[cfg(test)]
+mod schedule_tests;
 mod serve;
 mod session;
 #[cfg(test)]

@@ -1,0 +1,328 @@
+//! Turns of two lanes in a given order, and commits of tasks whose numbers were changed by hand.
+ghost use Rattle.std.specs.Prelude.{◌≡◌, ◌≤◌, [], IfOk};
+ghost use Rattle.wf_names.specs.declared.limits.TheConstants.{ROUND_LIMIT};
+ghost use Rattle.wf_desk.specs.Desks.{IsDone};
+ghost use Rattle.wf_desk.specs.Schedules.{AreEventsOf};
+
+use crate::decider::PlainDecider;
+use crate::tests::PAY;
+use std::alloc::{AllocError, Global};
+use std::test::Fail;
+use wf_board::Verdict;
+use wf_desk::{Desk, Event, Mark, Outcome};
+use wf_names::{CaseId, Name};
+use wf_talk::{Ask, Denial, Entry, Job, Reply, Request};
+
+// Nothing has changed since the task was taken; its lane has no task any more.
+#[test]
+fn a_fresh_verdict_is_recorded(rt: HostRuntime) -> Result<(), Fail> {
+    let events = [
+        Event::Serve(0),
+        Event::Serve(0),
+        Event::Serve(0),
+        Event::Begin(0),
+        Event::Commit(0),
+        Event::Commit(0),
+    ];
+    let marks = [
+        Mark::Served(0),
+        Mark::Served(1),
+        Mark::Served(2),
+        Mark::Began(3),
+        Mark::Recorded(3),
+        Mark::NoTask,
+    ];
+    let kinds = ["opened", "granted", "finished", "stranded"];
+    assert!(rt; goes(rt.alloc(), 1, &events, &marks, &kinds)?);
+    Ok(())
+}
+
+// A task is not for the next job once its own was served; a lane with no job left holds no task.
+#[test]
+fn a_lane_runs_out_of_jobs(rt: HostRuntime) -> Result<(), Fail> {
+    let events = [
+        Event::Serve(0),
+        Event::Serve(0),
+        Event::Begin(0),
+        Event::Serve(0),
+        Event::Commit(0),
+        Event::Serve(0),
+        Event::Begin(0),
+        Event::Serve(0),
+        Event::Serve(0),
+        Event::Begin(0),
+        Event::Commit(0),
+    ];
+    let marks = [
+        Mark::Served(0),
+        Mark::Served(1),
+        Mark::Began(2),
+        Mark::Served(2),
+        Mark::NotNext,
+        Mark::Served(3),
+        Mark::Began(4),
+        Mark::Served(4),
+        Mark::NoJob,
+        Mark::NoJob,
+        Mark::NoTask,
+    ];
+    let kinds = ["opened", "granted", "finished", "stranded", "stranded"];
+    assert!(rt; goes(rt.alloc(), 1, &events, &marks, &kinds)?);
+    Ok(())
+}
+
+// With one round: the case was claimed and given back since the task was taken.
+#[test]
+fn a_lost_task_is_answered_again(rt: HostRuntime) -> Result<(), Fail> {
+    let events = [
+        Event::Serve(0),
+        Event::Serve(0),
+        Event::Serve(0),
+        Event::Begin(0),
+        Event::Serve(1),
+        Event::Serve(1),
+        Event::Commit(0),
+        Event::Serve(0),
+    ];
+    let marks = [
+        Mark::Served(0),
+        Mark::Served(1),
+        Mark::Served(2),
+        Mark::Began(3),
+        Mark::Served(3),
+        Mark::Served(4),
+        Mark::Recorded(5),
+        Mark::Served(6),
+    ];
+    let kinds = [
+        "opened",
+        "granted",
+        "finished",
+        "granted",
+        "returned",
+        "again 1 4",
+        "stranded",
+    ];
+    assert!(rt; goes(rt.alloc(), 1, &events, &marks, &kinds)?);
+    Ok(())
+}
+
+// With two rounds the first task is lost; the second is lost too, or it is fresh.
+#[test]
+fn a_lost_task_is_taken_again(rt: HostRuntime) -> Result<(), Fail> {
+    let events = [
+        Event::Serve(0),
+        Event::Serve(0),
+        Event::Serve(0),
+        Event::Begin(0),
+        Event::Serve(1),
+        Event::Serve(1),
+        Event::Commit(0),
+        Event::Begin(0),
+        Event::Commit(0),
+        Event::Begin(0),
+        Event::Serve(1),
+        Event::Serve(1),
+        Event::Commit(0),
+        Event::Begin(0),
+    ];
+    let marks = [
+        Mark::Served(0),
+        Mark::Served(1),
+        Mark::Served(2),
+        Mark::Began(3),
+        Mark::Served(3),
+        Mark::Served(4),
+        Mark::Lost,
+        Mark::Began(5),
+        Mark::Recorded(5),
+        Mark::Began(6),
+        Mark::Served(6),
+        Mark::Served(7),
+        Mark::Lost,
+        Mark::Began(8),
+    ];
+    let kinds = [
+        "opened", "granted", "finished", "granted", "returned", "stranded", "granted", "returned",
+    ];
+    assert!(rt; goes(rt.alloc(), 2, &events, &marks, &kinds)?);
+    Ok(())
+}
+
+// Entries before a lane's last one lose no task, nor do those for which it was lost before.
+#[test]
+fn some_entries_lose_no_task(rt: HostRuntime) -> Result<(), Fail> {
+    let mut desk = loaded(rt.alloc(), 2)?;
+    assert!(rt; misses(rt.alloc(), &mut desk)?);
+    Ok(())
+}
+
+fn misses(alloc: Global, desk: &mut Desk) -> Result<bool, AllocError> {
+    let events = [Event::Serve(0), Event::Serve(0), Event::Serve(0)];
+    let marks = [Mark::Served(0), Mark::Served(1), Mark::Served(2)];
+    if !goes_at(alloc, desk, &events, &marks)? || commits(alloc, desk, 1)? != Outcome::Recorded(3) {
+        return Ok(false);
+    }
+    let events = [Event::Serve(1), Event::Serve(1)];
+    let marks = [Mark::Served(4), Mark::Served(5)];
+    if !goes_at(alloc, desk, &events, &marks)? || commits(alloc, desk, 4)? != Outcome::Lost {
+        return Ok(false);
+    }
+    let kinds = [
+        "opened", "granted", "finished", "stranded", "granted", "returned", "stranded",
+    ];
+    Ok(commits(alloc, desk, 4)? == Outcome::Recorded(6) && has_kinds(desk, &kinds))
+}
+
+// Commits the task of the next job of lane 0, as if it had been taken after so many entries.
+fn commits(alloc: Global, desk: &mut Desk, number: u32) -> Result<Outcome, AllocError> {
+    let lanes = desk.lanes();
+    if lanes == 0 {
+        return Ok(Outcome::NotNext);
+    }
+    let Some(mut task) = desk.begin(alloc, 0)? else {
+        return Ok(Outcome::NotNext);
+    };
+    if task.lane >= lanes {
+        return Ok(Outcome::NotNext);
+    }
+    task.number = number;
+    Ok(desk.commit(alloc, &PlainDecider, &task, Verdict::Nothing))
+}
+
+// A desk goes through events over the jobs below.
+fn goes(
+    alloc: Global,
+    rounds: u8,
+    events: &[Event],
+    marks: &[Mark],
+    kinds: &[&str],
+) -> Result<bool, Fail>
+    requires rounds { rounds ≤ ROUND_LIMIT }
+    requires events { AreEventsOf 2 events.now }
+{
+    let mut desk = loaded(alloc, rounds)?;
+    Ok(goes_at(alloc, &mut desk, events, marks)? && has_kinds(&desk, kinds))
+}
+
+fn goes_at(
+    alloc: Global,
+    desk: &mut Desk,
+    events: &[Event],
+    marks: &[Mark],
+) -> Result<bool, AllocError>
+    requires { AreEventsOf 2 events.now }
+{
+    if desk.lanes() != 2 {
+        return Ok(false);
+    }
+    let found = desk.run_schedule(alloc, &PlainDecider, events)?;
+    Ok(found.as_slice() == marks)
+}
+
+// In lane 0 ann prepares a payment, which bob then claims to approve, twice; in lane 1 cyd takes
+// the approval and gives it back, twice. Bob's approval would leave nobody to pay.
+fn loaded(alloc: Global, rounds: u8) -> Result<Desk, Fail>
+    requires { rounds ≤ ROUND_LIMIT }
+{
+    let mut desk = empty(alloc, rounds)?;
+    load(alloc, &mut desk)?;
+    Ok(desk)
+}
+
+fn empty(alloc: Global, rounds: u8) -> Result<Desk, Fail>
+    requires { rounds ≤ ROUND_LIMIT }
+    ensures lanes { IfOk result (λ d. d.lanes ≡ 2) }
+    ensures entries { IfOk result (λ d. d.entries ≡ []) }
+    ensures done { IfOk result (λ d. IsDone d) }
+{
+    let policy = policy_reader::read(alloc, PAY.as_bytes())?;
+    Ok(Desk::new(alloc, policy, 2, rounds)?)
+}
+
+fn load(alloc: Global, desk: &mut Desk) -> Result<(), Fail>
+    requires lanes { desk.old.lanes ≡ 2 }
+    requires entries { desk.old.entries ≡ [] }
+    requires done { IsDone desk.old }
+{
+    let jobs = [
+        job(0, 0, opens()?),
+        job(0, 1, claims("prepare", "ann")?),
+        job(0, 2, finishes("prepare", "ann")?),
+        job(0, 3, claims("approve", "bob")?),
+        job(0, 4, claims("approve", "bob")?),
+        job(1, 5, claims("approve", "cyd")?),
+        job(1, 6, returns("approve", "cyd")?),
+        job(1, 7, claims("approve", "cyd")?),
+        job(1, 8, returns("approve", "cyd")?),
+    ];
+    desk.load_batch(alloc, &jobs)?;
+    Ok(())
+}
+
+fn job(lane: u8, line: u32, request: Request) -> Job
+    ensures { result.lane ≡ lane }
+{
+    let ask = Ask::Request(request);
+    Job { lane, line, ask }
+}
+
+fn opens() -> Result<Request, Fail> {
+    Ok(Request::OpenCase { flow: name("pay")? })
+}
+
+fn claims(step: &str, user: &str) -> Result<Request, Fail> {
+    Ok(Request::Claim {
+        case: CaseId(0),
+        step: name(step)?,
+        user: name(user)?,
+    })
+}
+
+fn finishes(step: &str, user: &str) -> Result<Request, Fail> {
+    Ok(Request::Finish {
+        case: CaseId(0),
+        step: name(step)?,
+        user: name(user)?,
+    })
+}
+
+fn returns(step: &str, user: &str) -> Result<Request, Fail> {
+    Ok(Request::GiveBack {
+        case: CaseId(0),
+        step: name(step)?,
+        user: name(user)?,
+    })
+}
+
+fn name(text: &str) -> Result<Name, Fail> {
+    Ok(Name::read(text).ok_or("not a name")?)
+}
+
+// Whether the entries are of these kinds, in order.
+fn has_kinds(desk: &Desk, kinds: &[&str]) -> bool {
+    let entries = desk.journal().as_slice();
+    if entries.len() != kinds.len() {
+        return false;
+    }
+    for (entry, kind) in entries.iter().zip(kinds) {
+        if !is_kind(entry, kind) {
+            return false;
+        }
+    }
+    true
+}
+
+fn is_kind(entry: &Entry, kind: &str) -> bool {
+    match &entry.reply {
+        Reply::Opened { case, .. } => kind == "opened" && case.0 == 0,
+        Reply::Granted(_) => kind == "granted",
+        Reply::Finished { done } => kind == "finished" && !done,
+        Reply::Returned => kind == "returned",
+        Reply::Denied(Denial::Stranded { .. }) => kind == "stranded",
+        Reply::Denied(Denial::Taken(user)) => kind == "taken" && user.0 == 2,
+        Reply::Again { rounds: 1, at: 4 } => kind == "again 1 4",
+        Reply::Again { rounds: 2, at: 7 } => kind == "again 2 7",
+        _ => false,
+    }
+}
