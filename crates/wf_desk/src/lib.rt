@@ -23,5 +23,5 @@ mod task;
 pub use desk::{Desk, solve_task};
 pub use loss::Loss;
 pub use outcome::Outcome;
-pub use schedule::{Event, Mark, Marks};
+pub use schedule::{Event, Mark, Marks, Solved};
 pub use task::Task;

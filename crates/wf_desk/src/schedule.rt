@@ -48,9 +48,11 @@ pub type Marks = List<Mark>;
 
 /// A task with the verdict that was found on it.
 #[derive(Drop)]
-pub(crate) struct Solved {
-    task: Task,
-    verdict: Verdict,
+pub struct Solved {
+    /// The task.
+    pub task: Task,
+    /// The verdict.
+    pub verdict: Verdict,
 }
 
 /// What each lane holds.
