@@ -9,7 +9,7 @@ pub answer_batch-requires-clause-batch : goal.answer_batch-requires-clause-batch
 answer_batch-requires-clause-batch g c =
     let d = c.args.desk.now in
     let told = told_of d c.args.told.now in
-    let order = rw c.lanes.ensures.lanes at c.jobs_are_in_order.ensures in
+    let order = rw c.lanes.ensures.count at c.jobs_are_in_order.ensures in
     rw c.as_slice.ensures
     (next_batch d.lanes _ _ told c.next_batch-jobs.result.jobs order c.requires.serving.1.read.closed (c.next_batch-jobs.ensures.up c.requires.serving.0.input (handed_in d.lanes told) c.requires.serving.1.read))
 

@@ -26,7 +26,7 @@ turn-preserved c =
 
 pub returns-clause-done : goal.returns-clause-done
 returns-clause-done c none =
-    let all : c.args.desk.now.lanes ≤ c.turn.lane = grind (arith, common_steps, c.turn-test.false, c.turn.auto.lane-end, c.lanes-lane-end.ensures.lanes) in
+    let all : c.args.desk.now.lanes ≤ c.turn.lane = grind (arith, common_steps, c.turn-test.false, c.turn.auto.lane-end, c.lanes-lane-end.ensures.count) in
     turned_done c.args.desk.now c.turn.desk c.turn.lane (subst (λ had. HasTurned c.args.desk.now c.turn.desk c.turn.lane had) none c.turn.invariant.turned) all c.requires.lanes
 
 pub returns-clause-less : goal.returns-clause-less
