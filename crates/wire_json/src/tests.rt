@@ -213,7 +213,7 @@ fn is_asked(alloc: Global, line: &str, wanted: &Asked) -> Result<bool, AllocErro
     }
 }
 
-fn requests(flow: Name, by: Name, step: Name, user: Name) -> [(&'static str, u8, Request); 12] {
+fn requests(flow: Name, by: Name, step: Name, user: Name) -> [(&'static str, u8, Request); 9] {
     let case = CaseId(3);
     [
         (
@@ -232,24 +232,9 @@ fn requests(flow: Name, by: Name, step: Name, user: Name) -> [(&'static str, u8,
             Request::Finish { case, step, user },
         ),
         (
-            r#"{"do":"give_back","case":3,"step":"approve","user":"bob","lane":0}"#,
-            0,
-            Request::GiveBack { case, step, user },
-        ),
-        (
-            r#"{"do":"finish","case":3,"step":"approve","user":"bob","lane":1}"#,
+            r#"{"do":"give_back","case":3,"step":"approve","user":"bob","lane":1}"#,
             1,
-            Request::Finish { case, step, user },
-        ),
-        (
-            r#"{"do":"claim","case":3,"step":"approve","user":"bob" }"#,
-            0,
-            Request::Claim { case, step, user },
-        ),
-        (
-            r#"{"do":"claim","case":3,"step":"approve","user":"b\u006fb"}"#,
-            0,
-            Request::Claim { case, step, user },
+            Request::GiveBack { case, step, user },
         ),
         (
             r#"{"do":"release","by":"eve","case":3,"step":"approve"}"#,
@@ -287,29 +272,8 @@ fn bad_lines_are_of_the_first_lane(rt: HostRuntime) -> Result<(), Fail> {
 }
 
 // Lines with what is wrong with them: the key's name where it is a key.
-fn bad_lines() -> [(&'static str, &'static str); 41] {
+fn bad_lines() -> [(&'static str, &'static str); 35] {
     [
-        (
-            r#"{"do":"claim","case":3,"step":"pay","user":"bob"}}"#,
-            "syntax",
-        ),
-        (
-            r#"{"do":"claim","case":03,"step":"pay","user":"bob"}"#,
-            "syntax",
-        ),
-        (
-            r#"{"do":"claim","case":3,"step":"pay","user":"bob","lane":2}"#,
-            "lane",
-        ),
-        (
-            r#"{"do":"claim","case":65536,"step":"pay","user":"bob"}"#,
-            "case",
-        ),
-        (r#"{"do":"claim","case":3,"step":"","user":"bob"}"#, "step"),
-        (
-            r#"{"do":"finish","case":3,"step":"pay","user":"bob","lane":1,"x":1}"#,
-            "extra",
-        ),
         (r#"{"do":"claim","case":3"#, "syntax"),
         (r#"{"do":"view","case":3}}"#, "syntax"),
         (r#"["claim"]"#, "object"),
@@ -351,6 +315,41 @@ fn bad_lines() -> [(&'static str, &'static str); 41] {
         (r#"{"do":"open","flow":"pay","plan":["ann"]}"#, "extra"),
         (r#"{"do":"view","case":3,"edit":"leave"}"#, "extra"),
         (r#"{"do":"view","case":3,"Lane":0}"#, "extra"),
+    ]
+}
+
+#[test]
+fn nearly_plain_lines_are_bad(rt: HostRuntime) -> Result<(), Fail> {
+    for (line, wanted) in nearly_plain_lines() {
+        assert!(rt; is_bad(rt.alloc(), line.as_bytes(), wanted)?, "{line}");
+    }
+    Ok(())
+}
+
+// Lines that are nearly of the form that is read fastest.
+fn nearly_plain_lines() -> [(&'static str, &'static str); 6] {
+    [
+        (
+            r#"{"do":"claim","case":3,"step":"pay","user":"bob"}}"#,
+            "syntax",
+        ),
+        (
+            r#"{"do":"claim","case":03,"step":"pay","user":"bob"}"#,
+            "syntax",
+        ),
+        (
+            r#"{"do":"claim","case":3,"step":"pay","user":"bob","lane":2}"#,
+            "lane",
+        ),
+        (
+            r#"{"do":"claim","case":65536,"step":"pay","user":"bob"}"#,
+            "case",
+        ),
+        (r#"{"do":"claim","case":3,"step":"","user":"bob"}"#, "step"),
+        (
+            r#"{"do":"finish","case":3,"step":"pay","user":"bob","lane":1,"x":1}"#,
+            "extra",
+        ),
     ]
 }
 
