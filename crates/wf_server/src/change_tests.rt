@@ -8,7 +8,7 @@ use crate::tests::PAY;
 use policy_book::{Policy, RosterFault};
 use std::alloc::{AllocError, Global};
 use std::test::Fail;
-use wf_board::Board;
+use wf_board::{Board, Verdict};
 use wf_names::{CaseId, FlowId, Name, RelId, RoleId, StepId, UserId};
 use wf_talk::{Ask, Reply, Request};
 
@@ -128,7 +128,7 @@ fn opens(alloc: Global, board: &mut Board) -> bool {
         return false;
     };
     let ask = Ask::Request(Request::OpenCase { flow });
-    match board.decide(alloc, &PlainDecider, &ask) {
+    match board.decide(alloc, &PlainDecider, &ask, Verdict::Nothing) {
         Reply::Opened { case, plan } => case == CaseId(0) && is_valid(board.policy(), &plan),
         _ => false,
     }
@@ -141,7 +141,7 @@ fn is_granted(alloc: Global, board: &mut Board, user: &str) -> bool {
     };
     let case = CaseId(0);
     let ask = Ask::Request(Request::Claim { case, step, user });
-    match board.decide(alloc, &PlainDecider, &ask) {
+    match board.decide(alloc, &PlainDecider, &ask, Verdict::Nothing) {
         Reply::Granted(plan) => is_valid(board.policy(), &plan),
         _ => false,
     }

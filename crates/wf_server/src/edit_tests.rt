@@ -26,202 +26,109 @@ steps = ["a", "b"]
 permit = { a = ["clerk"], b = ["clerk"] }
 "#;
 
-/// An edit by its word and names, who asks for it, and its first fault.
-struct Row {
-    by: &'static str,
-    edit: [&'static str; 4],
-    fault: Option<EditFault>,
-}
-
 const UNKNOWN_USER: Option<EditFault> = Some(EditFault::Unknown(Missing::User));
 
 const UNKNOWN_ROLE: Option<EditFault> = Some(EditFault::Unknown(Missing::Role));
 
-const ROWS: [Row; 30] = [
-    Row {
-        by: "lee",
-        edit: ["add_user", "pat", "", ""],
-        fault: Some(EditFault::NotAdmin),
-    },
-    Row {
-        by: "pat",
-        edit: ["leave", "pat", "", ""],
-        fault: Some(EditFault::NotAdmin),
-    },
-    Row {
-        by: "zoe",
-        edit: ["add_user", "pat", "", ""],
-        fault: None,
-    },
-    Row {
-        by: "zoe",
-        edit: ["add_user", "kim", "", ""],
-        fault: Some(EditFault::Already),
-    },
-    Row {
-        by: "zoe",
-        edit: ["leave", "pat", "", ""],
-        fault: UNKNOWN_USER,
-    },
-    Row {
-        by: "zoe",
-        edit: ["leave", "kim", "", ""],
-        fault: None,
-    },
-    Row {
-        by: "zoe",
-        edit: ["leave", "zoe", "", ""],
-        fault: Some(EditFault::LastAdmin),
-    },
-    Row {
-        by: "zoe",
-        edit: ["enrol", "auditor", "pat", ""],
-        fault: UNKNOWN_USER,
-    },
-    Row {
-        by: "zoe",
-        edit: ["enrol", "auditor", "kim", ""],
-        fault: UNKNOWN_ROLE,
-    },
-    Row {
-        by: "zoe",
-        edit: ["enrol", "clerk", "kim", ""],
-        fault: Some(EditFault::Already),
-    },
-    Row {
-        by: "zoe",
-        edit: ["enrol", "boss", "kim", ""],
-        fault: None,
-    },
-    Row {
-        by: "zoe",
-        edit: ["dismiss", "boss", "kim", ""],
-        fault: Some(EditFault::Absent),
-    },
-    Row {
-        by: "zoe",
-        edit: ["dismiss", "chief", "kim", ""],
-        fault: Some(EditFault::Absent),
-    },
-    Row {
-        by: "zoe",
-        edit: ["dismiss", "chief", "zoe", ""],
-        fault: Some(EditFault::LastAdmin),
-    },
-    Row {
-        by: "zoe",
-        edit: ["dismiss", "boss", "max", ""],
-        fault: None,
-    },
-    Row {
-        by: "zoe",
-        edit: ["relate", "pat", "friend", "kim"],
-        fault: Some(EditFault::Unknown(Missing::Relation)),
-    },
-    Row {
-        by: "zoe",
-        edit: ["relate", "pat", "same", "kim"],
-        fault: UNKNOWN_USER,
-    },
-    Row {
-        by: "zoe",
-        edit: ["relate", "kim", "same", "kim"],
-        fault: Some(EditFault::Fixed),
-    },
-    Row {
-        by: "zoe",
-        edit: ["relate", "kim", "clear", "lee"],
-        fault: Some(EditFault::Fixed),
-    },
-    Row {
-        by: "zoe",
-        edit: ["relate", "kim", "mentor", "lee"],
-        fault: Some(EditFault::Already),
-    },
-    Row {
-        by: "zoe",
-        edit: ["relate", "lee", "mentor", "kim"],
-        fault: None,
-    },
-    Row {
-        by: "zoe",
-        edit: ["unrelate", "lee", "mentor", "kim"],
-        fault: Some(EditFault::Absent),
-    },
-    Row {
-        by: "zoe",
-        edit: ["unrelate", "kim", "other", "lee"],
-        fault: Some(EditFault::Fixed),
-    },
-    Row {
-        by: "zoe",
-        edit: ["unrelate", "kim", "mentor", "lee"],
-        fault: None,
-    },
-    Row {
-        by: "zoe",
-        edit: ["permit", "duo", "auditor", "c"],
-        fault: Some(EditFault::Unknown(Missing::Flow)),
-    },
-    Row {
-        by: "zoe",
-        edit: ["permit", "trio", "auditor", "c"],
-        fault: Some(EditFault::Unknown(Missing::Step)),
-    },
-    Row {
-        by: "zoe",
-        edit: ["permit", "trio", "auditor", "a"],
-        fault: UNKNOWN_ROLE,
-    },
-    Row {
-        by: "zoe",
-        edit: ["permit", "trio", "clerk", "a"],
-        fault: Some(EditFault::Already),
-    },
-    Row {
-        by: "zoe",
-        edit: ["forbid", "trio", "boss", "a"],
-        fault: Some(EditFault::Absent),
-    },
-    Row {
-        by: "zoe",
-        edit: ["retire", "trio", "", ""],
-        fault: None,
-    },
-];
-
 #[test]
 fn each_edit_has_its_first_fault(rt: HostRuntime) -> Result<(), Fail> {
     let p = policy_reader::read(rt.alloc(), TRIO.as_bytes())?;
-    for row in &ROWS {
-        assert!(rt; has_fault(&p, row), "{}", row.edit[0]);
-    }
+    assert!(rt; askers_are_checked(&p) && users_are_checked(&p) && roles_are_checked(&p));
+    assert!(rt; pairs_are_checked(&p) && permits_are_checked(&p));
     Ok(())
 }
 
-fn has_fault(p: &Policy, row: &Row) -> bool {
-    match (Name::read(row.by), edit_of(&row.edit)) {
-        (Some(by), Some(e)) => edit_cause(p, &by, &e) == row.fault,
-        _ => false,
+fn askers_are_checked(p: &Policy) -> bool {
+    by(p, "lee", "leave", "pat") == Some(EditFault::NotAdmin)
+        && by(p, "pat", "leave", "kim") == Some(EditFault::NotAdmin)
+}
+
+fn users_are_checked(p: &Policy) -> bool {
+    one(p, "add_user", "pat") == None
+        && one(p, "add_user", "kim") == Some(EditFault::Already)
+        && one(p, "leave", "pat") == UNKNOWN_USER
+        && one(p, "leave", "kim") == None
+        && one(p, "leave", "zoe") == Some(EditFault::LastAdmin)
+        && one(p, "retire", "trio") == None
+}
+
+fn roles_are_checked(p: &Policy) -> bool {
+    two(p, "enrol", "auditor", "pat") == UNKNOWN_USER
+        && two(p, "enrol", "auditor", "kim") == UNKNOWN_ROLE
+        && two(p, "enrol", "clerk", "kim") == Some(EditFault::Already)
+        && two(p, "enrol", "boss", "kim") == None
+        && two(p, "dismiss", "boss", "kim") == Some(EditFault::Absent)
+        && two(p, "dismiss", "chief", "kim") == Some(EditFault::Absent)
+        && two(p, "dismiss", "chief", "zoe") == Some(EditFault::LastAdmin)
+        && two(p, "dismiss", "boss", "max") == None
+}
+
+fn pairs_are_checked(p: &Policy) -> bool {
+    three(p, "relate", "pat", "friend", "kim") == Some(EditFault::Unknown(Missing::Relation))
+        && three(p, "relate", "pat", "same", "kim") == UNKNOWN_USER
+        && three(p, "relate", "kim", "same", "kim") == Some(EditFault::Fixed)
+        && three(p, "relate", "kim", "clear", "lee") == Some(EditFault::Fixed)
+        && three(p, "relate", "kim", "mentor", "lee") == Some(EditFault::Already)
+        && three(p, "relate", "lee", "mentor", "kim") == None
+        && three(p, "unrelate", "lee", "mentor", "kim") == Some(EditFault::Absent)
+        && three(p, "unrelate", "kim", "other", "lee") == Some(EditFault::Fixed)
+        && three(p, "unrelate", "kim", "mentor", "lee") == None
+}
+
+fn permits_are_checked(p: &Policy) -> bool {
+    three(p, "permit", "duo", "auditor", "c") == Some(EditFault::Unknown(Missing::Flow))
+        && three(p, "permit", "trio", "auditor", "c") == Some(EditFault::Unknown(Missing::Step))
+        && three(p, "permit", "trio", "auditor", "a") == UNKNOWN_ROLE
+        && three(p, "permit", "trio", "clerk", "a") == Some(EditFault::Already)
+        && three(p, "forbid", "trio", "boss", "a") == Some(EditFault::Absent)
+}
+
+// The first fault of an edit with one name that the one administrator asks for.
+fn one(p: &Policy, word: &str, name: &str) -> Option<EditFault> {
+    by(p, "zoe", word, name)
+}
+
+// Of one with one name that somebody asks for.
+fn by(p: &Policy, asker: &str, word: &str, name: &str) -> Option<EditFault> {
+    edit_cause(
+        p,
+        &Name::read(asker)?,
+        &edit_of_one(word, Name::read(name)?)?,
+    )
+}
+
+// Of one with two names.
+fn two(p: &Policy, word: &str, first: &str, second: &str) -> Option<EditFault> {
+    asked(
+        p,
+        edit_of_two(word, Name::read(first)?, Name::read(second)?),
+    )
+}
+
+// Of one with three names.
+fn three(p: &Policy, word: &str, first: &str, second: &str, third: &str) -> Option<EditFault> {
+    let (first, second, third) = (Name::read(first)?, Name::read(second)?, Name::read(third)?);
+    asked(p, edit_of_three(word, first, second, third))
+}
+
+fn asked(p: &Policy, e: Option<Edit>) -> Option<EditFault> {
+    edit_cause(p, &Name::read("zoe")?, &e?)
+}
+
+fn edit_of_one(word: &str, name: Name) -> Option<Edit> {
+    match word {
+        "add_user" => Some(Edit::AddUser { user: name }),
+        "leave" => Some(Edit::Leave { user: name }),
+        "retire" => Some(Edit::Retire { flow: name }),
+        _ => None,
     }
 }
 
-fn edit_of(words: &[&'static str; 4]) -> Option<Edit> {
-    let [word, first, second, third] = *words;
-    let first = Name::read(first)?;
+fn edit_of_two(word: &str, role: Name, user: Name) -> Option<Edit> {
     match word {
-        "add_user" => Some(Edit::AddUser { user: first }),
-        "leave" => Some(Edit::Leave { user: first }),
-        "retire" => Some(Edit::Retire { flow: first }),
-        "enrol" => Some(Edit::Enrol {
-            role: first,
-            user: Name::read(second)?,
-        }),
-        "dismiss" => Some(Edit::Dismiss {
-            role: first,
-            user: Name::read(second)?,
-        }),
-        _ => edit_of_three(word, first, Name::read(second)?, Name::read(third)?),
+        "enrol" => Some(Edit::Enrol { role, user }),
+        "dismiss" => Some(Edit::Dismiss { role, user }),
+        _ => None,
     }
 }
 
