@@ -1,11 +1,12 @@
 //! Turns of two lanes in a given order, and commits of tasks whose numbers were changed by hand.
-ghost use Rattle.std.specs.Prelude.{◌≡◌, ◌≤◌, [], IfOk};
+ghost use Rattle.std.specs.Prelude.{◌≡◌, ◌≤◌, [], IfOk, OnOk};
 ghost use Rattle.wf_names.specs.declared.limits.TheConstants.{ROUND_LIMIT};
-ghost use Rattle.wf_desk.specs.Desks.{IsDone};
+ghost use Rattle.wf_desk.specs.Desks.{AreOfLanes, IsDone};
 ghost use Rattle.wf_desk.specs.Schedules.{AreEventsOf};
 
 use crate::decider::PlainDecider;
 use crate::tests::PAY;
+use crate::turns::serve_by_turns;
 use std::alloc::{AllocError, Global};
 use std::test::Fail;
 use wf_board::Verdict;
@@ -174,6 +175,61 @@ fn misses(alloc: Global, desk: &mut Desk) -> Result<bool, AllocError> {
     Ok(commits(alloc, desk, 4)? == Outcome::Recorded(6) && has_kinds(desk, &kinds))
 }
 
+// Nor do entries of an earlier batch: lane 0 was answered last before two that count.
+#[test]
+fn entries_of_an_earlier_batch_lose_no_task(rt: HostRuntime) -> Result<(), Fail> {
+    let mut desk = empty(rt.alloc(), 2)?;
+    assert!(rt; misses_earlier_ones(rt.alloc(), &mut desk)?);
+    Ok(())
+}
+
+fn misses_earlier_ones(alloc: Global, desk: &mut Desk) -> Result<bool, Fail>
+    requires lanes { desk.old.lanes ≡ 2 }
+    requires entries { desk.old.entries ≡ [] }
+    requires done { IsDone desk.old }
+{
+    load_first(alloc, desk)?;
+    serve_by_turns(alloc, desk);
+    load_second(alloc, desk)?;
+    let kinds = [
+        "opened", "shown", "granted", "shown", "finished", "granted", "returned", "stranded",
+    ];
+    Ok(commits(alloc, desk, 5)? == Outcome::Recorded(7) && has_kinds(desk, &kinds))
+}
+
+// By turns lane 0 opens a case, prepares and finishes; lane 1 looks twice, and then cyd takes the
+// approval and gives it back.
+fn load_first(alloc: Global, desk: &mut Desk) -> Result<(), Fail>
+    requires lanes { desk.old.lanes ≡ 2 }
+    requires entries { desk.old.entries ≡ [] }
+    requires done { IsDone desk.old }
+    ensures lanes { OnOk result (AreOfLanes desk.new.lanes desk.new.jobs) }
+{
+    let jobs = [
+        job(0, 0, opens()?),
+        job(0, 1, claims("prepare", "ann")?),
+        job(0, 2, finishes("prepare", "ann")?),
+        job(1, 3, shows()),
+        job(1, 4, shows()),
+        job(1, 5, claims("approve", "cyd")?),
+        job(1, 6, returns("approve", "cyd")?),
+    ];
+    desk.load_batch(alloc, &jobs)?;
+    Ok(())
+}
+
+// Bob claims the approval, in lane 0.
+fn load_second(alloc: Global, desk: &mut Desk) -> Result<(), Fail>
+    requires { IsDone desk.old }
+{
+    if desk.lanes() != 2 || desk.journal().len() != 7 {
+        return Ok(());
+    }
+    let jobs = [job(0, 8, claims("approve", "bob")?)];
+    desk.load_batch(alloc, &jobs)?;
+    Ok(())
+}
+
 // Commits the task of the next job of lane 0, as if it had been taken after so many entries.
 fn commits(alloc: Global, desk: &mut Desk, number: u32) -> Result<Outcome, AllocError> {
     let lanes = desk.lanes();
@@ -295,6 +351,10 @@ fn returns(step: &str, user: &str) -> Result<Request, Fail> {
     })
 }
 
+fn shows() -> Request {
+    Request::Show { case: CaseId(0) }
+}
+
 fn name(text: &str) -> Result<Name, Fail> {
     Ok(Name::read(text).ok_or("not a name")?)
 }
@@ -319,6 +379,7 @@ fn is_kind(entry: &Entry, kind: &str) -> bool {
         Reply::Granted(_) => kind == "granted",
         Reply::Finished { done } => kind == "finished" && !done,
         Reply::Returned => kind == "returned",
+        Reply::Shown(_) => kind == "shown",
         Reply::Denied(Denial::Stranded { .. }) => kind == "stranded",
         Reply::Denied(Denial::Taken(user)) => kind == "taken" && user.0 == 2,
         Reply::Again { rounds: 1, at: 4 } => kind == "again 1 4",
