@@ -1,6 +1,6 @@
 //! The names of a table, as they are kept.
 ghost use Rattle.std.specs.Prelude.{◌≡◌, ◌<◌, ◌↔◌, IsTrue, List, [], ◌∷◌, ◌++◌, length, is_some, IfSome, OnOk, OnErr, false, slice_get, Some};
-ghost use Rattle.wf_names.specs.Table.{place_of};
+ghost use Rattle.wf_names.specs.Table.{place_of, AreNames};
 
 use crate::Name;
 use indexmap::IndexSet;
@@ -15,11 +15,15 @@ pub(crate) struct StoredNames {
 }
 
 impl Model for StoredNames {
-    ghost use Rattle.std.specs.Prelude.{List, ℕ};
+    ghost use Rattle.std.specs.Prelude.{List, ℕ, IsTrue};
+    ghost use Rattle.std.specs.List.{All};
+    ghost use Rattle.wf_names.specs.Names.{is_name};
 
     ghost Value = { List (List ℕ) };
 
     ghost view = { λ n. n.set.keys };
+
+    ghost invariant = { λ n. All (λ name. IsTrue (is_name name)) n.set.keys };
 }
 
 impl StoredNames {
@@ -62,7 +66,8 @@ impl StoredNames {
     }
 
     pub(crate) fn len(&self) -> usize
-        ensures { result ≡ length self.now }
+        ensures count { result ≡ length self.now }
+        ensures names { AreNames self.now }
     {
         self.set.len()
     }

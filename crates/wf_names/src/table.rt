@@ -1,6 +1,6 @@
 //! Tables of distinct names, each found by its number and by its text.
 ghost use Rattle.std.specs.Prelude.{◌≡◌, ◌<◌, ◌≤◌, ◌↔◌, IsTrue, ℕ, List, [], ◌∷◌, ◌++◌, length, is_some, IfOk, IfSome, OnOk, OnErr, IsErrOf, true, false, slice_get, Some};
-ghost use Rattle.wf_names.specs.Table.{Table, place_of};
+ghost use Rattle.wf_names.specs.Table.{Table, place_of, AreNames};
 
 use crate::Name;
 use crate::stored::StoredNames;
@@ -96,6 +96,7 @@ impl NameTable {
     pub fn len(&self) -> u16
         ensures count { result ≡ length self.now.names }
         ensures within { length self.now.names ≤ self.now.limit }
+        ensures names { AreNames self.now.names }
     {
         self.names.get().len() as u16
     }
