@@ -288,7 +288,7 @@ pub few_edits : (d : DeskShape) (places : List ℕ) (lane : ℕ) (j : Job) → I
 few_edits d places lane j is next =
     let short = batch_short d lane j is.sound.begun is.sound.front next in
     let small = is.small in
-    let within = edits_within (opening_state d.opening) d.entries in
+    let within = edits_within d.opening d.entries in
     let now = ap (λ (s : State). s.edits) is.sound.state in
     omega (arith, short, small, within, now)
 

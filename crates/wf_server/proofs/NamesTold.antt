@@ -4,6 +4,7 @@ use Rattle.std.specs.Option.{option_map}
 use Rattle.first_fault.specs.Reading.{◌>>=◌, check, or_fault}
 use Rattle.wf_names.specs.States.{user_of}
 use Rattle.policy_book.specs.Shapes.{PolicyShape}
+use Rattle.policy_book.specs.Facts.{IsSoundPolicy}
 use Rattle.case_record.specs.Cases.{CaseShape, is_open, state_at}
 use Rattle.case_record.proofs.Laws.{assigned_of-at}
 use Rattle.wf_talk.specs.declared.edit.Edit.{Edit}
@@ -101,9 +102,9 @@ fault_alike p q fault.Full = refl
 fault_alike p q fault.LastAdmin = refl
 fault_alike p q fault.NoMemory = refl
 
-changed_fares : (p q : PolicyShape) (by : List ℕ) (e : Edit) (r : Result Amendment EditFault) → amendment_of p by e ≡ r → Fares (IsDeedOf p) (IsToldAlike p q) (changed r)
-changed_fares p q by e (Ok a) is = (amendment_found p by e a is).0
-changed_fares p q by e (Err why) is = fault_alike p q why
+changed_fares : (p q : PolicyShape) (by : List ℕ) (e : Edit) (r : Result Amendment EditFault) → IsSoundPolicy p → amendment_of p by e ≡ r → Fares (IsDeedOf p) (IsToldAlike p q) (changed r)
+changed_fares p q by e (Ok a) sound is = (amendment_found p by e a sound is).0
+changed_fares p q by e (Err why) sound is = fault_alike p q why
 
 -- ---- what a line asks
 
@@ -142,7 +143,7 @@ resolve_fares s q (ask.Request (request.Withdraw by n)) sound =
     let Q = IsToldAlike s.book.policy q in
     then_fares (λ _. Unit {0}) P Q (check (is_admin s.book.policy by) denial.NotAdmin) _ (check_fares Q (is_admin s.book.policy by) denial.NotAdmin refl)
     (λ _ _. then_fares (IsOfPolicy s.book.policy) P Q (open_case_at s.book n) _ (case_fares s q n sound) (λ c of. tt))
-resolve_fares s q (ask.Request (request.Change by e)) sound = changed_fares s.book.policy q by e (amendment_of s.book.policy by e) refl
+resolve_fares s q (ask.Request (request.Change by e)) sound = changed_fares s.book.policy q by e (amendment_of s.book.policy by e) sound.policy refl
 resolve_fares s q (ask.Request (request.Show n)) sound =
     let Q = IsToldAlike s.book.policy q in
     then_fares (λ c. case_at s.book.cases n ≡ Some c) (IsDeedOf s.book.policy) Q (or_fault (case_at s.book.cases n) denial.NoCase) _ (or_fares Q (case_at s.book.cases n) denial.NoCase refl) (λ c is. sound.cases n c is)
