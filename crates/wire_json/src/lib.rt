@@ -1,6 +1,8 @@
 //! Requests, entries and what a search finds as lines of JSON.
 #![tactic(auto)]
 
+mod change;
+mod denial;
 mod entry;
 mod finding;
 mod plain;

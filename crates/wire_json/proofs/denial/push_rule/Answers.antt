@@ -1,6 +1,6 @@
 use Rattle.json.specs.Print.{escape_byte}
 use Rattle.wire_json.proofs.Texts.{added_2}
-use Rattle.wire_json.proofs.reply.push_rule.Goals as goal
+use Rattle.wire_json.proofs.denial.push_rule.Goals as goal
 
 pub returns : goal.returns
 unfolding escape_byte

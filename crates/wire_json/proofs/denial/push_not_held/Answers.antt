@@ -1,6 +1,6 @@
 use Rattle.json.specs.Print.{escape_byte}
 use Rattle.wire_json.proofs.Texts.{added_3}
-use Rattle.wire_json.proofs.reply.push_not_held.Goals as goal
+use Rattle.wire_json.proofs.denial.push_not_held.Goals as goal
 
 pub returns : goal.returns
 unfolding escape_byte
