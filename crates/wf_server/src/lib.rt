@@ -4,16 +4,23 @@
 mod batch;
 #[cfg(test)]
 mod change_tests;
+#[cfg(test)]
+mod copy_tests;
 mod decider;
 #[cfg(test)]
 mod edit_tests;
+mod names;
 mod run;
+#[cfg(test)]
+mod schedule_parts;
 #[cfg(test)]
 mod schedule_tests;
 mod serve;
 mod session;
 #[cfg(test)]
 mod solve_tests;
+#[cfg(test)]
+mod stale_tests;
 #[cfg(test)]
 mod tests;
 mod turns;
