@@ -110,6 +110,8 @@ impl Board {
         ensures spare { self.new.cases.spare ≡ self.old.cases.spare }
     {
         let _ = ask;
+        let before: &Policy = &self.policy;
+        let _sound = before.admin();
         let _planned = self.cases.live();
         let (policy, plans) = edition.into_parts();
         self.policy = policy;
