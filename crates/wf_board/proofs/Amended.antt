@@ -37,7 +37,7 @@ use Rattle.wf_board.proofs.Rows.{case_numbered}
 
 -- ---- cases of a state
 
-same_case : (c d : CaseShape) → Some c ≡ Some d → c ≡ d
+pub same_case : (c d : CaseShape) → Some c ≡ Some d → c ≡ d
 same_case c d h = cc
 
 -- each open case can be completed where all of them can
@@ -90,7 +90,7 @@ closed_planned p c None kept closed = closed
 closed_planned p c (Some plan) kept closed = let apart : true ≡ false = kept ∙ closed in cc
 
 -- the plans of the rows that are open, if this one is
-ArePlansAfter : PolicyShape → Bool → Row → List Row → List (List ℕ) → Type 0
+abbrev ArePlansAfter : PolicyShape → Bool → Row → List Row → List (List ℕ) → Type 0
 ArePlansAfter p b r rs plans = ArePlansOf p (if b then numbered r ∷ open_cases (map numbered rs) else open_cases (map numbered rs)) plans
 
 -- each row is planned again
@@ -188,20 +188,18 @@ found_later n f r rs above is =
 stranded_from : (p : PolicyShape) (low : ℕ) (rows : List Row) (n f : ℕ) (tree : Tree) → AscendFrom low rows → IsFirstStranded p (open_cases (map numbered rows)) n f tree →
     (low ≤ n) × IsFoundCase n f rows
 stranded_from p low [] n f tree order is = absurd is
-stranded_from p low (r ∷ rs) n f tree order is = at_first (is_open r.case) is
+stranded_from p low (r ∷ rs) n f tree order is = at_first (is_open r.case) is (λ rest. stranded_from p (r.number + 1) rs n f tree order.1 rest)
   where
-    later : IsFirstStranded p (open_cases (map numbered rs)) n f tree → (low ≤ n) × IsFoundCase n f (r ∷ rs)
-    later rest =
-        let found = stranded_from p (r.number + 1) rs n f tree order.1 rest in
-        (omega (arith, order.0, found.0), found_later n f r rs (omega (arith, found.0)) found.1)
+    later : (r.number + 1 ≤ n) × IsFoundCase n f rs → (low ≤ n) × IsFoundCase n f (r ∷ rs)
+    later found = (omega (arith, order.0, found.0), found_later n f r rs (omega (arith, found.0)) found.1)
 
     at_first : (b : Bool) → IsFirstStranded p (if b then numbered r ∷ open_cases (map numbered rs) else open_cases (map numbered rs)) n f tree →
-        (low ≤ n) × IsFoundCase n f (r ∷ rs)
-    at_first true (inl here) =
+        (IsFirstStranded p (open_cases (map numbered rs)) n f tree → (r.number + 1 ≤ n) × IsFoundCase n f rs) → (low ≤ n) × IsFoundCase n f (r ∷ rs)
+    at_first true (inl here) rest =
         let same : nat_eq r.number n ≡ true = eq_is r.number n here.0 in
         (omega (arith, order.0, here.0), record { case = r.case; there = rw same refl; flow = here.1.0 })
-    at_first true (inr rest) = later rest.1
-    at_first false rest = later rest
+    at_first true (inr there) rest = later (rest there.1)
+    at_first false there rest = later (rest there)
 
 pub stranded_case : (p : PolicyShape) (rows : List Row) (n f : ℕ) (tree : Tree) → AscendFrom 0 rows → IsFirstStranded p (open_cases (map numbered rows)) n f tree → IsFoundCase n f rows
 stranded_case p rows n f tree order is = (stranded_from p 0 rows n f tree order is).1

@@ -17,6 +17,7 @@ use Rattle.wf_talk.specs.declared.reply.Reply.TheVariants as reply
 use Rattle.wf_talk.specs.declared.reply.Denial.{Denial}
 use Rattle.wf_talk.specs.declared.reply.Denial.TheVariants.{Full, Strands}
 use Rattle.admin_edits.specs.Edits.{amended}
+use Rattle.admin_edits.specs.declared.amendment.Amendment.{Amendment}
 use Rattle.grant_table.specs.Kept.{AscendFrom, IsSoundTable}
 use Rattle.wf_board.specs.Edited.{ArePlansOf, IsFirstStranded}
 use Rattle.wf_board.proofs.Amended.{IsChange, change_decided, edited_keeps, edited_state, edition_change, plans_complete, stranded_case, stranding_change, with_plans}
@@ -191,13 +192,19 @@ edition_taken p q before after edits live what edition kept sound rows is policy
       ((refl, plans_complete (amended p a) (open_cases b.cases) edition.plans valid), edited_state p before a edition.plans edits),
     ))
   where
+    b : Book
     b = book_of p before
+
+    s : State
     s = state_on (board_of p before edits)
+
+    given : Reply
     given = reply.Edited (edits + 1)
 
     change : IsChange b (decision_aside b what) edition
     change = edition_change b (decision_aside b what) edition is
 
+    a : Amendment
     a = change.amendment
 
     its : IsAllowed p a
@@ -226,7 +233,7 @@ short_alone p t (Err d) takes kept = (same_taken p t (Err d) reply.NoMemory kept
 
 -- ---- answers
 
-reply_of : (a b : Reply) → Done a ≡ Done b → a ≡ b
+pub reply_of : (a b : Reply) → Done a ≡ Done b → a ≡ b
 reply_of a b h = cc
 
 -- a step that was taken by a verdict

@@ -217,4 +217,4 @@ edits_from s (e ∷ es) =
 
 -- there are no more edits than entries
 pub edits_within : (p : PolicyShape) (entries : List Entry) → (state_after (opening_state p) entries).edits ≤ length entries
-edits_within p entries = edits_from (opening_state p) entries
+edits_within p entries = let from = edits_from (opening_state p) entries in omega (arith, from)

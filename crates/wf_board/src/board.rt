@@ -107,6 +107,7 @@ impl Board {
         ensures answered { HasAnswered self.old self.new ask.now (Verdict.Edited edition)
             (Answered.Done result) }
         ensures made { IsMadeOf (Verdict.Edited edition) result }
+        ensures memory { result ≢ Reply.NoMemory }
         ensures spare { self.new.cases.spare ≡ self.old.cases.spare }
     {
         let _ = ask;
