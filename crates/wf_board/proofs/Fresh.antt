@@ -150,6 +150,7 @@ deed_case s what (deed.Finish n c t u) (reply.Finished done) m named is other = 
 deed_case s what (deed.GiveBack n c t u) reply.Returned m named is other = sym (other_changed m n _ s.book.cases (not_this m n (case_of_ask what) named other))
 deed_case s what (deed.Release n c t) reply.Released m named is other = sym (other_changed m n _ s.book.cases (not_this m n (case_of_ask what) named other))
 deed_case s what (deed.Withdraw n) reply.Withdrawn m named is other = sym (other_changed m n _ s.book.cases (not_this m n (case_of_ask what) named other))
+deed_case s what (deed.Change a) (reply.Edited number) m named is other = refl
 deed_case s what given answer m named is other = refl
 
 decision_case : (s : State) (what : Ask) (decision : Result Deed Denial) (answer : Reply) (m : ℕ) → HoldsOf (IsNamed what) decision → Answers s decision answer →
@@ -229,13 +230,13 @@ pub right_stays : (what : Ask) (s t : State) (v : Verdict) → SameFor what s t 
 right_stays (ask.Request (request.OpenCase flow)) s t v same is =
     let p = t.book.policy in
     right_same p s.book.cases t.book.cases s.book.ever t.book.ever (ask.Request (request.OpenCase flow)) v (same_opening p s.book.cases t.book.cases s.book.ever t.book.ever flow)
-    (inl (opening_no_change _ flow))
+    (inl (opening_no_change (with_cases p s.book.cases s.book.ever) flow))
     (subst (λ q. IsRight (with_cases q s.book.cases s.book.ever) (ask.Request (request.OpenCase flow)) v) same is)
 right_stays (ask.Request (request.Claim n step user)) s t v same is =
     let p = t.book.policy in
     right_same p s.book.cases t.book.cases s.book.ever t.book.ever (ask.Request (request.Claim n step user)) v
     (same_claim p s.book.cases t.book.cases s.book.ever t.book.ever n step user same.1)
-    (inl (claim_no_change _ n step user))
+    (inl (claim_no_change (with_cases p s.book.cases s.book.ever) n step user))
     (subst (λ q. IsRight (with_cases q s.book.cases s.book.ever) (ask.Request (request.Claim n step user)) v) same.0 is)
 right_stays (ask.Request (request.Finish n step user)) s t v same is = plain_right s.book t.book (ask.Request (request.Finish n step user)) v (finish_plain n step user) is
 right_stays (ask.Request (request.GiveBack n step user)) s t v same is = plain_right s.book t.book (ask.Request (request.GiveBack n step user)) v (return_plain n step user) is

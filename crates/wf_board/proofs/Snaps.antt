@@ -231,12 +231,12 @@ then_no_change (Ok x) f each = each x
 then_no_change (Err d) f each = tt
 
 unless_no_change : (given : Deed) (o : Option Denial) → IsNoChange (Ok given) → IsNoChange (unless_denied given o)
-unless_no_change given None no = no
-unless_no_change given (Some d) no = tt
+unless_no_change given None kept = kept
+unless_no_change given (Some d) kept = tt
 
 aside_no_change : (b : Book) (r : Result Deed Denial) → IsNoChange r → IsNoChange (r >>= (λ given. unless_denied given (cause_aside b given)))
-aside_no_change b (Ok given) no = unless_no_change given (cause_aside b given) no
-aside_no_change b (Err d) no = tt
+aside_no_change b (Ok given) kept = unless_no_change given (cause_aside b given) kept
+aside_no_change b (Err d) kept = tt
 
 pub opening_no_change : (b : Book) (flow : List ℕ) → IsNoChange (decision_aside b (ask.Request (request.OpenCase flow)))
 opening_no_change b flow = aside_no_change b (resolve_request b (request.OpenCase flow)) (then_no_change (or_fault (flow_named b flow) NoFlow) _ (λ f. tt))
@@ -265,13 +265,13 @@ MayChange xs ys r = IsNoChange r ⊎ (open_cases xs ≡ open_cases ys)
 
 edition_same : (p : PolicyShape) (xs ys : List Numbered) (m k : ℕ) (r : Result Deed Denial) (edition : EditionShape) → MayChange xs ys r →
     IsEditionFor (with_cases p xs m) r edition → IsEditionFor (with_cases p ys k) r edition
-edition_same p xs ys m k (Ok (deed.Change a)) edition (inl no) is = absurd no
+edition_same p xs ys m k (Ok (deed.Change a)) edition (inl kept) is = absurd kept
 edition_same p xs ys m k (Ok (deed.Change a)) edition (inr same) is = (is.0, subst (λ es. ArePlansOf edition.policy es edition.plans) same is.1)
 edition_same p xs ys m k r edition may is = absurd is
 
 stranding_same : (p : PolicyShape) (xs ys : List Numbered) (m k : ℕ) (r : Result Deed Denial) (n : ℕ) (tree : Tree) → MayChange xs ys r →
     IsStrandingFor (with_cases p xs m) r n tree → IsStrandingFor (with_cases p ys k) r n tree
-stranding_same p xs ys m k (Ok (deed.Change a)) n tree (inl no) is = absurd no
+stranding_same p xs ys m k (Ok (deed.Change a)) n tree (inl kept) is = absurd kept
 stranding_same p xs ys m k (Ok (deed.Change a)) n tree (inr same) is = (is.0, subst (λ es. IsFirstStranded (amended p a) es n is.0 tree) same is.1)
 stranding_same p xs ys m k r n tree may is = absurd is
 
@@ -290,9 +290,9 @@ right_same p xs ys m k what (verdict.Strands n tree) same may is =
 
 pub snaps_suffice : SnapsSuffice
 snaps_suffice b (ask.Request (request.OpenCase flow)) spare v is =
-    right_same b.policy [] (map numbered b.cases.rows) b.cases.ever b.cases.ever (ask.Request (request.OpenCase flow)) v (opening_alone b flow spare) (inl (opening_no_change _ flow)) is
+    right_same b.policy [] (map numbered b.cases.rows) b.cases.ever b.cases.ever (ask.Request (request.OpenCase flow)) v (opening_alone b flow spare) (inl (opening_no_change (with_cases b.policy [] b.cases.ever) flow)) is
 snaps_suffice b (ask.Request (request.Claim n step user)) spare v is =
-    right_same b.policy (map numbered (only n b.cases.rows)) (map numbered b.cases.rows) b.cases.ever b.cases.ever (ask.Request (request.Claim n step user)) v (claim_alone b n step user spare) (inl (claim_no_change _ n step user)) is
+    right_same b.policy (map numbered (only n b.cases.rows)) (map numbered b.cases.rows) b.cases.ever b.cases.ever (ask.Request (request.Claim n step user)) v (claim_alone b n step user spare) (inl (claim_no_change (with_cases b.policy (map numbered (only n b.cases.rows)) b.cases.ever) n step user)) is
 snaps_suffice b (ask.Request (request.Finish n step user)) spare v is = plain_right (book_on (snap_of b (ask.Request (request.Finish n step user)) spare)) (state_on b).book (ask.Request (request.Finish n step user)) v (finish_plain n step user) is
 snaps_suffice b (ask.Request (request.GiveBack n step user)) spare v is = plain_right (book_on (snap_of b (ask.Request (request.GiveBack n step user)) spare)) (state_on b).book (ask.Request (request.GiveBack n step user)) v (return_plain n step user) is
 snaps_suffice b (ask.Request (request.Release by n step)) spare v is = plain_right (book_on (snap_of b (ask.Request (request.Release by n step)) spare)) (state_on b).book (ask.Request (request.Release by n step)) v (release_plain by n step) is

@@ -15,14 +15,12 @@ returns-in-Edited-clause-memory c = λ short. absurd (c.edit.ensures.memory (rep
 
 pub returns-in_default : goal.returns-in_default
 returns-in_default c =
-    let p = arc_value c.self.inside.policy in
     let edits = c.self.inside.edits in
     let what = c.args.ask.now in
     let given = c.answer.result in
-    let under = subst (λ q. HasAnsweredBy q c.self.inside.cases c.answer.new.cases what c.in_default.other given) c.deref-policy.ensures c.answer.ensures.answered in
-    let by = subst (λ v. HasAnsweredBy p c.self.inside.cases c.answer.new.cases what v given) (sym c.in_default.other-is) under in
+    let by = subst (λ q. HasAnsweredBy q c.self.inside.cases c.answer.new.cases what c.args.verdict given) c.deref-policy.ensures c.answer.ensures.answered in
     record {
-      answered = subst (λ b. HasAnswered b (board_of p c.answer.new.cases edits) what c.args.verdict given) c.self.view_is (by.answered edits);
+      answered = subst (λ b. HasAnswered b (board_of (arc_value c.self.inside.policy) c.answer.new.cases edits) what c.args.verdict given) c.self.view_is (by.answered edits);
       needs = subst (λ b. needs_verdict (decision_of (state_on b).book what) ≡ true → c.args.verdict ≡ verdicts.Nothing → given ≡ Needs) c.self.view_is by.needs;
       made = subst (λ b. needs_verdict (decision_of (state_on b).book what) ≡ true → HasUsed c.args.verdict given) c.self.view_is by.made;
       memory = subst (λ b. given ≡ Done replies.NoMemory → MayLackMemory b what c.args.verdict) c.self.view_is (by.memory edits);
