@@ -1,9 +1,7 @@
 -- The entries of a legal history are written with the names of the policy after them all.
-use Rattle.std.proofs.Common.{◌≡◌, ℕ, ◌<◌, ◌⊎◌, inl, inr, List, [], ◌∷◌, ◌++◌, length, refl, sym, ap, subst, ◌∙◌, append_assoc, codes}
+use Rattle.std.proofs.Common.{◌≡◌, ℕ, ◌⊎◌, inl, inr, List, [], ◌∷◌, ◌++◌, length, refl, sym, ap, subst, ◌∙◌, append_assoc, codes}
 use Rattle.serde_json.specs.Data.{number, object, member, no_members, unsigned}
 use Rattle.serde_json.specs.Written.{compact_text}
-use Rattle.pair_set.specs.Pairs.{AllPairs}
-use Rattle.rbac_state.specs.Rosters.{IsSoundRoster}
 use Rattle.policy_book.specs.Shapes.{PolicyShape}
 use Rattle.wf_talk.specs.declared.entry.Entry.{Entry}
 use Rattle.wf_talk.specs.declared.request.Ask.{Ask}
@@ -17,10 +15,10 @@ use Rattle.wf_board.specs.Histories.{EachAfter, IsRightAfter, state_after}
 use Rattle.wf_board.specs.HistoryLaws.{after_all, after_more, again_stays, each_later}
 use Rattle.wf_board.specs.Kept.{IsSoundState, KeepsCompletable}
 use Rattle.wf_board.specs.Laws.{StepsKeepCompletable}
-use Rattle.wire_json.specs.Replies.{entry_data, entry_text, reply_data}
+use Rattle.wire_json.specs.Replies.{entry_text, reply_data}
 use Rattle.wf_server.specs.Transcripts.{transcript_text}
 use Rattle.wf_server.specs.Batches.{entries_text}
-use Rattle.wf_server.specs.Names.{IsKeptState, TextsStay}
+use Rattle.wf_server.specs.Names.{TextsStay}
 use Rattle.wf_server.proofs.NamesKept.{keeps_same, keeps_then}
 use Rattle.wf_server.proofs.NamesTold.{IsToldAlike, decision_fares}
 use Rattle.wf_server.proofs.NamesStep.{AreMembersBelow, decided_members, decided_names, decided_text}
