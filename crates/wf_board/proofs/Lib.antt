@@ -1,3 +1,4 @@
+pub mod Amended
 pub mod Snaps
 pub mod Told
 pub mod Counted
@@ -8,6 +9,7 @@ pub mod Valid
 pub mod Keeping
 pub mod Exact
 pub mod Within
+pub mod Known
 pub mod Grants
 pub mod Rows
 pub mod Planned

@@ -32,6 +32,11 @@ pub record IsKept (p : PolicyShape) (t : CasesShape) : Type 0 where
 abbrev pub board_of : PolicyShape → CasesShape → ℕ → BoardShape
 board_of p t edits = record { policy = p; cases = t; edits = edits }
 
+-- a verdict by which the policy stays
+abbrev pub keeps_policy : Verdict → Bool
+keeps_policy (verdict.Edited edition) = false
+keeps_policy v = true
+
 -- a deed, or the cause that no more cases can be opened
 abbrev pub full_or : Book → Deed → Result Deed Denial
 full_or b given = unless_denied given (cause_full b given)

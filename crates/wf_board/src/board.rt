@@ -1,17 +1,17 @@
 //! The board: a policy and its cases.
-ghost use Rattle.std.specs.Prelude.{◌≡◌, ◌≢◌, ◌≤◌, ◌+◌, ◌↔◌, true, IfOk, OnErr, OnOk};
+ghost use Rattle.std.specs.Prelude.{◌≡◌, ◌≢◌, ◌<◌, ◌≤◌, ◌+◌, ◌↔◌, true, IfOk, OnErr, OnOk};
 ghost use Rattle.std.specs.Arc.{arc_value};
 ghost use Rattle.wf_board.specs.Boards.{state_on};
-ghost use Rattle.wf_board.specs.Decisions.{decision_of, needs_verdict};
+ghost use Rattle.wf_board.specs.Decisions.{decision_aside, decision_of, needs_verdict};
 ghost use Rattle.wf_board.specs.Kept.{AreNumbered, ArePlanned, IsSoundState, KeepsCompletable};
 ghost use Rattle.wf_board.specs.States.{opening_state};
 ghost use Rattle.wf_board.specs.Steps.{state_after_step};
-ghost use Rattle.wf_board.specs.Verdicts.{HasAnswered, HasUsed, IsCertified, IsDecided, IsRight, MayLackMemory, snap_of, snap_rows};
+ghost use Rattle.wf_board.specs.Verdicts.{HasAnswered, HasUsed, IsCertified, IsDecided, IsEditionFor, IsMadeOf, IsRight, MayLackMemory, snap_of, snap_rows};
 
 use crate::certified::accepts;
 use crate::decision::needs_verdict;
 use crate::taking::answer;
-use crate::{Answered, Decider, Snap, Verdict};
+use crate::{Answered, Decider, Edition, Snap, Verdict};
 use grant_table::Cases;
 use policy_book::Policy;
 use std::alloc::{AllocError, Global};
@@ -90,11 +90,38 @@ impl Board {
             → MayLackMemory self.old ask.now verdict }
         ensures room { self.old.cases.spare ≤ self.new.cases.spare + 1 }
     {
-        let policy: &Policy = &self.policy;
-        answer(alloc, policy, &mut self.cases, ask, verdict)
+        match verdict {
+            Verdict::Edited(edition) => Answered::Done(self.edit(ask, edition)),
+            other => {
+                let policy: &Policy = &self.policy;
+                answer(alloc, policy, &mut self.cases, ask, other)
+            }
+        }
     }
 
-    /// Whether nothing but whether a case can be completed is left to decide, so that the answer
+    /// Takes the policy after an edit, and with it the plans that the open cases have under it.
+    fn edit(&mut self, ask: &Ask, edition: Edition) -> Reply
+        requires right { IsEditionFor (state_on self.old).book
+            (decision_aside (state_on self.old).book ask.now) edition }
+        requires few { self.old.edits < 4294967295 }
+        ensures answered { HasAnswered self.old self.new ask.now (Verdict.Edited edition)
+            (Answered.Done result) }
+        ensures made { IsMadeOf (Verdict.Edited edition) result }
+        ensures memory { result ≢ Reply.NoMemory }
+        ensures spare { self.new.cases.spare ≡ self.old.cases.spare }
+    {
+        let _ = ask;
+        let before: &Policy = &self.policy;
+        let _sound = before.admin();
+        let _planned = self.cases.live();
+        let (policy, plans) = edition.into_parts();
+        self.policy = policy;
+        self.cases.replace_plans(plans.as_slice());
+        self.edits += 1;
+        Reply::Edited { number: self.edits }
+    }
+
+    /// Whether nothing but whether cases can be completed is left to decide, so that the answer
     /// needs a verdict. Takes no memory.
     pub fn needs(&self, ask: &Ask) -> bool
         ensures { result ≡ needs_verdict (decision_of (state_on self.now).book ask.now) }
@@ -199,12 +226,13 @@ impl Board {
     }
 }
 
-/// The one case of a claim, and else none.
+/// The one case of a claim, the open cases for an edit, and else none.
 fn cases_for(alloc: Global, cases: &Cases, ask: &Ask) -> Result<Cases, AllocError>
     ensures { IfOk result (λ t. t ≡ record cases.now { rows = snap_rows cases.now.rows ask.now; spare = t.spare }) }
 {
     match *ask {
         Ask::Request(Request::Claim { case, .. }) => cases.copy_one(alloc, case),
+        Ask::Request(Request::Change { .. }) => cases.copy_open(alloc),
         _ => Ok(cases.copy_none(alloc)),
     }
 }
