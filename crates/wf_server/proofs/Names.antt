@@ -1,26 +1,26 @@
 -- The entries of a legal history are written with the names of the policy after them all.
-use Rattle.std.proofs.Common.{◌≡◌, ℕ, ◌<◌, ◌⊎◌, inl, inr, List, [], ◌∷◌, ◌++◌, length, refl, sym, ap, subst, ◌∙◌, append_assoc, codes}
+use Rattle.std.proofs.Common.{◌≡◌, ℕ, ◌⊎◌, inl, inr, List, [], ◌∷◌, ◌++◌, length, refl, sym, ap, subst, ◌∙◌, append_assoc, codes}
 use Rattle.serde_json.specs.Data.{number, object, member, no_members, unsigned}
 use Rattle.serde_json.specs.Written.{compact_text}
-use Rattle.pair_set.specs.Pairs.{AllPairs}
-use Rattle.rbac_state.specs.Rosters.{IsSoundRoster}
 use Rattle.policy_book.specs.Shapes.{PolicyShape}
 use Rattle.wf_talk.specs.declared.entry.Entry.{Entry}
 use Rattle.wf_talk.specs.declared.request.Ask.{Ask}
 use Rattle.wf_talk.specs.declared.reply.Reply.{Reply}
 use Rattle.wf_talk.specs.declared.reply.Reply.TheVariants as reply
 use Rattle.admin_edits.specs.Keeping.{ChangesKeepNames, KeepsNames}
-use Rattle.wf_board.specs.States.{State}
+use Rattle.wf_board.specs.Boards.{state_on}
+use Rattle.wf_board.specs.States.{State, opening_state}
 use Rattle.wf_board.specs.Decisions.{decision_of}
 use Rattle.wf_board.specs.Steps.{IsStep, state_after_step}
 use Rattle.wf_board.specs.Histories.{EachAfter, IsRightAfter, state_after}
 use Rattle.wf_board.specs.HistoryLaws.{after_all, after_more, again_stays, each_later}
 use Rattle.wf_board.specs.Kept.{IsSoundState, KeepsCompletable}
 use Rattle.wf_board.specs.Laws.{StepsKeepCompletable}
-use Rattle.wire_json.specs.Replies.{entry_data, entry_text, reply_data}
+use Rattle.wire_json.specs.Replies.{entry_text, reply_data}
+use Rattle.wf_desk.specs.Desks.{DeskShape, IsSoundDesk}
 use Rattle.wf_server.specs.Transcripts.{transcript_text}
 use Rattle.wf_server.specs.Batches.{entries_text}
-use Rattle.wf_server.specs.Names.{IsKeptState, TextsStay}
+use Rattle.wf_server.specs.Names.{IsKeptState, KeepsTexts, TextsStay}
 use Rattle.wf_server.proofs.NamesKept.{keeps_same, keeps_then}
 use Rattle.wf_server.proofs.NamesTold.{IsToldAlike, decision_fares}
 use Rattle.wf_server.proofs.NamesStep.{AreMembersBelow, decided_members, decided_names, decided_text}
@@ -111,6 +111,11 @@ texts_stay steps names start rounds earlier more kept legal =
     } in
     let all = all_steps start rounds earlier more (each_later (IsRightAfter start rounds) [] earlier more legal) in
     (texts s more steps names is all).1 ∙ ap (λ (t : State). entries_text t.book.policy more) (sym (after_all start earlier more))
+
+-- so are those behind the entries of a desk
+pub desk_texts : (d : DeskShape) → StepsKeepCompletable → ChangesKeepNames → IsSoundDesk d → IsKeptState (state_on d.board) → KeepsTexts d
+desk_texts d steps names sound kept more legal =
+    texts_stay steps names (opening_state d.opening) d.rounds d.entries more (subst IsKeptState sound.state kept) legal
 
 -- ---- parts
 

@@ -1,9 +1,7 @@
 -- The parts of a reply are written alike with the names of two policies where the later one keeps those of the other.
-use Rattle.std.proofs.Common.{◌≡◌, ℕ, zero, suc, ◌+◌, ◌<◌, ◌≤◌, ◌⊎◌, inl, inr, Bool, true, false, ◌&&◌, ◌||◌, ◌==◌, not, List, [], ◌∷◌, ◌++◌, length, map, get_or, slice_index_or, Option, None, Some, refl, sym, ap, subst, ◌∙◌, arith, append-nil, append_assoc, codes, if◌then◌else◌}
-use Rattle.std.specs.Prelude.{IsTrue}
-use Rattle.std.proofs.lemmas.Grind.{common_steps}
-use Rattle.std.proofs.lemmas.List.{get_or_append_left, length-append}
-use Rattle.serde_json.specs.Data.{Data, string, array, object, no_members, member}
+use Rattle.std.proofs.Common.{◌≡◌, ℕ, zero, suc, ◌+◌, ◌<◌, inl, inr, Bool, true, false, ◌&&◌, ◌==◌, List, [], ◌∷◌, ◌++◌, length, map, slice_index_or, Option, Some, refl, sym, ap, subst, ◌∙◌, arith, append-nil, append_assoc, codes, if◌then◌else◌}
+use Rattle.std.proofs.lemmas.List.{get_or_append_left}
+use Rattle.serde_json.specs.Data.{string, array, object, no_members, member}
 use Rattle.serde_json.specs.View.{items_of}
 use Rattle.basics.proofs.Booleans.{and_both, or_cases, eq_back}
 use Rattle.wf_names.specs.States.{user_of}

@@ -1,5 +1,5 @@
 -- What a step answers is written alike with the names of a later policy, and a step keeps all names.
-use Rattle.std.proofs.Common.{◌≡◌, ℕ, zero, suc, ◌+◌, ◌<◌, ◌≤◌, inl, inr, Bool, true, false, ◌&&◌, ◌||◌, List, [], ◌∷◌, ◌++◌, length, map, Option, None, Some, Result, Ok, Err, refl, sym, ap, subst, ◌∙◌, arith, codes}
+use Rattle.std.proofs.Common.{◌≡◌, ℕ, zero, suc, ◌<◌, ◌≤◌, inl, inr, Bool, true, List, [], ◌∷◌, length, map, Result, Ok, Err, refl, sym, ap, subst, ◌∙◌, arith, codes}
 use Rattle.std.specs.FinSet as set
 use Rattle.std.proofs.lemmas.List.{length-append}
 use Rattle.serde_json.specs.Data.{array, number, object, member, no_members, unsigned}
@@ -10,7 +10,7 @@ use Rattle.pair_set.specs.PairLaws.{all_insert, all_remove}
 use Rattle.refutation_tree.specs.declared.tree.Tree.{Tree}
 use Rattle.refutation_tree.specs.Views.{shape_of}
 use Rattle.policy_book.specs.Shapes.{PolicyShape}
-use Rattle.policy_book.specs.Policies.{any_below, is_authorised, problem_of}
+use Rattle.policy_book.specs.Policies.{any_below, problem_of}
 use Rattle.case_record.specs.Cases.{CaseShape, assigned_of, finished_of}
 use Rattle.wf_talk.specs.declared.reply.Face.{Face}
 use Rattle.wf_talk.specs.declared.reply.Denial.{Denial}
@@ -28,9 +28,9 @@ use Rattle.wf_board.specs.States.{Numbered, State, open_cases}
 use Rattle.wf_board.specs.Edited.{IsFirstStranded}
 use Rattle.wf_board.specs.Steps.{Answers, IsReplyTo, face_of, state_after_decision, state_after_deed}
 use Rattle.wf_board.specs.Kept.{IsOfPolicy}
-use Rattle.wire_json.specs.Entries.{named, phase_data, plan_data, seen_data, single}
+use Rattle.wire_json.specs.Entries.{named, phase_data, seen_data, single}
 use Rattle.wire_json.specs.Trees.{tree_data}
-use Rattle.wire_json.specs.Replies.{denial_data, face_data, reply_data, strands_data}
+use Rattle.wire_json.specs.Replies.{face_data, reply_data, strands_data}
 use Rattle.wf_server.proofs.NamesKept.{IsKnownBelow, keeps_same, plan_same, states_same, tree_same}
 use Rattle.wf_server.proofs.NamesTold.{Fares, IsDeedOf, IsToldAlike, user_known}
 

@@ -1,5 +1,5 @@
 -- What a decision denies is written alike with the names of a later policy.
-use Rattle.std.proofs.Common.{◌≡◌, ℕ, zero, suc, ◌<◌, Bool, true, false, List, [], ◌∷◌, length, Option, None, Some, Result, Ok, Err, refl, sym, ap, subst, ◌∙◌, codes}
+use Rattle.std.proofs.Common.{◌≡◌, ℕ, ◌<◌, Bool, true, false, List, [], ◌∷◌, length, Option, None, Some, Result, Ok, Err, refl, ap, ◌∙◌, codes}
 use Rattle.std.specs.Option.{option_map}
 use Rattle.first_fault.specs.Reading.{◌>>=◌, check, or_fault}
 use Rattle.wf_names.specs.States.{user_of}
@@ -8,7 +8,6 @@ use Rattle.policy_book.specs.Facts.{IsSoundPolicy}
 use Rattle.case_record.specs.Cases.{CaseShape, is_open, state_at}
 use Rattle.case_record.proofs.Laws.{assigned_of-at}
 use Rattle.wf_talk.specs.declared.edit.Edit.{Edit}
-use Rattle.wf_talk.specs.declared.request.Request.{Request}
 use Rattle.wf_talk.specs.declared.request.Request.TheVariants as request
 use Rattle.wf_talk.specs.declared.request.Ask.{Ask}
 use Rattle.wf_talk.specs.declared.request.Ask.TheVariants as ask
@@ -25,7 +24,7 @@ use Rattle.admin_edits.proofs.Keeping.{amendment_found}
 use Rattle.wf_board.specs.declared.deed.Deed.{Deed}
 use Rattle.wf_board.specs.declared.deed.Deed.TheVariants as deed
 use Rattle.wf_board.specs.States.{State, case_at, flow_named, step_named, user_named}
-use Rattle.wf_board.specs.Resolved.{changed, edit_denial, on_step, open_case_at, resolve, resolve_request}
+use Rattle.wf_board.specs.Resolved.{changed, edit_denial, on_step, open_case_at, resolve}
 use Rattle.wf_board.specs.Decisions.{cause_aside, cause_full, decision_aside, decision_of, unless_denied}
 use Rattle.wf_board.specs.Kept.{IsOfPolicy, IsSoundState}
 use Rattle.wire_json.specs.Entries.{single}
@@ -63,6 +62,10 @@ first_so : (Q : Denial → Type 0) (os : List (Option Denial)) → AreCausesSo Q
 first_so Q [] all = tt
 first_so Q (Some d ∷ os) all = all.0
 first_so Q (None ∷ os) all = first_so Q os all.1
+
+four_so : (Q : Denial → Type 0) (first second third fourth : Option Denial) → IsCauseSo Q first → IsCauseSo Q second → IsCauseSo Q third → IsCauseSo Q fourth
+    → IsCauseSo Q (first_of (first ∷ second ∷ third ∷ fourth ∷ []))
+four_so Q first second third fourth a b c d = first_so Q (first ∷ second ∷ third ∷ fourth ∷ []) (a, (b, (c, (d, tt))))
 
 unless_so : (Q : Denial → Type 0) (b : Bool) (d : Denial) → Q d → IsCauseSo Q (unless b d)
 unless_so Q true d so = tt
@@ -157,16 +160,11 @@ held_so p q c t keeps of = ap (single (codes "not_held")) (state_same p q (state
 claim_so : (p q : PolicyShape) (c : CaseShape) (t u : ℕ) → KeepsNames p q → IsOfPolicy p c → IsCauseSo (IsToldAlike p q) (first_cause p c t u)
 claim_so p q c t u keeps of =
     let Q = IsToldAlike p q in
-    first_so Q _ (
-      map_so Q denial.Taken _ (λ v is. ap (single (codes "taken")) (user_same p q v keeps (user_known p c t v of is))),
-      (
-        map_so Q (denial.Order c.flow) _ (λ v is. ap (single (codes "order")) (step_same p q c.flow v keeps)),
-        (
-          unless_so Q _ (denial.Role _) (ap (single (codes "role")) (roles_same p q _ keeps)),
-          (map_so Q denial.Rule _ (λ k is. refl), tt),
-        ),
-      ),
-    )
+    four_so Q _ _ _ _
+    (map_so Q denial.Taken (user_of (state_at c t)) (λ v is. ap (single (codes "taken")) (user_same p q v keeps (user_known p c t v of is))))
+    (map_so Q (denial.Order c.flow) _ (λ v is. ap (single (codes "order")) (step_same p q c.flow v keeps)))
+    (unless_so Q _ (denial.Role _) (ap (single (codes "role")) (roles_same p q _ keeps)))
+    (map_so Q denial.Rule _ (λ k is. refl))
 
 cause_so : (s : State) (q : PolicyShape) (given : Deed) → KeepsNames s.book.policy q → IsDeedOf s.book.policy given → IsCauseSo (IsToldAlike s.book.policy q) (cause_aside s.book given)
 cause_so s q (deed.Open f) keeps of = unless_so (IsToldAlike s.book.policy q) _ denial.Retired refl

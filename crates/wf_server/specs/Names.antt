@@ -2,9 +2,10 @@
 use Rattle.std.specs.Prelude.{◌≡◌, ℕ, List, ◌++◌}
 use Rattle.rbac_state.specs.Rosters.{IsSoundRoster}
 use Rattle.wf_talk.specs.declared.entry.Entry.{Entry}
-use Rattle.wf_board.specs.States.{State}
+use Rattle.wf_board.specs.States.{State, opening_state}
 use Rattle.wf_board.specs.Histories.{IsLegal, state_after}
 use Rattle.wf_board.specs.Kept.{IsSoundState, KeepsCompletable}
+use Rattle.wf_desk.specs.Desks.{DeskShape}
 use Rattle.wf_server.specs.Transcripts.{transcript_text}
 use Rattle.wf_server.specs.Batches.{entries_text}
 
@@ -21,3 +22,10 @@ TextsStay =
     (start : State) (rounds : ℕ) (earlier more : List Entry) → IsKeptState (state_after start earlier) →
     IsLegal start rounds (earlier ++ more) →
     transcript_text (state_after start earlier) more ≡ entries_text (state_after start (earlier ++ more)).book.policy more
+
+-- whatever entries come behind those of a desk, in a legal history, are written so
+abbrev pub KeepsTexts : DeskShape → Type 0
+KeepsTexts d =
+    (more : List Entry) → IsLegal (opening_state d.opening) d.rounds (d.entries ++ more) →
+    transcript_text (state_after (opening_state d.opening) d.entries) more
+    ≡ entries_text (state_after (opening_state d.opening) (d.entries ++ more)).book.policy more
