@@ -285,7 +285,8 @@ short_answers p before after what given alone = record {
     apart : {X : Type 0} → needs_verdict (decision_of (book_of p before) what) ≡ true → X
     apart needed = let is : true ≡ false = sym needed ∙ alone.1.0 in cc
 
-short_step : (p : PolicyShape) (t : CasesShape) (decision : Result Deed Denial) → needs_verdict decision ≡ true → IsKept p t → HasTaken p t t decision reply.NoMemory
+-- want of memory, where a verdict is needed
+pub short_step : (p : PolicyShape) (t : CasesShape) (decision : Result Deed Denial) → needs_verdict decision ≡ true → IsKept p t → HasTaken p t t decision reply.NoMemory
 short_step p t (Ok d) needed kept = same_taken p t (Ok d) reply.NoMemory kept (λ edits. no_memory_replies (state_on (board_of p t edits)) d) (λ s. no_memory_stays s d)
   where
     no_memory_replies : (s : State) (d : Deed) → Answers s (Ok d) reply.NoMemory

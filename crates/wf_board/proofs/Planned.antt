@@ -165,7 +165,7 @@ opened_state p t f plan edits =
 
 -- ---- completing
 
-planned_open : (p : PolicyShape) (c : CaseShape) (o : Option (List ℕ)) → is_open c ≡ true → IsPlanned p c o → IsCompletable (problem_of p c.flow) (assigned_of c) (finished_of c)
+pub planned_open : (p : PolicyShape) (c : CaseShape) (o : Option (List ℕ)) → is_open c ≡ true → IsPlanned p c o → IsCompletable (problem_of p c.flow) (assigned_of c) (finished_of c)
 planned_open p c None live planned = live_apart c live planned
 planned_open p c (Some plan) live planned = (plan, planned)
 
