@@ -188,8 +188,8 @@ edition_taken p q before after edits live what edition kept sound rows is policy
     (subst (HasEdited p before edits what edition (amended p a)) (sym plans) (
       edited_keeps p before a edition.plans kept its.found rows.planned valid,
       subst (λ r. Answers s r given × (state_on (board_of (amended p a) (with_plans before edition.plans) (edits + 1)) ≡ state_after_decision s r given))
-      (sym (change_decided b what a change.decided))
-      ((refl, plans_complete (amended p a) (open_cases b.cases) edition.plans valid), edited_state p before a edition.plans edits),
+          (sym (change_decided b what a change.decided))
+          ((refl, plans_complete (amended p a) (open_cases b.cases) edition.plans valid), edited_state p before a edition.plans edits),
     ))
   where
     b : Book

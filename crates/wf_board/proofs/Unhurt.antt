@@ -1,5 +1,5 @@
 -- Under a change that makes no plan invalid the plans stay.
-use Rattle.std.proofs.Common.{◌≡◌, ℕ, ◌+◌, Bool, true, false, List, [], ◌∷◌, map, Option, None, Some, Result, Ok, if◌then◌else◌, refl, sym, subst, ◌∙◌}
+use Rattle.std.proofs.Common.{◌≡◌, ℕ, ◌+◌, Bool, true, false, List, [], ◌∷◌, map, Option, None, Some, if◌then◌else◌, refl, sym, subst}
 use Rattle.policy_book.specs.Shapes.{PolicyShape}
 use Rattle.case_record.specs.Cases.{CaseShape, assigned_of, finished_of, is_open}
 use Rattle.grant_table.specs.declared.rows.Row.{Row}
@@ -71,5 +71,5 @@ harmless_taken p q t edits what a kept is same =
     subst (HasChangedTo p t edits what) (sym same) (
       record { planned = record { cases = cases; plans = planned }; numbered = kept.numbered },
       subst (λ r. Answers s r given × (state_on (board_of (amended p a) t (edits + 1)) ≡ state_after_decision s r given)) (sym is.decided)
-      ((refl, planned_complete (amended p a) t.rows planned), refl),
+          ((refl, planned_complete (amended p a) t.rows planned), refl),
     )

@@ -224,9 +224,10 @@ impl Board {
         let before: &Policy = &self.policy;
         match changed(alloc, before, change) {
             Ok(policy) => {
+                let number = self.edits + 1;
                 self.policy = policy;
-                self.edits += 1;
-                Reply::Edited { number: self.edits }
+                self.edits = number;
+                Reply::Edited { number }
             }
             Err(_) => Reply::NoMemory,
         }

@@ -42,7 +42,11 @@ fn is_harmless(a: &Amendment) -> bool
 }
 
 /// A policy with one change that has no fault, to be shared.
-pub(crate) fn changed(alloc: Global, p: &Policy, a: Amendment) -> Result<Arc<Policy, Global>, AllocError>
+pub(crate) fn changed(
+    alloc: Global,
+    p: &Policy,
+    a: Amendment,
+) -> Result<Arc<Policy, Global>, AllocError>
     requires { IsAllowed p.now a }
     ensures { IfOk result (λ q. arc_value q ≡ amended p.now a) }
 {
