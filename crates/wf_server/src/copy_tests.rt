@@ -1,5 +1,5 @@
 //! A user is replaced by another while a payment runs; what the edits leave is copied.
-ghost use Rattle.std.specs.Prelude.{◌≡◌, []};
+ghost use Rattle.std.specs.Prelude.{◌≡◌, [], length};
 ghost use Rattle.wf_desk.specs.Desks.{IsDone};
 
 use crate::schedule_parts::{
@@ -11,7 +11,7 @@ use std::alloc::{AllocError, Global};
 use std::test::Fail;
 use wf_board::Board;
 use wf_desk::{Desk, Event, Mark};
-use wf_names::{CaseId, FlowId, Name, RoleId, UserId};
+use wf_names::{CaseId, FlowId, Name, RoleId, StepId, UserId};
 
 // What edits leave can be copied, all of it and part by part.
 #[test]
@@ -56,9 +56,17 @@ fn cases_are_copied(board: &Board) -> Result<bool, AllocError> {
 
 fn is_plan(plan: Option<Plan>) -> bool {
     match plan {
-        Some(plan) => plan.as_slice() == [UserId(0), UserId(4), UserId(1)],
+        Some(plan) => plan.len() == 3 && has_users(&plan),
         None => false,
     }
+}
+
+fn has_users(plan: &Plan) -> bool
+    requires { length plan.now ≡ 3 }
+{
+    plan.at(StepId(0)) == UserId(0)
+        && plan.at(StepId(1)) == UserId(4)
+        && plan.at(StepId(2)) == UserId(1)
 }
 
 fn policy_is_copied(p: &Policy) -> Result<bool, AllocError> {

@@ -124,7 +124,7 @@ fn is_written(alloc: Global, desk: &Desk, place: usize, text: &str) -> Result<bo
     match desk.journal().as_slice().get(place) {
         Some(entry) => {
             let line = write_entry(alloc, desk.board().policy(), entry)?;
-            Ok(line.as_slice() == text.as_bytes() || is_line(line.as_slice(), text.as_bytes()))
+            Ok(is_line(line.as_slice(), text.as_bytes()))
         }
         None => Ok(false),
     }
