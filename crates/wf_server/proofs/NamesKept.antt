@@ -131,7 +131,7 @@ mutual
       let users = passing_all (length p.roster.users) (pr.authorised s) 0 pr.users (known s) in
       ap (λ d. object (member (codes "step") d (member (codes "users") (array (items_of (branches_data q f kids))) no_members))) (step_same p q f s keeps)
       ∙ ap (λ ds. node_data p f s (array (items_of ds)))
-          (branches_same p q f pr assigned finished s (authorised_users pr s) [] kids keeps known users tt inner.0 inner.1)
+      (branches_same p q f pr assigned finished s (authorised_users pr s) [] kids keeps known users tt inner.0 inner.1)
 
   branches_same : (p q : PolicyShape) (f : ℕ) (pr : Problem) (assigned : List (Option ℕ)) (finished : List Bool) (s : ℕ) (us earlier : List ℕ) (kids : Kids) → KeepsNames p q
       → IsKnownBelow (length p.roster.users) pr → AllBelow (length p.roster.users) us → AllBelow (length p.roster.users) earlier

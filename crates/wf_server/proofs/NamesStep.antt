@@ -126,7 +126,7 @@ face_same : (p q : PolicyShape) (c : CaseShape) → KeepsNames p q → IsOfPolic
 face_same p q c keeps of =
     ap (λ names. object (member (codes "flow") (named names c.flow) (member (codes "phase") (phase_data c.phase) (member (codes "steps") (array (items_of (map (seen_data q) c.states))) no_members)))) keeps.flow_names
     ∙ ap (λ ds. object (member (codes "flow") (named p.flow_names c.flow) (member (codes "phase") (phase_data c.phase) (member (codes "steps") (array (items_of ds)) no_members))))
-        (states_same p q c.states keeps (λ t u is. user_known p c t u of is))
+    (states_same p q c.states keeps (λ t u is. user_known p c t u of is))
 
 -- the reply to a deed of the policy is written alike
 deed_text : (s : State) (q : PolicyShape) (given : Deed) (answer : Reply) → KeepsNames s.book.policy q → AreMembersBelow (length s.book.policy.roster.users) s.book.policy.roster.members

@@ -77,9 +77,11 @@ fn policy_is_copied(p: &Policy) -> Result<bool, AllocError> {
 fn people_are_copied(p: &Policy) -> Result<bool, AllocError> {
     let roster = p.roster().copy()?;
     let relations = p.relations().copy()?;
-    Ok(roster.has(UserId(4), RoleId(0))
-        && !roster.has(UserId(2), RoleId(0))
-        && relations.count() == 0)
+    Ok(
+        roster.has(UserId(4), RoleId(0))
+            && !roster.has(UserId(2), RoleId(0))
+            && relations.count() == 0,
+    )
 }
 
 fn flow_is_copied(p: &Policy) -> Result<bool, AllocError> {

@@ -70,10 +70,12 @@ fn claim_is_answered_again(alloc: Global, desk: &mut Desk) -> Result<bool, Alloc
         Mark::Recorded(4),
         Mark::Served(5),
     ];
-    Ok(goes_at(alloc, desk, &events, &marks)?
-        && is_written(alloc, desk, 3, EDITED)?
-        && is_written(alloc, desk, 4, AGAIN)?
-        && is_stranded(alloc, desk, 5, 5)?)
+    Ok(
+        goes_at(alloc, desk, &events, &marks)?
+            && is_written(alloc, desk, 3, EDITED)?
+            && is_written(alloc, desk, 4, AGAIN)?
+            && is_stranded(alloc, desk, 5, 5)?,
+    )
 }
 
 // With two rounds the task is lost, and found again on the new policy.
@@ -107,15 +109,20 @@ fn claim_is_found_again(alloc: Global, desk: &mut Desk) -> Result<bool, AllocErr
         Mark::Recorded(4),
         Mark::Served(5),
     ];
-    Ok(goes_at(alloc, desk, &events, &marks)?
-        && is_written(alloc, desk, 3, EDITED)?
-        && is_stranded(alloc, desk, 4, 3)?
-        && is_stranded(alloc, desk, 5, 5)?)
+    Ok(
+        goes_at(alloc, desk, &events, &marks)?
+            && is_written(alloc, desk, 3, EDITED)?
+            && is_stranded(alloc, desk, 4, 3)?
+            && is_stranded(alloc, desk, 5, 5)?,
+    )
 }
 
 // Whether an entry of lane 0 denies the claim of a line with the only tree that there is.
 fn is_stranded(alloc: Global, desk: &Desk, at: usize, line: u32) -> Result<bool, AllocError> {
-    let text = format!(in alloc; r#"{{"at":{},"lane":0,"line":{},"reply":{}}}"#, at, line, TREE)?;
+    let text = format!(in alloc;
+        r#"{{"at":{},"lane":0,"line":{},"reply":{}}}"#,
+        at, line, TREE
+    )?;
     is_written(alloc, desk, at, text.as_str())
 }
 
@@ -172,7 +179,12 @@ fn each_is_answered_again(alloc: Global, desk: &mut Desk) -> Result<bool, AllocE
         Mark::Recorded(5),
     ];
     let kinds = [
-        "edited 1", "again 1 0", "opened", "opened 1", "again 1 3", "edited 2",
+        "edited 1",
+        "again 1 0",
+        "opened",
+        "opened 1",
+        "again 1 3",
+        "edited 2",
     ];
     Ok(goes_at(alloc, desk, &events, &marks)? && has_kinds(desk, &kinds))
 }
@@ -215,7 +227,12 @@ fn each_is_lost(alloc: Global, desk: &mut Desk) -> Result<bool, AllocError> {
         Mark::Recorded(5),
     ];
     let kinds = [
-        "edited 1", "opened", "opened 1", "opened 2", "opened 3", "again 2 4",
+        "edited 1",
+        "opened",
+        "opened 1",
+        "opened 2",
+        "opened 3",
+        "again 2 4",
     ];
     Ok(goes_at(alloc, desk, &events, &marks)? && has_kinds(desk, &kinds))
 }
