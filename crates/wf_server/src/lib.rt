@@ -5,6 +5,7 @@ mod batch;
 #[cfg(test)]
 mod change_tests;
 mod decider;
+mod edit_decider;
 #[cfg(test)]
 mod edit_tests;
 mod run;
