@@ -144,6 +144,13 @@ impl Cases {
         plan_in(&self.rows, c.0)
     }
 
+    /// All cases with their numbers and kept plans, by ascending number.
+    pub fn rows(&self) -> &[Row]
+        ensures { result.now ≡ self.now.rows }
+    {
+        &self.rows
+    }
+
     /// How many cases are open.
     pub fn live(&self) -> u16
         ensures count { result ≡ open_count self.now.rows }

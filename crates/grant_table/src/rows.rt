@@ -9,6 +9,7 @@ use crate::changes::replanned;
 use case_record::Case;
 use constraint_forms::Plan;
 use std::alloc::{AllocError, Global};
+use wf_names::CaseId;
 
 /// A case at its number with the plan that is kept for it.
 #[derive(Clone, Copy)]
@@ -16,6 +17,29 @@ pub struct Row {
     pub(crate) number: u16,
     pub(crate) case: Case,
     pub(crate) plan: Option<Plan>,
+}
+
+impl Row {
+    /// The number of the case.
+    pub fn number(&self) -> CaseId
+        ensures { result ≡ self.now.number }
+    {
+        CaseId(self.number)
+    }
+
+    /// The case.
+    pub fn case(&self) -> &Case
+        ensures { result.now ≡ self.now.case }
+    {
+        &self.case
+    }
+
+    /// The plan that is kept for it.
+    pub fn plan(&self) -> Option<Plan>
+        ensures { result ≡ self.now.plan }
+    {
+        self.plan
+    }
 }
 
 /// Where the first row not below a number stands.

@@ -134,7 +134,19 @@ fn open_cases_get_other_plans_in_order(rt: HostRuntime) -> Result<(), Fail> {
     assert!(rt; table.plan(CaseId(0)) == Some(Plan::of(&[CYD, BOB])));
     assert!(rt; table.plan(CaseId(1)).is_none());
     assert!(rt; table.plan(CaseId(2)) == Some(Plan::of(&[BOB, CYD])));
+    assert!(rt; shows_its_rows(&table));
     Ok(())
+}
+
+// Whether the rows are those of the three cases, of which the second is withdrawn.
+fn shows_its_rows(table: &Cases) -> bool {
+    let [first, second, third] = table.rows() else {
+        return false;
+    };
+    first.number() == CaseId(0)
+        && first.plan() == table.plan(CaseId(0))
+        && second.case().phase() == Phase::Withdrawn
+        && third.number() == CaseId(2)
 }
 
 fn table_with_room(alloc: Global, room: u16) -> Result<Cases, AllocError> {

@@ -1,19 +1,15 @@
 -- What an edit of the policy keeps.
-use Rattle.std.proofs.Common.{◌≡◌, ℕ, ◌+◌, ◌<◌, ◌≤◌, ◌⊎◌, inl, inr, Bool, true, false, nat_eq, List, [], ◌∷◌, length, map, Option, None, Some, is_some, Result, Ok, Err, if◌then◌else◌, refl, sym, ap, subst, ◌∙◌, arith}
+use Rattle.std.proofs.Common.{◌≡◌, ℕ, ◌+◌, ◌<◌, ◌≤◌, inl, inr, Bool, true, false, nat_eq, List, [], ◌∷◌, length, map, Option, None, Some, is_some, Result, Ok, if◌then◌else◌, refl, sym, ap, subst, ◌∙◌, arith}
 use Rattle.std.specs.Option.{option_map}
 use Rattle.std.proofs.lemmas.Bool.Decides.{nat_tests}
 use Rattle.basics.proofs.Booleans.{bool_cases, eq_is}
 use Rattle.first_fault.specs.Reading.{◌>>=◌}
 use Rattle.refutation_tree.specs.declared.tree.Tree.{Tree}
-use Rattle.refutation_tree.specs.Views.{shape_of}
 use Rattle.policy_book.specs.Shapes.{PolicyShape}
-use Rattle.policy_book.specs.Facts.{IsSoundPolicy}
-use Rattle.policy_book.specs.Policies.{flow_at, problem_of}
-use Rattle.certificate_check.proofs.Refuted.{refutes_soundly}
-use Rattle.case_record.specs.Cases.{CaseShape, assigned_of, finished_of, is_open}
+use Rattle.case_record.specs.Cases.{CaseShape, assigned_of, is_open}
 use Rattle.grant_table.specs.declared.rows.Row.{Row}
 use Rattle.grant_table.specs.Lookup.{look_up}
-use Rattle.grant_table.specs.Tables.{CasesShape, case_in, is_open_row, replanned, row_at}
+use Rattle.grant_table.specs.Tables.{CasesShape, case_in, is_open_row, replanned}
 use Rattle.grant_table.specs.Kept.{AscendFrom}
 use Rattle.grant_table.specs.Kept as table
 use Rattle.grant_table.proofs.Replanning.{replanned_closed, replanned_none, replanned_open}
@@ -28,8 +24,8 @@ use Rattle.wf_board.specs.declared.deed.Deed.TheVariants as deed
 use Rattle.wf_board.specs.States.{Book, Numbered, case_at, open_cases}
 use Rattle.wf_board.specs.Boards.{EditionShape, numbered, state_on}
 use Rattle.wf_board.specs.Decisions.{cause_full, decision_aside, decision_of, unless_denied}
-use Rattle.wf_board.specs.Edited.{ArePlansOf, CanAllBeCompleted, CanBeCompleted, IsFirstStranded, IsPlanOf}
-use Rattle.wf_board.specs.Kept.{AreNumbered, ArePlanned, EachRow, IsOfPolicy, IsPlanned}
+use Rattle.wf_board.specs.Edited.{ArePlansOf, CanAllBeCompleted, CanBeCompleted, IsFirstStranded}
+use Rattle.wf_board.specs.Kept.{EachRow, IsOfPolicy, IsPlanned}
 use Rattle.wf_board.specs.Steps.{with_edited}
 use Rattle.wf_board.specs.Taking.{board_of, IsKept}
 use Rattle.wf_board.specs.Verdicts.{IsEditionFor, IsStrandingFor}

@@ -188,8 +188,8 @@ edition_taken p q before after edits live what edition kept sound rows is policy
     (subst (HasEdited p before edits what edition (amended p a)) (sym plans) (
       edited_keeps p before a edition.plans kept its.found rows.planned valid,
       subst (λ r. Answers s r given × (state_on (board_of (amended p a) (with_plans before edition.plans) (edits + 1)) ≡ state_after_decision s r given))
-      (sym (change_decided b what a change.decided))
-      ((refl, plans_complete (amended p a) (open_cases b.cases) edition.plans valid), edited_state p before a edition.plans edits),
+          (sym (change_decided b what a change.decided))
+          ((refl, plans_complete (amended p a) (open_cases b.cases) edition.plans valid), edited_state p before a edition.plans edits),
     ))
   where
     b : Book
@@ -285,7 +285,8 @@ short_answers p before after what given alone = record {
     apart : {X : Type 0} → needs_verdict (decision_of (book_of p before) what) ≡ true → X
     apart needed = let is : true ≡ false = sym needed ∙ alone.1.0 in cc
 
-short_step : (p : PolicyShape) (t : CasesShape) (decision : Result Deed Denial) → needs_verdict decision ≡ true → IsKept p t → HasTaken p t t decision reply.NoMemory
+-- want of memory, where a verdict is needed
+pub short_step : (p : PolicyShape) (t : CasesShape) (decision : Result Deed Denial) → needs_verdict decision ≡ true → IsKept p t → HasTaken p t t decision reply.NoMemory
 short_step p t (Ok d) needed kept = same_taken p t (Ok d) reply.NoMemory kept (λ edits. no_memory_replies (state_on (board_of p t edits)) d) (λ s. no_memory_stays s d)
   where
     no_memory_replies : (s : State) (d : Deed) → Answers s (Ok d) reply.NoMemory

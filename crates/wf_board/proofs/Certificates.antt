@@ -1,5 +1,5 @@
 -- A plan or a tree that decides what is asked decides its deed.
-use Rattle.std.proofs.Common.{◌≡◌, ◌↔◌, ℕ, Bool, true, false, not, ◌&&◌, List, Option, None, Some, is_some, Result, Ok, Err, refl, sym, ap, subst, ◌∙◌}
+use Rattle.std.proofs.Common.{◌≡◌, ◌↔◌, ℕ, Bool, true, not, List, Option, None, Some, is_some, Result, Ok, Err, refl, subst}
 use Rattle.first_fault.specs.Reading.{◌>>=◌}
 use Rattle.constraint_forms.specs.Assigned.{no_steps, no_users}
 use Rattle.policy_book.specs.Shapes.{PolicyShape}
@@ -15,10 +15,9 @@ use Rattle.wf_board.specs.declared.deed.Deed.TheVariants as deed
 use Rattle.wf_board.specs.declared.verdict.Verdict.{Verdict}
 use Rattle.wf_board.specs.declared.verdict.Verdict.TheVariants as verdict
 use Rattle.wf_board.specs.States.{Book}
-use Rattle.wf_board.specs.Resolved.{resolve}
-use Rattle.wf_board.specs.Decisions.{cause_aside, cause_full, decision_aside, decision_of, needs_plan, needs_verdict, unless_denied}
+use Rattle.wf_board.specs.Decisions.{cause_full, decision_aside, needs_verdict, unless_denied}
 use Rattle.wf_board.specs.Found.{AreFound}
-use Rattle.wf_board.specs.Taking.{full_or, undenied, IsCertificateOf}
+use Rattle.wf_board.specs.Taking.{full_or, IsCertificateOf}
 use Rattle.wf_board.specs.Verdicts.{IsCertificate, IsCertified, IsPlanFor, IsRight, IsTreeFor}
 use Rattle.wf_board.proofs.Within.{claimed_within}
 

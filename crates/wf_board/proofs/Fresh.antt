@@ -2,11 +2,10 @@
 use Rattle.std.proofs.Common.{◌≡◌, ℕ, ◌+◌, ◌⊎◌, inl, inr, Bool, true, false, ◌||◌, is_some, nat_eq, List, [], ◌∷◌, ◌++◌, take, drop, Option, Some, None, Result, Ok, Err, if◌then◌else◌, refl, sym, ap, subst, ◌∙◌, arith}
 use Rattle.std.specs.Option.{option_map}
 use Rattle.std.proofs.lemmas.List.{take-append-drop}
-use Rattle.first_fault.specs.Reading.{◌>>=◌, or_fault, check}
+use Rattle.first_fault.specs.Reading.{or_fault, check}
 use Rattle.basics.proofs.Booleans.{eq_back, eq_is}
-use Rattle.case_record.specs.Cases.{CaseShape, is_open}
+use Rattle.case_record.specs.Cases.{CaseShape}
 use Rattle.grant_table.specs.Lookup.{look_up}
-use Rattle.policy_book.specs.Shapes.{PolicyShape}
 use Rattle.wf_talk.specs.declared.entry.Entry.{Entry}
 use Rattle.wf_talk.specs.declared.request.Request.TheVariants as request
 use Rattle.wf_talk.specs.declared.request.Ask.{Ask}
@@ -14,7 +13,7 @@ use Rattle.wf_talk.specs.declared.request.Ask.TheVariants as ask
 use Rattle.wf_talk.specs.declared.reply.Reply.{Reply}
 use Rattle.wf_talk.specs.declared.reply.Reply.TheVariants as reply
 use Rattle.wf_talk.specs.declared.reply.Denial.{Denial}
-use Rattle.wf_talk.specs.declared.reply.Denial.TheVariants.{Closed, NoCase, NoFlow, NoStep, NoUser, NotAdmin}
+use Rattle.wf_talk.specs.declared.reply.Denial.TheVariants.{NoCase, NoFlow, NoStep, NoUser, NotAdmin}
 use Rattle.wf_board.specs.declared.deed.Deed.{Deed}
 use Rattle.wf_board.specs.declared.deed.Deed.TheVariants as deed
 use Rattle.wf_board.specs.declared.verdict.Verdict.{Verdict}
@@ -23,7 +22,7 @@ use Rattle.admin_edits.specs.Edits.{amendment_of, is_admin}
 use Rattle.admin_edits.specs.declared.amendment.Amendment.{Amendment}
 use Rattle.admin_edits.specs.declared.fault.EditFault.{EditFault}
 use Rattle.wf_board.specs.Resolved.{changed, on_step, open_case_at, resolve}
-use Rattle.wf_board.specs.Decisions.{cause_aside, cause_full, decision_aside, decision_of, unless_denied}
+use Rattle.wf_board.specs.Decisions.{cause_aside, cause_full, decision_aside, decision_of}
 use Rattle.wf_board.specs.Steps.{Answers, IsReplyTo, IsStep, state_after_decision, state_after_deed, state_after_step}
 use Rattle.wf_board.specs.Counting.{IsFresh, case_of_ask, changed_case, counted, counts_for, is_edited, is_number}
 use Rattle.wf_board.specs.Histories.{EachAfter, IsLegal, IsRetry, IsRightAfter, state_after}

@@ -1,5 +1,5 @@
 -- A case stays one of the policy where it is opened and where its steps change.
-use Rattle.std.proofs.Common.{◌≡◌, ℕ, ◌<◌, true, List, length, Option, Some, refl, sym, subst, ◌∙◌}
+use Rattle.std.proofs.Common.{◌≡◌, ℕ, ◌<◌, true, List, length, Option, Some, sym, subst, ◌∙◌}
 use Rattle.std.proofs.lemmas.List.{length-replicate, length-set}
 use Rattle.wf_names.specs.States.{is_held}
 use Rattle.wf_names.specs.declared.states.StepState.TheVariants.{Free, Held}

@@ -14,3 +14,4 @@ pub mod Grants
 pub mod Rows
 pub mod Planned
 pub mod Answering
+pub mod Unhurt

@@ -19,10 +19,8 @@ use Rattle.wf_board.specs.declared.deed.Deed.TheVariants as deed
 use Rattle.wf_board.specs.declared.verdict.Verdict.{Verdict}
 use Rattle.wf_board.specs.declared.verdict.Verdict.TheVariants as verdict
 use Rattle.wf_board.specs.States.{Book, Numbered, case_at, flow_named, open_cases, step_named, user_named}
-use Rattle.admin_edits.specs.Edits.{amendment_of, is_admin}
-use Rattle.admin_edits.specs.declared.amendment.Amendment.{Amendment}
-use Rattle.admin_edits.specs.declared.fault.EditFault.{EditFault}
-use Rattle.wf_board.specs.Resolved.{changed, on_step, open_case_at, resolve, resolve_request}
+use Rattle.admin_edits.specs.Edits.{is_admin}
+use Rattle.wf_board.specs.Resolved.{on_step, open_case_at, resolve, resolve_request}
 use Rattle.wf_board.specs.Edited.{ArePlansOf, IsFirstStranded}
 use Rattle.admin_edits.specs.Edits.{amended}
 use Rattle.wf_board.specs.Decisions.{cause_aside, cause_full, decision_aside, decision_of, needs_plan, needs_verdict, unless_denied}

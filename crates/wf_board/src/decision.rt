@@ -211,5 +211,8 @@ pub(crate) fn is_full(p: &Policy, cases: &Cases) -> bool
 pub(crate) fn needs_plan(deed: &Deed) -> bool
     ensures { result ≡ needs_plan deed.now }
 {
-    matches!(deed, Deed::Open { .. } | Deed::Claim { .. } | Deed::Change { .. })
+    matches!(
+        deed,
+        Deed::Open { .. } | Deed::Claim { .. } | Deed::Change { .. }
+    )
 }

@@ -1,4 +1,4 @@
-use Rattle.std.proofs.Common.{◌≡◌, Some, sym, ap, ◌∙◌}
+use Rattle.std.proofs.Common.{sym, ap, ◌∙◌}
 use Rattle.case_record.specs.Cases.{CaseShape}
 use Rattle.wf_board.proofs.Answering.{stranding_taken, stranding_there}
 use Rattle.wf_board.proofs.Amended.{same_case}
