@@ -7,6 +7,7 @@ mod change_tests;
 #[cfg(test)]
 mod copy_tests;
 mod decider;
+mod edit_decider;
 #[cfg(test)]
 mod edit_tests;
 mod names;
