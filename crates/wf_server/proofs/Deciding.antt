@@ -1,5 +1,5 @@
 -- What the decider finds on a deed.
-use Rattle.std.proofs.Common.{◌≡◌, ◌≢◌, ℕ, ◌<◌, ◌⊎◌, inl, inr, Bool, true, false, List, [], ◌∷◌, length, Option, None, Some, Result, Ok, Err, IfErr, slice_set, refl, sym, ap, subst, ◌∙◌, arith}
+use Rattle.std.proofs.Common.{◌≡◌, ℕ, ◌<◌, Bool, true, false, List, [], ◌∷◌, length, Option, None, Some, Result, Ok, Err, slice_set, refl, sym, ap, subst, ◌∙◌}
 use Rattle.std.specs.Option.{option_map}
 use Rattle.std.specs.Prelude.{nat_eq, if◌then◌else◌}
 use Rattle.std.proofs.lemmas.Bool.Decides.{eqb_tells}
@@ -8,10 +8,10 @@ use Rattle.constraint_forms.specs.Assigned.{no_steps, no_users, planned, user_at
 use Rattle.policy_book.specs.Shapes.{PolicyShape}
 use Rattle.policy_book.specs.Policies.{problem_of}
 use Rattle.policy_book.specs.Plans.{AreAssigned, IsValidPlan, IsWithin, Problem}
-use Rattle.certificate_check.proofs.Assigned.{either, given, given_other, given_same, same_some}
+use Rattle.certificate_check.proofs.Assigned.{either, given, given_other, given_same}
 use Rattle.case_record.specs.Cases.{CaseShape, assigned_of, finished_of, is_open}
 use Rattle.grant_table.specs.declared.rows.Row.{Row}
-use Rattle.grant_table.specs.Tables.{case_in, number_of, plan_of, row_at}
+use Rattle.grant_table.specs.Tables.{case_in, plan_of, row_at}
 use Rattle.wf_talk.specs.declared.reply.Denial.{Denial}
 use Rattle.denial_reasons.specs.Causes.{assigned_with}
 use Rattle.wsp_solver.specs.Searches.{Decides}

@@ -1,25 +1,19 @@
 -- What a change of the policy leaves the open cases.
-use Rattle.std.proofs.Common.{◌≡◌, ℕ, zero, suc, ◌+◌, ◌<◌, ◌⊎◌, inl, inr, Bool, true, false, List, [], ◌∷◌, ◌++◌, length, take, drop, map, get_or, Option, None, Some, Ok, refl, sym, ap, subst, ◌∙◌, arith}
-use Rattle.std.proofs.lemmas.List.{append-nil, append_assoc, take-append-drop}
+use Rattle.std.proofs.Common.{◌≡◌, ℕ, zero, suc, ◌+◌, ◌<◌, inl, inr, Bool, true, false, List, [], ◌∷◌, ◌++◌, length, take, drop, map, get_or, Option, Some, refl, sym, ap, subst, ◌∙◌, arith}
+use Rattle.std.proofs.lemmas.List.{append_assoc, take-append-drop}
 use Rattle.std.proofs.Math.Seq.{take-suc}
 use Rattle.basics.proofs.Booleans.{bool_cases}
 use Rattle.refutation_tree.specs.declared.tree.Tree.{Tree}
 use Rattle.policy_book.specs.Shapes.{PolicyShape}
 use Rattle.policy_book.specs.Policies.{problem_of}
-use Rattle.policy_book.specs.Plans.{IsValidPlan, Problem}
-use Rattle.case_record.specs.Cases.{CaseShape, assigned_of, finished_of, is_open}
+use Rattle.policy_book.specs.Plans.{Problem}
+use Rattle.case_record.specs.Cases.{CaseShape, is_open}
 use Rattle.grant_table.specs.declared.rows.Row.{Row}
 use Rattle.grant_table.proofs.Places.{taken_off}
-use Rattle.admin_edits.specs.declared.amendment.Amendment.{Amendment}
-use Rattle.admin_edits.specs.Edits.{amended}
 use Rattle.wf_board.specs.Boards.{numbered}
 use Rattle.wf_board.specs.Edited.{ArePlansOf, IsFirstStranded, IsPlanOf, IsTreeOf}
 use Rattle.wf_board.specs.Kept.{EachRow, IsPlanned}
-use Rattle.wf_board.specs.States.{Book, Numbered, open_cases}
-use Rattle.wf_board.specs.declared.verdict.Verdict.{Verdict}
-use Rattle.wf_server.specs.declared.edit_decider.Left.{Left}
-use Rattle.wf_server.specs.declared.edit_decider.Left.TheVariants as left
-use Rattle.wf_server.specs.Deciding.{DecidesChange, IsLeft, IsVerdictOn}
+use Rattle.wf_board.specs.States.{Numbered, open_cases}
 
 -- what is said of a workflow, an assignment and finished steps is said of equal ones
 pub said_same : (P : Problem → List (Option ℕ) → List Bool → Type 0) (p : PolicyShape) (f g : ℕ) (a b : List (Option ℕ)) (d e : List Bool) → g ≡ f → b ≡ a → e ≡ d

@@ -1,4 +1,4 @@
-use Rattle.std.proofs.Common.{sym, subst, None, Some}
+use Rattle.std.proofs.Common.{sym, subst}
 use Rattle.wf_board.specs.Edited.{IsFirstStranded}
 use Rattle.wf_server.specs.Deciding.{HasAdded}
 use Rattle.wf_server.proofs.Editing.{open_in, plans_more, stranded_here}
