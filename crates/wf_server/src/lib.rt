@@ -16,6 +16,8 @@ mod session;
 mod solve_tests;
 #[cfg(test)]
 mod tests;
+#[cfg(test)]
+mod trim_tests;
 mod turns;
 mod words;
 
