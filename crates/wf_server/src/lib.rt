@@ -24,6 +24,8 @@ mod solve_tests;
 mod stale_tests;
 #[cfg(test)]
 mod tests;
+#[cfg(test)]
+mod trim_tests;
 mod turns;
 mod words;
 
