@@ -189,6 +189,13 @@ impl Desk {
         self.lanes
     }
 
+    /// After how many lost rounds a request is answered again.
+    pub fn rounds(&self) -> u8
+        ensures count { result ≡ self.now.rounds }
+    {
+        self.rounds
+    }
+
     /// How many jobs a lane has left.
     pub fn left(&self, lane: u8) -> u32
         ensures { result ≡ left_of self.now lane }

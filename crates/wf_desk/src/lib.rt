@@ -19,10 +19,12 @@ mod journal;
 mod loss;
 mod outcome;
 mod schedule;
+mod tabled;
 mod task;
 
 pub use desk::{Desk, solve_task};
 pub use loss::Loss;
 pub use outcome::Outcome;
 pub use schedule::{Event, Mark, Marks, Solved};
+pub use tabled::Fixed;
 pub use task::Task;
