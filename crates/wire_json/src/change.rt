@@ -10,6 +10,7 @@ use crate::word::Word;
 use serde_json::{Map, Value};
 use wf_talk::{Bad, Edit, Request};
 
+/// To add a user.
 #[tactic(auto, unfolding(crate::specs::Requests::request_by, wf_names::specs::Names::is_name))]
 pub(crate) fn add_user_in(value: &Value, members: &Map<String, Value>) -> Result<Request, Bad>
     ensures { Gives Some (λ r. r) result (read.request_by (row_of_word Word.AddUser) (view value.now) (members_view members.now.entries)) }
@@ -21,6 +22,7 @@ pub(crate) fn add_user_in(value: &Value, members: &Map<String, Value>) -> Result
     Ok(Request::Change { by, edit })
 }
 
+/// To take all roles away from a user.
 #[tactic(auto, unfolding(crate::specs::Requests::request_by, wf_names::specs::Names::is_name))]
 pub(crate) fn leave_in(value: &Value, members: &Map<String, Value>) -> Result<Request, Bad>
     ensures { Gives Some (λ r. r) result (read.request_by (row_of_word Word.Leave) (view value.now) (members_view members.now.entries)) }
@@ -32,6 +34,7 @@ pub(crate) fn leave_in(value: &Value, members: &Map<String, Value>) -> Result<Re
     Ok(Request::Change { by, edit })
 }
 
+/// To give a user a role.
 #[tactic(auto, unfolding(crate::specs::Requests::request_by, wf_names::specs::Names::is_name))]
 pub(crate) fn enrol_in(value: &Value, members: &Map<String, Value>) -> Result<Request, Bad>
     ensures { Gives Some (λ r. r) result (read.request_by (row_of_word Word.Enrol) (view value.now) (members_view members.now.entries)) }
@@ -44,6 +47,7 @@ pub(crate) fn enrol_in(value: &Value, members: &Map<String, Value>) -> Result<Re
     Ok(Request::Change { by, edit })
 }
 
+/// To take a role away from a user.
 #[tactic(auto, unfolding(crate::specs::Requests::request_by, wf_names::specs::Names::is_name))]
 pub(crate) fn dismiss_in(value: &Value, members: &Map<String, Value>) -> Result<Request, Bad>
     ensures { Gives Some (λ r. r) result (read.request_by (row_of_word Word.Dismiss) (view value.now) (members_view members.now.entries)) }
@@ -56,6 +60,7 @@ pub(crate) fn dismiss_in(value: &Value, members: &Map<String, Value>) -> Result<
     Ok(Request::Change { by, edit })
 }
 
+/// To put a pair of users into a relation.
 #[tactic(auto, unfolding(crate::specs::Requests::request_by, wf_names::specs::Names::is_name))]
 pub(crate) fn relate_in(value: &Value, members: &Map<String, Value>) -> Result<Request, Bad>
     ensures { Gives Some (λ r. r) result (read.request_by (row_of_word Word.Relate) (view value.now) (members_view members.now.entries)) }
@@ -76,6 +81,7 @@ pub(crate) fn relate_in(value: &Value, members: &Map<String, Value>) -> Result<R
     Ok(Request::Change { by, edit })
 }
 
+/// To take a pair of users out of a relation.
 #[tactic(auto, unfolding(crate::specs::Requests::request_by, wf_names::specs::Names::is_name))]
 pub(crate) fn unrelate_in(value: &Value, members: &Map<String, Value>) -> Result<Request, Bad>
     ensures { Gives Some (λ r. r) result (read.request_by (row_of_word Word.Unrelate) (view value.now) (members_view members.now.entries)) }
@@ -96,6 +102,7 @@ pub(crate) fn unrelate_in(value: &Value, members: &Map<String, Value>) -> Result
     Ok(Request::Change { by, edit })
 }
 
+/// To permit a step to a role.
 #[tactic(auto, unfolding(crate::specs::Requests::request_by, wf_names::specs::Names::is_name))]
 pub(crate) fn permit_in(value: &Value, members: &Map<String, Value>) -> Result<Request, Bad>
     ensures { Gives Some (λ r. r) result (read.request_by (row_of_word Word.Permit) (view value.now) (members_view members.now.entries)) }
@@ -109,6 +116,7 @@ pub(crate) fn permit_in(value: &Value, members: &Map<String, Value>) -> Result<R
     Ok(Request::Change { by, edit })
 }
 
+/// To forbid a step to a role.
 #[tactic(auto, unfolding(crate::specs::Requests::request_by, wf_names::specs::Names::is_name))]
 pub(crate) fn forbid_in(value: &Value, members: &Map<String, Value>) -> Result<Request, Bad>
     ensures { Gives Some (λ r. r) result (read.request_by (row_of_word Word.Forbid) (view value.now) (members_view members.now.entries)) }
@@ -122,6 +130,7 @@ pub(crate) fn forbid_in(value: &Value, members: &Map<String, Value>) -> Result<R
     Ok(Request::Change { by, edit })
 }
 
+/// To open no more cases of a workflow.
 #[tactic(auto, unfolding(crate::specs::Requests::request_by, wf_names::specs::Names::is_name))]
 pub(crate) fn retire_in(value: &Value, members: &Map<String, Value>) -> Result<Request, Bad>
     ensures { Gives Some (λ r. r) result (read.request_by (row_of_word Word.Retire) (view value.now) (members_view members.now.entries)) }

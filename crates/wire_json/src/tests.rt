@@ -13,12 +13,21 @@ use wf_talk::{Ask, Bad, Denial, Entry, Face, Missing, Reply, RoleList, States};
 #[test]
 fn entries_have_their_texts(rt: HostRuntime) -> Result<(), Fail> {
     let p = policy(rt.alloc())?;
-    assert!(rt; replies_have_their_texts(rt.alloc(), &p)?);
-    assert!(rt; denials_have_their_texts(rt.alloc(), &p)?);
-    assert!(rt; edit_denials_have_their_texts(rt.alloc(), &p)?);
-    assert!(rt; faults_have_their_texts(rt.alloc(), &p)?);
-    assert!(rt; roles_have_their_text(rt.alloc(), &p)?);
+    assert!(rt; all_have_their_texts(rt.alloc(), &p)?);
     Ok(())
+}
+
+fn all_have_their_texts(alloc: Global, p: &Policy) -> Result<bool, Fail> {
+    Ok(replies_have_their_texts(alloc, p)? && all_denials_have_their_texts(alloc, p)?)
+}
+
+fn all_denials_have_their_texts(alloc: Global, p: &Policy) -> Result<bool, Fail> {
+    Ok(
+        denials_have_their_texts(alloc, p)?
+            && edit_denials_have_their_texts(alloc, p)?
+            && faults_have_their_texts(alloc, p)?
+            && roles_have_their_text(alloc, p)?,
+    )
 }
 
 fn replies_have_their_texts(alloc: Global, p: &Policy) -> Result<bool, Fail> {
