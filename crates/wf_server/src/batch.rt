@@ -9,7 +9,7 @@ ghost use Rattle.run_record.specs.Fault.{fault_in, CountsWrites};
 ghost use Rattle.wf_server.specs.Batches.{entries_text, told_of, HasAnswered, IsBatch, AnswersTo, IsWriteEnding};
 ghost use Rattle.wf_server.specs.Turns.{setting_of};
 
-use crate::names::texts_stay;
+use crate::texts::texts_stay;
 use crate::turns::serve_by_turns;
 use policy_book::Policy;
 use run_record::RunFault;

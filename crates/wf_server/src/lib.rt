@@ -10,7 +10,6 @@ mod decider;
 mod edit_decider;
 #[cfg(test)]
 mod edit_tests;
-mod names;
 mod run;
 #[cfg(test)]
 mod schedule_parts;
@@ -24,6 +23,7 @@ mod solve_tests;
 mod stale_tests;
 #[cfg(test)]
 mod tests;
+mod texts;
 #[cfg(test)]
 mod trim_tests;
 mod turns;

@@ -4,7 +4,7 @@ use Rattle.policy_book.specs.Shapes.{PolicyShape}
 use Rattle.wf_board.specs.Boards.{BoardShape, state_on}
 use Rattle.wf_server.specs.Names.{IsKeptState}
 use Rattle.wf_server.proofs.Names.{desk_texts}
-use Rattle.wf_server.proofs.names.texts_stay.Goals as goal
+use Rattle.wf_server.proofs.texts.texts_stay.Goals as goal
 
 pub returns : goal.returns
 returns c =
