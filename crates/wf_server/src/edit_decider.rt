@@ -1,7 +1,7 @@
 //! The decider for changes of the policy, on one thread.
 ghost use Rattle.std.specs.Prelude.{◌≡◌, ◌<◌, Ok, IfOk, length, map};
 ghost use Rattle.policy_book.specs.Policies.{problem_of};
-ghost use Rattle.policy_book.specs.Plans.{IsWithin};
+ghost use Rattle.policy_book.specs.Plans.{AreAssigned, IsWithin};
 ghost use Rattle.case_record.specs.Cases.{assigned_of, finished_of};
 ghost use Rattle.admin_edits.specs.Edits.{amended};
 ghost use Rattle.wsp_solver.specs.Searches.{Decides};
@@ -16,7 +16,7 @@ use admin_edits::{Amendment, amended, may_hurt};
 use basics::List;
 use case_record::Case;
 use grant_table::Row;
-use policy_book::{Plan, Policy};
+use policy_book::{Assign, Plan, Policy, StepSet};
 use refutation_tree::Tree;
 use std::alloc::{AllocError, Global};
 use std::sync::Arc;
@@ -80,7 +80,8 @@ fn left_open(
 {
     let mut plans = Vec::new(alloc);
     plans.reserve(rows.len())?;
-    'rows: for row in rows {
+    'rows: for i in 0..rows.len() {
+        let row = &rows[i];
         if let Some(tree) = add_plan(alloc, p, a, after, row, &mut plans)? {
             return Ok(Left::Stranded(row.number(), tree));
         }
@@ -148,9 +149,19 @@ fn outcome_near(alloc: Global, p: &Policy, case: &Case, plan: &Plan) -> Result<O
     ensures { IfOk result (Decides (problem_of p.now case.now.flow) (assigned_of case.now)
         (finished_of case.now)) }
 {
-    let (flow, assigned, done) = (case.flow(), case.assigned(), case.finished());
+    let flow = case.flow();
+    let (assigned, done) = progress_of(case);
     match plan_near(p, flow, &assigned, &done, plan) {
         Some(plan) => Ok(Outcome::Plan(plan)),
         None => solve(alloc, p, flow, &assigned, &done),
     }
+}
+
+// What is assigned in a case, and what of it is finished.
+fn progress_of(case: &Case) -> (Assign, StepSet)
+    ensures assigned { result.0 ≡ assigned_of case.now }
+    ensures finished { result.1 ≡ finished_of case.now }
+    ensures known { AreAssigned result.1 result.0 }
+{
+    (case.assigned(), case.finished())
 }
