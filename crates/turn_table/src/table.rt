@@ -10,11 +10,10 @@ use crate::tabled::Tabled;
 use crate::view::View;
 use atomic_table::Table;
 use std::alloc::{AllocFailed, Global};
-use std::hint;
 use std::marker::Model;
 use std::snapshot::Snapshot;
 use std::sync::Wait;
-use std::thread;
+use std::{hint, thread};
 
 // What word 0 is: the lock is free, it is held, or it is held and the list that the turn gives back is noted.
 const FREE: u64 = 0;
