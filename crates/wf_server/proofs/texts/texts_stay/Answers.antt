@@ -12,5 +12,5 @@ returns c =
     (subst (λ (b : BoardShape). IsKeptState (state_on b)) c.board.ensures.board (record {
       sound = c.policy.ensures.sound;
       kept = c.policy.ensures.kept;
-      roster = subst IsSoundRoster (c.roster.ensures.roster ∙ ap (λ (p : PolicyShape). p.roster) c.policy.ensures.policy) c.users.ensures.sound;
+      roster = subst IsSoundRoster (c.roster.ensures.roster ∙ ap (λ (p : PolicyShape). p.roster) c.policy.ensures.policy) c.users-users.ensures.sound;
     }))
