@@ -40,7 +40,8 @@ fn a_step_that_is_not_mentioned_goes_and_makes_twins(rt: HostRuntime) -> Result<
 
 // What is left of both trees of the trio, whose first rule wants one user for the first and the
 // third step, and whose second rule wants two. Once kim has a step, lee and max are twins still.
-const TRIO_TREE: &str = r#"{"step":"a","users":[["kim",{"step":"c","users":[["kim",{"rule":1}],["lee",{"rule":0}],["max",{"twin":"lee"}]]}],["lee",{"twin":"kim"}],["max",{"twin":"kim"}]]}"#;
+const TRIO_TREE: &str =
+    r#"{"step":"a","users":[["kim",{"step":"c","users":[["kim",{"rule":1}],["lee",{"rule":0}],["max",{"twin":"lee"}]]}],["lee",{"twin":"kim"}],["max",{"twin":"kim"}]]}"#;
 
 fn read_trio(alloc: Global) -> Result<Policy, Fail> {
     let text = format!(in alloc; "{TRIO}{SAME_AND_OTHER}]\n")?;
@@ -49,12 +50,11 @@ fn read_trio(alloc: Global) -> Result<Policy, Fail> {
 
 // The text of a tree once it is trimmed; nothing where the tree does not refute.
 fn trimmed(alloc: Global, p: &Policy, tree: Tree) -> Result<String, AllocError> {
-    if p.flows().len() == 0
-        || !check_tree(p, FLOW, &Assign::empty(), &StepSet::empty(), &tree)
-    {
+    let (a, done) = (Assign::empty(), StepSet::empty());
+    if p.flows().len() == 0 || !check_tree(p, FLOW, &a, &done, &tree) {
         return Ok(String::new(alloc));
     }
-    let lean = wsp_solver::trim(alloc, p, FLOW, &Assign::empty(), &StepSet::empty(), tree)?;
+    let lean = wsp_solver::trim(alloc, p, FLOW, &a, &done, tree)?;
     tree_value(alloc, p, FLOW, &lean)?.to_string(alloc)
 }
 
