@@ -24,8 +24,6 @@ mod stale_tests;
 #[cfg(test)]
 mod tests;
 mod texts;
-#[cfg(test)]
-mod trim_tests;
 mod turns;
 mod words;
 
