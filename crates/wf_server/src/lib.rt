@@ -24,6 +24,8 @@ mod stale_tests;
 #[cfg(test)]
 mod tests;
 mod texts;
+#[cfg(test)]
+mod trim_tests;
 mod turns;
 mod words;
 
