@@ -1,12 +1,14 @@
 -- The place of a name among distinct names.
-use Rattle.std.proofs.Common.{◌≡◌, ℕ, true, false, List, [], ◌∷◌, length, Some, sym, subst, ◌∙◌, arith}
+use Rattle.std.proofs.Common.{IsTrue, ◌≡◌, ℕ, true, false, List, [], ◌∷◌, length, Some, sym, subst, ◌∙◌, arith}
 use Prim.Native.Nat.{zero, suc}
 use Rattle.std.specs.Prelude.{slice_get, nat_eq, nat_lt}
-use Rattle.std.specs.List.{IsDistinct, AllByRecursion, position_or_len}
+use Rattle.std.specs.List.{All, IsDistinct, AllByRecursion, position_or_len}
 use Rattle.std.specs.Cmp.Lexicographic.{pointwise, nat_list_eq_equiv}
 use Rattle.std.proofs.lemmas.Bool.{lt-ltb}
 use Rattle.std.proofs.lemmas.Option.{slice_get_within}
-use Rattle.wf_names.specs.Table.{place_of}
+use Rattle.std.proofs.lemmas.Option.{get_or_from_slice_get}
+use Rattle.wf_names.specs.Names.{is_name}
+use Rattle.wf_names.specs.Table.{place_of, AreNames}
 
 abbrev Differ : List ℕ → List (List ℕ) → Type 0
 Differ x xs = AllByRecursion (λ y. pointwise nat_eq x y ≡ false) xs
@@ -34,3 +36,10 @@ place_of-name names n name h e =
     let here : position_or_len (pointwise nat_eq name) names ≡ n = first_place names n name h e in
     let below : nat_lt n (length names) ≡ true = lt-ltb n (length names) (slice_get_within names n name e) in
     rw (here, below)
+
+-- distinct names, each of a name's form
+pub are_names : (names : List (List ℕ)) → IsDistinct (pointwise nat_eq) names → All (λ name. IsTrue (is_name name)) names → AreNames names
+are_names names distinct named = record {
+  form = λ n name e. subst (λ (x : List ℕ). IsTrue (is_name x)) (get_or_from_slice_get names n name [] e) (named n [] (slice_get_within names n name e));
+  alone = λ n name e. place_of-name names n name distinct e;
+}

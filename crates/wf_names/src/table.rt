@@ -1,6 +1,6 @@
 //! Tables of distinct names, each found by its number and by its text.
 ghost use Rattle.std.specs.Prelude.{◌≡◌, ◌<◌, ◌≤◌, ◌↔◌, IsTrue, ℕ, List, [], ◌∷◌, ◌++◌, length, is_some, IfOk, IfSome, OnOk, OnErr, IsErrOf, true, false, slice_get, Some};
-ghost use Rattle.wf_names.specs.Table.{Table, place_of};
+ghost use Rattle.wf_names.specs.Table.{Table, place_of, AreNames};
 
 use crate::Name;
 use indexmap::IndexSet;
@@ -33,7 +33,11 @@ impl Model for NameTable {
 
     ghost view = { λ t. record { names = t.names.keys; limit = t.limit } };
 
-    ghost invariant = { λ t. (length t.names.keys ≤ t.limit) × (t.limit < 2 ^ 16) };
+    ghost use Rattle.std.specs.Prelude.{IsTrue};
+    ghost use Rattle.std.specs.List.{All};
+    ghost use Rattle.wf_names.specs.Names.{is_name};
+
+    ghost invariant = { λ t. (length t.names.keys ≤ t.limit) × (t.limit < 2 ^ 16) × All (λ name. IsTrue (is_name name)) t.names.keys };
 }
 
 impl NameTable {
@@ -100,6 +104,7 @@ impl NameTable {
     pub fn len(&self) -> u16
         ensures count { result ≡ length self.now.names }
         ensures within { length self.now.names ≤ self.now.limit }
+        ensures names { AreNames self.now.names }
     {
         self.names.len() as u16
     }
