@@ -1,3 +1,4 @@
 pub mod Edits
 pub mod Found
 pub mod Hurting
+pub mod Keeping

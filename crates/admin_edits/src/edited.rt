@@ -29,7 +29,7 @@ pub fn apply(p: &Policy, by: &Name, e: &Edit) -> Result<Policy, EditFault>
 }
 
 /// A copy of a policy with one change that has no fault.
-fn amended(p: &Policy, a: Amendment) -> Result<Policy, AllocError>
+pub fn amended(p: &Policy, a: Amendment) -> Result<Policy, AllocError>
     requires within { IsFound p.now a }
     requires allowed { allowed p.now a ≡ Ok tt }
     ensures { IfOk result (λ q. q ≡ amended p.now a) }

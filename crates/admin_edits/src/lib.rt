@@ -11,6 +11,6 @@ pub mod laws;
 
 pub use amendment::Amendment;
 pub use cause::{amendment_of, edit_cause};
-pub use edited::apply;
+pub use edited::{amended, apply};
 pub use fault::EditFault;
 pub use hurting::may_hurt;

@@ -98,6 +98,13 @@ withdrawn_row r = record r { case = with_phase r.case Withdrawn; plan = None }
 abbrev pub replanned_row : List ℕ → Row → Row
 replanned_row plan r = record r { plan = Some plan }
 
+-- the rows with other plans for the open cases, in order, as far as there are plans
+abbrev pub replanned : List Row → List (List ℕ) → List Row
+replanned [] plans = []
+replanned (r ∷ rs) [] = r ∷ rs
+replanned (r ∷ rs) (plan ∷ plans) =
+    if is_open_row r then replanned_row plan r ∷ replanned rs plans else r ∷ replanned rs (plan ∷ plans)
+
 -- the case with a number alone
 abbrev pub only : ℕ → List Row → List Row
 only n rows = filter (λ r. nat_eq r.number n) rows

@@ -1,5 +1,5 @@
 -- A board and a snapshot of it, as contracts see them.
-use Rattle.std.specs.Prelude.{ℕ, map}
+use Rattle.std.specs.Prelude.{ℕ, List, map}
 use Rattle.policy_book.specs.Shapes.{PolicyShape}
 use Rattle.grant_table.specs.declared.rows.Row.{Row}
 use Rattle.grant_table.specs.Tables.{CasesShape}
@@ -15,6 +15,11 @@ pub record BoardShape : Type 0 where
 pub record SnapShape : Type 0 where
   pub policy : PolicyShape
   pub cases : CasesShape
+
+-- the policy after an edit, with a plan for each case that is open
+pub record EditionShape : Type 0 where
+  pub policy : PolicyShape
+  pub plans : List (List ℕ)
 
 -- a case of a table without its plan
 abbrev pub numbered : Row → Numbered

@@ -1,5 +1,5 @@
 -- Which entries count for a request: they changed what its decision rests on.
-use Rattle.std.specs.Prelude.{◌≡◌, ℕ, ◌+◌, ◌==◌, nat_eq, Bool, false, List, [], ◌∷◌, drop, Option, None, Some, if◌then◌else◌}
+use Rattle.std.specs.Prelude.{◌≡◌, ℕ, ◌+◌, ◌==◌, ◌||◌, nat_eq, Bool, false, true, is_some, List, [], ◌∷◌, drop, Option, None, Some, if◌then◌else◌}
 use Rattle.wf_talk.specs.declared.entry.Entry.{Entry}
 use Rattle.wf_talk.specs.declared.request.Request.{Request}
 use Rattle.wf_talk.specs.declared.request.Request.TheVariants as request
@@ -16,6 +16,7 @@ case_of_request (request.Finish n step user) = Some n
 case_of_request (request.GiveBack n step user) = Some n
 case_of_request (request.Release by n step) = Some n
 case_of_request (request.Withdraw by n) = Some n
+case_of_request (request.Change by edit) = None
 case_of_request (request.Show n) = Some n
 
 -- the case that what was asked names
@@ -38,9 +39,17 @@ abbrev pub is_number : ℕ → Option ℕ → Bool
 is_number n None = false
 is_number n (Some m) = m == n
 
--- whether an entry counts for what is asked: for a claim where it changed its case; no request changes the policy
+-- a reply to an edit that changed the policy
+abbrev pub is_edited : Reply → Bool
+is_edited (reply.Edited number) = true
+is_edited given = false
+
+-- whether an entry counts for what is asked: where it changed the policy, for a claim where it changed its case too, and
+-- for an edit where it changed any case
 abbrev pub counts_for : Entry → Ask → Bool
-counts_for e (ask.Request (request.Claim n step user)) = is_number n (changed_case e.ask e.reply)
+counts_for e (ask.Request (request.OpenCase flow)) = is_edited e.reply
+counts_for e (ask.Request (request.Claim n step user)) = is_edited e.reply || is_number n (changed_case e.ask e.reply)
+counts_for e (ask.Request (request.Change by edit)) = is_edited e.reply || is_some (changed_case e.ask e.reply)
 counts_for e what = false
 
 -- how many pass

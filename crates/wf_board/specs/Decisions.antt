@@ -52,13 +52,14 @@ decision_of b what = do
   given ← decision_aside b what
   unless_denied given (cause_full b given)
 
--- a deed that rests on whether a case can be completed
+-- a deed that rests on whether its case can be completed, or each open case after an edit
 abbrev pub needs_plan : Deed → Bool
 needs_plan (deed.Open f) = true
 needs_plan (deed.Claim n c s u) = true
+needs_plan (deed.Change a) = true
 needs_plan given = false
 
--- no cause, and whether a case can be completed decides
+-- no cause, and whether cases can be completed decides
 abbrev pub needs_verdict : Result Deed Denial → Bool
 needs_verdict (Ok given) = needs_plan given
 needs_verdict (Err d) = false

@@ -1,11 +1,14 @@
 -- What is known of a deed: its numbers are those of things that are there.
-use Rattle.std.specs.Prelude.{◌≡◌, ℕ, ◌<◌, true, List, length, Some}
+use Rattle.std.specs.Prelude.{◌≡◌, ℕ, ◌<◌, true, List, length, Some, Ok}
 use Rattle.policy_book.specs.Shapes.{PolicyShape}
 use Rattle.case_record.specs.Cases.{CaseShape, is_open}
 use Rattle.grant_table.specs.declared.rows.Row.{Row}
 use Rattle.grant_table.specs.Tables.{case_in}
+use Rattle.admin_edits.specs.declared.amendment.Amendment.{Amendment}
+use Rattle.admin_edits.specs.Edits.{allowed}
+use Rattle.admin_edits.specs.Found as edits
 use Rattle.wf_board.specs.declared.deed.Deed.{Deed}
-use Rattle.wf_board.specs.declared.deed.Deed.TheVariants.{Open, Claim, Finish, GiveBack, Release, Withdraw, Show, TurnAway}
+use Rattle.wf_board.specs.declared.deed.Deed.TheVariants.{Open, Claim, Finish, GiveBack, Release, Withdraw, Change, Show, TurnAway}
 use Rattle.wf_board.specs.Kept.{IsOfPolicy}
 
 -- an open case stands at its number, and is of the policy
@@ -20,6 +23,11 @@ pub record AreFound (p : PolicyShape) (rows : List Row) (n : ℕ) (c : CaseShape
   pub step : s < length c.states
   pub user : u < length p.roster.users
 
+-- a change of the policy names what is there, and has no fault
+pub record IsAllowed (p : PolicyShape) (a : Amendment) : Type 0 where
+  pub found : edits.IsFound p a
+  pub allowed : allowed p a ≡ Ok tt
+
 -- the numbers of a deed are those of things that are there
 abbrev pub IsFound : PolicyShape → List Row → Deed → Type 0
 IsFound p rows (Open f) = f < length p.flows
@@ -28,5 +36,6 @@ IsFound p rows (Finish n c s u) = AreFound p rows n c s u
 IsFound p rows (GiveBack n c s u) = AreFound p rows n c s u
 IsFound p rows (Release n c s) = IsOpenAt p rows n c × (s < length c.states)
 IsFound p rows (Withdraw n) = (c : CaseShape) × IsOpenAt p rows n c
+IsFound p rows (Change a) = IsAllowed p a
 IsFound p rows (Show c) = IsOfPolicy p c
 IsFound p rows (TurnAway bad) = Unit {0}

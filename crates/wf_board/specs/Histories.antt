@@ -94,10 +94,11 @@ abbrev pub AreAnsweredOnce : List Entry → Type 0
 AreAnsweredOnce [] = Unit {0}
 AreAnsweredOnce (e ∷ es) = IsAnsweredOnce e × AreAnsweredOnce es
 
--- what a board may have no memory for: an opening or a claim
+-- what a board may have no memory for: an opening, a claim or an edit
 abbrev pub may_lack_memory : Ask → Bool
 may_lack_memory (ask.Request (request.OpenCase flow)) = true
 may_lack_memory (ask.Request (request.Claim n step user)) = true
+may_lack_memory (ask.Request (request.Change by edit)) = true
 may_lack_memory what = false
 
 -- an entry is answered with want of memory only where a board may have none

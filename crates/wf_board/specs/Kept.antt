@@ -3,16 +3,17 @@ use Rattle.std.specs.Prelude.{◌≡◌, ℕ, ◌<◌, true, false, List, [], �
 use Rattle.policy_book.specs.Shapes.{PolicyShape}
 use Rattle.policy_book.specs.Facts.{IsSoundPolicy}
 use Rattle.policy_book.specs.Policies.{flow_at, problem_of}
-use Rattle.policy_book.specs.Plans.{IsCompletable, IsValidPlan}
+use Rattle.policy_book.specs.Plans.{IsCompletable, IsValidPlan, IsWithin}
 use Rattle.case_record.specs.Cases.{CaseShape, assigned_of, finished_of, is_open}
 use Rattle.grant_table.specs.declared.rows.Row.{Row}
 use Rattle.grant_table.specs.Tables.{case_in}
 use Rattle.wf_board.specs.States.{State, case_at}
 
--- a case is of a workflow of the policy, and has its steps
+-- a case is of a workflow of the policy, has its steps, and gives them to users of the policy
 pub record IsOfPolicy (p : PolicyShape) (c : CaseShape) : Type 0 where
   pub flow : c.flow < length p.flows
   pub steps : length c.states ≡ length (flow_at p c.flow).flow.steps
+  pub users : IsWithin (problem_of p c.flow) (assigned_of c)
 
 -- the state is of one policy: each case is of one of its workflows
 pub record IsSoundState (s : State) : Type 0 where

@@ -15,7 +15,10 @@ use Rattle.wf_talk.specs.declared.request.Ask.TheVariants as ask
 use Rattle.wf_talk.specs.declared.reply.Reply.{Reply}
 use Rattle.wf_talk.specs.declared.reply.Reply.TheVariants as reply
 use Rattle.wf_board.specs.declared.deed.Deed.TheVariants as deed
-use Rattle.wf_board.specs.States.{Book, State, case_at, opening_state, step_named, user_named}
+use Rattle.admin_edits.specs.declared.amendment.Amendment.{Amendment}
+use Rattle.admin_edits.specs.Edits.{amended}
+use Rattle.wf_board.specs.States.{Book, State, case_at, open_cases, opening_state, step_named, user_named}
+use Rattle.wf_board.specs.Edited.{CanAllBeCompleted}
 use Rattle.wf_board.specs.Decisions.{decision_of}
 use Rattle.wf_board.specs.Steps.{IsStep, state_after_step}
 use Rattle.wf_board.specs.Histories.{IsLegal, state_after}
@@ -43,6 +46,14 @@ ClaimsAreExact =
     (s : State) (what : Ask) (given : Reply) (n : ℕ) (c : CaseShape) (t u : ℕ) → IsSoundState s →
     decision_of s.book what ≡ Ok (deed.Claim n c t u) → IsStep s what given → ¬ (given ≡ reply.NoMemory) →
     ((plan : List ℕ) × (given ≡ reply.Granted plan)) ↔ IsCompletable (problem_of s.book.policy c.flow) (assigned_with c t u) (finished_of c)
+
+-- in a state of one policy, an edit against which there is no cause and for which there is memory is accepted exactly
+-- where each open case can be completed under the changed policy
+abbrev pub EditsAreExact : Type 0
+EditsAreExact =
+    (s : State) (what : Ask) (given : Reply) (a : Amendment) → IsSoundState s → decision_of s.book what ≡ Ok (deed.Change a) →
+    IsStep s what given → ¬ (given ≡ reply.NoMemory) →
+    ((number : ℕ) × (given ≡ reply.Edited number)) ↔ CanAllBeCompleted (amended s.book.policy a) (open_cases s.book.cases)
 
 -- the case of a claim is open, and its step and its user are there
 pub record AreNamed (b : Book) (n : ℕ) (step user : List ℕ) (c : CaseShape) (t u : ℕ) : Type 0 where

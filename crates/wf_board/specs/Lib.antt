@@ -1,4 +1,5 @@
 pub mod States
+pub mod Edited
 pub mod Resolved
 pub mod Decisions
 pub mod Refusals

@@ -1,9 +1,8 @@
 -- The state of a session.
-use Rattle.std.specs.Prelude.{ℕ, ◌||◌, nat_le, Bool, false, List, [], Option, None, Some, option_map}
-use Rattle.std.specs.List.{count_by}
+use Rattle.std.specs.Prelude.{ℕ, ◌||◌, nat_le, Bool, List, [], Option, option_map}
+use Rattle.std.specs.List.{count_by, filter}
 use Rattle.wf_names.specs.Table.{place_of}
 use Rattle.wf_names.specs.declared.limits.TheConstants.{OPEN_CASE_LIMIT, CASE_LIMIT}
-use Rattle.rbac_state.specs.Rosters.{has_role}
 use Rattle.policy_book.specs.Shapes.{PolicyShape}
 use Rattle.policy_book.specs.Policies.{flow_at}
 use Rattle.case_record.specs.Cases.{CaseShape, is_open}
@@ -50,14 +49,9 @@ step_named b f name = place_of (flow_at b.policy f).flow.steps name
 abbrev pub user_named : Book → List ℕ → Option ℕ
 user_named b name = place_of b.policy.roster.users name
 
--- there is the user, and the user has the admin role
-abbrev pub administers : Book → Option ℕ → Bool
-administers b None = false
-administers b (Some u) = has_role b.policy.roster u b.policy.admin
-
--- the name is that of a user who has the admin role
-abbrev pub is_admin : Book → List ℕ → Bool
-is_admin b name = administers b (user_named b name)
+-- the cases that are open
+abbrev pub open_cases : List Numbered → List Numbered
+open_cases cases = filter (λ e. is_open e.case) cases
 
 -- how many cases are open
 abbrev pub open_count : List Numbered → ℕ

@@ -17,9 +17,12 @@ use Rattle.wf_talk.specs.declared.reply.Reply.TheVariants as reply
 use Rattle.wf_talk.specs.declared.reply.Denial.{Denial}
 use Rattle.wf_talk.specs.declared.reply.Denial.TheVariants as denial
 use Rattle.denial_reasons.specs.Causes.{assigned_with}
+use Rattle.admin_edits.specs.declared.amendment.Amendment.{Amendment}
+use Rattle.admin_edits.specs.Edits.{amended}
 use Rattle.wf_board.specs.declared.deed.Deed.{Deed}
 use Rattle.wf_board.specs.declared.deed.Deed.TheVariants as deed
-use Rattle.wf_board.specs.States.{State, with_case_changed}
+use Rattle.wf_board.specs.States.{State, open_cases, with_case_changed}
+use Rattle.wf_board.specs.Edited.{CanAllBeCompleted, IsFirstStranded}
 use Rattle.wf_board.specs.Decisions.{decision_of}
 
 -- what is to be seen of a case
@@ -40,6 +43,10 @@ IsReplyTo s (deed.Finish n c t u) (reply.Finished done) = done ≡ is_done (fini
 IsReplyTo s (deed.GiveBack n c t u) reply.Returned = Unit {0}
 IsReplyTo s (deed.Release n c t) reply.Released = Unit {0}
 IsReplyTo s (deed.Withdraw n) reply.Withdrawn = Unit {0}
+IsReplyTo s (deed.Change a) (reply.Edited number) =
+    (number ≡ s.edits + 1) × CanAllBeCompleted (amended s.book.policy a) (open_cases s.book.cases)
+IsReplyTo s (deed.Change a) (reply.Denied (denial.Strands n f tree)) =
+    IsFirstStranded (amended s.book.policy a) (open_cases s.book.cases) n f tree
 IsReplyTo s (deed.Show c) (reply.Shown face) = face ≡ face_of c
 IsReplyTo s (deed.TurnAway bad) (reply.Bad b) = b ≡ bad
 IsReplyTo s given answer = ⊥
@@ -66,6 +73,10 @@ with_opened s f = record s {
 abbrev pub with_changed : State → ℕ → (CaseShape → CaseShape) → State
 with_changed s n change = record s { book = record s.book { cases = with_case_changed n change s.book.cases } }
 
+-- with a changed policy, and one more edit
+abbrev pub with_edited : State → Amendment → State
+with_edited s a = record { book = record s.book { policy = amended s.book.policy a }; edits = s.edits + 1 }
+
 -- the state after a deed; all that a row does not name stays
 abbrev pub state_after_deed : State → Deed → Reply → State
 state_after_deed s (deed.Open f) (reply.Opened n plan) = with_opened s f
@@ -74,6 +85,7 @@ state_after_deed s (deed.Finish n c t u) (reply.Finished done) = with_changed s 
 state_after_deed s (deed.GiveBack n c t u) reply.Returned = with_changed s n (λ c. with_state c t Free)
 state_after_deed s (deed.Release n c t) reply.Released = with_changed s n (λ c. with_state c t Free)
 state_after_deed s (deed.Withdraw n) reply.Withdrawn = with_changed s n (λ c. with_phase c Withdrawn)
+state_after_deed s (deed.Change a) (reply.Edited number) = with_edited s a
 state_after_deed s given answer = s
 
 -- the state where the deed or the cause against it is this

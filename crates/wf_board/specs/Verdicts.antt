@@ -8,7 +8,7 @@ use Rattle.policy_book.specs.Plans.{IsValidPlan}
 use Rattle.policy_book.specs.Refuting.{refutes}
 use Rattle.case_record.specs.Cases.{finished_of}
 use Rattle.grant_table.specs.declared.rows.Row.{Row}
-use Rattle.grant_table.specs.Tables.{only}
+use Rattle.grant_table.specs.Tables.{only, open_rows}
 use Rattle.wf_talk.specs.declared.request.Request.TheVariants as request
 use Rattle.wf_talk.specs.declared.request.Ask.{Ask}
 use Rattle.wf_talk.specs.declared.request.Ask.TheVariants as ask
@@ -18,14 +18,16 @@ use Rattle.wf_talk.specs.declared.reply.Denial.{Denial}
 use Rattle.wf_talk.specs.declared.reply.Denial.TheVariants as denial
 use Rattle.refutation_tree.specs.declared.tree.Tree.{Tree}
 use Rattle.denial_reasons.specs.Causes.{assigned_with}
+use Rattle.admin_edits.specs.Edits.{amended}
 use Rattle.wf_board.specs.declared.deed.Deed.{Deed}
 use Rattle.wf_board.specs.declared.deed.Deed.TheVariants as deed
 use Rattle.wf_board.specs.declared.verdict.Verdict.{Verdict}
 use Rattle.wf_board.specs.declared.verdict.Verdict.TheVariants as verdict
 use Rattle.wf_board.specs.declared.verdict.Answered.{Answered}
 use Rattle.wf_board.specs.declared.verdict.Answered.TheVariants.{Done, Needs}
-use Rattle.wf_board.specs.States.{Book}
-use Rattle.wf_board.specs.Boards.{BoardShape, SnapShape, state_on}
+use Rattle.wf_board.specs.States.{Book, open_cases}
+use Rattle.wf_board.specs.Boards.{BoardShape, EditionShape, SnapShape, state_on}
+use Rattle.wf_board.specs.Edited.{ArePlansOf, IsFirstStranded}
 use Rattle.wf_board.specs.Decisions.{decision_aside, decision_of, needs_verdict, takes_memory}
 use Rattle.wf_board.specs.Steps.{IsStep, state_after_step}
 
@@ -42,14 +44,28 @@ IsTreeFor b (Ok (deed.Claim n c t u)) tree =
     IsTrue (refutes (problem_of b.policy c.flow) (assigned_with c t u) (finished_of c) (shape_of tree))
 IsTreeFor b given tree = ⊥
 
+-- an edition of a deed that changes the policy: the changed policy, with a valid plan for each open case
+abbrev pub IsEditionFor : Book → Result Deed Denial → EditionShape → Type 0
+IsEditionFor b (Ok (deed.Change a)) edition =
+    (edition.policy ≡ amended b.policy a) × ArePlansOf edition.policy (open_cases b.cases) edition.plans
+IsEditionFor b given edition = ⊥
+
+-- a tree that shows that a deed which changes the policy leaves the case with a number, the first such, without a plan
+abbrev pub IsStrandingFor : Book → Result Deed Denial → ℕ → Tree → Type 0
+IsStrandingFor b (Ok (deed.Change a)) n tree =
+    (f : ℕ) × IsFirstStranded (amended b.policy a) (open_cases b.cases) n f tree
+IsStrandingFor b given n tree = ⊥
+
 -- a verdict is right: no earlier check denies what is asked, `full` aside, and its plan or tree is one for the deed
 abbrev pub IsRight : Book → Ask → Verdict → Type 0
 IsRight b what verdict.Nothing = Unit {0}
 IsRight b what verdict.NoMemory = Unit {0}
 IsRight b what (verdict.Plan plan) = IsPlanFor b (decision_aside b what) plan
 IsRight b what (verdict.Refuted tree) = IsTreeFor b (decision_aside b what) tree
+IsRight b what (verdict.Edited edition) = IsEditionFor b (decision_aside b what) edition
+IsRight b what (verdict.Strands n tree) = IsStrandingFor b (decision_aside b what) n tree
 
--- a plan or a tree decides a deed
+-- a plan or a tree decides a deed; an edit is decided by neither
 abbrev pub IsCertificate : Book → Result Deed Denial → Verdict → Type 0
 IsCertificate b given (verdict.Plan plan) = IsPlanFor b given plan
 IsCertificate b given (verdict.Refuted tree) = IsTreeFor b given tree
@@ -72,6 +88,8 @@ IsMadeOf (verdict.Plan plan) (reply.Granted q) = q ≡ plan
 IsMadeOf (verdict.Plan plan) (reply.Opened n q) = q ≡ plan
 IsMadeOf (verdict.Refuted tree) (reply.Denied (denial.Stranded f t)) = t ≡ tree
 IsMadeOf (verdict.Refuted tree) (reply.Denied (denial.Unsatisfiable f t)) = t ≡ tree
+IsMadeOf (verdict.Edited edition) (reply.Edited number) = Unit {0}
+IsMadeOf (verdict.Strands n tree) (reply.Denied (denial.Strands m f t)) = (m ≡ n) × (t ≡ tree)
 IsMadeOf v given = ⊥
 
 -- what the board answered is made of this very verdict; it needs one only where there is none
@@ -113,9 +131,10 @@ HasAnswered before after what v Needs =
 HasAnswered before after what v (Done given) =
     IsStep (state_on before) what given × (state_on after ≡ state_after_step (state_on before) what given)
 
--- the rows that a snapshot has for what is asked: the one case of a claim, and else none
+-- the rows that a snapshot has for what is asked: the one case of a claim, the open cases for an edit, and else none
 abbrev pub snap_rows : List Row → Ask → List Row
 snap_rows rows (ask.Request (request.Claim n step user)) = only n rows
+snap_rows rows (ask.Request (request.Change by edit)) = open_rows rows
 snap_rows rows what = []
 
 -- the snapshot of a board for what is asked, with so much room

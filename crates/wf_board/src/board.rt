@@ -73,12 +73,14 @@ impl Board {
         self.cases.reserve(more)
     }
 
-    /// Answers what a line asks, and takes the step. Where nothing but whether the case can be
-    /// completed is left to decide, a verdict decides, which has to be right.
+    /// Answers what a line asks, and takes the step. Where nothing but whether cases can be
+    /// completed is left to decide, a verdict decides, which has to be right. There may have been
+    /// fewer than 4,294,967,295 edits.
     ///
     /// The list of roles of a denied claim takes memory, and an opening without room.
     pub fn answer(&mut self, alloc: Global, ask: &Ask, verdict: Verdict) -> Answered
         requires right { IsRight (state_on self.old).book ask.now verdict }
+        requires few { self.old.edits < 4294967295 }
         ensures answered { HasAnswered self.old self.new ask.now verdict result }
         ensures needs { needs_verdict (decision_of (state_on self.old).book ask.now) ≡ true
             → verdict ≡ Verdict.Nothing → result ≡ Answered.Needs }
@@ -110,7 +112,8 @@ impl Board {
         accepts(policy, &self.cases, ask, verdict)
     }
 
-    /// What has to be known to find a verdict on what is asked: the one case of a claim.
+    /// What has to be known to find a verdict on what is asked: the one case of a claim, and the
+    /// open cases for an edit.
     pub fn snap(&self, alloc: Global, ask: &Ask) -> Result<Snap, AllocError>
         ensures { IfOk result (λ s. s ≡ snap_of self.now ask.now s.cases.spare) }
     {
@@ -129,6 +132,7 @@ impl Board {
     ) -> Reply
         requires ready { V.ready decider.now }
         requires right { IsRight (state_on self.old).book ask.now verdict }
+        requires few { self.old.edits < 4294967295 }
         ensures decided { IsDecided self.old ask.now verdict result }
         ensures next { state_on self.new ≡ state_after_step (state_on self.old) ask.now result }
         ensures room { self.old.cases.spare ≤ self.new.cases.spare + 1 }

@@ -1,5 +1,6 @@
 //! What is asked, with the case as it stands and numbers in place of names.
 
+use admin_edits::Amendment;
 use case_record::Case;
 use wf_names::{CaseId, FlowId, StepId, UserId};
 use wf_talk::Bad;
@@ -41,6 +42,10 @@ pub enum Deed {
     /// To end an open case.
     Withdraw {
         number: CaseId,
+    },
+    /// To change the policy.
+    Change {
+        amendment: Amendment,
     },
     /// To see a case.
     Show {

@@ -1,5 +1,5 @@
 //! Laws of sessions. Each function changes nothing; its contract is the law.
-ghost use Rattle.wf_board.specs.Laws.{ClaimsAreExact, GrantsAreExact, HistoriesKeepCompletable, PlansStayValid, SnapsSuffice, StepsKeepCompletable};
+ghost use Rattle.wf_board.specs.Laws.{ClaimsAreExact, EditsAreExact, GrantsAreExact, HistoriesKeepCompletable, PlansStayValid, SnapsSuffice, StepsKeepCompletable};
 
 /// Whatever is asked and answered, each open case can still be completed.
 pub fn steps_keep_completable()
@@ -20,6 +20,12 @@ pub fn claims_are_exact()
 /// then be completed.
 pub fn grants_are_exact()
     ensures { GrantsAreExact }
+{}
+
+/// An edit is accepted exactly where no cause is against it and each open case can be completed
+/// under the policy that it leaves.
+pub fn edits_are_exact()
+    ensures { EditsAreExact }
 {}
 
 /// When a held step is finished or given back, a valid plan stays valid.

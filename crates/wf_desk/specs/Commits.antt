@@ -1,7 +1,10 @@
 -- What becomes of a job: decided inside the turn, or with the verdict of a task that was found outside it.
-use Rattle.std.specs.Prelude.{◌≡◌, ℕ, ◌+◌, ◌==◌, ◌&&◌, nat_le, Bool, true, false, length, drop, max, slice_set, None, Some}
+use Rattle.std.specs.Prelude.{◌≡◌, ℕ, ◌+◌, ◌==◌, ◌&&◌, ◌||◌, nat_le, Bool, true, false, length, drop, max, slice_set, None, Some}
 use Rattle.std.proofs.Common.{◌⊎◌}
 use Rattle.wf_talk.specs.declared.job.Job.{Job}
+use Rattle.wf_talk.specs.declared.request.Ask.{Ask}
+use Rattle.wf_talk.specs.declared.request.Ask.TheVariants as ask
+use Rattle.wf_talk.specs.declared.request.Request.TheVariants as request
 use Rattle.wf_talk.specs.declared.reply.Reply.{Reply}
 use Rattle.wf_talk.specs.declared.reply.Reply.TheVariants.{Again}
 use Rattle.wf_board.specs.declared.verdict.Verdict.{Verdict}
@@ -78,18 +81,27 @@ HasCommitted before after t v outcome.Lost =
 HasCommitted before after t v (outcome.Recorded place) =
     IsNext before t × HasAdded before after (job_of_task t) place (IsReplyWhere (is_fresh before t) (is_lost before t) before t v)
 
+-- an edit of the policy
+abbrev pub is_change : Ask → Bool
+is_change (ask.Request (request.Change by edit)) = true
+is_change what = false
+
+-- a task that is not lost where its verdict is not certified: no entry since counts for it, or it is an edit
+abbrev pub is_kept : DeskShape → Task → Bool
+is_kept d t = is_fresh d t || is_change t.ask
+
 -- a task was committed with a verdict that was checked once more, whatever was known of it: as above, but that a plan or
--- a tree that is right now decides
+-- a tree that is right now decides, and that an edit is always decided anew inside the turn
 abbrev pub HasCommittedChecked : DeskShape → DeskShape → Task → Verdict → Outcome → Type 0
 HasCommittedChecked before after t v outcome.NotNext = ¬ IsNext before t × (after ≡ before)
 HasCommittedChecked before after t v outcome.Lost =
-    IsNext before t × (¬ IsCertified (state_on before.board).book t.ask v × ((is_fresh before t ≡ false)
+    IsNext before t × (¬ IsCertified (state_on before.board).book t.ask v × ((is_kept before t ≡ false)
     × ((is_lost before t ≡ true) × ((is_last_round before t.lane ≡ false) × (after ≡ with_loss before t.lane)))))
 HasCommittedChecked before after t v (outcome.Recorded place) =
     IsNext before t × HasAdded before after (job_of_task t) place (λ given.
     (IsCertified (state_on before.board).book t.ask v × IsDecided before.board t.ask v given)
     ⊎ (¬ IsCertified (state_on before.board).book t.ask v
-    × IsReplyWhere (is_fresh before t) (is_lost before t) before t verdict.Nothing given))
+    × IsReplyWhere (is_kept before t) (is_lost before t) before t verdict.Nothing given))
 
 -- a lane's next job was decided inside the turn, if it has one
 abbrev pub HasServed : DeskShape → DeskShape → ℕ → Bool → Type 0

@@ -25,7 +25,8 @@ EndsBefore file fault = ⊥
 abbrev pub setting : PolicyShape → Options → Setting
 setting p options = record { policy = p; lanes = options.lanes; rounds = options.rounds }
 
--- the policy of a file is served; no request is answered again, and only an opening or a claim with want of memory
+-- the policy of a file is served; no request is answered again, and only an opening, a claim or an edit with want of
+-- memory
 pub record ServesPolicy (file : List ℕ) (options : Options) (r : Run) : Type 0 where
   pub policy : PolicyShape
   pub within : length file ≤ POLICY_FILE_LIMIT

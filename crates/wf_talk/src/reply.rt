@@ -1,6 +1,6 @@
 //! What the server answers.
 
-use crate::{Bad, RoleList, States};
+use crate::{Bad, Missing, RoleList, States};
 use constraint_forms::Plan;
 use refutation_tree::Tree;
 use wf_names::{CaseId, FlowId, Phase, StepId, StepState, UserId};
@@ -20,6 +20,8 @@ pub enum Reply {
     Opened { case: CaseId, plan: Plan },
     /// The case was ended.
     Withdrawn,
+    /// The policy was changed; it is the change of this number, counted from 1.
+    Edited { number: u32 },
     /// Where the case and its steps stand.
     Shown(Face),
     /// The request was denied, and nothing has changed.
@@ -48,7 +50,7 @@ pub enum Denial {
     NoFlow,
     /// No case of the workflow is opened any more.
     Retired,
-    /// No more cases can be opened.
+    /// No more cases can be opened, no more users added, or no more pairs put into the relation.
     Full,
     /// The workflow has no valid plan, as the tree shows.
     Unsatisfiable { flow: FlowId, tree: Tree },
@@ -74,4 +76,16 @@ pub enum Denial {
     NotHeld(StepState),
     /// No user of that name holds the admin role.
     NotAdmin,
+    /// The policy has nothing of that kind by the name that an edit gives.
+    Unknown(Missing),
+    /// The relation is built in or the complement of another, so its pairs are not listed.
+    Fixed,
+    /// What an edit asks for is so already.
+    Already,
+    /// There is nothing that an edit could take away.
+    Absent,
+    /// Nobody would hold the admin role any more.
+    LastAdmin,
+    /// The edit would leave this open case without a valid plan, as the tree shows.
+    Strands { case: CaseId, flow: FlowId, tree: Tree },
 }

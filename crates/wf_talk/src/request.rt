@@ -1,5 +1,6 @@
 //! What a caller asks.
 
+use crate::Edit;
 use wf_names::{CaseId, Name};
 
 /// A request. The names in it may be unknown to the policy.
@@ -37,6 +38,11 @@ pub enum Request {
     Withdraw {
         by: Name,
         case: CaseId,
+    },
+    /// An administrator changes the policy.
+    Change {
+        by: Name,
+        edit: Edit,
     },
     /// To see where a case and its steps stand.
     Show {

@@ -10,9 +10,24 @@ use Rattle.wf_talk.specs.declared.reply.Reply.TheVariants as reply
 use Rattle.wf_talk.specs.declared.reply.Face.{Face}
 use Rattle.wf_talk.specs.declared.reply.Denial.{Denial}
 use Rattle.wf_talk.specs.declared.reply.Denial.TheVariants as denial
+use Rattle.wf_talk.specs.declared.edit.Missing.{Missing}
+use Rattle.wf_talk.specs.declared.edit.Missing.TheVariants.{Flow, Step, Relation, User, Role}
 use Rattle.policy_book.specs.Shapes.{PolicyShape}
 use Rattle.wire_json.specs.Entries.{word, single, named, names_data, user_data, step_data, plan_data, state_data, seen_data, phase_data, bad_data}
 use Rattle.wire_json.specs.Trees.{tree_data}
+
+-- of which kind nothing has the name that an edit gives
+abbrev pub missing_data : Missing → Data
+missing_data Flow = word (codes "flow")
+missing_data Step = word (codes "step")
+missing_data Relation = word (codes "relation")
+missing_data User = word (codes "user")
+missing_data Role = word (codes "role")
+
+-- the case that an edit would strand, with the tree
+abbrev pub strands_data : ℕ → Data → Data
+strands_data c tree =
+    object (member (codes "case") (number (unsigned c)) (member (codes "tree") tree no_members))
 
 -- why a request was denied
 abbrev pub denial_data : PolicyShape → Denial → Data
@@ -31,6 +46,12 @@ denial_data p (denial.Rule k) = single (codes "rule") (number (unsigned k))
 denial_data p (denial.Stranded f tree) = single (codes "stranded") (tree_data p f (shape_of tree))
 denial_data p (denial.NotHeld state) = single (codes "not_held") (state_data p state)
 denial_data p denial.NotAdmin = word (codes "not_admin")
+denial_data p (denial.Unknown what) = single (codes "unknown") (missing_data what)
+denial_data p denial.Fixed = word (codes "fixed")
+denial_data p denial.Already = word (codes "already")
+denial_data p denial.Absent = word (codes "absent")
+denial_data p denial.LastAdmin = word (codes "last_admin")
+denial_data p (denial.Strands c f tree) = single (codes "strands") (strands_data c (tree_data p f (shape_of tree)))
 
 -- the case and the plan of an opened case
 abbrev pub opened_data : PolicyShape → ℕ → List ℕ → Data
@@ -57,6 +78,7 @@ reply_data p reply.Returned = word (codes "returned")
 reply_data p reply.Released = word (codes "released")
 reply_data p (reply.Opened c plan) = single (codes "opened") (opened_data p c plan)
 reply_data p reply.Withdrawn = word (codes "withdrawn")
+reply_data p (reply.Edited n) = single (codes "edited") (single (codes "number") (number (unsigned n)))
 reply_data p (reply.Shown face) = single (codes "view") (face_data p face)
 reply_data p (reply.Denied d) = single (codes "denied") (denial_data p d)
 reply_data p (reply.Again rounds at) = single (codes "again") (again_data rounds at)

@@ -8,7 +8,9 @@ use Rattle.first_fault.specs.Reading.{◌>>=◌, or_fault, check, each}
 use Rattle.wf_names.specs.declared.limits.TheConstants.{CASE_NUMBER_LIMIT}
 use Rattle.wf_names.specs.Names.{is_name}
 use Rattle.wf_talk.specs.declared.request.Request.{Request}
-use Rattle.wf_talk.specs.declared.request.Request.TheVariants.{OpenCase, Claim, Finish, GiveBack, Release, Withdraw, Show}
+use Rattle.wf_talk.specs.declared.request.Request.TheVariants.{OpenCase, Claim, Finish, GiveBack, Release, Withdraw, Change, Show}
+use Rattle.wf_talk.specs.declared.edit.Edit.{Edit}
+use Rattle.wf_talk.specs.declared.edit.Edit.TheVariants as edit
 use Rattle.wf_talk.specs.declared.request.Bad.{Bad}
 use Rattle.wf_talk.specs.declared.request.Bad.TheVariants.{Syntax, Object, Do, Lane, Key, Extra}
 use Rattle.wf_talk.specs.declared.request.Ask.TheVariants as ask
@@ -66,6 +68,35 @@ flow = codes "flow"
 abbrev pub by : List ℕ
 by = codes "by"
 
+abbrev pub role : List ℕ
+role = codes "role"
+
+abbrev pub first : List ℕ
+first = codes "first"
+
+abbrev pub relation : List ℕ
+relation = codes "relation"
+
+abbrev pub second : List ℕ
+second = codes "second"
+
+-- an edit that the name at the key by asks for
+abbrev pub change : Data → Edit → Request
+change d e = Change (the_name by d) e
+
+-- the edits over a user, over a role and a user, over two users and a relation, and over a workflow, a role and a step
+abbrev pub over_user : (List ℕ → Edit) → Data → Request
+over_user e d = change d (e (the_name user d))
+
+abbrev pub over_member : (List ℕ → List ℕ → Edit) → Data → Request
+over_member e d = change d (e (the_name role d) (the_name user d))
+
+abbrev pub over_pair : (List ℕ → List ℕ → List ℕ → Edit) → Data → Request
+over_pair e d = change d (e (the_name first d) (the_name relation d) (the_name second d))
+
+abbrev pub over_permit : (List ℕ → List ℕ → List ℕ → Edit) → Data → Request
+over_permit e d = change d (e (the_name flow d) (the_name role d) (the_name step d))
+
 -- the requests that are served
 abbrev pub rows : List Row
 rows =
@@ -75,6 +106,15 @@ rows =
     ∷ row (codes "give_back") (case ∷ step ∷ user ∷ []) (λ d. GiveBack (the_case d) (the_name step d) (the_name user d))
     ∷ row (codes "release") (by ∷ case ∷ step ∷ []) (λ d. Release (the_name by d) (the_case d) (the_name step d))
     ∷ row (codes "withdraw") (by ∷ case ∷ []) (λ d. Withdraw (the_name by d) (the_case d))
+    ∷ row (codes "add_user") (by ∷ user ∷ []) (over_user edit.AddUser)
+    ∷ row (codes "leave") (by ∷ user ∷ []) (over_user edit.Leave)
+    ∷ row (codes "enrol") (by ∷ role ∷ user ∷ []) (over_member edit.Enrol)
+    ∷ row (codes "dismiss") (by ∷ role ∷ user ∷ []) (over_member edit.Dismiss)
+    ∷ row (codes "relate") (by ∷ first ∷ relation ∷ second ∷ []) (over_pair edit.Relate)
+    ∷ row (codes "unrelate") (by ∷ first ∷ relation ∷ second ∷ []) (over_pair edit.Unrelate)
+    ∷ row (codes "permit") (by ∷ flow ∷ role ∷ step ∷ []) (over_permit edit.Permit)
+    ∷ row (codes "forbid") (by ∷ flow ∷ role ∷ step ∷ []) (over_permit edit.Forbid)
+    ∷ row (codes "retire") (by ∷ flow ∷ []) (λ d. change d (edit.Retire (the_name flow d)))
     ∷ row (codes "view") (case ∷ []) (λ d. Show (the_case d))
     ∷ []
 
