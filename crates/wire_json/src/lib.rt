@@ -14,5 +14,5 @@ mod word;
 
 pub use finding::{write_plan, write_tree};
 pub use reply::write_entry;
-pub use request::{Asked, read_request};
+pub use request::{Asked, read_request, read_value};
 pub use tree::tree_value;

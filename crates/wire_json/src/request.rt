@@ -48,9 +48,9 @@ fn read_any(alloc: Global, line: &[u8], lanes: u8) -> Result<Asked, AllocError>
     Ok(asked_in(&value, lanes))
 }
 
-// The JSON value of a line, where it is one.
+/// The JSON value of a line; None where it is no JSON.
 #[tactic(auto, unfolding(crate::specs::Values::value_of))]
-fn read_value(alloc: Global, line: &[u8]) -> Result<Option<Value>, AllocError>
+pub fn read_value(alloc: Global, line: &[u8]) -> Result<Option<Value>, AllocError>
     ensures { IfOk result (λ o. option_map view o ≡ value_of line.now) }
 {
     let Ok(text) = str::from_utf8(line) else {

@@ -1,0 +1,4 @@
+pub mod Places
+pub mod Within
+pub mod Lines
+pub mod Values

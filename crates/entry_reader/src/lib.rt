@@ -1,0 +1,12 @@
+//! Reading a transcript's lines back: the place that a line names, and the reply that it tells.
+#![tactic(auto)]
+
+mod fault;
+mod place;
+mod reply;
+mod tree;
+
+pub use fault::TextFault;
+pub use place::{Place, read_place};
+pub use reply::read_reply;
+pub use tree::tree_of;
