@@ -42,7 +42,7 @@ pub record IsEntry (p : PolicyShape) (flows : ℕ → Option ℕ) (e : Entry) : 
 -- a line is the text of an entry
 pub record IsLineOf (p : PolicyShape) (flows : ℕ → Option ℕ) (text : List ℕ) (e : Entry) : Type 0 where
   pub entry : IsEntry p flows e
-  pub text : entry_text p e ≡ text
+  pub written : entry_text p e ≡ text
 
 -- the entry at a place, with its ask and its reply
 abbrev pub entry_at : Place → Ask → Reply → Entry

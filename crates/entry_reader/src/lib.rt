@@ -1,7 +1,12 @@
 //! Reading a transcript's lines back: the place that a line names, and the reply that it tells.
 #![tactic(auto)]
 
+mod denial;
 mod fault;
+mod kind;
+mod list;
+mod names;
+mod parts;
 mod place;
 mod reply;
 mod tree;

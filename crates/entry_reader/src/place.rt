@@ -2,9 +2,10 @@
 ghost use Rattle.std.specs.Prelude.{◌≡◌, IfOk, IsErrOf, None, Some};
 ghost use Rattle.serde_json.specs.View.{view};
 ghost use Rattle.entry_reader.specs.declared.fault.TextFault.TheVariants.{NotText};
-ghost use Rattle.entry_reader.specs.Places.{number_below, place_in, place_of_line};
+ghost use Rattle.entry_reader.specs.Places.{place_in, place_of_line};
 
 use crate::TextFault;
+use crate::parts::number_below;
 use serde_json::Value;
 use std::alloc::Global;
 use wire_json::read_value;
@@ -45,14 +46,4 @@ pub(crate) fn place_in(value: &Value) -> Option<Place>
         lane: lane as u8,
         line: line as u32,
     })
-}
-
-/// The number at a key, where it is below a bound.
-pub(crate) fn number_below(value: &Value, key: &str, bound: u64) -> Option<u64>
-    ensures { result ≡ number_below bound key.now (view value.now) }
-{
-    match value.get(key).and_then(Value::as_u64) {
-        Some(n) if n < bound => Some(n),
-        _ => None,
-    }
 }
