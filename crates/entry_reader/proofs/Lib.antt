@@ -8,3 +8,5 @@ pub mod PlainReplies
 pub mod RepliesBack
 pub mod RepliesWithin
 pub mod LinesBack
+pub mod Small
+pub mod Flows

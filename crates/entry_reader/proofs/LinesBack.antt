@@ -13,9 +13,12 @@ use Rattle.wire_json.specs.Values.{value_of}
 use Rattle.entry_reader.specs.declared.place.Place.{Place}
 use Rattle.entry_reader.specs.Named.{HasNames}
 use Rattle.entry_reader.specs.Places.{number_below, place_in, place_of_line}
-use Rattle.entry_reader.specs.Within.{IsReply}
+use Rattle.refutation_tree.specs.Shapes.{Shape}
+use Rattle.wire_json.specs.Trees.{tree_data}
+use Rattle.entry_reader.proofs.TreesBack.{tree_is, tree_back}
+use Rattle.entry_reader.specs.Within.{IsReply, IsTree}
 use Rattle.entry_reader.specs.Lines.{concerned, IsEntry, IsLineOf, entry_at, HasReply, HasNoReply}
-use Rattle.entry_reader.specs.Values.{at_key}
+use Rattle.entry_reader.specs.Values.{at_key, tree_in}
 use Rattle.entry_reader.specs.Told.{reply_in, entry_in, entry_of_line}
 use Rattle.entry_reader.proofs.Readings.{ReadThen, and_then_some, MappedFrom, map_some, none_some, some_same}
 use Rattle.entry_reader.proofs.ReadBack.{line_back, shallow}
@@ -137,3 +140,11 @@ pub not_written : (p : PolicyShape) (flows : ℕ → Option ℕ) (a : Ask) (text
 not_written p flows a text e k read other d asks h =
     let same : e ≡ d = some_same e d (sym read ∙ told_for p flows a text d k asks h) in
     other (ap (entry_text p) same ∙ h.written)
+
+-- ---- trees
+
+pub tree_told : (p : PolicyShape) (f : ℕ) (d : Data) (t : Shape) → tree_in p f d ≡ Some t → IsTree p f t × (tree_data p f t ≡ d)
+tree_told p f d t e = let r = tree_is p f d t e in (r.tree, r.written)
+
+pub no_tree : (p : PolicyShape) (f : ℕ) (d : Data) → HasNames p → tree_in p f d ≡ None → (t : Shape) → IsTree p f t → tree_data p f t ≢ d
+no_tree p f d k none t h e = none_some t (sym none ∙ ap (tree_in p f) (sym e) ∙ tree_back p f t k h)

@@ -166,9 +166,9 @@ plain_reply p flows f (reply.Edited n) k h =
     (plain_single (codes "number") (number (unsigned n)) (IsUtf8-are_ascii _ refl) (middle n h))
 plain_reply p flows f (reply.Shown face) k h = plain_single (codes "view") (face_data p face) (IsUtf8-are_ascii _ refl) (plain_face p face k h)
 plain_reply p flows f (reply.Denied d) k h = plain_single (codes "denied") (denial_data p d) (IsUtf8-are_ascii _ refl) (plain_denial p flows f d k h)
-plain_reply p flows f (reply.Again rounds number) k h =
-    plain_single (codes "again") (again_data rounds number) (IsUtf8-are_ascii _ refl)
-    (refl, (IsUtf8-are_ascii _ refl, middle number h.1, (IsUtf8-are_ascii _ refl, small rounds h.0, tt)))
+plain_reply p flows f (reply.Again rounds n) k h =
+    plain_single (codes "again") (again_data rounds n) (IsUtf8-are_ascii _ refl)
+    (refl, (IsUtf8-are_ascii _ refl, middle n h.1, (IsUtf8-are_ascii _ refl, small rounds h.0, tt)))
 plain_reply p flows f reply.NoMemory k h = IsUtf8-are_ascii _ refl
 plain_reply p flows f (reply.Bad b) k h = plain_single (codes "bad") (bad_data b) (IsUtf8-are_ascii _ refl) (plain_bad b h)
 

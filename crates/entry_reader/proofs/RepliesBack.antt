@@ -160,6 +160,6 @@ reply_back p flows f reply.Withdrawn k h = refl
 reply_back p flows f (reply.Edited n) k h = rw (lt-ltb n (2 ^ 32) h) refl
 reply_back p flows f (reply.Shown face) k h = ap (option_map reply.Shown) (face_back p face k h)
 reply_back p flows f (reply.Denied d) k h = ap (option_map reply.Denied) (denial_back p flows f d k h)
-reply_back p flows f (reply.Again rounds number) k h = rw (lt-ltb number (2 ^ 32) h.1, lt-ltb rounds 256 h.0) refl
+reply_back p flows f (reply.Again rounds n) k h = rw (lt-ltb n (2 ^ 32) h.1, lt-ltb rounds 256 h.0) refl
 reply_back p flows f reply.NoMemory k h = refl
 reply_back p flows f (reply.Bad b) k h = ap (option_map reply.Bad) (bad_back b h)

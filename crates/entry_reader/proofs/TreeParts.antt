@@ -56,6 +56,24 @@ kid_by_parts p f (array (item d (item e no_items))) rest = refl
 kid_by_parts p f (array (item d (item e (item g ds)))) rest = refl
 kid_by_parts p f (object ms) rest = refl
 
+pub branch_twin : (p : PolicyShape) (f : ℕ) (d s x : Data) (u v : ℕ) (rest : Option Kids) → Some (s, x) ≡ branch_parts d → Some u ≡ user_in p s → Some v ≡ twin_in p x
+    → kid_in p f d rest ≡ option_map (twin_kid u v) rest
+branch_twin p f d s x u v rest e user twin =
+    kid_by_parts p f d rest ∙ ap (kid_of_parts p f rest) (sym e) ∙ ap (option_and_then (λ n. with_kid n (twin_in p x) (tree_in p f x) rest)) (sym user)
+    ∙ ap (λ o. with_kid u o (tree_in p f x) rest) (sym twin)
+
+pub branch_tree : (p : PolicyShape) (f : ℕ) (d s x : Data) (u : ℕ) (t : Shape) (rest : Option Kids) → Some (s, x) ≡ branch_parts d → Some u ≡ user_in p s → None ≡ twin_in p x → tree_in p f x ≡ Some t
+    → kid_in p f d rest ≡ option_map (tree_kid u t) rest
+branch_tree p f d s x u t rest e user twin tree =
+    kid_by_parts p f d rest ∙ ap (kid_of_parts p f rest) (sym e) ∙ ap (option_and_then (λ n. with_kid n (twin_in p x) (tree_in p f x) rest)) (sym user)
+    ∙ ap (λ o. with_kid u o (tree_in p f x) rest) (sym twin) ∙ ap (λ o. with_kid u None o rest) tree
+
+pub branch_bad : (p : PolicyShape) (f : ℕ) (d s x : Data) (u : ℕ) (rest : Option Kids) → Some (s, x) ≡ branch_parts d → Some u ≡ user_in p s → None ≡ twin_in p x → tree_in p f x ≡ None
+    → kid_in p f d rest ≡ None
+branch_bad p f d s x u rest e user twin tree =
+    kid_by_parts p f d rest ∙ ap (kid_of_parts p f rest) (sym e) ∙ ap (option_and_then (λ n. with_kid n (twin_in p x) (tree_in p f x) rest)) (sym user)
+    ∙ ap (λ o. with_kid u o (tree_in p f x) rest) (sym twin) ∙ ap (λ o. with_kid u None o rest) tree
+
 -- ---- depths
 
 deeper_pair : (k l : List ℕ) (d e s u : Data) (b : Bool) → are_node_keys k l ≡ b → Some (s, u) ≡ node_parts (object (member k d (member l e no_members))) → u ≡ e

@@ -134,8 +134,7 @@ node_of p f k l d e t true h kids_are g =
     record {
       tree = subst (λ (x : Shape). IsTree p f x) q.same (s.within, kids.inside);
       written =
-        ap (tree_data p f) (sym q.same) ∙ ap₂ (λ x y. node_data p f r.found (array (items_of (branches_data p f q.found)))) refl refl
-        ∙ (λ i. object (member (first i) (s.written i) (member (second i) (kids.written i) no_members)));
+        ap (tree_data p f) (sym q.same) ∙ (λ i. object (member (first i) (s.written i) (member (second i) (kids.written i) no_members)));
     }
 node_of p f k l d e t false h kids_are g = absurd (none_some t g)
 

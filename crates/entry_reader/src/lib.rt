@@ -9,6 +9,8 @@ mod names;
 mod parts;
 mod place;
 mod reply;
+#[cfg(test)]
+mod tests;
 mod tree;
 
 pub use fault::TextFault;

@@ -101,12 +101,14 @@ pub(crate) fn state_of(p: &Policy, value: &Value) -> Option<StepState>
 }
 
 /// Where a step stands, as a view shows it.
+#[tactic(auto, using(crate::proofs::Small::seen_none, crate::proofs::Small::seen_free, crate::proofs::Small::seen_user))]
 pub(crate) fn seen_of(p: &Policy, value: &Value) -> Option<StepState>
     ensures { result ≡ read.seen_in p.now (view value.now) }
 {
-    match value.as_array()?.as_slice() {
-        [word] => free_state(word.as_str()?),
-        [word, user] => user_state(word.as_str()?, user_of(p, user)?),
+    let items = value.as_array()?;
+    match items.len() {
+        1 => free_state(items[0].as_str()?),
+        2 => user_state(items[0].as_str()?, user_of(p, &items[1])?),
         _ => None,
     }
 }

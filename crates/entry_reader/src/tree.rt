@@ -19,6 +19,7 @@ use std::alloc::Global;
 use wf_names::{FlowId, StepId, UserId};
 
 /// The tree over users of the policy and steps of a workflow whose value this is.
+#[tactic(auto, using(crate::proofs::LinesBack::tree_told, crate::proofs::LinesBack::no_tree))]
 pub fn tree_of(alloc: Global, p: &Policy, f: FlowId, value: &Value) -> Result<Tree, TextFault>
     ensures tree { IfOk result (λ t. IsTree p.now f (shape_of t) × (tree_data p.now f (shape_of t) ≡ view value.now)) }
     ensures none { IsErrOf result NotText → (t : Shape) → IsTree p.now f t → tree_data p.now f t ≢ view value.now }
@@ -81,6 +82,7 @@ fn read_branches(
 
 // The user of a branch, and the twin that it names, or its tree.
 #[cycle(read_tree)]
+#[tactic(auto, using(crate::proofs::TreeParts::branch_twin, crate::proofs::TreeParts::branch_tree, crate::proofs::TreeParts::branch_bad))]
 fn read_branch(alloc: Global, p: &Policy, f: FlowId, value: &Value) -> Result<Branch, TextFault>
     ensures { (rest : Option Kids) → ReadsOnto result rest (read.kid_in p.now f (view value.now) rest) }
 {
@@ -90,11 +92,19 @@ fn read_branch(alloc: Global, p: &Policy, f: FlowId, value: &Value) -> Result<Br
     let Some(user) = user_of(p, user) else {
         return Err(TextFault::NotText);
     };
-    let kid = match twin_of(p, kid) {
-        Some(twin) => Kid::Twin(twin),
-        None => Kid::Tree(read_tree(alloc, p, f, kid)?),
-    };
-    Ok(Branch { user, kid })
+    match twin_of(p, kid) {
+        Some(twin) => Ok(Branch {
+            user,
+            kid: Kid::Twin(twin),
+        }),
+        None => {
+            let tree = read_tree(alloc, p, f, kid)?;
+            Ok(Branch {
+                user,
+                kid: Kid::Tree(tree),
+            })
+        }
+    }
 }
 
 // The step and the users of a node.
@@ -133,13 +143,15 @@ fn leaf_of(p: &Policy, f: FlowId, value: &Value) -> Option<Tree>
 }
 
 // The user and what stands behind it.
+#[tactic(auto, using(crate::proofs::Small::pair_none, crate::proofs::Small::pair_some))]
 fn branch_parts(value: &Value) -> Option<(&Value, &Value)>
     ensures { option_map (λ b. (view b.0.now, view b.1.now)) result ≡ read.branch_parts (view value.now) }
 {
-    match value.as_array()?.as_slice() {
-        [user, kid] => Some((user, kid)),
-        _ => None,
+    let items = value.as_array()?;
+    if items.len() != 2 {
+        return None;
     }
+    Some((&items[0], &items[1]))
 }
 
 // The user of a leaf that names a twin.
