@@ -1,11 +1,11 @@
 -- The steps of workflows that are not there.
-use Rattle.std.proofs.Common.{◌≡◌, ℕ, ◌<◌, ◌≤◌, List, [], length, sym, subst, ap, arith, inl, inr}
+use Rattle.std.proofs.Common.{ℕ, ◌<◌, [], length, sym, subst, arith, inl, inr}
 use Rattle.std.proofs.lemmas.Bool.{cases_lt}
 use Rattle.std.proofs.lemmas.List.{get_or_past}
 use Rattle.std.proofs.lemmas.Option.{slice_get_within}
 use Rattle.policy_book.specs.Shapes.{PolicyShape, WorkflowShape}
 use Rattle.policy_book.specs.Policies.{flow_at, no_workflow}
-use Rattle.entry_reader.specs.Named.{AreNames}
+use Rattle.wf_names.specs.Table.{AreNames}
 
 no_names : AreNames []
 no_names = record {

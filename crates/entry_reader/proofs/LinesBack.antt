@@ -1,14 +1,13 @@
 -- A line is read as the entry whose text it is.
-use Rattle.std.proofs.Common.{◌≡◌, ◌≢◌, ℕ, ◌<◌, ◌≤◌, ◌^◌, List, [], ◌∷◌, ◌++◌, refl, sym, ap, ◌∙◌, subst, arith, lt-ltb, ltb-true, true, false, Bool}
-use Rattle.std.specs.Prelude.{codes, Option, Some, None, option_map, option_and_then, nat_lt, if◌then◌else◌}
-use Rattle.serde_json.specs.Data.{Data, depth}
-use Rattle.serde_json.specs.Read.{max_depth}
+use Rattle.std.proofs.Common.{◌≡◌, ◌≢◌, ℕ, ◌<◌, ◌^◌, List, refl, sym, ap, ◌∙◌, subst, lt-ltb}
+use Rattle.std.specs.Prelude.{codes, Option, Some, None, option_map, option_and_then}
+use Rattle.serde_json.specs.Data.{Data}
 use Rattle.serde_json.specs.Find.{get}
 use Rattle.wf_talk.specs.declared.entry.Entry.{Entry}
 use Rattle.wf_talk.specs.declared.request.Ask.{Ask}
 use Rattle.wf_talk.specs.declared.reply.Reply.{Reply}
 use Rattle.policy_book.specs.Shapes.{PolicyShape}
-use Rattle.wire_json.specs.Replies.{reply_data, entry_data, entry_text}
+use Rattle.wire_json.specs.Replies.{entry_data, entry_text}
 use Rattle.wire_json.specs.Values.{value_of}
 use Rattle.entry_reader.specs.declared.place.Place.{Place}
 use Rattle.entry_reader.specs.Named.{HasNames}
@@ -16,11 +15,11 @@ use Rattle.entry_reader.specs.Places.{number_below, place_in, place_of_line}
 use Rattle.refutation_tree.specs.Shapes.{Shape}
 use Rattle.wire_json.specs.Trees.{tree_data}
 use Rattle.entry_reader.proofs.TreesBack.{tree_is, tree_back}
-use Rattle.entry_reader.specs.Within.{IsReply, IsTree}
+use Rattle.entry_reader.specs.Within.{IsTree}
 use Rattle.entry_reader.specs.Lines.{concerned, IsEntry, IsLineOf, entry_at, HasReply, HasNoReply}
 use Rattle.entry_reader.specs.Values.{at_key, tree_in}
 use Rattle.entry_reader.specs.Told.{reply_in, entry_in, entry_of_line}
-use Rattle.entry_reader.proofs.Readings.{ReadThen, and_then_some, MappedFrom, map_some, none_some, some_same}
+use Rattle.entry_reader.proofs.Readings.{and_then_some, map_some, none_some, some_same}
 use Rattle.entry_reader.proofs.ReadBack.{line_back, shallow}
 use Rattle.entry_reader.proofs.PlainReplies.{Fits, plain_entry}
 use Rattle.entry_reader.proofs.RepliesBack.{reply_back}

@@ -1,6 +1,6 @@
 -- Names are read as the numbers that they were written for.
-use Rattle.std.proofs.Common.{◌≡◌, ℕ, ◌<◌, List, [], length, true, false, Bool, refl, sym, ap, ◌∙◌, subst, IsTrue, IsUtf8}
-use Rattle.std.specs.Prelude.{Option, Some, None, option_map, option_and_then, slice_get, slice_index_or, nat_eq, if◌then◌else◌}
+use Rattle.std.proofs.Common.{◌≡◌, ℕ, ◌<◌, List, [], length, true, false, Bool, refl, sym, ap, ◌∙◌, IsUtf8}
+use Rattle.std.specs.Prelude.{Some, None, slice_get, slice_index_or, nat_eq, if◌then◌else◌}
 use Rattle.std.specs.Cmp.Lexicographic.{pointwise, bytes_decides}
 use Rattle.std.proofs.lemmas.Option.{slice_get-get_or}
 use Rattle.std.proofs.lemmas.List.Quantifiers.{position-Some}
@@ -9,9 +9,9 @@ use Rattle.wf_names.specs.Names.{is_name}
 use Rattle.wf_names.specs.Table.{place_of}
 use Rattle.wf_names.proofs.NameForms.{name_utf8}
 use Rattle.wire_json.specs.Entries.{named}
-use Rattle.entry_reader.specs.Named.{AreNames}
+use Rattle.wf_names.specs.Table.{AreNames}
 use Rattle.entry_reader.specs.Values.{name_in, numbered}
-use Rattle.entry_reader.proofs.Readings.{ReadThen, and_then_some, none_some, some_same}
+use Rattle.entry_reader.proofs.Readings.{and_then_some, none_some, some_same}
 
 -- the name with a number of a table
 there : (names : List (List ℕ)) (n : ℕ) → n < length names → slice_get names n ≡ Some (slice_index_or names n [])

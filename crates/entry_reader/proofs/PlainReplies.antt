@@ -1,10 +1,9 @@
 -- What is written for entries is plain: without floats, its keys in order, its texts UTF-8.
-use Rattle.std.proofs.Common.{◌≡◌, ℕ, suc, ◌+◌, ◌<◌, ◌≤◌, ◌^◌, List, [], ◌∷◌, length, refl, ap, arith, IsUtf8}
-use Rattle.std.specs.Prelude.{codes, map, Option, Some, true}
+use Rattle.std.proofs.Common.{ℕ, suc, ◌<◌, ◌≤◌, ◌^◌, List, [], ◌∷◌, length, refl, arith, IsUtf8}
+use Rattle.std.specs.Prelude.{codes, map, Option}
 use Rattle.std.specs.List.{All}
-use Rattle.std.proofs.lemmas.Str.{IsUtf8-nil}
 use Rattle.json.proofs.Printed.Utf8.{IsUtf8-are_ascii}
-use Rattle.serde_json.specs.Data.{Data, number, unsigned, string, array, object, no_members, member}
+use Rattle.serde_json.specs.Data.{Data, number, unsigned, string}
 use Rattle.serde_json.specs.View.{items_of}
 use Rattle.wf_names.proofs.NameForms.{name_utf8}
 use Rattle.wf_names.specs.declared.states.StepState.{StepState}
@@ -25,15 +24,15 @@ use Rattle.wf_talk.specs.declared.reply.Denial.{Denial}
 use Rattle.wf_talk.specs.declared.reply.Denial.TheVariants as denial
 use Rattle.policy_book.specs.Shapes.{PolicyShape}
 use Rattle.policy_book.specs.Policies.{flow_at}
-use Rattle.wire_json.specs.Entries.{word, single, named, names_data, user_data, step_data, plan_data, state_data, seen_data, phase_data, bad_data}
-use Rattle.wire_json.specs.Trees.{tree_data, branches_data, node_data}
+use Rattle.wire_json.specs.Entries.{single, named, names_data, user_data, step_data, plan_data, state_data, seen_data, phase_data, bad_data}
+use Rattle.wire_json.specs.Trees.{tree_data, branches_data}
 use Rattle.wire_json.specs.Replies.{missing_data, strands_data, denial_data, opened_data, face_data, again_data, reply_data, entry_data}
-use Rattle.entry_reader.specs.Named.{AreNames, HasNames}
-use Rattle.entry_reader.specs.Within.{IsUser, IsPlan, IsTree, AreKids, IsState, IsFace, IsBad, IsDenial, IsReply}
-use Rattle.entry_reader.specs.Lines.{IsEntry, concerned}
+use Rattle.wf_names.specs.Table.{AreNames}
+use Rattle.entry_reader.specs.Named.{HasNames}
+use Rattle.entry_reader.specs.Within.{IsPlan, IsTree, AreKids, IsState, IsFace, IsBad, IsDenial, IsReply}
+use Rattle.entry_reader.specs.Lines.{concerned}
 use Rattle.entry_reader.proofs.NamesBack.{named_utf8}
 use Rattle.entry_reader.proofs.ReadBack.{IsPlain, ArePlain}
-
 
 -- ---- objects and lists
 
@@ -99,9 +98,14 @@ plain_phase Done = IsUtf8-are_ascii _ refl
 plain_phase Withdrawn = IsUtf8-are_ascii _ refl
 
 plain_face : (p : PolicyShape) (face : Face) → HasNames p → IsFace p face → IsPlain (face_data p face)
-plain_face p face k h =
-    (refl, (IsUtf8-are_ascii _ refl, named_utf8 p.flow_names face.flow k.flow_names h.0,
-    (IsUtf8-are_ascii _ refl, plain_phase face.phase, (IsUtf8-are_ascii _ refl, plain_states p face.states k h.2, tt))))
+plain_face p face k h = (
+  refl,
+  (
+    IsUtf8-are_ascii _ refl,
+    named_utf8 p.flow_names face.flow k.flow_names h.0,
+    (IsUtf8-are_ascii _ refl, plain_phase face.phase, (IsUtf8-are_ascii _ refl, plain_states p face.states k h.2, tt)),
+  ),
+)
 
 -- ---- denials
 
@@ -180,6 +184,15 @@ pub record Fits (p : PolicyShape) (flows : ℕ → Option ℕ) (e : Entry) : Typ
   pub reply : IsReply p flows (concerned p flows e.ask) e.reply
 
 pub plain_entry : (p : PolicyShape) (flows : ℕ → Option ℕ) (e : Entry) → HasNames p → Fits p flows e → IsPlain (entry_data p e)
-plain_entry p flows e k h =
-    (refl, (IsUtf8-are_ascii _ refl, middle e.at h.place, (IsUtf8-are_ascii _ refl, small e.lane h.lane,
-    (IsUtf8-are_ascii _ refl, middle e.line h.line, (IsUtf8-are_ascii _ refl, plain_reply p flows (concerned p flows e.ask) e.reply k h.reply, tt)))))
+plain_entry p flows e k h = (
+  refl,
+  (
+    IsUtf8-are_ascii _ refl,
+    middle e.at h.place,
+    (
+      IsUtf8-are_ascii _ refl,
+      small e.lane h.lane,
+      (IsUtf8-are_ascii _ refl, middle e.line h.line, (IsUtf8-are_ascii _ refl, plain_reply p flows (concerned p flows e.ask) e.reply k h.reply, tt)),
+    ),
+  ),
+)

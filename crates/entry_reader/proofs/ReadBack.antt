@@ -1,6 +1,6 @@
 -- What is written in a line is read back: JSON without blanks and without floats, and a line end.
-use Rattle.std.proofs.Common.{◌≡◌, ℕ, suc, ◌<◌, ◌≤◌, ◌^◌, max, Bool, true, false, ◌&&◌, List, [], ◌∷◌, ◌++◌, Some, refl, sym, ap, ap₂, ◌∙◌, subst, arith, append_assoc, append-nil, IsUtf8}
-use Rattle.std.specs.Prelude.{⊤, None, option_map, option_and_then, decimal, ◌==◌, length, if◌then◌else◌}
+use Rattle.std.proofs.Common.{◌≡◌, ℕ, suc, ◌<◌, ◌≤◌, ◌^◌, max, Bool, true, false, ◌&&◌, List, [], ◌∷◌, ◌++◌, Some, refl, sym, ap, ap₂, ◌∙◌, arith, append-nil, IsUtf8}
+use Rattle.std.specs.Prelude.{⊤, None, option_map, option_and_then, ◌==◌, length, if◌then◌else◌}
 use Rattle.std.specs.Str.Lossy.{utf8_valid_len}
 use Rattle.std.specs.Ordering.{nat_cmp, match_ordering}
 use Rattle.std.specs.declared.cmp.Ordering.{Ordering}
@@ -10,7 +10,6 @@ use Rattle.std.proofs.lemmas.Bool.{and_parts}
 use Rattle.std.proofs.lemmas.Fmt.{IsAscii-decimal}
 use Rattle.std.proofs.lemmas.Str.{IsUtf8-append, IsUtf8-nil, IsUtf8-from_ascii}
 use Rattle.json.specs.Lex.{tokens}
-use Rattle.json.specs.Print.{print, IsNumber}
 use Rattle.json.specs.Json as json
 use Rattle.json.specs.Tree as tree
 use Rattle.json.specs.Tree.{json_tokens, HasNumbers, ItemsHaveNumbers, MembersHaveNumbers}
@@ -27,7 +26,7 @@ use Rattle.serde_json.proofs.Texts.{print-outline}
 use Rattle.wire_json.specs.Values.{value_of}
 use Rattle.wire_json.proofs.Values.{value_of_utf8}
 use Rattle.entry_reader.proofs.Ended.{line_end, tokens_of_line}
-use Rattle.entry_reader.proofs.Readings.{ReadThen, and_then_some, none_some, some_same}
+use Rattle.entry_reader.proofs.Readings.{and_then_some, none_some, some_same}
 
 -- a key is greater than each key of some members
 abbrev goes_last : List ℕ → Members → Bool
@@ -216,6 +215,6 @@ shallow d found h e =
     let r = and_then_some (option_and_then (λ p. json.if_last p.0 p.1) (json.value max_depth ts)) of_json found value_at in
     let q = and_then_some (json.value max_depth ts) (λ p. json.if_last p.0 p.1) r.found r.there in
     let whole : json.value (tree.depth (outline d)) ts ≡ Some (outline d, []) =
-        ap (json.value (tree.depth (outline d))) (sym (append-nil ts)) ∙ value-json_tokens (outline d) (tree.depth (outline d)) [] (omega arith) in
+    ap (json.value (tree.depth (outline d))) (sym (append-nil ts)) ∙ value-json_tokens (outline d) (tree.depth (outline d)) [] (omega arith) in
     let same : q.found ≡ (outline d, []) = some_same q.found (outline d, []) (one_reading max_depth (tree.depth (outline d)) ts q.found (outline d, []) q.there whole) in
     omega (arith, value-depth max_depth ts q.found.1 q.found.0 q.there, ap (λ p. tree.depth p.0) same, depths d)

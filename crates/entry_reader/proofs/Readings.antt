@@ -1,11 +1,8 @@
 -- What was read part by part.
-use Rattle.std.proofs.Common.{◌≡◌, ℕ, ◌<◌, List, [], ◌∷◌, ◌++◌, Bool, true, false, length, refl, sym, ap, ◌∙◌, arith, append_assoc, append-nil}
-use Rattle.std.specs.Prelude.{Option, Some, None, option_map, option_and_then, nat_eq, if◌then◌else◌}
-use Rattle.std.specs.List.{find}
-use Rattle.std.specs.Cmp.Lexicographic.{pointwise}
-use Rattle.std.proofs.lemmas.Grind.{common_steps}
-use Rattle.serde_json.specs.Data.{Data, Items, no_items, item}
-use Rattle.entry_reader.specs.Values.{row_of, or_else, each_in}
+use Rattle.std.proofs.Common.{◌≡◌, List, [], ◌∷◌, ◌++◌, refl, sym, ap, ◌∙◌, append_assoc, append-nil}
+use Rattle.std.specs.Prelude.{Option, Some, None, option_map, option_and_then}
+use Rattle.serde_json.specs.Data.{Data, Items, item}
+use Rattle.entry_reader.specs.Values.{each_in}
 
 -- ---- options
 

@@ -1,16 +1,13 @@
 -- Replies are read as they were written.
-use Rattle.std.proofs.Common.{◌≡◌, ℕ, suc, ◌+◌, ◌<◌, ◌≤◌, ◌^◌, List, [], ◌∷◌, length, refl, ap, ◌∙◌, arith, lt-ltb, le-leb, true, Bool}
-use Rattle.std.specs.Prelude.{codes, map, Option, Some, None, option_map, option_and_then, nat_lt, nat_le, if◌then◌else◌, IsTrue}
+use Rattle.std.proofs.Common.{◌≡◌, ℕ, ◌<◌, ◌≤◌, ◌^◌, List, [], ◌∷◌, length, refl, ap, ◌∙◌, arith, lt-ltb, le-leb, true}
+use Rattle.std.specs.Prelude.{codes, map, Option, Some, option_map, option_and_then, nat_lt}
 use Rattle.std.specs.List.{All}
-use Rattle.serde_json.specs.Data.{Data, number, unsigned, string, array, object, no_members, member}
 use Rattle.serde_json.specs.View.{items_of}
-use Rattle.wf_names.specs.Names.{is_name}
 use Rattle.wf_names.specs.declared.limits.TheConstants.{STEP_LIMIT, CASE_NUMBER_LIMIT}
 use Rattle.wf_names.specs.declared.states.StepState.{StepState}
 use Rattle.wf_names.specs.declared.states.StepState.TheVariants.{Free, Held, Finished}
 use Rattle.wf_names.specs.declared.states.Phase.{Phase}
 use Rattle.wf_names.specs.declared.states.Phase.TheVariants.{Live, Done, Withdrawn}
-use Rattle.refutation_tree.specs.Shapes.{Shape}
 use Rattle.refutation_tree.specs.Views.{shape_of}
 use Rattle.refutation_tree.specs.declared.tree.Tree.{Tree}
 use Rattle.refutation_tree.specs.declared.tree.Tree.TheVariants.{Holder, Rule, Step}
@@ -25,13 +22,14 @@ use Rattle.wf_talk.specs.declared.reply.Denial.{Denial}
 use Rattle.wf_talk.specs.declared.reply.Denial.TheVariants as denial
 use Rattle.policy_book.specs.Shapes.{PolicyShape}
 use Rattle.policy_book.specs.Policies.{flow_at}
-use Rattle.wire_json.specs.Entries.{named, names_data, user_data, step_data, plan_data, state_data, seen_data, phase_data, bad_data}
+use Rattle.wire_json.specs.Entries.{named, step_data, plan_data, state_data, seen_data, bad_data}
 use Rattle.wire_json.specs.Trees.{tree_data}
-use Rattle.wire_json.specs.Replies.{missing_data, strands_data, denial_data, opened_data, face_data, again_data, reply_data}
-use Rattle.entry_reader.specs.Named.{AreNames, HasNames}
-use Rattle.entry_reader.specs.Within.{IsUser, IsPlan, IsTree, IsState, IsFace, IsBad, IsConcerned, IsDenial, IsReply}
+use Rattle.wire_json.specs.Replies.{missing_data, strands_data, denial_data, face_data, reply_data}
+use Rattle.wf_names.specs.Table.{AreNames}
+use Rattle.entry_reader.specs.Named.{HasNames}
+use Rattle.entry_reader.specs.Within.{IsPlan, IsTree, IsState, IsFace, IsBad, IsConcerned, IsDenial, IsReply}
 use Rattle.entry_reader.specs.Values.{each_in, few, few_in, numbered, user_in, user_state, seen_in, state_in, tree_in}
-use Rattle.entry_reader.specs.Told.{tree_from, flow_within, tree_by, step_by, case_in, strands_in, missing_in, roles_in, denial_in, plan_in, states_in, phase_in, flow_in, face_in, bad_in, reply_in}
+use Rattle.entry_reader.specs.Told.{tree_from, flow_within, tree_by, step_by, strands_in, missing_in, denial_in, states_in, phase_in, flow_in, face_in, bad_in, reply_in}
 use Rattle.entry_reader.proofs.NamesBack.{numbered_named}
 use Rattle.entry_reader.proofs.PlainReplies.{all_first, all_more}
 use Rattle.entry_reader.proofs.TreesBack.{below_back, user_back, step_back, tree_back}

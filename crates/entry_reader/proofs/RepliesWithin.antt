@@ -1,18 +1,16 @@
 -- What is read as a reply stands for something.
 use Rattle.std.proofs.Common.{◌≡◌, ℕ, zero, suc, ◌+◌, ◌<◌, ◌≤◌, ◌^◌, List, [], ◌∷◌, length, refl, sym, ap, ◌∙◌, subst, arith, ltb-true, leb-true, true, false, Bool, inl, inr, ◌⊎◌}
-use Rattle.std.specs.Prelude.{codes, Option, Some, None, option_map, option_and_then, nat_lt, nat_le, nat_eq, if◌then◌else◌, IsTrue}
+use Rattle.std.specs.Prelude.{codes, Option, Some, None, option_map, option_and_then, nat_lt, nat_le, nat_eq, if◌then◌else◌}
 use Rattle.std.specs.List.{All, find}
 use Rattle.std.specs.Cmp.Lexicographic.{pointwise}
-use Rattle.serde_json.specs.Data.{Data, Items, no_items, item, Members, no_members, member, null, boolean, number, string, array, object}
-use Rattle.serde_json.specs.Find.{get, as_str, as_array, as_bool, as_u64, as_number}
-use Rattle.wf_names.specs.Names.{is_name}
+use Rattle.serde_json.specs.Data.{Data, Items, no_items, item}
+use Rattle.serde_json.specs.Find.{get, as_str, as_array, as_u64, as_number}
 use Rattle.wf_names.specs.declared.limits.TheConstants.{STEP_LIMIT, CASE_NUMBER_LIMIT}
 use Rattle.wf_names.specs.declared.states.StepState.{StepState}
 use Rattle.wf_names.specs.declared.states.StepState.TheVariants.{Free, Held, Finished}
 use Rattle.refutation_tree.specs.Shapes.{Shape, holder, rule, node}
 use Rattle.refutation_tree.specs.Views.{shape_of}
 use Rattle.refutation_tree.specs.declared.tree.Tree.{Tree}
-use Rattle.wf_talk.specs.declared.edit.Missing.{Missing}
 use Rattle.wf_talk.specs.declared.request.Bad.{Bad}
 use Rattle.wf_talk.specs.declared.request.Bad.TheVariants as bad
 use Rattle.wf_talk.specs.declared.reply.Face.{Face}
@@ -28,9 +26,9 @@ use Rattle.entry_reader.specs.declared.kind.DenialKind.{DenialKind}
 use Rattle.entry_reader.specs.declared.kind.DenialKind.TheVariants as why
 use Rattle.entry_reader.specs.Places.{number_below}
 use Rattle.entry_reader.specs.Within.{IsUser, IsRole, IsPlan, IsTree, IsState, IsFace, IsBad, IsConcerned, IsDenial, IsReply}
-use Rattle.entry_reader.specs.Values.{row_of, or_else, only, at_key, below, name_in, numbered, each_in, few, few_in, user_in, step_in, free_state, user_state, state_in, seen_at, seen_in, tree_in}
-use Rattle.entry_reader.specs.Told.{denial_words, denial_kinds, reply_words, reply_kinds, bad_words, tree_from, flow_within, tree_by, step_by, case_in, strands_in, missing_in, roles_in, short_denial, denial_by, denial_in, plan_in, opened_in, states_in, phase_in, flow_in, face_in, again_in, key_in, bad_in, done_in, short_reply, reply_by, reply_in}
-use Rattle.entry_reader.proofs.Readings.{ReadThen, and_then_some, MappedFrom, map_some, none_some, some_same}
+use Rattle.entry_reader.specs.Values.{row_of, or_else, only, below, name_in, numbered, each_in, few, few_in, user_in, step_in, free_state, user_state, state_in, seen_at, seen_in, tree_in}
+use Rattle.entry_reader.specs.Told.{denial_words, denial_kinds, reply_words, reply_kinds, bad_words, tree_from, flow_within, tree_by, step_by, case_in, strands_in, missing_in, roles_in, denial_by, denial_in, plan_in, opened_in, states_in, phase_in, flow_in, face_in, again_in, key_in, bad_in, done_in, reply_by, reply_in}
+use Rattle.entry_reader.proofs.Readings.{and_then_some, map_some, none_some, some_same}
 use Rattle.entry_reader.proofs.NamesBack.{numbered_is, name_text}
 use Rattle.entry_reader.proofs.TreesBack.{below_is, tree_is}
 

@@ -1,9 +1,9 @@
 -- The members of a small object, and the items of an array.
 use Rattle.std.proofs.Common.{◌≡◌, ℕ, zero, suc, ◌+◌, ◌<◌, ◌≤◌, List, [], ◌∷◌, length, drop, get_or, refl, sym, ap, ap₂, ◌∙◌, arith, Global, String, string_bytes}
 use Rattle.std.proofs.lemmas.List.{drop_more}
-use Rattle.std.specs.Prelude.{Option, Some, None, option_and_then, slice_get}
+use Rattle.std.specs.Prelude.{Some, None, option_and_then, slice_get}
 use Rattle.serde_json.specs.declared.value.Value.{Value}
-use Rattle.serde_json.specs.Data.{Data, Items, no_items, item, depth, items_depth}
+use Rattle.serde_json.specs.Data.{no_items, item, depth, items_depth}
 use Rattle.serde_json.specs.Find.{as_str}
 use Rattle.serde_json.specs.View.{view, items_view, members_view}
 use Rattle.policy_book.specs.Shapes.{PolicyShape}

@@ -1,19 +1,19 @@
 -- Trees are read as they were written, and what is read as a tree is what is written for it.
-use Rattle.std.proofs.Common.{◌≡◌, ℕ, ◌<◌, List, [], ◌∷◌, Bool, true, false, refl, sym, ap, ap₂, ◌∙◌, subst, arith, lt-ltb, ltb-true}
-use Rattle.std.specs.Prelude.{Option, Some, None, option_map, option_and_then, codes, nat_lt, nat_eq, if◌then◌else◌, ◌^◌, ◌&&◌}
+use Rattle.std.proofs.Common.{◌≡◌, ℕ, ◌<◌, List, Bool, true, false, refl, sym, ap, ap₂, ◌∙◌, subst, lt-ltb, ltb-true}
+use Rattle.std.specs.Prelude.{Option, Some, None, option_map, option_and_then, codes, nat_lt, nat_eq, if◌then◌else◌}
 use Rattle.std.specs.Cmp.Lexicographic.{pointwise, bytes_decides}
 use Rattle.std.proofs.lemmas.Bool.{and_parts}
-use Rattle.serde_json.specs.Data.{Data, Num, unsigned, negative, float, null, boolean, number, string, array, object, Items, no_items, item, Members, no_members, member}
+use Rattle.serde_json.specs.Data.{Data, unsigned, negative, float, null, boolean, number, string, array, object, Items, no_items, item, Members, no_members, member}
 use Rattle.serde_json.specs.View.{items_of}
 use Rattle.refutation_tree.specs.Shapes.{Shape, Kids, holder, rule, node, no_kids, tree_kid, twin_kid}
 use Rattle.policy_book.specs.Shapes.{PolicyShape}
 use Rattle.policy_book.specs.Policies.{flow_at}
-use Rattle.wire_json.specs.Entries.{named, single, user_data, step_data}
-use Rattle.wire_json.specs.Trees.{tree_data, branches_data, node_data}
+use Rattle.wire_json.specs.Entries.{single, user_data, step_data}
+use Rattle.wire_json.specs.Trees.{tree_data, branches_data}
 use Rattle.entry_reader.specs.Named.{HasNames}
-use Rattle.entry_reader.specs.Within.{IsUser, IsStep, IsRule, IsTree, AreKids}
-use Rattle.entry_reader.specs.Values.{only, below, user_in, step_in, leaf_in, twin_at, twin_in, with_kid, are_node_keys, tree_in, tree_at, kids_of, kids_in, kid_in, kid_at}
-use Rattle.entry_reader.proofs.Readings.{ReadThen, and_then_some, MappedFrom, map_some, none_some, some_same}
+use Rattle.entry_reader.specs.Within.{IsUser, IsStep, IsTree, AreKids}
+use Rattle.entry_reader.specs.Values.{below, user_in, step_in, twin_in, with_kid, are_node_keys, tree_in, tree_at, kids_of, kids_in, kid_in, kid_at}
+use Rattle.entry_reader.proofs.Readings.{and_then_some, map_some, none_some, some_same}
 use Rattle.entry_reader.proofs.NamesBack.{numbered_named, IsNumbered, numbered_is}
 
 -- ---- as they were written
@@ -134,7 +134,7 @@ node_of p f k l d e t true h kids_are g =
     record {
       tree = subst (λ (x : Shape). IsTree p f x) q.same (s.within, kids.inside);
       written =
-        ap (tree_data p f) (sym q.same) ∙ (λ i. object (member (first i) (s.written i) (member (second i) (kids.written i) no_members)));
+          ap (tree_data p f) (sym q.same) ∙ (λ i. object (member (first i) (s.written i) (member (second i) (kids.written i) no_members)));
     }
 node_of p f k l d e t false h kids_are g = absurd (none_some t g)
 

@@ -1,6 +1,6 @@
 -- Inside: what is known of the names of a policy.
 use Rattle.std.specs.Prelude.{ℕ}
-pub use Rattle.wf_names.specs.Table.{AreNames}
+use Rattle.wf_names.specs.Table.{AreNames}
 use Rattle.policy_book.specs.Shapes.{PolicyShape}
 use Rattle.policy_book.specs.Policies.{flow_at}
 

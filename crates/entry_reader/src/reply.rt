@@ -176,10 +176,14 @@ fn short_reply(kind: ReplyKind, value: &Value) -> Option<Reply>
     ensures { result ≡ told.short_reply kind (view value.now) }
 {
     match kind {
-        ReplyKind::Finished => Some(Reply::Finished { done: done_of(value)? }),
+        ReplyKind::Finished => Some(Reply::Finished {
+            done: done_of(value)?,
+        }),
         ReplyKind::Edited => {
             let number = number_below(value, "number", 1 << 32)?;
-            Some(Reply::Edited { number: number as u32 })
+            Some(Reply::Edited {
+                number: number as u32,
+            })
         }
         ReplyKind::Again => again_of(value),
         ReplyKind::Bad => Some(Reply::Bad(bad_of(value)?)),

@@ -159,5 +159,9 @@ fn twin_of(p: &Policy, value: &Value) -> Option<UserId>
     ensures { result ≡ read.twin_in p.now (view value.now) }
 {
     let (key, user) = only(value)?;
-    if key == "twin" { user_of(p, user) } else { None }
+    if key == "twin" {
+        user_of(p, user)
+    } else {
+        None
+    }
 }

@@ -1,7 +1,7 @@
 use Rattle.std.proofs.Common.{length, subst, ap, ◌∙◌, arith}
 use Rattle.policy_book.specs.Policies.{flow_at}
 use borrow.Author.Count.{below_more}
-use Rattle.entry_reader.specs.Named.{AreNames}
+use Rattle.wf_names.specs.Table.{AreNames}
 use Rattle.entry_reader.proofs.Flows.{all_steps}
 use Rattle.entry_reader.proofs.names.know_names.Goals as goal
 

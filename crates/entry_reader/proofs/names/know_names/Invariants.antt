@@ -1,6 +1,6 @@
 use Rattle.std.proofs.Common.{ℕ, ◌<◌}
 use Rattle.policy_book.specs.Policies.{flow_at}
-use Rattle.entry_reader.specs.Named.{AreNames}
+use Rattle.wf_names.specs.Table.{AreNames}
 use Rattle.entry_reader.proofs.names.know_names.Given as goal
 
 abbrev pub invariant-flows : goal.invariant-flows

@@ -1,4 +1,4 @@
-use Rattle.std.proofs.Common.{◌≡◌, sym, ap, ◌∙◌}
+use Rattle.std.proofs.Common.{sym, ap, ◌∙◌}
 use Rattle.std.specs.Prelude.{Some, option_and_then}
 use Rattle.serde_json.specs.View.{view}
 use Rattle.entry_reader.specs.Values.{lone}
