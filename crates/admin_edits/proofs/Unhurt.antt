@@ -88,7 +88,7 @@ problem_with p w = record {
 }
 
 -- after a change of the workflow at g, that at f is the new one, or as it was
-flow_there : (p : PolicyShape) (g : ℕ) (w : WorkflowShape) (f : ℕ) → g < length p.flows → ((f ≡ g) × (flow_at (with_flow p g w) f ≡ w)) ⊎ (flow_at (with_flow p g w) f ≡ flow_at p f)
+pub flow_there : (p : PolicyShape) (g : ℕ) (w : WorkflowShape) (f : ℕ) → g < length p.flows → ((f ≡ g) × (flow_at (with_flow p g w) f ≡ w)) ⊎ (flow_at (with_flow p g w) f ≡ flow_at p f)
 flow_there p g w f within = elim (eqb_tells f g) [
   | inl same ↦ inl (same.1, subst (λ (n : ℕ). flow_at (with_flow p g w) n ≡ w) (sym same.1) (get_or-set_same p.flows g w no_workflow within))
   | inr other ↦ inr (get_or-set_other p.flows g f w no_workflow other.1)

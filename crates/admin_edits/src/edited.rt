@@ -28,7 +28,8 @@ pub fn apply(p: &Policy, by: &Name, e: &Edit) -> Result<Policy, EditFault>
     }
 }
 
-/// A copy of a policy with one change that has no fault.
+/// A copy of a policy with one change that has no fault. The policy that it is made of stays as it
+/// is. Whoever found the change before, as the decider of a session has, need not find it again.
 pub fn amended(p: &Policy, a: Amendment) -> Result<Policy, AllocError>
     requires within { IsFound p.now a }
     requires allowed { allowed p.now a ≡ Ok tt }

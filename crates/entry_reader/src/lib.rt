@@ -3,6 +3,8 @@
 
 mod denial;
 mod fault;
+mod flows;
+mod json;
 mod kind;
 mod list;
 mod names;
@@ -14,6 +16,7 @@ mod tests;
 mod tree;
 
 pub use fault::TextFault;
+pub use flows::FlowOf;
 pub use place::{Place, read_place};
 pub use reply::read_reply;
 pub use tree::tree_of;

@@ -5,10 +5,10 @@ ghost use Rattle.entry_reader.specs.declared.fault.TextFault.TheVariants.{NotTex
 ghost use Rattle.entry_reader.specs.Places.{place_in, place_of_line};
 
 use crate::TextFault;
+use crate::json::read_value;
 use crate::parts::number_below;
 use serde_json::Value;
 use std::alloc::Global;
-use wire_json::read_value;
 
 /// Where an entry stands in a session: its place in the journal, the lane of its job and the number
 /// of the job's line, all counted from 0.

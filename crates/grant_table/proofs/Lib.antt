@@ -3,3 +3,4 @@ pub mod Keeping
 pub mod NextOpen
 pub mod Parts
 pub mod Places
+pub mod Replanning

@@ -100,7 +100,7 @@ later_next n (r ∷ rs) (suc i) e =
     let next = next_prefix i _ _ e in
     rw (not_from r.number n (lt_back _ _ next.0)) (later_next n rs i next.1)
 
-taken_off : (rows : List Row) (i : ℕ) (row : Row) → i < length rows → row ≡ get_or rows i row → drop i rows ≡ row ∷ drop (i + 1) rows
+pub taken_off : (rows : List Row) (i : ℕ) (row : Row) → i < length rows → row ≡ get_or rows i row → drop i rows ≡ row ∷ drop (i + 1) rows
 taken_off rows i row h is =
     let same : suc i ≡ i + 1 = omega arith in
     drop-cons rows i row h ∙ (λ k. sym is k ∷ drop (same k) rows)

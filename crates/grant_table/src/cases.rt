@@ -4,11 +4,11 @@ ghost use Rattle.wf_names.specs.declared.limits.TheConstants.{CASE_LIMIT, OPEN_C
 ghost use Rattle.wf_names.specs.States.{is_done};
 ghost use Rattle.case_record.specs.Cases.{is_open};
 ghost use Rattle.grant_table.specs.Kept.{IsSoundTable};
-ghost use Rattle.grant_table.specs.Tables.{case_at, finished_row, freed_row, held_row, is_open_case, next_open, only, open_count, open_rows, ones, plan_at, row_at, replanned_row, with_case, with_row, withdrawn_row, IsNextOpen, HasFreeStep, HasHeldStep};
+ghost use Rattle.grant_table.specs.Tables.{case_at, finished_row, freed_row, held_row, is_open_case, next_open, only, open_count, open_rows, ones, plan_at, replanned, row_at, with_case, with_row, withdrawn_row, IsNextOpen, HasFreeStep, HasHeldStep};
 
-use crate::changes::{finished, freed, held, replanned, withdrawn};
+use crate::changes::{finished, freed, held, withdrawn};
 use crate::rows::{
-    Row, case_of, next_open, one_live, only, open_rows, plan_in, put, row_of, still_open,
+    Row, case_of, next_open, one_live, only, open_rows, plan_in, put, replan, row_of, still_open,
 };
 use case_record::Case;
 use constraint_forms::Plan;
@@ -121,13 +121,12 @@ impl Cases {
         self.put_row(withdrawn(row), true);
     }
 
-    /// Keeps another plan for an open case.
-    pub(crate) fn keep_plan(&mut self, c: CaseId, plan: Plan)
-        requires { IsSomeAnd (case_at self.old c) (λ k. is_open k ≡ true) }
-        ensures { self.new ≡ with_row self.old c (replanned_row plan) }
+    /// Keeps other plans for the open cases, by ascending number, as far as there are plans. Takes
+    /// no memory.
+    pub fn replace_plans(&mut self, plans: &[Plan])
+        ensures { self.new ≡ record self.old { rows = replanned self.old.rows plans.now } }
     {
-        let row = self.row(c);
-        self.put_row(replanned(row, plan), false);
+        replan(&mut self.rows, plans);
     }
 
     /// The case with a number.
@@ -143,6 +142,13 @@ impl Cases {
         ensures open { is_some result ≡ is_open_case (case_at self.now c) }
     {
         plan_in(&self.rows, c.0)
+    }
+
+    /// All cases with their numbers and kept plans, by ascending number.
+    pub fn rows(&self) -> &[Row]
+        ensures { result.now ≡ self.now.rows }
+    {
+        &self.rows
     }
 
     /// How many cases are open.

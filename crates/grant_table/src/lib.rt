@@ -9,3 +9,4 @@ mod rows;
 mod tests;
 
 pub use cases::Cases;
+pub use rows::Row;

@@ -1,11 +1,11 @@
 //! The calls that keep a plan, which is valid under a policy.
-ghost use Rattle.std.specs.Prelude.{◌≡◌, ◌<◌, true, length, slice_set, Some, IsSomeAnd};
+ghost use Rattle.std.specs.Prelude.{◌≡◌, ◌<◌, length, slice_set, Some, IsSomeAnd};
 ghost use Rattle.wf_names.specs.declared.limits.TheConstants.{CASE_LIMIT, OPEN_CASE_LIMIT};
 ghost use Rattle.constraint_forms.specs.Assigned.{no_steps, no_users};
 ghost use Rattle.policy_book.specs.Policies.{flow_at, problem_of};
 ghost use Rattle.policy_book.specs.Plans.{IsValidPlan};
-ghost use Rattle.case_record.specs.Cases.{assigned_of, finished_of, is_open};
-ghost use Rattle.grant_table.specs.Tables.{case_at, held_row, open_count, replanned_row, with_case, with_row, HasFreeStep};
+ghost use Rattle.case_record.specs.Cases.{assigned_of, finished_of};
+ghost use Rattle.grant_table.specs.Tables.{case_at, held_row, open_count, with_case, with_row, HasFreeStep};
 
 use crate::Cases;
 use constraint_forms::Plan;
@@ -35,15 +35,5 @@ impl Cases {
     {
         let _ = p;
         self.hold_step(c, s, u, plan);
-    }
-
-    /// Keeps another valid plan for an open case.
-    pub fn replace_plan(&mut self, p: &Policy, c: CaseId, plan: Plan)
-        requires open { IsSomeAnd (case_at self.old c) (λ k. is_open k ≡ true) }
-        requires valid { IsSomeAnd (case_at self.old c) (λ k. IsValidPlan (problem_of p.now k.flow) (assigned_of k) (finished_of k) plan) }
-        ensures { self.new ≡ with_row self.old c (replanned_row plan) }
-    {
-        let _ = p;
-        self.keep_plan(c, plan);
     }
 }

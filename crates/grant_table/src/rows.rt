@@ -2,12 +2,14 @@
 ghost use Rattle.std.specs.Prelude.{◌≡◌, ℕ, ◌+◌, ◌<◌, ◌≤◌, Bool, true, cond, nat_lt, length, is_some, None, Some, slice_get, slice_set, IfOk, MatchOption};
 ghost use Rattle.std.specs.List.{prefix_len};
 ghost use Rattle.std.specs.Vec.{vec_capacity, vec_len};
-ghost use Rattle.grant_table.specs.Tables.{case_in, change_row, next_open, only, open_count, open_rows, plan_of, row_at};
+ghost use Rattle.grant_table.specs.Tables.{case_in, change_row, next_open, only, open_count, open_rows, plan_of, replanned, row_at};
 ghost use Rattle.grant_table.specs.Kept.{AscendFrom, IsFound, rows_of};
 
+use crate::changes::replanned;
 use case_record::Case;
 use constraint_forms::Plan;
 use std::alloc::{AllocError, Global};
+use wf_names::CaseId;
 
 /// A case at its number with the plan that is kept for it.
 #[derive(Clone, Copy)]
@@ -15,6 +17,29 @@ pub struct Row {
     pub(crate) number: u16,
     pub(crate) case: Case,
     pub(crate) plan: Option<Plan>,
+}
+
+impl Row {
+    /// The number of the case.
+    pub fn number(&self) -> CaseId
+        ensures { result ≡ self.now.number }
+    {
+        CaseId(self.number)
+    }
+
+    /// The case.
+    pub fn case(&self) -> &Case
+        ensures { result.now ≡ self.now.case }
+    {
+        &self.case
+    }
+
+    /// The plan that is kept for it.
+    pub fn plan(&self) -> Option<Plan>
+        ensures { result ≡ self.now.plan }
+    {
+        self.plan
+    }
 }
 
 /// Where the first row not below a number stands.
@@ -84,6 +109,21 @@ pub(crate) fn put(rows: &mut Vec<Row>, row: Row)
         unreachable!()
     };
     rows[i] = row;
+}
+
+/// Keeps other plans for the open cases, in order, as far as there are plans.
+pub(crate) fn replan(rows: &mut Vec<Row>, plans: &[Plan])
+    ensures rows { rows.new.items ≡ replanned rows.old.items plans.now }
+    ensures len { vec_len rows.new ≡ vec_len rows.old }
+    ensures capacity { vec_capacity rows.new ≡ vec_capacity rows.old }
+{
+    let mut next = 0;
+    'rows: for i in 0..rows.len() {
+        if next < plans.len() && rows[i].case.phase().is_live() {
+            rows[i] = replanned(rows[i], plans[next]);
+            next += 1;
+        }
+    }
 }
 
 /// The least open case not below a number.

@@ -107,8 +107,8 @@ fn steps_are_given_back_and_cases_withdrawn(rt: HostRuntime) -> Result<(), Fail>
     let mut table = table_with_room(rt.alloc(), 3)?;
     open_three(&rt, &mut table);
     give_back_and_withdraw(&mut table);
-    let other = Plan::of(&[CYD, BOB]);
-    assert!(rt; is_live_with(&table, CaseId(0), StepState::Free, StepState::Free, &other));
+    let plan = Plan::of(&[ANN, BOB]);
+    assert!(rt; is_live_with(&table, CaseId(0), StepState::Free, StepState::Free, &plan));
     assert!(rt; is_withdrawn(&table, CaseId(1)) && table.live() == 2);
     Ok(())
 }
@@ -118,12 +118,35 @@ fn give_back_and_withdraw(table: &mut Cases) {
     if holds(table, CaseId(0), FIRST) {
         table.give_back(CaseId(0), FIRST);
     }
-    if is_open(table, CaseId(0)) {
-        table.keep_plan(CaseId(0), Plan::of(&[CYD, BOB]));
-    }
     if is_open(table, CaseId(1)) {
         table.withdraw(CaseId(1));
     }
+}
+
+#[test]
+fn open_cases_get_other_plans_in_order(rt: HostRuntime) -> Result<(), Fail> {
+    let mut table = table_with_room(rt.alloc(), 3)?;
+    open_three(&rt, &mut table);
+    if is_open(&table, CaseId(1)) {
+        table.withdraw(CaseId(1));
+    }
+    table.replace_plans(&[Plan::of(&[CYD, BOB]), Plan::of(&[BOB, CYD])]);
+    assert!(rt; table.plan(CaseId(0)) == Some(Plan::of(&[CYD, BOB])));
+    assert!(rt; table.plan(CaseId(1)).is_none());
+    assert!(rt; table.plan(CaseId(2)) == Some(Plan::of(&[BOB, CYD])));
+    assert!(rt; shows_its_rows(&table));
+    Ok(())
+}
+
+// Whether the rows are those of the three cases, of which the second is withdrawn.
+fn shows_its_rows(table: &Cases) -> bool {
+    let [first, second, third] = table.rows() else {
+        return false;
+    };
+    first.number() == CaseId(0)
+        && first.plan() == table.plan(CaseId(0))
+        && second.case().phase() == Phase::Withdrawn
+        && third.number() == CaseId(2)
 }
 
 fn table_with_room(alloc: Global, room: u16) -> Result<Cases, AllocError> {

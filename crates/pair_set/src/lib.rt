@@ -9,6 +9,7 @@ ghost use Rattle.pair_set.specs.Places.{IsPlaceOf, IsGapFor};
 #[cfg(test)]
 mod tests;
 
+use shared_part::Copied;
 use std::alloc::{AllocError, Global};
 use std::marker::Model;
 
@@ -116,6 +117,18 @@ impl PairSet {
             pairs: self.pairs.clone()?,
         })
     }
+}
+
+impl Clone for PairSet {
+    ghost is_clone = { λ x y. y ≡ x };
+
+    fn clone(&self) -> Result<PairSet, AllocError> {
+        self.copy()
+    }
+}
+
+impl Copied for PairSet {
+    ghost equal = { λ x y h. h };
 }
 
 // Where the pair stands in the list, or where it would.

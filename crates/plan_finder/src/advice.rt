@@ -5,25 +5,64 @@ use crate::problem::{Law, Over, Problem, Relation};
 use crate::rows::{add_user, clear, count, has_user, is_empty, join, meet, put, take_user};
 use crate::work::Work;
 use constraint_forms::Assign;
-use wf_names::StepId;
+use wf_names::{STEP_LIMIT, StepId};
 
-/// The step that is not assigned and has the fewest candidates for the weight of its rules; one that has none comes first.
+/// The step that is not assigned and has the fewest candidates for the weight of its rules. Steps that
+/// have none come first, and of them the one that the fewest users are authorised for.
 pub(crate) fn advised(problem: &Problem, work: &mut Work, a: &Assign) -> Option<StepId> {
     let open = open_steps(problem, a);
     let mut best = None;
-    let mut least = (1u32, 0u32);
+    let mut least = (u32::MAX, 1u32);
+    let mut fewest = u32::MAX;
     for s in 0..problem.steps {
         if !has_bit(open, s) {
             continue;
         }
         let candidates = count_candidates(problem, work, a, s);
         if candidates == 0 {
-            return Some(StepId(s));
+            let users = count(problem.allowed.row(s as usize));
+            if users < fewest {
+                best = Some(StepId(s));
+                fewest = users;
+            }
+        } else if fewest == u32::MAX {
+            let weight = weight_of(problem, work, open, s);
+            if best.is_none() || is_less((candidates, weight), least) {
+                best = Some(StepId(s));
+                least = (candidates, weight);
+            }
         }
-        let weight = weight_of(problem, work, open, s);
-        if best.is_none() || is_less((candidates, weight), least) {
-            best = Some(StepId(s));
-            least = (candidates, weight);
+    }
+    best
+}
+
+/// The steps that are not assigned and have the fewest candidates for the weight of their rules, so many of them.
+pub(crate) fn best_roots(problem: &Problem, work: &mut Work, a: &Assign, most: u32) -> u32 {
+    let open = open_steps(problem, a);
+    let mut shares = [(0u32, 1u32); STEP_LIMIT];
+    for s in 0..problem.steps {
+        let candidates = count_candidates(problem, work, a, s);
+        if (s as usize) < STEP_LIMIT {
+            shares[s as usize] = (candidates, weight_of(problem, work, open, s));
+        }
+    }
+    let mut best = 0u32;
+    for _ in 0..most {
+        if let Some(s) = next_best(&shares, open & !best) {
+            best |= bit(s);
+        }
+    }
+    best
+}
+
+fn next_best(shares: &[(u32, u32)], left: u32) -> Option<u8> {
+    let mut best = None;
+    let mut least = (1u32, 0u32);
+    for (at, share) in shares.iter().enumerate() {
+        let s = (at & 31) as u8;
+        if has_bit(left, s) && (best.is_none() || is_less(*share, least)) {
+            best = Some(s);
+            least = *share;
         }
     }
     best

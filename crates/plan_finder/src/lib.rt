@@ -9,6 +9,7 @@ mod advice;
 mod bits;
 mod branch;
 mod choice;
+mod guide;
 mod laws;
 mod links;
 mod matching;

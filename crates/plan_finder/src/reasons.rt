@@ -7,7 +7,7 @@ use crate::rows::{number_struck, put};
 use crate::work::Work;
 use constraint_forms::Assign;
 use std::alloc::{AllocError, Global};
-use wf_names::{STEP_LIMIT, StepId};
+use wf_names::{RULE_LIMIT, STEP_LIMIT, StepId};
 
 /// The number that stands where no rule is known.
 pub(crate) const NO_RULE: u8 = 0xff;
@@ -73,21 +73,53 @@ impl Reasons {
         for rule in self.row_mut(depth).iter_mut() {
             *rule = NO_RULE;
         }
+        let (rules, mut depths) = self.rules_by_depth(problem, a, s);
         put(work.spare.row_mut(0), problem.allowed.row(s as usize));
-        for deepest in 0..depth {
-            for (k, law) in problem.laws.as_slice().iter().enumerate() {
-                if has_bit(law.scope, s) && self.depth_of(law, a, s) == deepest {
-                    put(work.before.row_mut(0), work.spare.row(0));
-                    restrict(problem, work, law, a, s);
-                    number_struck(
-                        work.before.row(0),
-                        work.spare.row(0),
-                        self.row_mut(depth),
-                        (k & 0xff) as u8,
-                    );
+        for _ in 0..32u8 {
+            let Some(deepest) = pop(&mut depths) else {
+                break
+            };
+            let mut left = match rules.get(deepest as usize) {
+                Some(set) => *set,
+                None => 0,
+            };
+            for _ in 0..RULE_LIMIT {
+                let Some(k) = pop_rule(&mut left) else { break };
+                self.number(problem, work, a, depth, s, k);
+            }
+        }
+    }
+
+    // Gives the number of a rule to the users whom it keeps from a step, and nothing kept so far.
+    fn number(&mut self, problem: &Problem, work: &mut Work, a: &Assign, depth: u8, s: u8, k: u8) {
+        let Some(law) = problem.laws.as_slice().get(k as usize) else {
+            return;
+        };
+        put(work.before.row_mut(0), work.spare.row(0));
+        restrict(problem, work, law, a, s);
+        number_struck(
+            work.before.row(0),
+            work.spare.row(0),
+            self.row_mut(depth),
+            k,
+        );
+    }
+
+    // For each depth the rules that name a step and of whose other steps that are assigned none was
+    // given deeper; and the depths of some rule.
+    fn rules_by_depth(&self, problem: &Problem, a: &Assign, s: u8) -> ([u64; STEP_LIMIT], u32) {
+        let mut rules = [0u64; STEP_LIMIT];
+        let mut depths = 0u32;
+        for (k, law) in problem.laws.as_slice().iter().enumerate() {
+            if has_bit(law.scope, s) {
+                let depth = self.depth_of(law, a, s);
+                if (depth as usize) < STEP_LIMIT {
+                    rules[depth as usize] |= 1u64 << (k & 63);
+                    depths |= bit(depth);
                 }
             }
         }
+        (rules, depths)
     }
 
     // The greatest depth of the other steps of a rule that are assigned.
@@ -103,4 +135,14 @@ impl Reasons {
         }
         deepest
     }
+}
+
+// Takes the least number out of a set of rules.
+fn pop_rule(set: &mut u64) -> Option<u8> {
+    if *set == 0 {
+        return None;
+    }
+    let k = set.trailing_zeros();
+    *set &= set.wrapping_sub(1);
+    Some((k & 63) as u8)
 }

@@ -1,15 +1,16 @@
 //! The runs of a search, each bounded by counted work.
 ghost use Rattle.std.specs.Prelude.{◌<◌, length};
 
-use crate::advice::advised;
+use crate::advice::{advised, best_roots};
 use crate::bits::{NEW, bit, has_bit};
 use crate::branch::Node;
 use crate::choice::{Choice, choose};
+use crate::guide::{Guide, few};
 use crate::laws::settle;
 use crate::matching::matched;
 use crate::problem::{Over, Problem};
 use crate::reasons::Reasons;
-use crate::rows::{add_user, clear, first_apart, has_user, is_empty, put};
+use crate::rows::{add_user, clear, count, first_apart, has_user, is_empty, put};
 use crate::state::State;
 use crate::work::Work;
 use constraint_forms::{Assign, Plan, StepSet};
@@ -39,6 +40,7 @@ pub struct Finder {
     problem: Problem,
     work: Work,
     reasons: Reasons,
+    guide: Guide,
 }
 
 impl Finder {
@@ -53,6 +55,7 @@ impl Finder {
             problem,
             work,
             reasons,
+            guide: Guide::new(),
         })
     }
 
@@ -70,9 +73,24 @@ impl Finder {
         Ok(search(&self.problem, &mut self.work, &mut space, a, done, runs))
     }
 
-    /// A step that is not assigned, which is a good one to try next; it may be another one all the same.
-    pub fn next_step(&mut self, a: &Assign) -> Option<StepId> {
-        advised(&self.problem, &mut self.work, a)
+    /// Begins a run of a search for a tree, which may go further than the run before.
+    pub fn begin_run(&mut self, a: &Assign) {
+        let best = best_roots(&self.problem, &mut self.work, a, few());
+        self.guide.begin(best);
+    }
+
+    /// Counts a try at a depth of a search, and tells whether it is within the bound of the run.
+    pub fn may_try(&mut self, depth: u8) -> bool {
+        self.guide.try_at(depth)
+    }
+
+    /// A step that is not assigned, which is a good one to try next at a depth of a search; it may be
+    /// another one all the same.
+    pub fn next_step(&mut self, a: &Assign, depth: u8) -> Option<StepId> {
+        match self.guide.root() {
+            Some(root) if depth == 0 => Some(StepId(root)),
+            _ => advised(&self.problem, &mut self.work, a),
+        }
     }
 
     /// Makes room for reasons; none is found before.
@@ -83,6 +101,8 @@ impl Finder {
 
     /// Finds for each user a rule that keeps the user from a step, at a depth of a search.
     pub fn find_reasons(&mut self, a: &Assign, depth: u8, s: StepId) {
+        let users = count(self.problem.allowed.row(s.0 as usize));
+        self.guide.enter(depth, s.0, users);
         self.reasons
             .find(&self.problem, &mut self.work, a, depth, s.0);
     }

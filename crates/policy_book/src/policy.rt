@@ -92,13 +92,11 @@ impl Policy {
         if self.flows.reserve(1).is_err() {
             return Err(NameFault::NoMemory);
         }
+        let Ok(workflow) = Workflow::new(self.alloc, flow, rules) else {
+            return Err(NameFault::NoMemory);
+        };
         self.names.add(name)?;
-        let added = self.flows.push(Workflow {
-            flow,
-            rules,
-            retired: false,
-        });
-        match added {
+        match self.flows.push(workflow) {
             Ok(()) => Ok(place),
             Err(_) => unreachable!(),
         }
@@ -150,7 +148,7 @@ impl Policy {
         ensures well_formed { IsWellFormed (problem_of self.now f) }
     {
         let workflow = &self.flows[f.0 as usize];
-        &workflow.rules
+        workflow.rules.get()
     }
 
     /// Whether a workflow is retired: no case of it is opened any more.
@@ -389,7 +387,7 @@ fn copies(alloc: Global, flows: &[Workflow]) -> Result<Vec<Workflow>, AllocError
 {
     let mut copies = Vec::new(alloc);
     'flows: for workflow in flows {
-        copies.push(workflow.copy(alloc)?)?;
+        copies.push(workflow.copy()?)?;
     }
     Ok(copies)
 }

@@ -1,7 +1,8 @@
 //! A workflow of a policy.
-ghost use Rattle.std.specs.Prelude.{◌≡◌, IfOk};
+ghost use Rattle.std.specs.Prelude.{◌≡◌, IfOk, false};
 
 use constraint_forms::Rules;
+use shared_part::Shared;
 use std::alloc::{AllocError, Global};
 use std::marker::Model;
 use workflow_schema::Flow;
@@ -10,7 +11,7 @@ use workflow_schema::Flow;
 #[derive(Drop)]
 pub(crate) struct Workflow {
     pub(crate) flow: Flow,
-    pub(crate) rules: Rules,
+    pub(crate) rules: Shared<Rules>,
     pub(crate) retired: bool,
 }
 
@@ -25,13 +26,24 @@ impl Model for Workflow {
 }
 
 impl Workflow {
+    /// A workflow that is not retired.
+    pub(crate) fn new(alloc: Global, flow: Flow, rules: Rules) -> Result<Workflow, AllocError>
+        ensures { IfOk result (λ w. w ≡ record { flow = flow; rules = rules; retired = false }) }
+    {
+        Ok(Workflow {
+            flow,
+            rules: Shared::new(alloc, rules)?,
+            retired: false,
+        })
+    }
+
     /// A workflow that is equal to this one.
-    pub(crate) fn copy(&self, alloc: Global) -> Result<Workflow, AllocError>
+    pub(crate) fn copy(&self) -> Result<Workflow, AllocError>
         ensures { IfOk result (λ w. w ≡ self.now) }
     {
         Ok(Workflow {
             flow: self.flow.copy()?,
-            rules: self.rules.copy()?,
+            rules: self.rules.share()?,
             retired: self.retired,
         })
     }

@@ -107,7 +107,7 @@ fn kind_of(
     }
     if let Some(value) = find(table, "pairs") {
         let pairs = listed_of(alloc, users, number, value)?;
-        return Ok(Kind::Listed(pairs));
+        return Ok(Kind::of_pairs(alloc, pairs)?);
     }
     match find(table, "complement") {
         Some(value) => Ok(Kind::Complement(complement_of(all, number, value)?)),

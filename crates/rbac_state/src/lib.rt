@@ -10,6 +10,7 @@ ghost use Rattle.rbac_state.specs.Rosters.{RosterShape, has_role, IsSoundRoster}
 mod tests;
 
 use pair_set::PairSet;
+use shared_part::Shared;
 use std::alloc::{AllocError, Global};
 use std::marker::Model;
 use wf_names::{Name, NameFault, NameTable, ROLE_LIMIT, RoleId, USER_LIMIT, UserId};
@@ -30,7 +31,7 @@ pub enum RosterFault {
 pub struct Roster {
     users: NameTable,
     roles: NameTable,
-    members: PairSet,
+    members: Shared<PairSet>,
 }
 
 impl Model for Roster {
@@ -53,10 +54,11 @@ impl Roster {
         requires { length roles.names ≤ ROLE_LIMIT }
         ensures { IfOk result (λ r. r ≡ record { users = []; roles = roles.names; members = set.empty }) }
     {
+        let members = Shared::new(alloc, PairSet::new(alloc))?;
         Ok(Roster {
             users: NameTable::new(alloc, USER_LIMIT)?,
             roles,
-            members: PairSet::new(alloc),
+            members,
         })
     }
 
@@ -88,34 +90,26 @@ impl Roster {
         ensures absent { ¬ IsErrOf result RosterFault.Absent }
         ensures unchanged { OnErr result (self.new ≡ self.old) }
     {
-        match self.members.insert(u.0, r.0 as u16) {
-            Ok(true) => Ok(()),
-            Ok(false) => Err(RosterFault::Already),
-            Err(_) => Err(RosterFault::NoMemory),
-        }
+        enrol_among(&mut self.members, u, r)
     }
 
-    /// Takes a role away from a user. Takes no memory.
+    /// Takes a role away from a user.
     pub fn dismiss(&mut self, u: UserId, r: RoleId) -> Result<(), RosterFault>
         ensures dismissed { OnOk result (self.new ≡ record self.old { members = set.remove self.old.members (u, r) }) }
         ensures held { OnOk result (has_role self.old u r ≡ true) }
 
-        ensures absent { OnErr result (has_role self.old u r ≡ false) }
-        ensures fault { OnErr result (IsErrOf result RosterFault.Absent) }
+        ensures absent { IsErrOf result RosterFault.Absent ↔ (has_role self.old u r ≡ false) }
+        ensures already { ¬ IsErrOf result RosterFault.Already }
         ensures unchanged { OnErr result (self.new ≡ self.old) }
     {
-        if self.members.remove(u.0, r.0 as u16) {
-            Ok(())
-        } else {
-            Err(RosterFault::Absent)
-        }
+        dismiss_among(&mut self.members, u, r)
     }
 
     /// Whether a user has a role.
     pub fn has(&self, u: UserId, r: RoleId) -> bool
         ensures { result ≡ has_role self.now u r }
     {
-        self.members.has(u.0, r.0 as u16)
+        self.members.get().has(u.0, r.0 as u16)
     }
 
     /// The users' names, by their numbers.
@@ -142,7 +136,59 @@ impl Roster {
         Ok(Roster {
             users: self.users.copy()?,
             roles: self.roles.copy()?,
-            members: self.members.copy()?,
+            members: self.members.share()?,
         })
     }
+}
+
+// Gives a user a role, in memberships of which others may have a share.
+fn enrol_among(members: &mut Shared<PairSet>, u: UserId, r: RoleId) -> Result<(), RosterFault>
+    ensures enrolled { OnOk result (members.new ≡ set.insert members.old (u, r)) }
+    ensures fresh { OnOk result (set.contains members.old (u, r) ≡ false) }
+    ensures already { IsErrOf result RosterFault.Already ↔ (set.contains members.old (u, r) ≡ true) }
+    ensures absent { ¬ IsErrOf result RosterFault.Absent }
+    ensures unchanged { OnErr result (members.new ≡ members.old) }
+{
+    if members.get().has(u.0, r.0 as u16) {
+        return Err(RosterFault::Already);
+    }
+    match put_in(members, u, r) {
+        Ok(()) => Ok(()),
+        Err(_) => Err(RosterFault::NoMemory),
+    }
+}
+
+fn put_in(members: &mut Shared<PairSet>, u: UserId, r: RoleId) -> Result<(), AllocError>
+    ensures put { OnOk result (members.new ≡ set.insert members.old (u, r)) }
+    ensures unchanged { OnErr result (members.new ≡ members.old) }
+{
+    let own = members.edit()?;
+    own.insert(u.0, r.0 as u16)?;
+    Ok(())
+}
+
+// Takes a role away from a user, in memberships of which others may have a share.
+fn dismiss_among(members: &mut Shared<PairSet>, u: UserId, r: RoleId) -> Result<(), RosterFault>
+    ensures dismissed { OnOk result (members.new ≡ set.remove members.old (u, r)) }
+    ensures held { OnOk result (set.contains members.old (u, r) ≡ true) }
+    ensures absent { IsErrOf result RosterFault.Absent ↔ (set.contains members.old (u, r) ≡ false) }
+    ensures already { ¬ IsErrOf result RosterFault.Already }
+    ensures unchanged { OnErr result (members.new ≡ members.old) }
+{
+    if !members.get().has(u.0, r.0 as u16) {
+        return Err(RosterFault::Absent);
+    }
+    match take_out(members, u, r) {
+        Ok(()) => Ok(()),
+        Err(_) => Err(RosterFault::NoMemory),
+    }
+}
+
+fn take_out(members: &mut Shared<PairSet>, u: UserId, r: RoleId) -> Result<(), AllocError>
+    ensures taken { OnOk result (members.new ≡ set.remove members.old (u, r)) }
+    ensures unchanged { OnErr result (members.new ≡ members.old) }
+{
+    let own = members.edit()?;
+    own.remove(u.0, r.0 as u16);
+    Ok(())
 }

@@ -10,6 +10,7 @@ use crate::tabled::Tabled;
 use crate::view::View;
 use atomic_table::Table;
 use std::alloc::{AllocFailed, Global};
+use std::hint;
 use std::marker::Model;
 use std::snapshot::Snapshot;
 use std::sync::Wait;
@@ -21,6 +22,20 @@ const FREE: u64 = 0;
 const HELD: u64 = 1;
 
 const NOTED: u64 = 2;
+
+// How often a lane tries to take the lock before it lets other threads go on.
+const SPINS: u32 = 100;
+
+// What a lane does between two tries, of which so many were made since it last let others go on.
+fn pause(tries: u32) -> u32 {
+    if tries < SPINS {
+        hint::spin_loop();
+        tries + 1
+    } else {
+        thread::yield_now();
+        0
+    }
+}
 
 /// A value at which lanes take turns. Contracts see which table it is.
 pub struct TurnTable<D: Tabled> {
@@ -115,13 +130,14 @@ impl<D: Tabled> TurnTable<D> {
         ensures lane { lane.new ≡ record lane.old { out = true; seen = D.list result } }
     {
         let shared = &self.table.shared;
+        let mut tries = 0;
         for _ in rt.forever() {
             let found = shared.compare_exchange::<Lock<D>>(&mut lane.seat, 0, FREE, HELD);
             if found == FREE {
                 lane.out = true;
                 return shared.exchange(&mut lane.seat, 0, None).unwrap();
             }
-            thread::yield_now();
+            tries = pause(tries);
         }
         unreachable!()
     }

@@ -1,5 +1,5 @@
 -- Every change leaves the relations sound.
-use Rattle.std.proofs.Common.{◌≡◌, ℕ, zero, suc, ◌+◌, ◌-◌, ◌<◌, ◌≤◌, Bool, true, false, cond, List, [], ◌∷◌, ◌++◌, length, map, take, drop, refl, sym, ap, ◌∙◌, subst, ◌⊎◌, inl, inr, arith, length-append}
+use Rattle.std.proofs.Common.{◌≡◌, ℕ, zero, suc, ◌+◌, ◌-◌, ◌<◌, ◌≤◌, true, false, cond, List, [], ◌∷◌, ◌++◌, length, map, take, drop, refl, sym, ap, ◌∙◌, subst, ◌⊎◌, inl, inr, arith, length-append}
 use Rattle.std.specs.Prelude.{Some, None, option_map, slice_get, is_some, nat_eq, nat_le, codes, Result, Ok, Err, OnOk, OnErr}
 use Rattle.std.specs.List.{IsDistinct}
 use Rattle.std.specs.FinSet as set
@@ -17,9 +17,9 @@ use Rattle.user_relations.specs.declared.RelationFault.TheVariants.{Already, Ful
 use Rattle.user_relations.specs.Relations.{RelationShape, RelationKind, listed, complement, kind_of, has_list, is_listed, complemented, complement_of, listed_pairs, pairs_of, known_names, change_kind, with_kind}
 use Rattle.user_relations.specs.Faults.{AnswersFault, put_fault, take_fault, relate_fault, unrelate_fault}
 use Rattle.user_relations.specs.Soundness.{AreSound}
-use Rattle.user_relations.specs.declared.kinds.Kind.TheVariants.{Listed}
+use Rattle.std.specs.declared.alloc.AllocError.{AllocError}
 use Rattle.user_relations.specs.declared.kinds.Relation.{Relation}
-use Rattle.user_relations.specs.View.{relation_view, shapes}
+use Rattle.user_relations.specs.View.{shapes}
 use Rattle.user_relations.proofs.Named.{unknown}
 
 abbrev AreUsers : ℕ → ℕ → Type 0
@@ -231,10 +231,11 @@ sound_add_pairs rs name own s below fresh little users =
       ];
     }
 
--- the view of what a push leaves
-pub sound_push_pairs : (ds new : List Relation) (name : List ℕ) (own : Pairs) (b : Bool) → new ≡ cond b (ds ++ (record { name = name; kind = Listed own }) ∷ []) ds
+-- the list that a push leaves
+pub sound_push_pairs : (ds new : List Relation) (name : List ℕ) (own : Pairs) (r : Result (Unit {0}) AllocError)
+    → OnOk r (shapes new ≡ shapes ds ++ (record { name = name; kind = listed own }) ∷ []) → OnErr r (new ≡ ds)
     → AreSound (shapes ds) → length (shapes ds) < RELATION_LIMIT → is_some (place_of (known_names (shapes ds)) name) ≡ false
     → set.len own ≤ PAIR_LIMIT → AllPairs AreUsers own → AreSound (shapes new)
-sound_push_pairs ds new name own true is s below fresh little users =
-    subst AreSound (sym (ap shapes is ∙ map-append relation_view ds (record { name = name; kind = Listed own } ∷ []))) (sound_add_pairs (shapes ds) name own s below fresh little users)
-sound_push_pairs ds new name own false is s below fresh little users = subst (λ (es : List Relation). AreSound (shapes es)) (sym is) s
+sound_push_pairs ds new name own (Ok x) pushed same s below fresh little users =
+    subst AreSound (sym pushed) (sound_add_pairs (shapes ds) name own s below fresh little users)
+sound_push_pairs ds new name own (Err e) pushed same s below fresh little users = subst (λ (es : List Relation). AreSound (shapes es)) (sym same) s

@@ -1,5 +1,5 @@
 //! The declared relations as they are kept, and what each call does to them.
-ghost use Rattle.std.specs.Prelude.{◌≡◌, ◌≢◌, ◌<◌, ◌≤◌, ◌+◌, ℕ, List, [], length, IfOk, IfSome, OnOk, OnErr, MatchOption, IsTrue, Err, slice_get, Some, None, position, nat_eq};
+ghost use Rattle.std.specs.Prelude.{◌≡◌, ◌≢◌, ◌<◌, ◌≤◌, ◌+◌, ℕ, List, [], ◌∷◌, ◌++◌, length, IfOk, IfSome, OnOk, OnErr, MatchOption, IsTrue, slice_get, Some, None, position, nat_eq};
 ghost use Rattle.std.specs.Cmp.Lexicographic.{pointwise};
 ghost use Rattle.std.specs.FinSet as set;
 ghost use Rattle.pair_set.specs.Pairs.{IsAscending};
@@ -12,13 +12,14 @@ ghost use Rattle.user_relations.specs.View.{kind_view, relation_view, shapes};
 
 use crate::RelationFault;
 use pair_set::PairSet;
+use shared_part::Shared;
 use std::alloc::{AllocError, Global};
 use wf_names::{Name, PAIR_LIMIT, RELATION_LIMIT, RelId, UserId};
 
 /// What a declared relation is.
 #[derive(Drop)]
 pub enum Kind {
-    Listed(PairSet),
+    Listed(Shared<PairSet>),
     /// The complement of a listed relation.
     Complement(RelId),
 }
@@ -28,6 +29,15 @@ pub enum Kind {
 pub struct Relation {
     pub name: Name,
     pub kind: Kind,
+}
+
+impl Kind {
+    /// A listed relation with these pairs.
+    pub fn of_pairs(alloc: Global, pairs: PairSet) -> Result<Kind, AllocError>
+        ensures { IfOk result (λ kind. kind_view kind ≡ listed pairs) }
+    {
+        Ok(Kind::Listed(Shared::new(alloc, pairs)?))
+    }
 }
 
 /// The place of a declared relation in the list.
@@ -55,7 +65,7 @@ pub(crate) fn holds(declared: &[Relation], rho: RelId, u: UserId, v: UserId) -> 
 {
     match kind_at(declared, rho) {
         None => false,
-        Some(Kind::Listed(pairs)) => pairs.has(u.0, v.0),
+        Some(Kind::Listed(pairs)) => pairs.get().has(u.0, v.0),
         Some(Kind::Complement(of)) => !is_in_list(declared, *of, u, v),
     }
 }
@@ -65,7 +75,7 @@ fn is_in_list(declared: &[Relation], rho: RelId, u: UserId, v: UserId) -> bool
 {
     match kind_at(declared, rho) {
         None => false,
-        Some(Kind::Listed(pairs)) => pairs.has(u.0, v.0),
+        Some(Kind::Listed(pairs)) => pairs.get().has(u.0, v.0),
         Some(Kind::Complement(_)) => false,
     }
 }
@@ -76,7 +86,7 @@ pub(crate) fn pairs(declared: &[Relation], rho: RelId) -> &[(u16, u16)]
 {
     match kind_at(declared, rho) {
         None => &[],
-        Some(Kind::Listed(pairs)) => pairs.as_slice(),
+        Some(Kind::Listed(pairs)) => pairs.get().as_slice(),
         Some(Kind::Complement(_)) => &[],
     }
 }
@@ -112,9 +122,9 @@ fn put_fault(kind: &Kind, u: UserId, v: UserId) -> Option<RelationFault>
     match kind {
         Kind::Complement(_) => Some(RelationFault::Fixed),
         Kind::Listed(pairs) => {
-            if pairs.has(u.0, v.0) {
+            if pairs.get().has(u.0, v.0) {
                 Some(RelationFault::Already)
-            } else if pairs.len() >= PAIR_LIMIT {
+            } else if pairs.get().len() >= PAIR_LIMIT {
                 Some(RelationFault::Full)
             } else {
                 None
@@ -144,13 +154,27 @@ fn take_fault(kind: &Kind, u: UserId, v: UserId) -> Option<RelationFault>
     match kind {
         Kind::Complement(_) => Some(RelationFault::Fixed),
         Kind::Listed(pairs) => {
-            if !pairs.has(u.0, v.0) {
+            if !pairs.get().has(u.0, v.0) {
                 Some(RelationFault::Absent)
             } else {
                 None
             }
         }
     }
+}
+
+/// Declares a listed relation with these pairs, at the end.
+pub(crate) fn push_listed(
+    declared: &mut Vec<Relation>,
+    name: Name,
+    pairs: PairSet,
+) -> Result<(), AllocError>
+    ensures pushed { OnOk result (shapes declared.new.items ≡ shapes declared.old.items ++ record { name = name; kind = listed pairs } ∷ []) }
+    ensures unchanged { OnErr result (declared.new.items ≡ declared.old.items) }
+{
+    let kind = Kind::of_pairs(*declared.allocator(), pairs)?;
+    declared.push(Relation { name, kind })?;
+    Ok(())
 }
 
 /// Makes a declared relation one of this kind.
@@ -191,10 +215,20 @@ fn put_pair(kind: &mut Kind, u: UserId, v: UserId) -> Result<(), RelationFault>
     let Kind::Listed(pairs) = kind else {
         return Err(RelationFault::Fixed);
     };
-    match pairs.insert(u.0, v.0) {
-        Ok(_) => Ok(()),
+    match insert_into(pairs, u, v) {
+        Ok(()) => Ok(()),
         Err(_) => Err(RelationFault::NoMemory),
     }
+}
+
+// Puts a pair in, where others may have a share of the pairs.
+fn insert_into(pairs: &mut Shared<PairSet>, u: UserId, v: UserId) -> Result<(), AllocError>
+    ensures inserted { OnOk result (pairs.new ≡ set.insert pairs.old (u, v)) }
+    ensures unchanged { OnErr result (pairs.new ≡ pairs.old) }
+{
+    let own = pairs.edit()?;
+    own.insert(u.0, v.0)?;
+    Ok(())
 }
 
 pub(crate) fn unrelate(
@@ -205,7 +239,6 @@ pub(crate) fn unrelate(
 ) -> Result<(), RelationFault>
     ensures unrelated { OnOk result (shapes declared.new ≡ with_kind (shapes declared.old) rho (listed (set.remove (pairs_of (shapes declared.old) rho) (u, v)))) }
     ensures fault { AnswersFault (unrelate_fault (shapes declared.old) rho u v) result }
-    ensures memory { result ≢ Err RelationFault.NoMemory }
     ensures unchanged { OnErr result (shapes declared.new ≡ shapes declared.old) }
 {
     let Some(place) = place(declared, rho) else {
@@ -218,17 +251,28 @@ pub(crate) fn unrelate(
 fn take_pair(kind: &mut Kind, u: UserId, v: UserId) -> Result<(), RelationFault>
     ensures unrelated { OnOk result (kind_view kind.new ≡ listed (set.remove (listed_pairs (Some (kind_view kind.old))) (u, v))) }
     ensures fault { AnswersFault (take_fault (Some (kind_view kind.old)) u v) result }
-    ensures memory { result ≢ Err RelationFault.NoMemory }
     ensures unchanged { OnErr result (kind_view kind.new ≡ kind_view kind.old) }
 {
+    if let Some(fault) = take_fault(kind, u, v) {
+        return Err(fault);
+    }
     let Kind::Listed(pairs) = kind else {
         return Err(RelationFault::Fixed);
     };
-    if pairs.remove(u.0, v.0) {
-        Ok(())
-    } else {
-        Err(RelationFault::Absent)
+    match remove_from(pairs, u, v) {
+        Ok(()) => Ok(()),
+        Err(_) => Err(RelationFault::NoMemory),
     }
+}
+
+// Takes a pair out, where others may have a share of the pairs.
+fn remove_from(pairs: &mut Shared<PairSet>, u: UserId, v: UserId) -> Result<(), AllocError>
+    ensures removed { OnOk result (pairs.new ≡ set.remove pairs.old (u, v)) }
+    ensures unchanged { OnErr result (pairs.new ≡ pairs.old) }
+{
+    let own = pairs.edit()?;
+    own.remove(u.0, v.0);
+    Ok(())
 }
 
 /// The number of the relation with a name.
@@ -292,7 +336,7 @@ fn copy_one(relation: &Relation) -> Result<Relation, AllocError>
     ensures { IfOk result (λ copy. relation_view copy ≡ relation_view relation.now) }
 {
     let kind = match &relation.kind {
-        Kind::Listed(pairs) => Kind::Listed(pairs.copy()?),
+        Kind::Listed(pairs) => Kind::Listed(pairs.share()?),
         Kind::Complement(of) => Kind::Complement(*of),
     };
     Ok(Relation {

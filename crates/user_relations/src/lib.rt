@@ -2,7 +2,7 @@
 //! built-in `same` and `other`.
 #![tactic(auto)]
 
-ghost use Rattle.std.specs.Prelude.{◌≡◌, ◌≢◌, ◌<◌, ◌≤◌, ◌+◌, ◌↔◌, ℕ, List, [], ◌∷◌, ◌++◌, length, is_some, IfOk, IfSome, OnOk, OnErr, IsErrOf, true, false, slice_get, Some, Err};
+ghost use Rattle.std.specs.Prelude.{◌≡◌, ◌≢◌, ◌<◌, ◌≤◌, ◌+◌, ◌↔◌, ℕ, List, [], ◌∷◌, ◌++◌, length, is_some, IfOk, IfSome, OnOk, OnErr, IsErrOf, true, false, slice_get, Some};
 ghost use Rattle.std.specs.FinSet as set;
 ghost use Rattle.pair_set.specs.Pairs.{AllPairs, IsAscending};
 ghost use Rattle.wf_names.specs.declared.limits.TheConstants.{PAIR_LIMIT, RELATION_LIMIT, USER_LIMIT};
@@ -113,8 +113,7 @@ impl Relations {
         if count as u16 >= RELATION_LIMIT {
             return Err(NameFault::Full);
         }
-        let kind = Kind::Listed(pairs);
-        match self.declared.push(Relation { name, kind }) {
+        match kinds::push_listed(&mut self.declared, name, pairs) {
             Ok(()) => Ok(RelId(count + 2)),
             Err(_) => Err(NameFault::NoMemory),
         }
@@ -154,11 +153,10 @@ impl Relations {
         kinds::relate(&mut self.declared, rho, u, v)
     }
 
-    /// Takes a pair out of a listed relation. Takes no memory.
+    /// Takes a pair out of a listed relation.
     pub fn unrelate(&mut self, rho: RelId, u: UserId, v: UserId) -> Result<(), RelationFault>
         ensures unrelated { OnOk result (self.new ≡ with_kind self.old rho (listed (set.remove (pairs_of self.old rho) (u, v)))) }
         ensures fault { AnswersFault (unrelate_fault self.old rho u v) result }
-        ensures memory { result ≢ Err RelationFault.NoMemory }
         ensures unchanged { OnErr result (self.new ≡ self.old) }
     {
         kinds::unrelate(&mut self.declared, rho, u, v)

@@ -8,27 +8,34 @@ use Rattle.policy_book.specs.Shapes.{PolicyShape}
 use Rattle.policy_book.specs.Plans.{IsValidPlan}
 use Rattle.policy_book.specs.Policies.{flow_at, problem_of}
 use Rattle.case_record.specs.Cases.{CaseShape}
-use Rattle.grant_table.specs.Tables.{CasesShape, open_count, with_case}
+use Rattle.grant_table.specs.Tables.{CasesShape, case_in, open_count, with_case}
 use Rattle.wf_names.specs.declared.limits.TheConstants.{CASE_LIMIT, OPEN_CASE_LIMIT}
 use Rattle.denial_reasons.specs.Causes.{unless}
 use Rattle.wf_talk.specs.declared.request.Ask.{Ask}
 use Rattle.wf_talk.specs.declared.reply.Reply.{Reply}
 use Rattle.wf_talk.specs.declared.reply.Reply.TheVariants as reply
 use Rattle.wf_talk.specs.declared.reply.Denial.{Denial}
-use Rattle.wf_talk.specs.declared.reply.Denial.TheVariants.{Full}
+use Rattle.wf_talk.specs.declared.reply.Denial.TheVariants.{Full, Strands}
+use Rattle.admin_edits.specs.Edits.{amended}
+use Rattle.admin_edits.specs.declared.amendment.Amendment.{Amendment}
+use Rattle.grant_table.specs.Kept.{AscendFrom, IsSoundTable}
+use Rattle.wf_board.specs.Edited.{ArePlansOf, IsFirstStranded}
+use Rattle.wf_board.proofs.Amended.{IsChange, change_decided, edited_keeps, edited_state, edition_change, plans_complete, stranded_case, stranding_change, with_plans}
+use Rattle.wf_board.proofs.Told.{HoldsOf, IsTold, aside_told}
+use Rattle.wf_board.specs.Found.{IsAllowed}
 use Rattle.wf_board.specs.declared.deed.Deed.{Deed}
 use Rattle.wf_board.specs.declared.deed.Deed.TheVariants as deed
 use Rattle.wf_board.specs.declared.verdict.Verdict.{Verdict}
 use Rattle.wf_board.specs.declared.verdict.Verdict.TheVariants as verdict
 use Rattle.wf_board.specs.declared.verdict.Answered.{Answered}
 use Rattle.wf_board.specs.declared.verdict.Answered.TheVariants.{Done, Needs}
-use Rattle.wf_board.specs.Boards.{book_of, state_on}
+use Rattle.wf_board.specs.Boards.{EditionShape, book_of, state_on}
 use Rattle.wf_board.specs.Decisions.{cause_aside, decision_aside, decision_of, needs_plan, needs_verdict, takes_memory, unless_denied}
 use Rattle.wf_board.specs.Resolved.{resolve}
-use Rattle.wf_board.specs.States.{Book, State, is_full}
+use Rattle.wf_board.specs.States.{Book, State, is_full, open_cases}
 use Rattle.wf_board.specs.Steps.{Answers, state_after_decision, with_changed}
 use Rattle.wf_board.specs.Taking.{board_of, full_or, HasAnsweredAlone, HasAnsweredBy, HasChanged, HasTaken, IsKept}
-use Rattle.wf_board.specs.Verdicts.{is_opening, IsMadeOf, IsPlanFor, IsTreeFor}
+use Rattle.wf_board.specs.Verdicts.{HasAnswered, IsEditionFor, is_opening, IsMadeOf, IsPlanFor, IsStrandingFor, IsTreeFor}
 use Rattle.wf_board.proofs.Rows.{case_numbered, open_numbered}
 use Rattle.wf_board.proofs.Planned.{known_case, opened_keeps, opened_state, plan_kept}
 use Rattle.policy_book.specs.Facts.{IsSoundPolicy}
@@ -143,6 +150,69 @@ tree_deed b what d tree is right = by_cause (cause_aside b d) refl (subst (λ r.
 pub no_tree : {X : Type 0} (b : Book) (what : Ask) (x : Denial) (tree : Tree) → resolve b what ≡ Err x → IsTreeFor b (decision_aside b what) tree → X
 no_tree b what x tree is right = absurd (subst (λ r. IsTreeFor b (r >>= (λ given. unless_denied given (cause_aside b given))) tree) is right)
 
+-- ---- edits
+
+-- a denial by a case that would be stranded
+pub stranding_taken : (p : PolicyShape) (t : CasesShape) (what : Ask) (n f : ℕ) (tree : Tree) → IsKept p t → AscendFrom 0 t.rows → IsStrandingFor (book_of p t) (decision_aside (book_of p t) what) n tree →
+    ((c : CaseShape) → case_in n t.rows ≡ Some c → f ≡ c.flow) → HasTaken p t t (decision_of (book_of p t) what) (reply.Denied (Strands n f tree))
+stranding_taken p t what n f tree kept order is flow =
+    let change = stranding_change (book_of p t) (decision_aside (book_of p t) what) n tree is in
+    let a = change.amendment in
+    let found = stranded_case (amended p a) t.rows n change.flow tree order change.stranded in
+    let same : change.flow ≡ f = sym found.flow ∙ sym (flow found.case found.there) in
+    subst (λ r. HasTaken p t t r (reply.Denied (Strands n f tree))) (sym (change_decided (book_of p t) what a change.decided))
+    (same_taken p t (Ok (deed.Change a)) (reply.Denied (Strands n f tree)) kept
+    (λ edits. subst (λ g. IsFirstStranded (amended p a) (open_cases (book_of p t).cases) n g tree) same change.stranded) (λ s. refl))
+
+-- the case that would be stranded is there
+pub stranding_there : {X : Type 0} (p : PolicyShape) (t : CasesShape) (what : Ask) (n : ℕ) (tree : Tree) → AscendFrom 0 t.rows →
+    IsStrandingFor (book_of p t) (decision_aside (book_of p t) what) n tree → case_in n t.rows ≡ None → X
+stranding_there p t what n tree order is none =
+    let change = stranding_change (book_of p t) (decision_aside (book_of p t) what) n tree is in
+    let found = stranded_case (amended p change.amendment) t.rows n change.flow tree order change.stranded in
+    no_such found.case (sym none ∙ found.there)
+  where
+    no_such : {Y : Type 0} (c : CaseShape) → None ≡ Some c → Y
+    no_such c h = cc
+
+-- an edit is accepted: what the board then keeps, and what it has answered
+abbrev pub HasEdited : PolicyShape → CasesShape → ℕ → Ask → EditionShape → PolicyShape → CasesShape → Type 0
+HasEdited p before edits what edition q after =
+    IsKept q after × HasAnswered (board_of p before edits) (board_of q after (edits + 1)) what (verdict.Edited edition) (Done (reply.Edited (edits + 1)))
+
+pub edition_taken : (p q : PolicyShape) (before after : CasesShape) (edits live : ℕ) (what : Ask) (edition : EditionShape) → IsKept p before → IsSoundPolicy p →
+    IsSoundTable before.rows before.ever live → IsEditionFor (book_of p before) (decision_aside (book_of p before) what) edition →
+    q ≡ edition.policy → after ≡ with_plans before edition.plans → HasEdited p before edits what edition q after
+edition_taken p q before after edits live what edition kept sound rows is policy plans =
+    subst (λ x. HasEdited p before edits what edition x after) (sym (policy ∙ change.policy))
+    (subst (HasEdited p before edits what edition (amended p a)) (sym plans) (
+      edited_keeps p before a edition.plans kept its.found rows.planned valid,
+      subst (λ r. Answers s r given × (state_on (board_of (amended p a) (with_plans before edition.plans) (edits + 1)) ≡ state_after_decision s r given))
+          (sym (change_decided b what a change.decided))
+          ((refl, plans_complete (amended p a) (open_cases b.cases) edition.plans valid), edited_state p before a edition.plans edits),
+    ))
+  where
+    b : Book
+    b = book_of p before
+
+    s : State
+    s = state_on (board_of p before edits)
+
+    given : Reply
+    given = reply.Edited (edits + 1)
+
+    change : IsChange b (decision_aside b what) edition
+    change = edition_change b (decision_aside b what) edition is
+
+    a : Amendment
+    a = change.amendment
+
+    its : IsAllowed p a
+    its = (subst (HoldsOf (IsTold b)) change.decided (aside_told b what)).0 sound
+
+    valid : ArePlansOf (amended p a) (open_cases b.cases) edition.plans
+    valid = subst (λ x. ArePlansOf x (open_cases b.cases) edition.plans) change.policy change.plans
+
 -- ---- answers without a verdict
 
 pub needs_alone : (p : PolicyShape) (t : CasesShape) (decision : Result Deed Denial) (d : Deed) → decision ≡ Ok d → needs_plan d ≡ true → HasAnsweredAlone p t t decision Needs
@@ -163,7 +233,7 @@ short_alone p t (Err d) takes kept = (same_taken p t (Err d) reply.NoMemory kept
 
 -- ---- answers
 
-reply_of : (a b : Reply) → Done a ≡ Done b → a ≡ b
+pub reply_of : (a b : Reply) → Done a ≡ Done b → a ≡ b
 reply_of a b h = cc
 
 -- a step that was taken by a verdict
@@ -215,7 +285,8 @@ short_answers p before after what given alone = record {
     apart : {X : Type 0} → needs_verdict (decision_of (book_of p before) what) ≡ true → X
     apart needed = let is : true ≡ false = sym needed ∙ alone.1.0 in cc
 
-short_step : (p : PolicyShape) (t : CasesShape) (decision : Result Deed Denial) → needs_verdict decision ≡ true → IsKept p t → HasTaken p t t decision reply.NoMemory
+-- want of memory, where a verdict is needed
+pub short_step : (p : PolicyShape) (t : CasesShape) (decision : Result Deed Denial) → needs_verdict decision ≡ true → IsKept p t → HasTaken p t t decision reply.NoMemory
 short_step p t (Ok d) needed kept = same_taken p t (Ok d) reply.NoMemory kept (λ edits. no_memory_replies (state_on (board_of p t edits)) d) (λ s. no_memory_stays s d)
   where
     no_memory_replies : (s : State) (d : Deed) → Answers s (Ok d) reply.NoMemory
@@ -228,6 +299,7 @@ short_step p t (Ok d) needed kept = same_taken p t (Ok d) reply.NoMemory kept (�
     no_memory_stays s (deed.GiveBack n c t u) = refl
     no_memory_stays s (deed.Release n c t) = refl
     no_memory_stays s (deed.Withdraw n) = refl
+    no_memory_stays s (deed.Change a) = refl
     no_memory_stays s (deed.Show c) = refl
     no_memory_stays s (deed.TurnAway bad) = refl
 short_step p t (Err d) needed kept = cc

@@ -1,5 +1,5 @@
 -- A plan or a tree that decides what is asked decides its deed.
-use Rattle.std.proofs.Common.{◌≡◌, ◌↔◌, ℕ, Bool, true, false, not, ◌&&◌, List, Option, None, Some, is_some, Result, Ok, Err, refl, sym, ap, subst, ◌∙◌}
+use Rattle.std.proofs.Common.{◌≡◌, ◌↔◌, ℕ, Bool, true, not, List, Option, None, Some, is_some, Result, Ok, Err, refl, subst}
 use Rattle.first_fault.specs.Reading.{◌>>=◌}
 use Rattle.constraint_forms.specs.Assigned.{no_steps, no_users}
 use Rattle.policy_book.specs.Shapes.{PolicyShape}
@@ -15,25 +15,22 @@ use Rattle.wf_board.specs.declared.deed.Deed.TheVariants as deed
 use Rattle.wf_board.specs.declared.verdict.Verdict.{Verdict}
 use Rattle.wf_board.specs.declared.verdict.Verdict.TheVariants as verdict
 use Rattle.wf_board.specs.States.{Book}
-use Rattle.wf_board.specs.Resolved.{resolve}
-use Rattle.wf_board.specs.Decisions.{cause_aside, cause_full, decision_aside, decision_of, needs_plan, needs_verdict, unless_denied}
+use Rattle.wf_board.specs.Decisions.{cause_full, decision_aside, needs_verdict, unless_denied}
 use Rattle.wf_board.specs.Found.{AreFound}
-use Rattle.wf_board.specs.Kept.{ArePlanned}
-use Rattle.wf_board.specs.Taking.{full_or, undenied, IsCertificateOf}
+use Rattle.wf_board.specs.Taking.{full_or, IsCertificateOf}
 use Rattle.wf_board.specs.Verdicts.{IsCertificate, IsCertified, IsPlanFor, IsRight, IsTreeFor}
-use Rattle.wf_board.proofs.Planned.{plan_kept}
-use Rattle.wf_board.proofs.Within.{claimed_within, planned_within}
+use Rattle.wf_board.proofs.Within.{claimed_within}
 
 -- what is assigned in a case with a claim's step given to its user is within its workflow and policy
-pub claim_within : (p : PolicyShape) (rows : List Row) (n : ℕ) (c : CaseShape) (t u : ℕ) → ArePlanned p rows → AreFound p rows n c t u → IsWithin (problem_of p c.flow) (assigned_with c t u)
-claim_within p rows n c t u planned found =
-    let kept = plan_kept p rows n c planned found.case.found found.case.live in
-    claimed_within p c t u found.case.known found.step found.user (planned_within p c kept.0 found.case.known kept.1)
+pub claim_within : (p : PolicyShape) (rows : List Row) (n : ℕ) (c : CaseShape) (t u : ℕ) → AreFound p rows n c t u → IsWithin (problem_of p c.flow) (assigned_with c t u)
+claim_within p rows n c t u found = claimed_within p c t u found.case.known found.step found.user found.case.known.users
 
 -- a plan or a tree that decides what is asked is right
 pub certified_right : (b : Book) (what : Ask) (v : Verdict) → IsCertified b what v → IsRight b what v
 certified_right b what verdict.Nothing is = tt
 certified_right b what verdict.NoMemory is = tt
+certified_right b what (verdict.Edited edition) is = absurd is
+certified_right b what (verdict.Strands n tree) is = absurd is
 certified_right b what (verdict.Plan plan) is = aside (decision_aside b what) is
   where
     undone : (given : Deed) (o : Option Denial) → IsPlanFor b (unless_denied given o) plan → IsPlanFor b (Ok given) plan
@@ -67,6 +64,8 @@ pub open_certificate : (b : Book) (f : ℕ) (v : Verdict) (result : Bool) → re
 open_certificate b f verdict.Nothing result is = is
 open_certificate b f verdict.NoMemory result is = is
 open_certificate b f (verdict.Plan plan) result is = is
+open_certificate b f (verdict.Edited edition) result is = is
+open_certificate b f (verdict.Strands m tree) result is = is
 open_certificate b f (verdict.Refuted tree) result is = is
 
 pub claim_certificate : (b : Book) (n : ℕ) (c : CaseShape) (t u : ℕ) (v : Verdict) (result : Bool) →
@@ -74,6 +73,8 @@ pub claim_certificate : (b : Book) (n : ℕ) (c : CaseShape) (t u : ℕ) (v : Ve
 claim_certificate b n c t u verdict.Nothing result is = is
 claim_certificate b n c t u verdict.NoMemory result is = is
 claim_certificate b n c t u (verdict.Plan plan) result is = is
+claim_certificate b n c t u (verdict.Edited edition) result is = is
+claim_certificate b n c t u (verdict.Strands m tree) result is = is
 claim_certificate b n c t u (verdict.Refuted tree) result is = is
 
 -- a claim is left to decide where there is no cause against it

@@ -1,14 +1,16 @@
--- A claim is granted exactly where its case can then be completed.
-use Rattle.std.proofs.Common.{◌≡◌, ℕ, ◌<◌, true, List, length, Some, refl, sym, ap, subst, ◌∙◌}
+-- A claim is granted exactly where its case can then be completed, and an edit accepted where all cases can.
+use Rattle.std.proofs.Common.{◌≡◌, ℕ, ◌<◌, ◌≤◌, ◌⊎◌, inl, inr, leb, true, false, List, [], ◌∷◌, length, Some, slice_get, refl, sym, ap, subst, ◌∙◌}
+use Rattle.std.proofs.lemmas.Bool.Decides.{leb_tells}
+use Rattle.std.proofs.lemmas.List.{get_or_past}
 use Rattle.std.specs.Prelude.{◌↔◌}
 use Rattle.wf_names.specs.States.{is_finished, user_of}
 use Rattle.wf_names.specs.declared.states.StepState.{StepState}
 use Rattle.wf_names.specs.declared.states.StepState.TheVariants.{Free, Held, Finished}
 use Rattle.refutation_tree.specs.declared.tree.Tree.{Tree}
 use Rattle.refutation_tree.specs.Views.{shape_of}
-use Rattle.policy_book.specs.Shapes.{PolicyShape}
+use Rattle.policy_book.specs.Shapes.{PolicyShape, WorkflowShape}
 use Rattle.policy_book.specs.Facts.{IsSoundPolicy}
-use Rattle.policy_book.specs.Policies.{problem_of}
+use Rattle.policy_book.specs.Policies.{no_workflow, problem_of}
 use Rattle.policy_book.specs.Plans.{AreAssigned, IsCompletable, IsWellFormed}
 use Rattle.certificate_check.proofs.Refuted.{assigned_given, refutes_soundly}
 use Rattle.case_record.specs.Cases.{CaseShape, assigned_of, finished_of, state_at}
@@ -18,10 +20,14 @@ use Rattle.wf_talk.specs.declared.reply.Reply.TheVariants as reply
 use Rattle.wf_talk.specs.declared.reply.Denial.TheVariants as denial
 use Rattle.denial_reasons.specs.Causes.{assigned_with}
 use Rattle.wf_board.specs.declared.deed.Deed.TheVariants as deed
-use Rattle.wf_board.specs.States.{State}
+use Rattle.wf_board.specs.States.{Numbered, State, open_cases}
 use Rattle.wf_board.specs.Steps.{Answers, IsReplyTo}
 use Rattle.wf_board.specs.Kept.{IsSoundState}
-use Rattle.wf_board.specs.Laws.{ClaimsAreExact}
+use Rattle.wf_board.specs.Laws.{ClaimsAreExact, EditsAreExact}
+use Rattle.wf_board.specs.Edited.{CanAllBeCompleted, IsFirstStranded}
+use Rattle.admin_edits.specs.declared.amendment.Amendment.{Amendment}
+use Rattle.admin_edits.specs.Edits.{amended}
+use Rattle.admin_edits.proofs.Keeping.{changes_keep_policies_sound}
 use Rattle.wf_board.proofs.Told.{HoldsOf, IsTold, claim_free, told}
 
 finished_user : (x : StepState) → is_finished x ≡ true → (u : ℕ) × (user_of x ≡ Some u)
@@ -43,12 +49,20 @@ claimed_assigned c t u free = assigned_given (assigned_of c) (finished_of c) t u
 pub well_formed : (p : PolicyShape) (f : ℕ) → IsSoundPolicy p → f < length p.flows → IsWellFormed (problem_of p f)
 well_formed p f sound known k rule is = ((sound.flows f known).ruled k rule is).names
 
+-- also where there is no workflow with the number
+pub well_formed_any : (p : PolicyShape) (f : ℕ) → IsSoundPolicy p → IsWellFormed (problem_of p f)
+well_formed_any p f sound = at_number (leb_tells (length p.flows) f)
+  where
+    at_number : ((leb (length p.flows) f ≡ true) × (length p.flows ≤ f)) ⊎ ((leb (length p.flows) f ≡ false) × (f < length p.flows)) → IsWellFormed (problem_of p f)
+    at_number (inl past) = λ k rule is. cc (is, ap (λ (w : WorkflowShape). slice_get w.rules k) (get_or_past p.flows f no_workflow past.1))
+    at_number (inr known) = well_formed p f sound known.1
+
 -- the case of a refuted claim cannot be completed
 refuted_claim : (s : State) (n : ℕ) (c : CaseShape) (t u : ℕ) (tree : Tree) → IsSoundState s → IsTold s.book (deed.Claim n c t u) →
     IsReplyTo s (deed.Claim n c t u) (reply.Denied (denial.Stranded c.flow tree)) → ¬ IsCompletable (problem_of s.book.policy c.flow) (assigned_with c t u) (finished_of c)
 refuted_claim s n c t u tree sound known is =
     refutes_soundly (problem_of s.book.policy c.flow) (assigned_with c t u) (finished_of c) (shape_of tree)
-    (well_formed s.book.policy c.flow sound.policy (sound.cases n c known.0.case.found).flow)
+    (well_formed s.book.policy c.flow sound.policy (sound.cases n c known.0.there.case.found).flow)
     (claimed_assigned c t u (claim_free s.book n c t u known.1))
     is.1
 
@@ -63,3 +77,27 @@ claim_exact s n c t u given sound known is memory = absurd is
 pub claims_are_exact : ClaimsAreExact
 claims_are_exact s what given n c t u sound decided step memory =
     claim_exact s n c t u given sound (subst (HoldsOf (IsTold s.book)) decided (told s.book what)) (subst (λ r. Answers s r given) decided step) memory
+
+-- ---- edits
+
+-- not all cases can be completed where one is stranded
+pub stranded_not : (p : PolicyShape) (cases : List Numbered) (n f : ℕ) (tree : Tree) → IsSoundPolicy p → IsFirstStranded p cases n f tree → ¬ CanAllBeCompleted p cases
+stranded_not p [] n f tree sound is all = is
+stranded_not p (e ∷ es) n f tree sound (inl here) all =
+    refutes_soundly (problem_of p e.case.flow) (assigned_of e.case) (finished_of e.case) (shape_of tree)
+    (well_formed_any p e.case.flow sound) (finished_assigned e.case) here.1.1 all.0
+stranded_not p (e ∷ es) n f tree sound (inr later) all = stranded_not p es n f tree sound later.1 all.1
+
+edit_exact : (s : State) (a : Amendment) (given : Reply) → IsSoundState s → IsTold s.book (deed.Change a) → IsReplyTo s (deed.Change a) given → ¬ (given ≡ reply.NoMemory) →
+    ((number : ℕ) × (given ≡ reply.Edited number)) ↔ CanAllBeCompleted (amended s.book.policy a) (open_cases s.book.cases)
+edit_exact s a reply.NoMemory sound known is memory = absurd (memory refl)
+edit_exact s a (reply.Edited number) sound known is memory = (λ edited. is.1, λ all. (number, refl))
+edit_exact s a (reply.Denied (denial.Strands n f tree)) sound known is memory =
+    let its = known.0 sound.policy in
+    let after = changes_keep_policies_sound s.book.policy a sound.policy its.found its.allowed in
+    (λ edited. cc edited.1, λ all. absurd (stranded_not (amended s.book.policy a) (open_cases s.book.cases) n f tree after is all))
+edit_exact s a given sound known is memory = absurd is
+
+pub edits_are_exact : EditsAreExact
+edits_are_exact s what given a sound decided step memory =
+    edit_exact s a given sound (subst (HoldsOf (IsTold s.book)) decided (told s.book what)) (subst (λ r. Answers s r given) decided step) memory

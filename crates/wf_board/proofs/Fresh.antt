@@ -1,12 +1,11 @@
 -- What does not count for a request leaves what its decision rests on.
-use Rattle.std.proofs.Common.{◌≡◌, ℕ, ◌+◌, ◌⊎◌, inl, inr, Bool, true, false, nat_eq, List, [], ◌∷◌, ◌++◌, take, drop, Option, Some, None, Result, Ok, Err, if◌then◌else◌, refl, sym, ap, subst, ◌∙◌, arith}
+use Rattle.std.proofs.Common.{◌≡◌, ℕ, ◌+◌, ◌⊎◌, inl, inr, Bool, true, false, ◌||◌, is_some, nat_eq, List, [], ◌∷◌, ◌++◌, take, drop, Option, Some, None, Result, Ok, Err, if◌then◌else◌, refl, sym, ap, subst, ◌∙◌, arith}
 use Rattle.std.specs.Option.{option_map}
 use Rattle.std.proofs.lemmas.List.{take-append-drop}
-use Rattle.first_fault.specs.Reading.{◌>>=◌, or_fault, check}
+use Rattle.first_fault.specs.Reading.{or_fault, check}
 use Rattle.basics.proofs.Booleans.{eq_back, eq_is}
-use Rattle.case_record.specs.Cases.{CaseShape, is_open}
+use Rattle.case_record.specs.Cases.{CaseShape}
 use Rattle.grant_table.specs.Lookup.{look_up}
-use Rattle.policy_book.specs.Shapes.{PolicyShape}
 use Rattle.wf_talk.specs.declared.entry.Entry.{Entry}
 use Rattle.wf_talk.specs.declared.request.Request.TheVariants as request
 use Rattle.wf_talk.specs.declared.request.Ask.{Ask}
@@ -14,35 +13,45 @@ use Rattle.wf_talk.specs.declared.request.Ask.TheVariants as ask
 use Rattle.wf_talk.specs.declared.reply.Reply.{Reply}
 use Rattle.wf_talk.specs.declared.reply.Reply.TheVariants as reply
 use Rattle.wf_talk.specs.declared.reply.Denial.{Denial}
-use Rattle.wf_talk.specs.declared.reply.Denial.TheVariants.{Closed, NoCase, NoFlow, NoStep, NoUser, NotAdmin}
+use Rattle.wf_talk.specs.declared.reply.Denial.TheVariants.{NoCase, NoFlow, NoStep, NoUser, NotAdmin}
 use Rattle.wf_board.specs.declared.deed.Deed.{Deed}
 use Rattle.wf_board.specs.declared.deed.Deed.TheVariants as deed
 use Rattle.wf_board.specs.declared.verdict.Verdict.{Verdict}
-use Rattle.wf_board.specs.States.{Book, Numbered, State, case_at, flow_named, is_admin, step_named, user_named, with_case_changed}
-use Rattle.wf_board.specs.Resolved.{on_step, open_case_at, resolve}
-use Rattle.wf_board.specs.Decisions.{cause_aside, cause_full, decision_aside, decision_of, unless_denied}
+use Rattle.wf_board.specs.States.{Book, Numbered, State, case_at, flow_named, step_named, user_named, with_case_changed}
+use Rattle.admin_edits.specs.Edits.{amendment_of, is_admin}
+use Rattle.admin_edits.specs.declared.amendment.Amendment.{Amendment}
+use Rattle.admin_edits.specs.declared.fault.EditFault.{EditFault}
+use Rattle.wf_board.specs.Resolved.{changed, on_step, open_case_at, resolve}
+use Rattle.wf_board.specs.Decisions.{cause_aside, cause_full, decision_aside, decision_of}
 use Rattle.wf_board.specs.Steps.{Answers, IsReplyTo, IsStep, state_after_decision, state_after_deed, state_after_step}
-use Rattle.wf_board.specs.Counting.{IsFresh, case_of_ask, changed_case, counted, counts_for, is_number}
+use Rattle.wf_board.specs.Counting.{IsFresh, case_of_ask, changed_case, counted, counts_for, is_edited, is_number}
 use Rattle.wf_board.specs.Histories.{EachAfter, IsLegal, IsRetry, IsRightAfter, state_after}
 use Rattle.wf_board.specs.HistoryLaws.{after_all, after_more, again_stays, each_from, policy_stays}
 use Rattle.wf_board.specs.Verdicts.{IsRight}
 use Rattle.wf_board.proofs.Told.{HoldsOf, then_holds, unless_holds}
-use Rattle.wf_board.proofs.Snaps.{finish_plain, plain_right, release_plain, return_plain, right_same, same_claim, same_opening, show_plain, with_cases, withdraw_plain}
+use Rattle.wf_board.proofs.Snaps.{claim_no_change, finish_plain, opening_no_change, plain_right, release_plain, return_plain, right_same, same_claim, same_opening, show_plain, with_cases, withdraw_plain}
 
 -- ---- what is the same
 
--- two states have what a verdict on what is asked rests on alike: the policy, and for a claim its case
+-- two states have what a verdict on what is asked rests on alike: the policy for an opening, for a claim its case too, and
+-- for an edit the whole book
 abbrev pub SameFor : Ask → State → State → Type 0
+SameFor (ask.Request (request.OpenCase flow)) s t = s.book.policy ≡ t.book.policy
 SameFor (ask.Request (request.Claim n step user)) s t = (s.book.policy ≡ t.book.policy) × (case_at s.book.cases n ≡ case_at t.book.cases n)
-SameFor what s t = s.book.policy ≡ t.book.policy
+SameFor (ask.Request (request.Change by edit)) s t = s.book ≡ t.book
+SameFor what s t = Unit {0}
 
 pub same_here : (what : Ask) (s : State) → SameFor what s s
+same_here (ask.Request (request.OpenCase flow)) s = refl
 same_here (ask.Request (request.Claim n step user)) s = (refl, refl)
-same_here what s = refl
+same_here (ask.Request (request.Change by edit)) s = refl
+same_here what s = tt
 
 pub same_then : (what : Ask) (s t u : State) → SameFor what s t → SameFor what t u → SameFor what s u
+same_then (ask.Request (request.OpenCase flow)) s t u first later = first ∙ later
 same_then (ask.Request (request.Claim n step user)) s t u first later = (first.0 ∙ later.0, first.1 ∙ later.1)
-same_then what s t u first later = first ∙ later
+same_then (ask.Request (request.Change by edit)) s t u first later = first ∙ later
+same_then what s t u first later = tt
 
 -- ---- one step
 
@@ -77,6 +86,7 @@ IsNamed what (deed.Finish n c t u) = case_of_ask what ≡ Some n
 IsNamed what (deed.GiveBack n c t u) = case_of_ask what ≡ Some n
 IsNamed what (deed.Release n c t) = case_of_ask what ≡ Some n
 IsNamed what (deed.Withdraw n) = case_of_ask what ≡ Some n
+IsNamed what (deed.Change a) = Unit {0}
 IsNamed what (deed.Show c) = Unit {0}
 IsNamed what (deed.TurnAway bad) = Unit {0}
 
@@ -92,6 +102,10 @@ named_step what b make n step user named =
     (λ t _. then_holds (λ _. Unit {0}) (IsNamed what) (or_fault (user_named b user) NoUser) _ (any_read (or_fault (user_named b user) NoUser))
     (λ u _. named c t u)))
 
+change_named : (what : Ask) (r : Result Amendment EditFault) → HoldsOf (IsNamed what) (changed r)
+change_named what (Ok a) = tt
+change_named what (Err fault) = tt
+
 resolve_named : (b : Book) (what : Ask) → HoldsOf (IsNamed what) (resolve b what)
 resolve_named b (ask.Request (request.OpenCase flow)) =
     then_holds (λ _. Unit {0}) (IsNamed (ask.Request (request.OpenCase flow))) (or_fault (flow_named b flow) NoFlow) _ (any_read (or_fault (flow_named b flow) NoFlow)) (λ f _. tt)
@@ -100,13 +114,14 @@ resolve_named b (ask.Request (request.Finish n step user)) = named_step (ask.Req
 resolve_named b (ask.Request (request.GiveBack n step user)) = named_step (ask.Request (request.GiveBack n step user)) b deed.GiveBack n step user (λ c t u. refl)
 resolve_named b (ask.Request (request.Release by n step)) =
     let what = ask.Request (request.Release by n step) in
-    then_holds (λ _. Unit {0}) (IsNamed what) (check (is_admin b by) NotAdmin) _ (any_read (check (is_admin b by) NotAdmin))
+    then_holds (λ _. Unit {0}) (IsNamed what) (check (is_admin b.policy by) NotAdmin) _ (any_read (check (is_admin b.policy by) NotAdmin))
     (λ _ _. then_holds (λ _. Unit {0}) (IsNamed what) (open_case_at b n) _ (any_read (open_case_at b n))
     (λ c _. then_holds (λ _. Unit {0}) (IsNamed what) (or_fault (step_named b c.flow step) NoStep) _ (any_read (or_fault (step_named b c.flow step) NoStep)) (λ t _. refl)))
 resolve_named b (ask.Request (request.Withdraw by n)) =
     let what = ask.Request (request.Withdraw by n) in
-    then_holds (λ _. Unit {0}) (IsNamed what) (check (is_admin b by) NotAdmin) _ (any_read (check (is_admin b by) NotAdmin))
+    then_holds (λ _. Unit {0}) (IsNamed what) (check (is_admin b.policy by) NotAdmin) _ (any_read (check (is_admin b.policy by) NotAdmin))
     (λ _ _. then_holds (λ _. Unit {0}) (IsNamed what) (open_case_at b n) _ (any_read (open_case_at b n)) (λ c _. refl))
+resolve_named b (ask.Request (request.Change by edit)) = change_named (ask.Request (request.Change by edit)) (amendment_of b.policy by edit)
 resolve_named b (ask.Request (request.Show n)) =
     then_holds (λ _. Unit {0}) (IsNamed (ask.Request (request.Show n))) (or_fault (case_at b.cases n) NoCase) _ (any_read (or_fault (case_at b.cases n) NoCase)) (λ c _. tt)
 resolve_named b (ask.Bad bad) = tt
@@ -121,6 +136,10 @@ decision_named b what =
 not_this : (m n : ℕ) (o : Option ℕ) → o ≡ Some n → is_number m o ≡ false → nat_eq n m ≡ false
 not_this m n o same other = subst (λ x. is_number m x ≡ false) same other
 
+no_case : {X : Type 0} (o : Option ℕ) (n : ℕ) → o ≡ Some n → is_some o ≡ false → X
+no_case None n same other = cc
+no_case (Some m) n same other = cc
+
 deed_case : (s : State) (what : Ask) (given : Deed) (answer : Reply) (m : ℕ) → IsNamed what given → IsReplyTo s given answer → is_number m (changed_case what answer) ≡ false →
     case_at s.book.cases m ≡ case_at (state_after_deed s given answer).book.cases m
 deed_case s what (deed.Open f) (reply.Opened n plan) m named is other =
@@ -130,6 +149,7 @@ deed_case s what (deed.Finish n c t u) (reply.Finished done) m named is other = 
 deed_case s what (deed.GiveBack n c t u) reply.Returned m named is other = sym (other_changed m n _ s.book.cases (not_this m n (case_of_ask what) named other))
 deed_case s what (deed.Release n c t) reply.Released m named is other = sym (other_changed m n _ s.book.cases (not_this m n (case_of_ask what) named other))
 deed_case s what (deed.Withdraw n) reply.Withdrawn m named is other = sym (other_changed m n _ s.book.cases (not_this m n (case_of_ask what) named other))
+deed_case s what (deed.Change a) (reply.Edited number) m named is other = refl
 deed_case s what given answer m named is other = refl
 
 decision_case : (s : State) (what : Ask) (decision : Result Deed Denial) (answer : Reply) (m : ℕ) → HoldsOf (IsNamed what) decision → Answers s decision answer →
@@ -137,11 +157,38 @@ decision_case : (s : State) (what : Ask) (decision : Result Deed Denial) (answer
 decision_case s what (Ok given) answer m named is other = deed_case s what given answer m named is other
 decision_case s what (Err d) answer m named is other = refl
 
+-- a deed that changes neither the policy nor a case leaves the book
+deed_book : (s : State) (what : Ask) (given : Deed) (answer : Reply) → IsNamed what given → is_edited answer ≡ false → is_some (changed_case what answer) ≡ false →
+    s.book ≡ (state_after_deed s given answer).book
+deed_book s what (deed.Open f) (reply.Opened n plan) named edited other = cc
+deed_book s what (deed.Claim n c t u) (reply.Granted plan) named edited other = no_case (case_of_ask what) n named other
+deed_book s what (deed.Finish n c t u) (reply.Finished done) named edited other = no_case (case_of_ask what) n named other
+deed_book s what (deed.GiveBack n c t u) reply.Returned named edited other = no_case (case_of_ask what) n named other
+deed_book s what (deed.Release n c t) reply.Released named edited other = no_case (case_of_ask what) n named other
+deed_book s what (deed.Withdraw n) reply.Withdrawn named edited other = no_case (case_of_ask what) n named other
+deed_book s what (deed.Change a) (reply.Edited number) named edited other = cc
+deed_book s what given answer named edited other = refl
+
+decision_book : (s : State) (what : Ask) (decision : Result Deed Denial) (answer : Reply) → HoldsOf (IsNamed what) decision → is_edited answer ≡ false →
+    is_some (changed_case what answer) ≡ false → s.book ≡ (state_after_decision s decision answer).book
+decision_book s what (Ok given) answer named edited other = deed_book s what given answer named edited other
+decision_book s what (Err d) answer named edited other = refl
+
+neither : (a b : Bool) → (a || b) ≡ false → (a ≡ false) × (b ≡ false)
+neither true b h = cc
+neither false true h = cc
+neither false false h = (refl, refl)
+
 -- a step that does not count leaves what a verdict rests on
 pub step_same : (s : State) (e : Entry) (what : Ask) → IsStep s e.ask e.reply → counts_for e what ≡ false → SameFor what s (state_after_step s e.ask e.reply)
+step_same s e (ask.Request (request.OpenCase flow)) is other = sym (policy_stays s e.ask e.reply other)
 step_same s e (ask.Request (request.Claim n step user)) is other =
-    (sym (policy_stays s e.ask e.reply), decision_case s e.ask (decision_of s.book e.ask) e.reply n (decision_named s.book e.ask) is other)
-step_same s e what is other = sym (policy_stays s e.ask e.reply)
+    let both = neither (is_edited e.reply) (is_number n (changed_case e.ask e.reply)) other in
+    (sym (policy_stays s e.ask e.reply both.0), decision_case s e.ask (decision_of s.book e.ask) e.reply n (decision_named s.book e.ask) is both.1)
+step_same s e (ask.Request (request.Change by edit)) is other =
+    let both = neither (is_edited e.reply) (is_some (changed_case e.ask e.reply)) other in
+    decision_book s e.ask (decision_of s.book e.ask) e.reply (decision_named s.book e.ask) both.0 both.1
+step_same s e what is other = tt
 
 -- ---- histories
 
@@ -182,16 +229,19 @@ pub right_stays : (what : Ask) (s t : State) (v : Verdict) → SameFor what s t 
 right_stays (ask.Request (request.OpenCase flow)) s t v same is =
     let p = t.book.policy in
     right_same p s.book.cases t.book.cases s.book.ever t.book.ever (ask.Request (request.OpenCase flow)) v (same_opening p s.book.cases t.book.cases s.book.ever t.book.ever flow)
+    (inl (opening_no_change (with_cases p s.book.cases s.book.ever) flow))
     (subst (λ q. IsRight (with_cases q s.book.cases s.book.ever) (ask.Request (request.OpenCase flow)) v) same is)
 right_stays (ask.Request (request.Claim n step user)) s t v same is =
     let p = t.book.policy in
     right_same p s.book.cases t.book.cases s.book.ever t.book.ever (ask.Request (request.Claim n step user)) v
     (same_claim p s.book.cases t.book.cases s.book.ever t.book.ever n step user same.1)
+    (inl (claim_no_change (with_cases p s.book.cases s.book.ever) n step user))
     (subst (λ q. IsRight (with_cases q s.book.cases s.book.ever) (ask.Request (request.Claim n step user)) v) same.0 is)
 right_stays (ask.Request (request.Finish n step user)) s t v same is = plain_right s.book t.book (ask.Request (request.Finish n step user)) v (finish_plain n step user) is
 right_stays (ask.Request (request.GiveBack n step user)) s t v same is = plain_right s.book t.book (ask.Request (request.GiveBack n step user)) v (return_plain n step user) is
 right_stays (ask.Request (request.Release by n step)) s t v same is = plain_right s.book t.book (ask.Request (request.Release by n step)) v (release_plain by n step) is
 right_stays (ask.Request (request.Withdraw by n)) s t v same is = plain_right s.book t.book (ask.Request (request.Withdraw by n)) v (withdraw_plain by n) is
+right_stays (ask.Request (request.Change by edit)) s t v same is = subst (λ b. IsRight b (ask.Request (request.Change by edit)) v) same is
 right_stays (ask.Request (request.Show n)) s t v same is = plain_right s.book t.book (ask.Request (request.Show n)) v (show_plain n) is
 right_stays (ask.Bad bad) s t v same is = plain_right s.book t.book (ask.Bad bad) v (λ b. refl) is
 

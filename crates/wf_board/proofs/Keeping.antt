@@ -1,7 +1,6 @@
 -- What every step of a session keeps.
 use Rattle.std.proofs.Common.{◌≡◌, ℕ, zero, suc, ◌<◌, ◌⊎◌, inl, inr, Bool, true, false, nat_eq, List, [], ◌∷◌, ◌++◌, length, take, None, Some, Result, Ok, Err, if◌then◌else◌, refl, sym, ap, subst, ◌∙◌}
 use Rattle.std.specs.Option.{option_map}
-use Rattle.std.proofs.lemmas.List.{length-replicate, length-set}
 use Rattle.wf_names.specs.States.{is_held}
 use Rattle.wf_names.specs.declared.states.StepState.TheVariants.{Free, Held}
 use Rattle.wf_names.specs.declared.states.Phase.TheVariants.{Withdrawn}
@@ -10,7 +9,7 @@ use Rattle.policy_book.specs.Shapes.{PolicyShape}
 use Rattle.policy_book.specs.Facts.{IsSoundPolicy}
 use Rattle.policy_book.specs.Policies.{flow_at, problem_of}
 use Rattle.policy_book.specs.Plans.{IsCompletable, IsValidPlan}
-use Rattle.case_record.specs.Cases.{CaseShape, as_finished, assigned_of, finished_case, finished_of, fresh_case, is_open, state_at, with_phase, with_state}
+use Rattle.case_record.specs.Cases.{CaseShape, assigned_of, finished_case, finished_of, fresh_case, is_open, state_at, with_phase, with_state}
 use Rattle.grant_table.specs.Lookup.{look_up}
 use Rattle.wf_talk.specs.declared.entry.Entry.{Entry}
 use Rattle.wf_talk.specs.declared.request.Ask.{Ask}
@@ -19,15 +18,21 @@ use Rattle.wf_talk.specs.declared.reply.Reply.TheVariants as reply
 use Rattle.wf_talk.specs.declared.reply.Denial.{Denial}
 use Rattle.wf_board.specs.declared.deed.Deed.{Deed}
 use Rattle.wf_board.specs.declared.deed.Deed.TheVariants as deed
-use Rattle.wf_board.specs.States.{Numbered, State, case_at, opening_state, with_case_changed}
+use Rattle.admin_edits.specs.declared.amendment.Amendment.{Amendment}
+use Rattle.admin_edits.specs.Edits.{amended}
+use Rattle.admin_edits.proofs.Keeping.{changes_keep_policies_sound}
+use Rattle.wf_board.specs.Edited.{CanAllBeCompleted}
+use Rattle.wf_board.specs.States.{Numbered, State, case_at, open_cases, opening_state, with_case_changed}
 use Rattle.wf_board.specs.Decisions.{decision_of}
-use Rattle.wf_board.specs.Steps.{Answers, IsReplyTo, IsStep, state_after_decision, state_after_deed, state_after_step, with_changed, with_opened}
+use Rattle.wf_board.specs.Steps.{Answers, IsReplyTo, IsStep, state_after_decision, state_after_deed, state_after_step, with_changed, with_edited, with_opened}
 use Rattle.wf_board.specs.Histories.{EachAfter, IsRetry, IsRightAfter, state_after}
 use Rattle.wf_board.specs.HistoryLaws.{after_more, again_stays}
 use Rattle.wf_board.specs.Kept.{IsOfPolicy, IsSoundState, KeepsCompletable}
 use Rattle.wf_board.specs.Laws.{HistoriesKeepCompletable, PlansStayValid, StepsKeepCompletable}
 use Rattle.wf_board.proofs.Told.{HasStep, HoldsOf, IsTold, claim_free, held_by, told}
 use Rattle.wf_board.proofs.Valid.{valid_claimed, valid_finished, valid_freed, valid_fresh}
+use Rattle.wf_board.proofs.Known.{of_policy_claimed, of_policy_finished, of_policy_freed, of_policy_fresh, of_policy_in_phase}
+use Rattle.wf_board.proofs.Amended.{of_policy_amended, open_can}
 
 -- P holds of each case that is found
 abbrev AllCases : (CaseShape → Type 0) → List Numbered → Type 0
@@ -103,13 +108,6 @@ IsKept p c = IsOfPolicy p c × MayEnd p c
 abbrev Keeps : State → Type 0
 Keeps s = IsSoundState s × KeepsCompletable s
 
--- a case that keeps its workflow and its number of steps is of the policy
-of_policy_still : (p : PolicyShape) (c : CaseShape) (d : CaseShape) → d.flow ≡ c.flow → length d.states ≡ length c.states → IsOfPolicy p c → IsOfPolicy p d
-of_policy_still p c d flow steps known = record {
-  flow = subst (λ f. f < length p.flows) (sym flow) known.flow;
-  steps = steps ∙ known.steps ∙ ap (λ f. length (flow_at p f).flow.steps) (sym flow);
-}
-
 changed_keeps : (s : State) (n : ℕ) (change : CaseShape → CaseShape) → Keeps s → ((c : CaseShape) → case_at s.book.cases n ≡ Some c → IsKept s.book.policy c → IsKept s.book.policy (change c)) →
     Keeps (with_changed s n change)
 changed_keeps s n change keeps kept =
@@ -133,30 +131,41 @@ opened_keeps s f plan keeps known valid =
     let steps = length (flow_at s.book.policy f).flow.steps in
     let new : Numbered = record { number = s.book.ever; case = fresh_case f steps } in
     let all = all_added (IsKept s.book.policy) s.book.cases new (λ m c found. (keeps.0.cases m c found, keeps.1 m c found))
-    (record { flow = subst (λ k. f < k) keeps.0.policy.named known; steps = length-replicate steps Free }, λ live. (plan, valid_fresh (problem_of s.book.policy f) f steps plan valid)) in
+    (of_policy_fresh s.book.policy f (subst (λ k. f < k) keeps.0.policy.named known), λ live. (plan, valid_fresh (problem_of s.book.policy f) f steps plan valid)) in
     (record { policy = keeps.0.policy; cases = λ m c found. (all m c found).0 }, λ m c found. (all m c found).1)
 
 claimed_keeps : (s : State) (n : ℕ) (c : CaseShape) (t u : ℕ) (plan : List ℕ) → Keeps s → IsTold s.book (deed.Claim n c t u) → IsReplyTo s (deed.Claim n c t u) (reply.Granted plan) →
     Keeps (with_changed s n (λ d. with_state d t (Held u)))
-claimed_keeps s n c t u plan keeps known valid = named_keeps s n c t (λ d. with_state d t (Held u)) keeps known.0 (λ of_policy below complete. (
-  of_policy_still s.book.policy c (with_state c t (Held u)) refl (length-set c.states t (Held u)) of_policy,
+claimed_keeps s n c t u plan keeps known valid = named_keeps s n c t (λ d. with_state d t (Held u)) keeps known.0.there (λ of_policy below complete. (
+  of_policy_claimed s.book.policy c t u below known.0.user of_policy,
   λ live. (plan, valid_claimed (problem_of s.book.policy c.flow) c t u plan below (claim_free s.book n c t u known.1) valid),
 ))
 
 finished_keeps : (s : State) (n : ℕ) (c : CaseShape) (t : ℕ) → Keeps s → HasStep s.book n c t → is_held (state_at c t) ≡ true → Keeps (with_changed s n (λ d. finished_case d t))
 finished_keeps s n c t keeps there held = named_keeps s n c t (λ d. finished_case d t) keeps there (λ of_policy below complete. (
-  of_policy_still s.book.policy c (finished_case c t) refl (length-set c.states t (as_finished (state_at c t))) of_policy,
+  of_policy_finished s.book.policy c t held of_policy,
   λ live. (complete.0, valid_finished (problem_of s.book.policy c.flow) c t complete.0 held complete.1),
 ))
 
 freed_keeps : (s : State) (n : ℕ) (c : CaseShape) (t : ℕ) → Keeps s → HasStep s.book n c t → is_held (state_at c t) ≡ true → Keeps (with_changed s n (λ d. with_state d t Free))
 freed_keeps s n c t keeps there held = named_keeps s n c t (λ d. with_state d t Free) keeps there (λ of_policy below complete. (
-  of_policy_still s.book.policy c (with_state c t Free) refl (length-set c.states t Free) of_policy,
+  of_policy_freed s.book.policy c t held of_policy,
   λ live. (complete.0, valid_freed (problem_of s.book.policy c.flow) c t complete.0 held complete.1),
 ))
 
 withdrawn_keeps : (s : State) (n : ℕ) → Keeps s → Keeps (with_changed s n (λ d. with_phase d Withdrawn))
-withdrawn_keeps s n keeps = changed_keeps s n (λ d. with_phase d Withdrawn) keeps (λ c found is. (of_policy_still s.book.policy c (with_phase c Withdrawn) refl refl is.0, λ live. cc))
+withdrawn_keeps s n keeps = changed_keeps s n (λ d. with_phase d Withdrawn) keeps (λ c found is. (of_policy_in_phase s.book.policy c Withdrawn is.0, λ live. cc))
+
+edited_keeps : (s : State) (a : Amendment) → Keeps s → IsTold s.book (deed.Change a) → CanAllBeCompleted (amended s.book.policy a) (open_cases s.book.cases) → Keeps (with_edited s a)
+edited_keeps s a keeps known all =
+    let p = s.book.policy in
+    let its = known.0 keeps.0.policy in (
+      record {
+        policy = changes_keep_policies_sound p a keeps.0.policy its.found its.allowed;
+        cases = λ n c found. of_policy_amended p a c its.found (keeps.0.cases n c found);
+      },
+      λ n c found live. open_can (amended p a) s.book.cases all n c found live,
+    )
 
 deed_keeps : (s : State) (given : Deed) (answer : Reply) → Keeps s → IsTold s.book given → IsReplyTo s given answer → Keeps (state_after_deed s given answer)
 deed_keeps s (deed.Open f) (reply.Opened n plan) keeps known is = opened_keeps s f plan keeps known.0 is.1
@@ -165,6 +174,7 @@ deed_keeps s (deed.Finish n c t u) (reply.Finished done) keeps known is = finish
 deed_keeps s (deed.GiveBack n c t u) reply.Returned keeps known is = freed_keeps s n c t keeps known.0 (held_by u (state_at c t) known.1)
 deed_keeps s (deed.Release n c t) reply.Released keeps known is = freed_keeps s n c t keeps known.0 known.1
 deed_keeps s (deed.Withdraw n) reply.Withdrawn keeps known is = withdrawn_keeps s n keeps
+deed_keeps s (deed.Change a) (reply.Edited number) keeps known is = edited_keeps s a keeps known is.1
 deed_keeps s given answer keeps known is = keeps
 
 decision_keeps : (s : State) (decision : Result Deed Denial) (answer : Reply) → Keeps s → HoldsOf (IsTold s.book) decision → Answers s decision answer → Keeps (state_after_decision s decision answer)

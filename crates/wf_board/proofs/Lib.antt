@@ -1,3 +1,4 @@
+pub mod Amended
 pub mod Snaps
 pub mod Told
 pub mod Counted
@@ -8,7 +9,9 @@ pub mod Valid
 pub mod Keeping
 pub mod Exact
 pub mod Within
+pub mod Known
 pub mod Grants
 pub mod Rows
 pub mod Planned
 pub mod Answering
+pub mod Unhurt

@@ -2,7 +2,6 @@
 use Rattle.std.proofs.Common.{◌≡◌, ◌≢◌, eqb, ℕ, ◌+◌, ◌<◌, ◌⊎◌, inl, inr, Bool, true, false, List, [], ◌∷◌, ◌++◌, length, Option, None, Some, is_some, IsSomeAnd, refl, sym, ap, subst, ◌∙◌, arith}
 use Rattle.std.specs.Option.{option_map}
 use Rattle.std.proofs.lemmas.Bool.Decides.{eqb_tells}
-use Rattle.std.proofs.lemmas.List.{length-replicate, length-set}
 use Rattle.wf_names.specs.States.{is_done, is_held}
 use Rattle.wf_names.specs.declared.states.StepState.TheVariants.{Free, Held}
 use Rattle.wf_names.specs.declared.states.Phase.TheVariants.{Withdrawn}
@@ -10,9 +9,9 @@ use Rattle.constraint_forms.specs.Assigned.{no_steps, no_users}
 use Rattle.policy_book.specs.Shapes.{PolicyShape}
 use Rattle.policy_book.specs.Policies.{flow_at, problem_of}
 use Rattle.policy_book.specs.Plans.{IsCompletable, IsValidPlan}
-use Rattle.case_record.specs.Cases.{CaseShape, as_finished, assigned_of, finished_case, finished_of, fresh_case, is_open, state_at, with_phase, with_state}
+use Rattle.case_record.specs.Cases.{CaseShape, assigned_of, finished_case, finished_of, fresh_case, is_open, state_at, with_phase, with_state}
 use Rattle.grant_table.specs.declared.rows.Row.{Row}
-use Rattle.grant_table.specs.Tables.{CasesShape, case_in, only, change_row, finished_row, freed_row, held_row, plan_while, row_at, with_case, with_row, withdrawn_row}
+use Rattle.grant_table.specs.Tables.{CasesShape, case_in, only, change_row, finished_row, freed_row, held_row, open_rows, plan_while, row_at, with_case, with_row, withdrawn_row}
 use Rattle.denial_reasons.specs.Causes.{assigned_with}
 use Rattle.wf_board.specs.Boards.{state_on}
 use Rattle.wf_board.specs.Found.{AreFound, IsOpenAt}
@@ -23,8 +22,9 @@ use Rattle.wf_board.specs.Verdicts.{snap_rows}
 use Rattle.wf_talk.specs.declared.request.Request.TheVariants as request
 use Rattle.wf_talk.specs.declared.request.Ask.{Ask}
 use Rattle.wf_talk.specs.declared.request.Ask.TheVariants as ask
-use Rattle.wf_board.proofs.Rows.{changed_case, each_added, each_at, each_changed, each_only, numbered_added, numbered_changed, row_of_case, there_added, there_changed, there_last}
+use Rattle.wf_board.proofs.Rows.{changed_case, each_added, each_at, each_changed, each_only, each_open, numbered_added, numbered_changed, row_of_case, there_added, there_changed, there_last}
 use Rattle.wf_board.proofs.Valid.{valid_claimed, valid_finished, valid_freed, valid_fresh}
+use Rattle.wf_board.proofs.Known.{of_policy_claimed, of_policy_finished, of_policy_freed, of_policy_fresh, of_policy_in_phase}
 
 live_apart : {X : Type 0} (c : CaseShape) → is_open c ≡ true → is_open c ≡ false → X
 live_apart c live closed = let is : true ≡ false = sym live ∙ closed in cc
@@ -40,13 +40,6 @@ known_case p rows n c planned here =
 
 same_row : (a b : Row) → Some a ≡ Some b → a ≡ b
 same_row a b h = cc
-
--- a changed case is of the policy where it keeps the workflow and the number of steps
-of_policy_still : (p : PolicyShape) (c d : CaseShape) → d.flow ≡ c.flow → length d.states ≡ length c.states → IsOfPolicy p c → IsOfPolicy p d
-of_policy_still p c d flow steps known = record {
-  flow = subst (λ f. f < length p.flows) (sym flow) known.flow;
-  steps = steps ∙ known.steps ∙ ap (λ f. length (flow_at p f).flow.steps) (sym flow);
-}
 
 -- what is kept of one row
 abbrev IsKeptRow : PolicyShape → CaseShape → Option (List ℕ) → Type 0
@@ -83,7 +76,7 @@ pub held_keeps : (p : PolicyShape) (t : CasesShape) (n : ℕ) (c : CaseShape) (s
 held_keeps p t n c s u plan kept found free valid = record {
   kept = changed_keeps p t n c (held_row s u plan) kept found.case.found (λ r. refl)
       (λ r is known before. subst (λ d. IsKeptRow p (with_state d s (Held u)) (Some plan)) (sym is) (
-        of_policy_still p c (with_state c s (Held u)) refl (length-set c.states s (Held u)) known,
+        of_policy_claimed p c s u found.step found.user known,
         valid_claimed (problem_of p c.flow) c s u plan found.step free valid,
       ));
   next = changed_state p t n (held_row s u plan) (λ d. with_state d s (Held u)) (λ r. refl) (λ r. refl);
@@ -101,7 +94,7 @@ pub finished_keeps : (p : PolicyShape) (t : CasesShape) (n : ℕ) (c : CaseShape
 finished_keeps p t n c s kept found held = record {
   kept = changed_keeps p t n c (finished_row s) kept found.found (λ r. refl)
       (λ r is known before. subst (λ d. IsKeptRow p (finished_case d s) (plan_while (is_open (finished_case d s)) r.plan)) (sym is) (
-        of_policy_still p c (finished_case c s) refl (length-set c.states s (as_finished (state_at c s))) known,
+        of_policy_finished p c s held known,
         finished_planned p c s r.plan found.live held before (is_open (finished_case c s)) refl,
       ));
   next = changed_state p t n (finished_row s) (λ d. finished_case d s) (λ r. refl) (λ r. refl);
@@ -117,7 +110,7 @@ pub freed_keeps : (p : PolicyShape) (t : CasesShape) (n : ℕ) (c : CaseShape) (
 freed_keeps p t n c s kept found held = record {
   kept = changed_keeps p t n c (freed_row s) kept found.found (λ r. refl)
       (λ r is known before. subst (λ d. IsKeptRow p (with_state d s Free) r.plan) (sym is) (
-        of_policy_still p c (with_state c s Free) refl (length-set c.states s Free) known,
+        of_policy_freed p c s held known,
         freed_planned p c s r.plan held before,
       ));
   next = changed_state p t n (freed_row s) (λ d. with_state d s Free) (λ r. refl) (λ r. refl);
@@ -128,7 +121,7 @@ pub withdrawn_keeps : (p : PolicyShape) (t : CasesShape) (n : ℕ) (c : CaseShap
     HasChanged p t (with_row t n withdrawn_row) n (λ d. with_phase d Withdrawn)
 withdrawn_keeps p t n c kept found = record {
   kept = changed_keeps p t n c withdrawn_row kept found.found (λ r. refl)
-      (λ r is known before. subst (λ d. IsKeptRow p (with_phase d Withdrawn) None) (sym is) (of_policy_still p c (with_phase c Withdrawn) refl refl known, refl));
+      (λ r is known before. subst (λ d. IsKeptRow p (with_phase d Withdrawn) None) (sym is) (of_policy_in_phase p c Withdrawn known, refl));
   next = changed_state p t n withdrawn_row (λ d. with_phase d Withdrawn) (λ r. refl) (λ r. refl);
   spare = refl;
 }
@@ -153,7 +146,7 @@ opened_keeps p t f plan kept known valid =
     let new : Row = record { number = t.ever; case = fresh_case f steps; plan = Some plan } in
     record {
       planned = record {
-        cases = each_added (λ r. IsOfPolicy p r.case) t.rows new kept.planned.cases record { flow = known; steps = length-replicate steps Free };
+        cases = each_added (λ r. IsOfPolicy p r.case) t.rows new kept.planned.cases (of_policy_fresh p f known);
         plans = each_added (λ r. IsPlanned p r.case r.plan) t.rows new kept.planned.plans (valid_fresh (problem_of p f) f steps plan valid);
       };
       numbered = λ n below. at_number new n below refl (eqb_tells n t.ever);
@@ -171,7 +164,7 @@ opened_state p t f plan edits =
 
 -- ---- completing
 
-planned_open : (p : PolicyShape) (c : CaseShape) (o : Option (List ℕ)) → is_open c ≡ true → IsPlanned p c o → IsCompletable (problem_of p c.flow) (assigned_of c) (finished_of c)
+pub planned_open : (p : PolicyShape) (c : CaseShape) (o : Option (List ℕ)) → is_open c ≡ true → IsPlanned p c o → IsCompletable (problem_of p c.flow) (assigned_of c) (finished_of c)
 planned_open p c None live planned = live_apart c live planned
 planned_open p c (Some plan) live planned = (plan, planned)
 
@@ -190,6 +183,12 @@ planned_only p rows n planned = record {
   plans = each_only (λ r. IsPlanned p r.case r.plan) n rows planned.plans;
 }
 
+planned_live : (p : PolicyShape) (rows : List Row) → ArePlanned p rows → ArePlanned p (open_rows rows)
+planned_live p rows planned = record {
+  cases = each_open (λ r. IsOfPolicy p r.case) rows planned.cases;
+  plans = each_open (λ r. IsPlanned p r.case r.plan) rows planned.plans;
+}
+
 pub planned_snap : (p : PolicyShape) (rows : List Row) (what : Ask) → ArePlanned p rows → ArePlanned p (snap_rows rows what)
 planned_snap p rows (ask.Request (request.OpenCase flow)) planned = none_planned p
 planned_snap p rows (ask.Request (request.Claim n step user)) planned = planned_only p rows n planned
@@ -197,5 +196,6 @@ planned_snap p rows (ask.Request (request.Finish n step user)) planned = none_pl
 planned_snap p rows (ask.Request (request.GiveBack n step user)) planned = none_planned p
 planned_snap p rows (ask.Request (request.Release by n step)) planned = none_planned p
 planned_snap p rows (ask.Request (request.Withdraw by n)) planned = none_planned p
+planned_snap p rows (ask.Request (request.Change by edit)) planned = planned_live p rows planned
 planned_snap p rows (ask.Request (request.Show n)) planned = none_planned p
 planned_snap p rows (ask.Bad bad) planned = none_planned p

@@ -5,7 +5,7 @@ use Rattle.std.specs.Option.{option_map}
 use Rattle.case_record.specs.Cases.{CaseShape, is_open}
 use Rattle.grant_table.specs.declared.rows.Row.{Row}
 use Rattle.grant_table.specs.Lookup.{look_up}
-use Rattle.grant_table.specs.Tables.{case_in, change_row, only, row_at}
+use Rattle.grant_table.specs.Tables.{case_in, change_row, only, open_rows, row_at}
 use Rattle.grant_table.specs.Tables as Tables
 use Rattle.basics.proofs.Booleans.{eq_is}
 use Rattle.wf_board.specs.States.{Numbered, case_at, with_case_changed}
@@ -48,6 +48,14 @@ each_only P n [] each = tt
 each_only P n (r ∷ rs) each = at_first (nat_eq r.number n) (each_only P n rs each.1)
   where
     at_first : (b : Bool) → EachRow P (only n rs) → EachRow P (if b then r ∷ only n rs else only n rs)
+    at_first true rest = (each.0, rest)
+    at_first false rest = rest
+
+pub each_open : (P : Row → Type 0) (rows : List Row) → EachRow P rows → EachRow P (open_rows rows)
+each_open P [] each = tt
+each_open P (r ∷ rs) each = at_first (is_open r.case) (each_open P rs each.1)
+  where
+    at_first : (b : Bool) → EachRow P (open_rows rs) → EachRow P (if b then r ∷ open_rows rs else open_rows rs)
     at_first true rest = (each.0, rest)
     at_first false rest = rest
 

@@ -1,27 +1,31 @@
 -- A snapshot has what a verdict on what is asked rests on.
-use Rattle.std.proofs.Common.{◌≡◌, ℕ, Bool, true, false, nat_eq, List, [], ◌∷◌, map, Option, None, Some, Result, Ok, Err, if◌then◌else◌, refl, sym, ap, subst, ◌∙◌}
+use Rattle.std.proofs.Common.{◌≡◌, ℕ, ◌⊎◌, inl, inr, Bool, true, false, nat_eq, List, [], ◌∷◌, map, Option, None, Some, Result, Ok, Err, if◌then◌else◌, refl, sym, ap, subst, ◌∙◌}
 use Rattle.std.specs.Option.{option_map}
 use Rattle.first_fault.specs.Reading.{◌>>=◌, or_fault, check}
 use Rattle.policy_book.specs.Shapes.{PolicyShape}
-use Rattle.case_record.specs.Cases.{CaseShape}
+use Rattle.case_record.specs.Cases.{CaseShape, is_open}
 use Rattle.grant_table.specs.declared.rows.Row.{Row}
 use Rattle.grant_table.specs.Lookup.{look_up}
-use Rattle.grant_table.specs.Tables.{only}
+use Rattle.grant_table.specs.Tables.{only, open_rows}
 use Rattle.refutation_tree.specs.declared.tree.Tree.{Tree}
 use Rattle.wf_talk.specs.declared.request.Request.TheVariants as request
+use Rattle.wf_talk.specs.declared.edit.Edit.{Edit}
 use Rattle.wf_talk.specs.declared.request.Ask.{Ask}
 use Rattle.wf_talk.specs.declared.request.Ask.TheVariants as ask
 use Rattle.wf_talk.specs.declared.reply.Denial.{Denial}
-use Rattle.wf_talk.specs.declared.reply.Denial.TheVariants.{NoCase, NoStep, NoUser, NotAdmin}
+use Rattle.wf_talk.specs.declared.reply.Denial.TheVariants.{NoCase, NoFlow, NoStep, NoUser, NotAdmin}
 use Rattle.wf_board.specs.declared.deed.Deed.{Deed}
 use Rattle.wf_board.specs.declared.deed.Deed.TheVariants as deed
 use Rattle.wf_board.specs.declared.verdict.Verdict.{Verdict}
 use Rattle.wf_board.specs.declared.verdict.Verdict.TheVariants as verdict
-use Rattle.wf_board.specs.States.{Book, Numbered, case_at, is_admin, step_named, user_named}
+use Rattle.wf_board.specs.States.{Book, Numbered, case_at, flow_named, open_cases, step_named, user_named}
+use Rattle.admin_edits.specs.Edits.{is_admin}
 use Rattle.wf_board.specs.Resolved.{on_step, open_case_at, resolve, resolve_request}
+use Rattle.wf_board.specs.Edited.{ArePlansOf, IsFirstStranded}
+use Rattle.admin_edits.specs.Edits.{amended}
 use Rattle.wf_board.specs.Decisions.{cause_aside, cause_full, decision_aside, decision_of, needs_plan, needs_verdict, unless_denied}
-use Rattle.wf_board.specs.Boards.{BoardShape, book_on, numbered, state_on}
-use Rattle.wf_board.specs.Verdicts.{IsPlanFor, IsRight, IsTreeFor, snap_of}
+use Rattle.wf_board.specs.Boards.{BoardShape, EditionShape, book_on, numbered, state_on}
+use Rattle.wf_board.specs.Verdicts.{IsEditionFor, IsPlanFor, IsRight, IsStrandingFor, IsTreeFor, snap_of}
 use Rattle.wf_board.specs.Laws.{SnapsSuffice}
 
 -- a snapshot of one case has it as the table has it
@@ -33,6 +37,16 @@ case_alone n (r ∷ rs) = at_first (nat_eq r.number n) refl (case_alone n rs)
         case_at (map numbered (if b then r ∷ only n rs else only n rs)) n ≡ option_map (λ (e : Numbered). e.case) (if b then Some (numbered r) else look_up (λ (e : Numbered). e.number) n (map numbered rs))
     at_first true here rest = rw here refl
     at_first false here rest = rest
+
+-- a snapshot of the open cases has them as the table has them
+pub open_alone : (rows : List Row) → open_cases (map numbered (open_rows rows)) ≡ open_cases (map numbered rows)
+open_alone [] = refl
+open_alone (r ∷ rs) = at_first (is_open r.case) refl (open_alone rs)
+  where
+    at_first : (b : Bool) → is_open r.case ≡ b → open_cases (map numbered (open_rows rs)) ≡ open_cases (map numbered rs) →
+        open_cases (map numbered (if b then r ∷ open_rows rs else open_rows rs)) ≡ (if b then numbered r ∷ open_cases (map numbered rs) else open_cases (map numbered rs))
+    at_first true live rest = rw live (ap (λ es. numbered r ∷ es) rest)
+    at_first false closed rest = rest
 
 same_rest : {A B F : Type 0} (r : Result A F) (f g : A → Result B F) → ((x : A) → f x ≡ g x) → (r >>= f) ≡ (r >>= g)
 same_rest (Ok x) f g same = same x
@@ -50,6 +64,7 @@ same_cause p xs ys m k (deed.Finish n c s u) = refl
 same_cause p xs ys m k (deed.GiveBack n c s u) = refl
 same_cause p xs ys m k (deed.Release n c s) = refl
 same_cause p xs ys m k (deed.Withdraw n) = refl
+same_cause p xs ys m k (deed.Change a) = refl
 same_cause p xs ys m k (deed.Show c) = refl
 same_cause p xs ys m k (deed.TurnAway bad) = refl
 
@@ -71,6 +86,11 @@ pub same_opening : (p : PolicyShape) (xs ys : List Numbered) (m k : ℕ) (flow :
     decision_aside (with_cases p xs m) (ask.Request (request.OpenCase flow)) ≡ decision_aside (with_cases p ys k) (ask.Request (request.OpenCase flow))
 same_opening p xs ys m k flow = same_decision p xs ys m k (ask.Request (request.OpenCase flow)) refl
 
+-- and so is an edit
+pub same_change : (p : PolicyShape) (xs ys : List Numbered) (m k : ℕ) (by : List ℕ) (e : Edit) →
+    decision_aside (with_cases p xs m) (ask.Request (request.Change by e)) ≡ decision_aside (with_cases p ys k) (ask.Request (request.Change by e))
+same_change p xs ys m k by e = same_decision p xs ys m k (ask.Request (request.Change by e)) refl
+
 -- a claim is decided over its case alone as over all
 pub claim_alone : (b : BoardShape) (n : ℕ) (step user : List ℕ) (spare : ℕ) →
     decision_aside (book_on (snap_of b (ask.Request (request.Claim n step user)) spare)) (ask.Request (request.Claim n step user))
@@ -84,7 +104,7 @@ pub opening_alone : (b : BoardShape) (flow : List ℕ) (spare : ℕ) →
     ≡ decision_aside (state_on b).book (ask.Request (request.OpenCase flow))
 opening_alone b flow spare = same_opening b.policy [] (map numbered b.cases.rows) b.cases.ever b.cases.ever flow
 
--- what is no opening and no claim
+-- what is no opening, no claim and no edit
 abbrev pub IsPlain : Result Deed Denial → Type 0
 IsPlain (Ok given) = needs_plan given ≡ false
 IsPlain (Err d) = Unit {0}
@@ -118,11 +138,11 @@ return_plain n step user b = plain_aside b (on_step deed.GiveBack b n step user)
 pub release_plain : (by : List ℕ) (n : ℕ) (step : List ℕ) (b : Book) → IsAside b (ask.Request (request.Release by n step))
 release_plain by n step b =
     plain_aside b (resolve_request b (request.Release by n step))
-    (then_plain (check (is_admin b by) NotAdmin) _ (λ _. then_plain (open_case_at b n) _ (λ c. then_plain (or_fault (step_named b c.flow step) NoStep) _ (λ s. refl))))
+    (then_plain (check (is_admin b.policy by) NotAdmin) _ (λ _. then_plain (open_case_at b n) _ (λ c. then_plain (or_fault (step_named b c.flow step) NoStep) _ (λ s. refl))))
 
 pub withdraw_plain : (by : List ℕ) (n : ℕ) (b : Book) → IsAside b (ask.Request (request.Withdraw by n))
 withdraw_plain by n b =
-    plain_aside b (resolve_request b (request.Withdraw by n)) (then_plain (check (is_admin b by) NotAdmin) _ (λ _. then_plain (open_case_at b n) _ (λ c. refl)))
+    plain_aside b (resolve_request b (request.Withdraw by n)) (then_plain (check (is_admin b.policy by) NotAdmin) _ (λ _. then_plain (open_case_at b n) _ (λ c. refl)))
 
 pub show_plain : (n : ℕ) (b : Book) → IsAside b (ask.Request (request.Show n))
 show_plain n b = plain_aside b (resolve_request b (request.Show n)) (then_plain (or_fault (case_at b.cases n) NoCase) _ (λ c. refl))
@@ -148,6 +168,8 @@ needs_same b (ask.Request (request.Finish n step user)) spare = both_plain b (as
 needs_same b (ask.Request (request.GiveBack n step user)) spare = both_plain b (ask.Request (request.GiveBack n step user)) spare (return_plain n step user)
 needs_same b (ask.Request (request.Release by n step)) spare = both_plain b (ask.Request (request.Release by n step)) spare (release_plain by n step)
 needs_same b (ask.Request (request.Withdraw by n)) spare = both_plain b (ask.Request (request.Withdraw by n)) spare (withdraw_plain by n)
+needs_same b (ask.Request (request.Change by e)) spare =
+    ap needs_verdict (same_change b.policy (map numbered (open_rows b.cases.rows)) (map numbered b.cases.rows) b.cases.ever b.cases.ever by e)
 needs_same b (ask.Request (request.Show n)) spare = both_plain b (ask.Request (request.Show n)) spare (show_plain n)
 needs_same b (ask.Bad bad) spare = refl
 
@@ -178,12 +200,51 @@ no_tree b (Ok (deed.Open f)) tree plain is = cc
 no_tree b (Ok (deed.Claim n c t u)) tree plain is = cc
 no_tree b r tree plain is = absurd is
 
+no_edition : (b : Book) (r : Result Deed Denial) (edition : EditionShape) {X : Type 0} → IsPlain r → IsEditionFor b r edition → X
+no_edition b (Ok (deed.Change a)) edition plain is = cc
+no_edition b r edition plain is = absurd is
+
+no_stranding : (b : Book) (r : Result Deed Denial) (n : ℕ) (tree : Tree) {X : Type 0} → IsPlain r → IsStrandingFor b r n tree → X
+no_stranding b (Ok (deed.Change a)) n tree plain is = cc
+no_stranding b r n tree plain is = absurd is
+
 -- no plan and no tree is right for what rests on no plan
 pub plain_right : (b c : Book) (what : Ask) (v : Verdict) → IsAlwaysAside what → IsRight b what v → IsRight c what v
 plain_right b c what verdict.Nothing plain is = tt
 plain_right b c what verdict.NoMemory plain is = tt
 plain_right b c what (verdict.Plan plan) plain is = no_plan b (decision_aside b what) plan (plain b) is
 plain_right b c what (verdict.Refuted tree) plain is = no_tree b (decision_aside b what) tree (plain b) is
+plain_right b c what (verdict.Edited edition) plain is = no_edition b (decision_aside b what) edition (plain b) is
+plain_right b c what (verdict.Strands n tree) plain is = no_stranding b (decision_aside b what) n tree (plain b) is
+
+-- ---- what is no edit
+
+-- what was decided changes no policy
+abbrev pub IsNoChange : Result Deed Denial → Type 0
+IsNoChange (Ok (deed.Change a)) = ⊥
+IsNoChange r = Unit {0}
+
+then_no_change : {X : Type 0} (r : Result X Denial) (f : X → Result Deed Denial) → ((x : X) → IsNoChange (f x)) → IsNoChange (r >>= f)
+then_no_change (Ok x) f each = each x
+then_no_change (Err d) f each = tt
+
+unless_no_change : (given : Deed) (o : Option Denial) → IsNoChange (Ok given) → IsNoChange (unless_denied given o)
+unless_no_change given None kept = kept
+unless_no_change given (Some d) kept = tt
+
+aside_no_change : (b : Book) (r : Result Deed Denial) → IsNoChange r → IsNoChange (r >>= (λ given. unless_denied given (cause_aside b given)))
+aside_no_change b (Ok given) kept = unless_no_change given (cause_aside b given) kept
+aside_no_change b (Err d) kept = tt
+
+pub opening_no_change : (b : Book) (flow : List ℕ) → IsNoChange (decision_aside b (ask.Request (request.OpenCase flow)))
+opening_no_change b flow = aside_no_change b (resolve_request b (request.OpenCase flow)) (then_no_change (or_fault (flow_named b flow) NoFlow) _ (λ f. tt))
+
+pub claim_no_change : (b : Book) (n : ℕ) (step user : List ℕ) → IsNoChange (decision_aside b (ask.Request (request.Claim n step user)))
+claim_no_change b n step user =
+    aside_no_change b (on_step deed.Claim b n step user)
+    (then_no_change (open_case_at b n) _ (λ c. then_no_change (or_fault (step_named b c.flow step) NoStep) _ (λ t. then_no_change (or_fault (user_named b user) NoUser) _ (λ u. tt))))
+
+-- ---- what is right
 
 -- where the decision is the same, so is what is right
 plan_same : (p : PolicyShape) (xs ys : List Numbered) (m k : ℕ) (r : Result Deed Denial) (plan : List ℕ) → IsPlanFor (with_cases p xs m) r plan → IsPlanFor (with_cases p ys k) r plan
@@ -196,23 +257,47 @@ tree_same p xs ys m k (Ok (deed.Open f)) tree is = is
 tree_same p xs ys m k (Ok (deed.Claim n c t u)) tree is = is
 tree_same p xs ys m k r tree is = absurd is
 
+-- also of an edit, where the open cases are the same
+abbrev pub MayChange : List Numbered → List Numbered → Result Deed Denial → Type 0
+MayChange xs ys r = IsNoChange r ⊎ (open_cases xs ≡ open_cases ys)
+
+edition_same : (p : PolicyShape) (xs ys : List Numbered) (m k : ℕ) (r : Result Deed Denial) (edition : EditionShape) → MayChange xs ys r →
+    IsEditionFor (with_cases p xs m) r edition → IsEditionFor (with_cases p ys k) r edition
+edition_same p xs ys m k (Ok (deed.Change a)) edition (inl kept) is = absurd kept
+edition_same p xs ys m k (Ok (deed.Change a)) edition (inr same) is = (is.0, subst (λ es. ArePlansOf edition.policy es edition.plans) same is.1)
+edition_same p xs ys m k r edition may is = absurd is
+
+stranding_same : (p : PolicyShape) (xs ys : List Numbered) (m k : ℕ) (r : Result Deed Denial) (n : ℕ) (tree : Tree) → MayChange xs ys r →
+    IsStrandingFor (with_cases p xs m) r n tree → IsStrandingFor (with_cases p ys k) r n tree
+stranding_same p xs ys m k (Ok (deed.Change a)) n tree (inl kept) is = absurd kept
+stranding_same p xs ys m k (Ok (deed.Change a)) n tree (inr same) is = (is.0, subst (λ es. IsFirstStranded (amended p a) es n is.0 tree) same is.1)
+stranding_same p xs ys m k r n tree may is = absurd is
+
 pub right_same : (p : PolicyShape) (xs ys : List Numbered) (m k : ℕ) (what : Ask) (v : Verdict) → decision_aside (with_cases p xs m) what ≡ decision_aside (with_cases p ys k) what →
-    IsRight (with_cases p xs m) what v → IsRight (with_cases p ys k) what v
-right_same p xs ys m k what verdict.Nothing same is = tt
-right_same p xs ys m k what verdict.NoMemory same is = tt
-right_same p xs ys m k what (verdict.Plan plan) same is =
+    MayChange xs ys (decision_aside (with_cases p xs m) what) → IsRight (with_cases p xs m) what v → IsRight (with_cases p ys k) what v
+right_same p xs ys m k what verdict.Nothing same may is = tt
+right_same p xs ys m k what verdict.NoMemory same may is = tt
+right_same p xs ys m k what (verdict.Plan plan) same may is =
     subst (λ r. IsPlanFor (with_cases p ys k) r plan) same (plan_same p xs ys m k (decision_aside (with_cases p xs m) what) plan is)
-right_same p xs ys m k what (verdict.Refuted tree) same is =
+right_same p xs ys m k what (verdict.Refuted tree) same may is =
     subst (λ r. IsTreeFor (with_cases p ys k) r tree) same (tree_same p xs ys m k (decision_aside (with_cases p xs m) what) tree is)
+right_same p xs ys m k what (verdict.Edited edition) same may is =
+    subst (λ r. IsEditionFor (with_cases p ys k) r edition) same (edition_same p xs ys m k (decision_aside (with_cases p xs m) what) edition may is)
+right_same p xs ys m k what (verdict.Strands n tree) same may is =
+    subst (λ r. IsStrandingFor (with_cases p ys k) r n tree) same (stranding_same p xs ys m k (decision_aside (with_cases p xs m) what) n tree may is)
 
 pub snaps_suffice : SnapsSuffice
 snaps_suffice b (ask.Request (request.OpenCase flow)) spare v is =
-    right_same b.policy [] (map numbered b.cases.rows) b.cases.ever b.cases.ever (ask.Request (request.OpenCase flow)) v (opening_alone b flow spare) is
+    right_same b.policy [] (map numbered b.cases.rows) b.cases.ever b.cases.ever (ask.Request (request.OpenCase flow)) v (opening_alone b flow spare) (inl (opening_no_change (with_cases b.policy [] b.cases.ever) flow)) is
 snaps_suffice b (ask.Request (request.Claim n step user)) spare v is =
-    right_same b.policy (map numbered (only n b.cases.rows)) (map numbered b.cases.rows) b.cases.ever b.cases.ever (ask.Request (request.Claim n step user)) v (claim_alone b n step user spare) is
+    right_same b.policy (map numbered (only n b.cases.rows)) (map numbered b.cases.rows) b.cases.ever b.cases.ever (ask.Request (request.Claim n step user)) v (claim_alone b n step user spare) (inl (claim_no_change (with_cases b.policy (map numbered (only n b.cases.rows)) b.cases.ever) n step user)) is
 snaps_suffice b (ask.Request (request.Finish n step user)) spare v is = plain_right (book_on (snap_of b (ask.Request (request.Finish n step user)) spare)) (state_on b).book (ask.Request (request.Finish n step user)) v (finish_plain n step user) is
 snaps_suffice b (ask.Request (request.GiveBack n step user)) spare v is = plain_right (book_on (snap_of b (ask.Request (request.GiveBack n step user)) spare)) (state_on b).book (ask.Request (request.GiveBack n step user)) v (return_plain n step user) is
 snaps_suffice b (ask.Request (request.Release by n step)) spare v is = plain_right (book_on (snap_of b (ask.Request (request.Release by n step)) spare)) (state_on b).book (ask.Request (request.Release by n step)) v (release_plain by n step) is
 snaps_suffice b (ask.Request (request.Withdraw by n)) spare v is = plain_right (book_on (snap_of b (ask.Request (request.Withdraw by n)) spare)) (state_on b).book (ask.Request (request.Withdraw by n)) v (withdraw_plain by n) is
+snaps_suffice b (ask.Request (request.Change by e)) spare v is =
+    let live = map numbered (open_rows b.cases.rows) in
+    right_same b.policy live (map numbered b.cases.rows) b.cases.ever b.cases.ever (ask.Request (request.Change by e)) v
+    (same_change b.policy live (map numbered b.cases.rows) b.cases.ever b.cases.ever by e) (inr (open_alone b.cases.rows)) is
 snaps_suffice b (ask.Request (request.Show n)) spare v is = plain_right (book_on (snap_of b (ask.Request (request.Show n)) spare)) (state_on b).book (ask.Request (request.Show n)) v (show_plain n) is
 snaps_suffice b (ask.Bad bad) spare v is = plain_right (book_on (snap_of b (ask.Bad bad) spare)) (state_on b).book (ask.Bad bad) v (λ a. refl) is

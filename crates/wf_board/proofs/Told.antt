@@ -9,18 +9,25 @@ use Rattle.wf_names.specs.Table.{place_of}
 use Rattle.wf_names.specs.declared.states.StepState.{StepState}
 use Rattle.wf_names.specs.declared.states.StepState.TheVariants.{Free, Held, Finished}
 use Rattle.policy_book.specs.Policies.{flow_at}
+use Rattle.policy_book.specs.Facts.{IsSoundPolicy}
+use Rattle.wf_talk.specs.declared.edit.Edit.{Edit}
 use Rattle.case_record.specs.Cases.{CaseShape, is_open, state_at}
 use Rattle.wf_talk.specs.declared.request.Request.TheVariants as request
 use Rattle.wf_talk.specs.declared.request.Ask.{Ask}
 use Rattle.wf_talk.specs.declared.request.Ask.TheVariants as ask
 use Rattle.wf_talk.specs.declared.reply.Denial.{Denial}
 use Rattle.wf_talk.specs.declared.reply.Denial.TheVariants.{Closed, NoCase, NoFlow, NoStep, NoUser, NotAdmin}
+use Rattle.admin_edits.specs.Edits.{amendment_of, is_admin}
+use Rattle.admin_edits.specs.declared.amendment.Amendment.{Amendment}
+use Rattle.admin_edits.specs.declared.fault.EditFault.{EditFault}
 use Rattle.denial_reasons.specs.Causes.{first_cause, first_of, unless}
 use Rattle.wf_board.specs.declared.deed.Deed.{Deed}
 use Rattle.wf_board.specs.declared.deed.Deed.TheVariants as deed
-use Rattle.wf_board.specs.States.{Book, case_at, flow_named, is_admin, step_named, user_named}
-use Rattle.wf_board.specs.Resolved.{on_step, open_case_at, resolve}
+use Rattle.wf_board.specs.States.{Book, case_at, flow_named, step_named, user_named}
+use Rattle.wf_board.specs.Resolved.{changed, on_step, open_case_at, resolve}
+use Rattle.wf_board.specs.Found as found
 use Rattle.wf_board.specs.Decisions.{cause_aside, cause_full, decision_aside, decision_of, is_held_by, unless_denied}
+use Rattle.admin_edits.proofs.Keeping.{amendment_found}
 
 -- P holds of what was read, if it was
 abbrev pub HoldsOf : {A F : Type 0} → (A → Type 0) → Result A F → Type 0
@@ -53,13 +60,19 @@ pub record HasStep (b : Book) (n : ℕ) (c : CaseShape) (t : ℕ) : Type 0 where
   pub case : IsOpenCase b n c
   pub step : t < length (flow_at b.policy c.flow).flow.steps
 
+-- and the user of a claim is there
+pub record IsClaim (b : Book) (n : ℕ) (c : CaseShape) (t u : ℕ) : Type 0 where
+  pub there : HasStep b n c t
+  pub user : u < length b.policy.roster.users
+
 -- what a deed names is there
 abbrev pub IsThere : Book → Deed → Type 0
 IsThere b (deed.Open f) = f < length b.policy.flow_names
-IsThere b (deed.Claim n c t u) = HasStep b n c t
+IsThere b (deed.Claim n c t u) = IsClaim b n c t u
 IsThere b (deed.Finish n c t u) = HasStep b n c t
 IsThere b (deed.GiveBack n c t u) = HasStep b n c t
 IsThere b (deed.Release n c t) = HasStep b n c t
+IsThere b (deed.Change a) = IsSoundPolicy b.policy → found.IsAllowed b.policy a
 IsThere b given = Unit {0}
 
 open_there : (b : Book) (n : ℕ) → HoldsOf (IsOpenCase b n) (open_case_at b n)
@@ -69,28 +82,38 @@ open_there b n =
     (λ _ live. record { found = found; live = live }))
 
 step_there : (b : Book) (make : ℕ → CaseShape → ℕ → ℕ → Deed) (n : ℕ) (step user : List ℕ) →
-    ((c : CaseShape) (t u : ℕ) → HasStep b n c t → IsThere b (make n c t u)) → HoldsOf (IsThere b) (on_step make b n step user)
+    ((c : CaseShape) (t u : ℕ) → IsClaim b n c t u → IsThere b (make n c t u)) → HoldsOf (IsThere b) (on_step make b n step user)
 step_there b make n step user made =
     then_holds (IsOpenCase b n) (IsThere b) (open_case_at b n) _ (open_there b n)
     (λ c there. then_holds (λ t. step_named b c.flow step ≡ Some t) (IsThere b) (or_fault (step_named b c.flow step) NoStep) _ (there_holds (step_named b c.flow step) NoStep)
     (λ t named. then_holds (λ u. user_named b user ≡ Some u) (IsThere b) (or_fault (user_named b user) NoUser) _ (there_holds (user_named b user) NoUser)
-    (λ u known. made c t u record { case = there; step = place_within (flow_at b.policy c.flow).flow.steps step t named })))
+    (λ u known. made c t u record {
+      there = record { case = there; step = place_within (flow_at b.policy c.flow).flow.steps step t named };
+      user = place_within b.policy.roster.users user u known;
+    })))
+
+change_there : (b : Book) (by : List ℕ) (e : Edit) (r : Result Amendment EditFault) → amendment_of b.policy by e ≡ r → HoldsOf (IsThere b) (changed r)
+change_there b by e (Ok a) is = λ sound.
+    let known = amendment_found b.policy by e a sound is in
+    record { found = known.0; allowed = known.1 }
+change_there b by e (Err fault) is = tt
 
 resolve_there : (b : Book) (what : Ask) → HoldsOf (IsThere b) (resolve b what)
 resolve_there b (ask.Request (request.OpenCase flow)) =
     then_holds (λ f. flow_named b flow ≡ Some f) (IsThere b) (or_fault (flow_named b flow) NoFlow) _ (there_holds (flow_named b flow) NoFlow)
     (λ f named. place_within b.policy.flow_names flow f named)
-resolve_there b (ask.Request (request.Claim n step user)) = step_there b deed.Claim n step user (λ c t u there. there)
-resolve_there b (ask.Request (request.Finish n step user)) = step_there b deed.Finish n step user (λ c t u there. there)
-resolve_there b (ask.Request (request.GiveBack n step user)) = step_there b deed.GiveBack n step user (λ c t u there. there)
+resolve_there b (ask.Request (request.Claim n step user)) = step_there b deed.Claim n step user (λ c t u is. is)
+resolve_there b (ask.Request (request.Finish n step user)) = step_there b deed.Finish n step user (λ c t u is. is.there)
+resolve_there b (ask.Request (request.GiveBack n step user)) = step_there b deed.GiveBack n step user (λ c t u is. is.there)
 resolve_there b (ask.Request (request.Release by n step)) =
-    then_holds (λ _. is_admin b by ≡ true) (IsThere b) (check (is_admin b by) NotAdmin) _ (passed_holds (is_admin b by) NotAdmin)
+    then_holds (λ _. is_admin b.policy by ≡ true) (IsThere b) (check (is_admin b.policy by) NotAdmin) _ (passed_holds (is_admin b.policy by) NotAdmin)
     (λ _ may. then_holds (IsOpenCase b n) (IsThere b) (open_case_at b n) _ (open_there b n)
     (λ c there. then_holds (λ t. step_named b c.flow step ≡ Some t) (IsThere b) (or_fault (step_named b c.flow step) NoStep) _ (there_holds (step_named b c.flow step) NoStep)
     (λ t named. record { case = there; step = place_within (flow_at b.policy c.flow).flow.steps step t named })))
 resolve_there b (ask.Request (request.Withdraw by n)) =
-    then_holds (λ _. is_admin b by ≡ true) (IsThere b) (check (is_admin b by) NotAdmin) _ (passed_holds (is_admin b by) NotAdmin)
+    then_holds (λ _. is_admin b.policy by ≡ true) (IsThere b) (check (is_admin b.policy by) NotAdmin) _ (passed_holds (is_admin b.policy by) NotAdmin)
     (λ _ may. then_holds (IsOpenCase b n) (IsThere b) (open_case_at b n) _ (open_there b n) (λ c there. tt))
+resolve_there b (ask.Request (request.Change by edit)) = change_there b by edit (amendment_of b.policy by edit) refl
 resolve_there b (ask.Request (request.Show n)) =
     then_holds (λ c. case_at b.cases n ≡ Some c) (IsThere b) (or_fault (case_at b.cases n) NoCase) _ (there_holds (case_at b.cases n) NoCase) (λ c found. tt)
 resolve_there b (ask.Bad bad) = tt
@@ -122,6 +145,7 @@ allowed_told b (deed.Finish n c t u) there = unless_holds (IsTold b) (deed.Finis
 allowed_told b (deed.GiveBack n c t u) there = unless_holds (IsTold b) (deed.GiveBack n c t u) (cause_aside b (deed.GiveBack n c t u)) (λ none. (there, unless_tells _ _ none))
 allowed_told b (deed.Release n c t) there = unless_holds (IsTold b) (deed.Release n c t) (cause_aside b (deed.Release n c t)) (λ none. (there, unless_tells _ _ none))
 allowed_told b (deed.Withdraw n) there = (tt, tt)
+allowed_told b (deed.Change a) there = (there, tt)
 allowed_told b (deed.Show c) there = (tt, tt)
 allowed_told b (deed.TurnAway bad) there = (tt, tt)
 

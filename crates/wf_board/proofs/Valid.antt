@@ -19,7 +19,8 @@ none_member : (s : ℕ) → is_member no_steps s ≡ false
 unfolding no_steps
 none_member s = blank_at STEP_LIMIT s false
 
-fresh_user : (flow n s : ℕ) → user_at (assigned_of (fresh_case flow n)) s ≡ None
+-- nobody has a step of a fresh case
+pub fresh_user : (flow n s : ℕ) → user_at (assigned_of (fresh_case flow n)) s ≡ None
 fresh_user flow n s = assigned_of-at (fresh_case flow n) s ∙ ap user_of (blank_at n s Free)
 
 -- a plan that is valid while nobody has a step is valid for a fresh case
@@ -57,7 +58,8 @@ valid_finished p c t plan held valid = record {
   obeyed = valid.obeyed;
 }
 
-less_given : (a : List (Option ℕ)) (t s u : ℕ) → user_at (slice_set a t None) s ≡ Some u → user_at a s ≡ Some u
+-- where a step is taken away, nobody has a step that nobody had
+pub less_given : (a : List (Option ℕ)) (t s u : ℕ) → user_at (slice_set a t None) s ≡ Some u → user_at a s ≡ Some u
 less_given [] t s u h = h
 less_given (x ∷ xs) zero zero u h = none_not_some u h
 less_given (x ∷ xs) zero (suc s) u h = h

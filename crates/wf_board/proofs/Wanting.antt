@@ -1,5 +1,5 @@
 -- What a board may have no memory for.
-use Rattle.std.proofs.Common.{◌≡◌, ◌≢◌, ℕ, ◌⊎◌, inl, inr, Bool, true, false, List, Option, None, Some, Result, Ok, Err, refl, sym, ◌∙◌}
+use Rattle.std.proofs.Common.{◌≡◌, ℕ, inl, inr, Bool, true, false, List, Option, None, Some, Result, Ok, Err, refl, sym, ◌∙◌}
 use Rattle.first_fault.specs.Reading.{◌>>=◌, or_fault, check}
 use Rattle.wf_names.specs.States.{is_held}
 use Rattle.case_record.specs.Cases.{CaseShape, is_open, state_at}
@@ -14,8 +14,9 @@ use Rattle.wf_talk.specs.declared.reply.Denial.TheVariants.{Closed, NoCase, NoSt
 use Rattle.wf_board.specs.declared.deed.Deed.{Deed}
 use Rattle.wf_board.specs.declared.deed.Deed.TheVariants as deed
 use Rattle.wf_board.specs.declared.verdict.Verdict.{Verdict}
-use Rattle.wf_board.specs.States.{Book, case_at, is_admin, step_named, user_named}
-use Rattle.wf_board.specs.Resolved.{on_step, open_case_at, resolve, resolve_request}
+use Rattle.wf_board.specs.States.{Book, case_at, step_named, user_named}
+use Rattle.admin_edits.specs.Edits.{is_admin}
+use Rattle.wf_board.specs.Resolved.{on_step, open_case_at, resolve}
 use Rattle.wf_board.specs.Boards.{BoardShape, state_on}
 use Rattle.wf_board.specs.Decisions.{cause_aside, cause_full, decision_aside, decision_of, is_held_by, needs_verdict, takes_memory, unless_denied}
 use Rattle.wf_board.specs.Histories.{may_lack_memory}
@@ -29,7 +30,7 @@ plain_apart b what plain needs =
     let is : true ≡ false = sym (needs_aside b what needs) ∙ plain_needs (decision_aside b what) (plain b) in
     cc
 
--- a verdict is needed for an opening or a claim alone
+-- a verdict is needed for an opening, a claim or an edit alone
 pub needs_rightly : (b : Book) (what : Ask) → needs_verdict (decision_of b what) ≡ true → may_lack_memory what ≡ true
 needs_rightly b (ask.Request (request.OpenCase flow)) needs = refl
 needs_rightly b (ask.Request (request.Claim n step user)) needs = refl
@@ -37,6 +38,7 @@ needs_rightly b (ask.Request (request.Finish n step user)) needs = plain_apart b
 needs_rightly b (ask.Request (request.GiveBack n step user)) needs = plain_apart b (ask.Request (request.GiveBack n step user)) (return_plain n step user) needs
 needs_rightly b (ask.Request (request.Release by n step)) needs = plain_apart b (ask.Request (request.Release by n step)) (release_plain by n step) needs
 needs_rightly b (ask.Request (request.Withdraw by n)) needs = plain_apart b (ask.Request (request.Withdraw by n)) (withdraw_plain by n) needs
+needs_rightly b (ask.Request (request.Change by edit)) needs = refl
 needs_rightly b (ask.Request (request.Show n)) needs = plain_apart b (ask.Request (request.Show n)) (show_plain n) needs
 needs_rightly b (ask.Bad bad) needs = plain_apart b (ask.Bad bad) (λ a. refl) needs
 
@@ -67,7 +69,7 @@ unless_none : (given : Deed) (b : Bool) (d : Denial) → is_role d ≡ false →
 unless_none given true d none = tt
 unless_none given false d none = none
 
--- against what is no opening and no claim
+-- what is no opening and no claim
 abbrev IsOther : Deed → Type 0
 IsOther (deed.Open f) = ⊥
 IsOther (deed.Claim n c t u) = ⊥
@@ -80,6 +82,7 @@ aside_none b (deed.Finish n c t u) other = unless_none (deed.Finish n c t u) (is
 aside_none b (deed.GiveBack n c t u) other = unless_none (deed.GiveBack n c t u) (is_held_by u (state_at c t)) _ refl
 aside_none b (deed.Release n c t) other = unless_none (deed.Release n c t) (is_held (state_at c t)) _ refl
 aside_none b (deed.Withdraw n) other = tt
+aside_none b (deed.Change a) other = tt
 aside_none b (deed.Show c) other = tt
 aside_none b (deed.TurnAway bad) other = tt
 
@@ -90,6 +93,7 @@ full_none b (deed.Finish n c t u) = tt
 full_none b (deed.GiveBack n c t u) = tt
 full_none b (deed.Release n c t) = tt
 full_none b (deed.Withdraw n) = tt
+full_none b (deed.Change a) = tt
 full_none b (deed.Show c) = tt
 full_none b (deed.TurnAway bad) = tt
 
@@ -136,12 +140,13 @@ roles_rightly b (ask.Request (request.GiveBack n step user)) takes =
 roles_rightly b (ask.Request (request.Release by n step)) takes =
     let what = ask.Request (request.Release by n step) in
     none_apart (decision_of b what)
-    (decided_none b what (then_other (check (is_admin b by) NotAdmin) _ (check_none (is_admin b by) NotAdmin refl)
+    (decided_none b what (then_other (check (is_admin b.policy by) NotAdmin) _ (check_none (is_admin b.policy by) NotAdmin refl)
     (λ _. then_other (open_case_at b n) _ (open_none b n) (λ c. then_other (or_fault (step_named b c.flow step) NoStep) _ (or_none (step_named b c.flow step) NoStep refl) (λ t. tt))))) takes
 roles_rightly b (ask.Request (request.Withdraw by n)) takes =
     let what = ask.Request (request.Withdraw by n) in
     none_apart (decision_of b what)
-    (decided_none b what (then_other (check (is_admin b by) NotAdmin) _ (check_none (is_admin b by) NotAdmin refl) (λ _. then_other (open_case_at b n) _ (open_none b n) (λ c. tt)))) takes
+    (decided_none b what (then_other (check (is_admin b.policy by) NotAdmin) _ (check_none (is_admin b.policy by) NotAdmin refl) (λ _. then_other (open_case_at b n) _ (open_none b n) (λ c. tt)))) takes
+roles_rightly b (ask.Request (request.Change by edit)) takes = refl
 roles_rightly b (ask.Request (request.Show n)) takes =
     let what = ask.Request (request.Show n) in
     none_apart (decision_of b what) (decided_none b what (then_other (or_fault (case_at b.cases n) NoCase) _ (or_none (case_at b.cases n) NoCase refl) (λ c. tt))) takes
@@ -153,7 +158,7 @@ opening_needs : (r : Result Deed Denial) → is_opening r ≡ true → needs_ver
 opening_needs (Ok (deed.Open f)) is = refl
 opening_needs r is = cc
 
--- want of memory is answered only to an opening or a claim
+-- want of memory is answered only to an opening, a claim or an edit
 pub lacks_rightly : (b : BoardShape) (what : Ask) (v : Verdict) → LacksMemory b what v → may_lack_memory what ≡ true
 lacks_rightly b what v (inl short) = needs_rightly (state_on b).book what short.1
 lacks_rightly b what v (inr (inl takes)) = roles_rightly (state_on b).book what takes

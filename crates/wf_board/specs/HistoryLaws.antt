@@ -1,6 +1,7 @@
 -- Inside: laws of histories, for whoever adds an entry at the end.
-use Rattle.std.proofs.Common.{◌≡◌, ℕ, zero, suc, ◌≤◌, max, List, [], ◌∷◌, ◌++◌, length, take, drop, map, Result, Ok, Err, inl, inr, append_assoc, append-nil, refl, sym, ap, subst, ◌∙◌}
+use Rattle.std.proofs.Common.{◌≡◌, ℕ, zero, suc, ◌+◌, ◌≤◌, max, false, List, [], ◌∷◌, ◌++◌, length, take, drop, map, Result, Ok, Err, inl, inr, append_assoc, append-nil, refl, sym, ap, subst, ◌∙◌, arith}
 use Rattle.std.proofs.lemmas.List.{drop-append-le, length-map, take-append-drop, take-append-le}
+use Rattle.policy_book.specs.Shapes.{PolicyShape}
 use Rattle.wf_talk.specs.declared.entry.Entry.{Entry}
 use Rattle.wf_talk.specs.declared.job.Job.{Job}
 use Rattle.wf_talk.specs.declared.request.Ask.{Ask}
@@ -9,10 +10,10 @@ use Rattle.wf_talk.specs.declared.reply.Reply.TheVariants as reply
 use Rattle.wf_talk.specs.declared.reply.Denial.{Denial}
 use Rattle.wf_board.specs.declared.deed.Deed.{Deed}
 use Rattle.wf_board.specs.declared.deed.Deed.TheVariants as deed
-use Rattle.wf_board.specs.States.{State}
+use Rattle.wf_board.specs.States.{State, opening_state}
 use Rattle.wf_board.specs.Decisions.{decision_of}
 use Rattle.wf_board.specs.Steps.{Answers, IsReplyTo, IsStep, state_after_decision, state_after_deed, state_after_step}
-use Rattle.wf_board.specs.Counting.{counted, lane_end}
+use Rattle.wf_board.specs.Counting.{counted, is_edited, lane_end}
 use Rattle.wf_board.specs.Histories.{AreAnsweredOnce, AreWantsRightful, BatchRests, EachAfter, FillsJobs, IsAnsweredOnce, IsLegal, IsRetry, IsRightAfter, IsWantRightful, RestsFrom, batch_end, batch_jobs, batch_start, job_of_entry, lane_jobs, state_after}
 
 -- the state after one more entry
@@ -32,6 +33,7 @@ again_same s (Ok (deed.Finish m c t u)) n place = refl
 again_same s (Ok (deed.GiveBack m c t u)) n place = refl
 again_same s (Ok (deed.Release m c t)) n place = refl
 again_same s (Ok (deed.Withdraw m)) n place = refl
+again_same s (Ok (deed.Change a)) n place = refl
 again_same s (Ok (deed.Show c)) n place = refl
 again_same s (Ok (deed.TurnAway bad)) n place = refl
 again_same s (Err d) n place = refl
@@ -85,6 +87,7 @@ no_again s (deed.Finish m c t u) n place is = is
 no_again s (deed.GiveBack m c t u) n place is = is
 no_again s (deed.Release m c t) n place is = is
 no_again s (deed.Withdraw m) n place is = is
+no_again s (deed.Change a) n place is = is
 no_again s (deed.Show c) n place is = is
 no_again s (deed.TurnAway bad) n place is = is
 
@@ -153,36 +156,65 @@ in_order_fills entries jobs batch_ends same once = record {
   rests = λ k known. batch_rests batch_ends k entries once;
 }
 
-deed_policy : (s : State) (given : Deed) (answer : Reply) → (state_after_deed s given answer).book.policy ≡ s.book.policy
-deed_policy s (deed.Open f) (reply.Opened n plan) = refl
-deed_policy s (deed.Claim n c t u) (reply.Granted plan) = refl
-deed_policy s (deed.Finish n c t u) (reply.Finished done) = refl
-deed_policy s (deed.GiveBack n c t u) reply.Returned = refl
-deed_policy s (deed.Release n c t) reply.Released = refl
-deed_policy s (deed.Withdraw n) reply.Withdrawn = refl
-deed_policy s given answer = refl
+-- ---- the policy, and the count of edits
 
-decision_policy : (s : State) (decision : Result Deed Denial) (answer : Reply) → (state_after_decision s decision answer).book.policy ≡ s.book.policy
-decision_policy s (Ok given) answer = deed_policy s given answer
-decision_policy s (Err d) answer = refl
+deed_policy : (s : State) (given : Deed) (answer : Reply) → is_edited answer ≡ false → (state_after_deed s given answer).book.policy ≡ s.book.policy
+deed_policy s (deed.Open f) (reply.Opened n plan) other = refl
+deed_policy s (deed.Claim n c t u) (reply.Granted plan) other = refl
+deed_policy s (deed.Finish n c t u) (reply.Finished done) other = refl
+deed_policy s (deed.GiveBack n c t u) reply.Returned other = refl
+deed_policy s (deed.Release n c t) reply.Released other = refl
+deed_policy s (deed.Withdraw n) reply.Withdrawn other = refl
+deed_policy s (deed.Change a) (reply.Edited number) other = cc
+deed_policy s given answer other = refl
 
--- no step changes the policy
-pub policy_stays : (s : State) (what : Ask) (given : Reply) → (state_after_step s what given).book.policy ≡ s.book.policy
-policy_stays s what given = decision_policy s (decision_of s.book what) given
+decision_policy : (s : State) (decision : Result Deed Denial) (answer : Reply) → is_edited answer ≡ false → (state_after_decision s decision answer).book.policy ≡ s.book.policy
+decision_policy s (Ok given) answer other = deed_policy s given answer other
+decision_policy s (Err d) answer other = refl
 
-deed_edits : (s : State) (given : Deed) (answer : Reply) → (state_after_deed s given answer).edits ≡ s.edits
-deed_edits s (deed.Open f) (reply.Opened n plan) = refl
-deed_edits s (deed.Claim n c t u) (reply.Granted plan) = refl
-deed_edits s (deed.Finish n c t u) (reply.Finished done) = refl
-deed_edits s (deed.GiveBack n c t u) reply.Returned = refl
-deed_edits s (deed.Release n c t) reply.Released = refl
-deed_edits s (deed.Withdraw n) reply.Withdrawn = refl
-deed_edits s given answer = refl
+-- a step that is no accepted edit leaves the policy
+pub policy_stays : (s : State) (what : Ask) (given : Reply) → is_edited given ≡ false → (state_after_step s what given).book.policy ≡ s.book.policy
+policy_stays s what given other = decision_policy s (decision_of s.book what) given other
 
-decision_edits : (s : State) (decision : Result Deed Denial) (answer : Reply) → (state_after_decision s decision answer).edits ≡ s.edits
-decision_edits s (Ok given) answer = deed_edits s given answer
-decision_edits s (Err d) answer = refl
+deed_edits : (s : State) (given : Deed) (answer : Reply) → is_edited answer ≡ false → (state_after_deed s given answer).edits ≡ s.edits
+deed_edits s (deed.Open f) (reply.Opened n plan) other = refl
+deed_edits s (deed.Claim n c t u) (reply.Granted plan) other = refl
+deed_edits s (deed.Finish n c t u) (reply.Finished done) other = refl
+deed_edits s (deed.GiveBack n c t u) reply.Returned other = refl
+deed_edits s (deed.Release n c t) reply.Released other = refl
+deed_edits s (deed.Withdraw n) reply.Withdrawn other = refl
+deed_edits s (deed.Change a) (reply.Edited number) other = cc
+deed_edits s given answer other = refl
 
--- no step is an edit
-pub edits_stay : (s : State) (what : Ask) (given : Reply) → (state_after_step s what given).edits ≡ s.edits
-edits_stay s what given = decision_edits s (decision_of s.book what) given
+decision_edits : (s : State) (decision : Result Deed Denial) (answer : Reply) → is_edited answer ≡ false → (state_after_decision s decision answer).edits ≡ s.edits
+decision_edits s (Ok given) answer other = deed_edits s given answer other
+decision_edits s (Err d) answer other = refl
+
+-- and the count of edits
+pub edits_stay : (s : State) (what : Ask) (given : Reply) → is_edited given ≡ false → (state_after_step s what given).edits ≡ s.edits
+edits_stay s what given other = decision_edits s (decision_of s.book what) given other
+
+deed_counts : (s : State) (given : Deed) (answer : Reply) → (state_after_deed s given answer).edits ≤ s.edits + 1
+deed_counts s (deed.Open f) (reply.Opened n plan) = omega arith
+deed_counts s (deed.Claim n c t u) (reply.Granted plan) = omega arith
+deed_counts s (deed.Finish n c t u) (reply.Finished done) = omega arith
+deed_counts s (deed.GiveBack n c t u) reply.Returned = omega arith
+deed_counts s (deed.Release n c t) reply.Released = omega arith
+deed_counts s (deed.Withdraw n) reply.Withdrawn = omega arith
+deed_counts s (deed.Change a) (reply.Edited number) = omega arith
+deed_counts s given answer = omega arith
+
+decision_counts : (s : State) (decision : Result Deed Denial) (answer : Reply) → (state_after_decision s decision answer).edits ≤ s.edits + 1
+decision_counts s (Ok given) answer = deed_counts s given answer
+decision_counts s (Err d) answer = omega arith
+
+edits_from : (s : State) (entries : List Entry) → (state_after s entries).edits ≤ s.edits + length entries
+edits_from s [] = omega arith
+edits_from s (e ∷ es) =
+    let first = decision_counts s (decision_of s.book e.ask) e.reply in
+    let rest = edits_from (state_after_step s e.ask e.reply) es in
+    omega (arith, first, rest)
+
+-- there are no more edits than entries
+pub edits_within : (p : PolicyShape) (entries : List Entry) → (state_after (opening_state p) entries).edits ≤ length entries
+edits_within p entries = let from = edits_from (opening_state p) entries in omega (arith, from)

@@ -1,5 +1,5 @@
 -- Inside: how a board answers over its policy and its table of cases.
-use Rattle.std.specs.Prelude.{◌≡◌, ℕ, ◌+◌, ◌≤◌, Bool, false, true, List, Option, Result, IsTrue}
+use Rattle.std.specs.Prelude.{◌≡◌, ℕ, ◌+◌, ◌≤◌, Bool, false, true, List, Option, Result, Ok, IsTrue}
 use Rattle.first_fault.specs.Reading.{◌>>=◌}
 use Rattle.refutation_tree.specs.Views.{shape_of}
 use Rattle.policy_book.specs.Shapes.{PolicyShape}
@@ -11,7 +11,11 @@ use Rattle.wf_talk.specs.declared.request.Ask.{Ask}
 use Rattle.wf_talk.specs.declared.reply.Reply.{Reply}
 use Rattle.wf_talk.specs.declared.reply.Reply.TheVariants as reply
 use Rattle.wf_talk.specs.declared.reply.Denial.{Denial}
+use Rattle.admin_edits.specs.declared.amendment.Amendment.{Amendment}
+use Rattle.admin_edits.specs.declared.amendment.Amendment.TheVariants as amend
 use Rattle.wf_board.specs.declared.deed.Deed.{Deed}
+use Rattle.wf_board.specs.declared.deed.Deed.TheVariants as deed
+use Rattle.wf_board.specs.Found.{IsAllowed}
 use Rattle.wf_board.specs.declared.verdict.Verdict.{Verdict}
 use Rattle.wf_board.specs.declared.verdict.Verdict.TheVariants as verdict
 use Rattle.wf_board.specs.declared.verdict.Answered.{Answered}
@@ -31,6 +35,25 @@ pub record IsKept (p : PolicyShape) (t : CasesShape) : Type 0 where
 -- a board of a policy and a table
 abbrev pub board_of : PolicyShape → CasesShape → ℕ → BoardShape
 board_of p t edits = record { policy = p; cases = t; edits = edits }
+
+-- a verdict by which the policy stays
+abbrev pub keeps_policy : Verdict → Bool
+keeps_policy (verdict.Edited edition) = false
+keeps_policy v = true
+
+-- a change that makes no valid plan invalid, whatever the plan
+abbrev pub is_harmless : Amendment → Bool
+is_harmless (amend.AddUser name) = true
+is_harmless (amend.Enrol u r) = true
+is_harmless (amend.Permit f r s) = true
+is_harmless (amend.Retire f) = true
+is_harmless a = false
+
+-- what is asked is such a change, and no cause is against it
+pub record IsHarmlessChange (b : Book) (what : Ask) (a : Amendment) : Type 0 where
+  pub decided : decision_of b what ≡ Ok (deed.Change a)
+  pub allowed : IsAllowed b.policy a
+  pub harmless : is_harmless a ≡ true
 
 -- a deed, or the cause that no more cases can be opened
 abbrev pub full_or : Book → Deed → Result Deed Denial

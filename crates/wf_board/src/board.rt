@@ -1,17 +1,20 @@
 //! The board: a policy and its cases.
-ghost use Rattle.std.specs.Prelude.{◌≡◌, ◌≢◌, ◌≤◌, ◌+◌, ◌↔◌, true, IfOk, OnErr, OnOk};
+ghost use Rattle.std.specs.Prelude.{◌≡◌, ◌≢◌, ◌<◌, ◌≤◌, ◌+◌, ◌↔◌, true, IfOk, IfSome, OnErr, OnOk};
 ghost use Rattle.std.specs.Arc.{arc_value};
 ghost use Rattle.wf_board.specs.Boards.{state_on};
-ghost use Rattle.wf_board.specs.Decisions.{decision_of, needs_verdict};
+ghost use Rattle.wf_board.specs.Decisions.{decision_aside, decision_of, needs_verdict};
 ghost use Rattle.wf_board.specs.Kept.{AreNumbered, ArePlanned, IsSoundState, KeepsCompletable};
 ghost use Rattle.wf_board.specs.States.{opening_state};
-ghost use Rattle.wf_board.specs.Steps.{state_after_step};
-ghost use Rattle.wf_board.specs.Verdicts.{HasAnswered, HasUsed, IsCertified, IsDecided, IsRight, MayLackMemory, snap_of, snap_rows};
+ghost use Rattle.wf_board.specs.Steps.{state_after_step, IsStep};
+ghost use Rattle.wf_board.specs.Taking.{IsHarmlessChange};
+ghost use Rattle.wf_board.specs.Verdicts.{HasAnswered, HasUsed, IsCertified, IsDecided, IsEditionFor, IsMadeOf, IsRight, MayLackMemory, snap_of, snap_rows};
 
 use crate::certified::accepts;
 use crate::decision::needs_verdict;
+use crate::harmless::{changed, harmless_change};
 use crate::taking::answer;
-use crate::{Answered, Decider, Snap, Verdict};
+use crate::{Answered, Decider, Edition, Snap, Verdict};
+use admin_edits::Amendment;
 use grant_table::Cases;
 use policy_book::Policy;
 use std::alloc::{AllocError, Global};
@@ -90,11 +93,38 @@ impl Board {
             → MayLackMemory self.old ask.now verdict }
         ensures room { self.old.cases.spare ≤ self.new.cases.spare + 1 }
     {
-        let policy: &Policy = &self.policy;
-        answer(alloc, policy, &mut self.cases, ask, verdict)
+        match verdict {
+            Verdict::Edited(edition) => Answered::Done(self.edit(ask, edition)),
+            other => {
+                let policy: &Policy = &self.policy;
+                answer(alloc, policy, &mut self.cases, ask, other)
+            }
+        }
     }
 
-    /// Whether nothing but whether a case can be completed is left to decide, so that the answer
+    /// Takes the policy after an edit, and with it the plans that the open cases have under it.
+    fn edit(&mut self, ask: &Ask, edition: Edition) -> Reply
+        requires right { IsEditionFor (state_on self.old).book
+            (decision_aside (state_on self.old).book ask.now) edition }
+        requires few { self.old.edits < 4294967295 }
+        ensures answered { HasAnswered self.old self.new ask.now (Verdict.Edited edition)
+            (Answered.Done result) }
+        ensures made { IsMadeOf (Verdict.Edited edition) result }
+        ensures memory { result ≢ Reply.NoMemory }
+        ensures spare { self.new.cases.spare ≡ self.old.cases.spare }
+    {
+        let _ = ask;
+        let before: &Policy = &self.policy;
+        let _sound = before.admin();
+        let _planned = self.cases.live();
+        let (policy, plans) = edition.into_parts();
+        self.policy = policy;
+        self.cases.replace_plans(plans.as_slice());
+        self.edits += 1;
+        Reply::Edited { number: self.edits }
+    }
+
+    /// Whether nothing but whether cases can be completed is left to decide, so that the answer
     /// needs a verdict. Takes no memory.
     pub fn needs(&self, ask: &Ask) -> bool
         ensures { result ≡ needs_verdict (decision_of (state_on self.now).book ask.now) }
@@ -137,13 +167,69 @@ impl Board {
         ensures next { state_on self.new ≡ state_after_step (state_on self.old) ask.now result }
         ensures room { self.old.cases.spare ≤ self.new.cases.spare + 1 }
     {
-        let found = match self.answer(alloc, ask, verdict) {
-            Answered::Done(reply) => return reply,
-            Answered::Needs => self.verdict(alloc, decider, ask),
-        };
+        match self.answer(alloc, ask, verdict) {
+            Answered::Done(reply) => reply,
+            Answered::Needs => self.find(alloc, decider, ask),
+        }
+    }
+
+    /// Answers what needs a verdict. An edit that hurts no plan needs no search.
+    fn find<V: Decider>(&mut self, alloc: Global, decider: &V, ask: &Ask) -> Reply
+        requires ready { V.ready decider.now }
+        requires needed { needs_verdict (decision_of (state_on self.old).book ask.now) ≡ true }
+        requires few { self.old.edits < 4294967295 }
+        ensures decided { IsDecided self.old ask.now Verdict.Nothing result }
+        ensures next { state_on self.new ≡ state_after_step (state_on self.old) ask.now result }
+        ensures room { self.old.cases.spare ≤ self.new.cases.spare + 1 }
+    {
+        match self.harmless(ask) {
+            Some(change) => self.change(alloc, ask, change),
+            None => self.search(alloc, decider, ask),
+        }
+    }
+
+    /// Answers by the verdict of a decider.
+    fn search<V: Decider>(&mut self, alloc: Global, decider: &V, ask: &Ask) -> Reply
+        requires ready { V.ready decider.now }
+        requires needed { needs_verdict (decision_of (state_on self.old).book ask.now) ≡ true }
+        requires few { self.old.edits < 4294967295 }
+        ensures decided { IsDecided self.old ask.now Verdict.Nothing result }
+        ensures next { state_on self.new ≡ state_after_step (state_on self.old) ask.now result }
+        ensures room { self.old.cases.spare ≤ self.new.cases.spare + 1 }
+    {
+        let found = self.verdict(alloc, decider, ask);
         match self.answer(alloc, ask, found) {
             Answered::Done(reply) => reply,
             Answered::Needs => unreachable!(),
+        }
+    }
+
+    /// The change that is asked for, where no cause is against it and it makes no plan invalid.
+    fn harmless(&self, ask: &Ask) -> Option<Amendment>
+        ensures { IfSome result (IsHarmlessChange (state_on self.now).book ask.now) }
+    {
+        let policy: &Policy = &self.policy;
+        harmless_change(policy, &self.cases, ask)
+    }
+
+    /// Takes a changed policy under which the plans stay.
+    fn change(&mut self, alloc: Global, ask: &Ask, change: Amendment) -> Reply
+        requires harmless { IsHarmlessChange (state_on self.old).book ask.now change }
+        requires few { self.old.edits < 4294967295 }
+        ensures step { IsStep (state_on self.old) ask.now result }
+        ensures next { state_on self.new ≡ state_after_step (state_on self.old) ask.now result }
+        ensures spare { self.new.cases.spare ≡ self.old.cases.spare }
+    {
+        let _ = ask;
+        let before: &Policy = &self.policy;
+        match changed(alloc, before, change) {
+            Ok(policy) => {
+                let number = self.edits + 1;
+                self.policy = policy;
+                self.edits = number;
+                Reply::Edited { number }
+            }
+            Err(_) => Reply::NoMemory,
         }
     }
 
@@ -199,12 +285,13 @@ impl Board {
     }
 }
 
-/// The one case of a claim, and else none.
+/// The one case of a claim, the open cases for an edit, and else none.
 fn cases_for(alloc: Global, cases: &Cases, ask: &Ask) -> Result<Cases, AllocError>
     ensures { IfOk result (λ t. t ≡ record cases.now { rows = snap_rows cases.now.rows ask.now; spare = t.spare }) }
 {
     match *ask {
         Ask::Request(Request::Claim { case, .. }) => cases.copy_one(alloc, case),
+        Ask::Request(Request::Change { .. }) => cases.copy_open(alloc),
         _ => Ok(cases.copy_none(alloc)),
     }
 }

@@ -1,6 +1,6 @@
 //! Which entries count for a request.
 ghost use Rattle.std.specs.Prelude.{◌≡◌};
-ghost use Rattle.wf_board.specs.Counting.{case_of_ask, case_of_request, changed_case, counts_for};
+ghost use Rattle.wf_board.specs.Counting.{case_of_ask, case_of_request, changed_case, counts_for, is_edited, is_number};
 
 use wf_names::CaseId;
 use wf_talk::{Ask, Entry, Reply, Request};
@@ -9,9 +9,29 @@ use wf_talk::{Ask, Entry, Reply, Request};
 pub fn counts(entry: &Entry, ask: &Ask) -> bool
     ensures { result ≡ counts_for entry.now ask.now }
 {
-    let Ask::Request(Request::Claim { case, .. }) = *ask else {
-        return false;
-    };
+    match *ask {
+        Ask::Request(Request::OpenCase { .. }) => is_edited(&entry.reply),
+        Ask::Request(Request::Claim { case, .. }) => {
+            is_edited(&entry.reply) || changes(entry, case)
+        }
+        Ask::Request(Request::Change { .. }) => {
+            is_edited(&entry.reply) || changed_case(&entry.ask, &entry.reply).is_some()
+        }
+        _ => false,
+    }
+}
+
+/// Whether a reply to an edit changed the policy.
+fn is_edited(reply: &Reply) -> bool
+    ensures { result ≡ is_edited reply.now }
+{
+    matches!(reply, Reply::Edited { .. })
+}
+
+/// Whether an entry changed the case with a number.
+fn changes(entry: &Entry, case: CaseId) -> bool
+    ensures { result ≡ is_number case (changed_case entry.now.ask entry.now.reply) }
+{
     match changed_case(&entry.ask, &entry.reply) {
         Some(changed) => changed == case,
         None => false,
@@ -48,7 +68,7 @@ fn case_of_request(request: &Request) -> Option<CaseId>
     ensures { result ≡ case_of_request request.now }
 {
     match *request {
-        Request::OpenCase { .. } => None,
+        Request::OpenCase { .. } | Request::Change { .. } => None,
         Request::Claim { case, .. }
         | Request::Finish { case, .. }
         | Request::GiveBack { case, .. }

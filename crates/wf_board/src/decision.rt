@@ -82,7 +82,7 @@ pub(crate) fn decision_of(
     }
 }
 
-/// Whether nothing but whether a case can be completed is left to decide. Takes no memory.
+/// Whether nothing but whether cases can be completed is left to decide. Takes no memory.
 pub(crate) fn needs_verdict(p: &Policy, cases: &Cases, ask: &Ask) -> bool
     requires { ArePlanned p.now cases.now.rows }
     ensures { result ≡ needs_verdict (decision_of (book_of p.now cases.now) ask.now) }
@@ -93,7 +93,7 @@ pub(crate) fn needs_verdict(p: &Policy, cases: &Cases, ask: &Ask) -> bool
     is_undecided(p, cases, &deed)
 }
 
-/// Whether a deed rests on whether a case can be completed, and no cause is against it.
+/// Whether a deed rests on whether cases can be completed, and no cause is against it.
 pub(crate) fn is_undecided(p: &Policy, cases: &Cases, deed: &Deed) -> bool
     requires { IsFound p.now cases.now.rows deed.now }
     ensures { result ≡ needs_verdict (undenied (book_of p.now cases.now) deed.now) }
@@ -106,6 +106,7 @@ pub(crate) fn is_undecided(p: &Policy, cases: &Cases, deed: &Deed) -> bool
             user,
             ..
         } => !has_cause(p, case, *step, *user),
+        Deed::Change { .. } => true,
         _ => false,
     }
 }
@@ -206,9 +207,12 @@ pub(crate) fn is_full(p: &Policy, cases: &Cases) -> bool
     cases.live() >= OPEN_CASE_LIMIT || cases.ever() >= CASE_LIMIT
 }
 
-/// Whether a deed rests on whether a case can be completed.
+/// Whether a deed rests on whether cases can be completed.
 pub(crate) fn needs_plan(deed: &Deed) -> bool
     ensures { result ≡ needs_plan deed.now }
 {
-    matches!(deed, Deed::Open { .. } | Deed::Claim { .. })
+    matches!(
+        deed,
+        Deed::Open { .. } | Deed::Claim { .. } | Deed::Change { .. }
+    )
 }

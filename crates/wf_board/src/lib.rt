@@ -9,6 +9,7 @@ mod decider;
 mod decision;
 mod deed;
 mod edition;
+mod harmless;
 pub mod laws;
 mod resolve;
 mod snap;

@@ -1,5 +1,5 @@
 //! What a line asks, with numbers in place of names.
-ghost use Rattle.std.specs.Prelude.{◌≡◌, ◌<◌, ℕ, List, length, Err, IfErr, IfOk, Ok, Some};
+ghost use Rattle.std.specs.Prelude.{◌≡◌, ◌<◌, ℕ, length, Err, IfErr, IfOk, Ok, Some};
 ghost use Rattle.first_fault.specs.Reading.{check, or_fault};
 ghost use Rattle.policy_book.specs.Policies.{flow_at};
 ghost use Rattle.case_record.specs.Cases.{CaseShape};
@@ -8,18 +8,21 @@ ghost use Rattle.wf_board.specs.declared.deed.Deed.{Deed};
 ghost use Rattle.wf_board.specs.Boards.{book_of};
 ghost use Rattle.wf_board.specs.Found.{AreFound, IsFound, IsOpenAt};
 ghost use Rattle.wf_board.specs.Kept.{ArePlanned, IsOfPolicy};
-ghost use Rattle.wf_board.specs.Resolved.{on_step, open_case_at, resolve, resolve_request};
-ghost use Rattle.wf_board.specs.States.{case_at, is_admin, Numbered};
+ghost use Rattle.wf_board.specs.Resolved.{changed, edit_denial, on_step, open_case_at, resolve, resolve_request};
+ghost use Rattle.wf_board.specs.States.{case_at};
+ghost use Rattle.admin_edits.specs.Edits.{amendment_of, is_admin};
 ghost use Rattle.wf_names.specs.Table.{place_of};
 
 use crate::Deed;
+use admin_edits::{EditFault, amendment_of};
 use case_record::Case;
 use grant_table::Cases;
 use policy_book::Policy;
 use wf_names::{CaseId, FlowId, Name, StepId, UserId};
-use wf_talk::{Ask, Denial, Request};
+use wf_talk::{Ask, Denial, Edit, Request};
 
-/// What a line asks, or the first of its names and numbers that is nothing.
+/// What a line asks, or the first of its names and numbers that is nothing; of an edit its first
+/// fault of any kind.
 pub(crate) fn resolve(p: &Policy, cases: &Cases, ask: &Ask) -> Result<Deed, Denial>
     requires { ArePlanned p.now cases.now.rows }
     ensures deed { result ≡ resolve (book_of p.now cases.now) ask.now }
@@ -95,6 +98,7 @@ fn resolve_request(p: &Policy, cases: &Cases, request: &Request) -> Result<Deed,
             open_case(p, cases, number)?;
             Ok(Deed::Withdraw { number })
         }
+        Request::Change { by, edit } => change(p, cases, &by, &edit),
         Request::Show { case: number } => Ok(Deed::Show {
             case: case_with(p, cases, number)?,
         }),
@@ -164,10 +168,36 @@ fn step_named(p: &Policy, case: &Case, name: &Name) -> Result<StepId, Denial>
     }
 }
 
+/// The change that an edit is, or its first fault.
+fn change(p: &Policy, cases: &Cases, by: &Name, edit: &Edit) -> Result<Deed, Denial>
+    ensures deed { result ≡ changed (amendment_of p.now by.now edit.now) }
+    ensures found { IfOk result (IsFound p.now cases.now.rows) }
+{
+    let _ = cases;
+    match amendment_of(p, by, edit) {
+        Ok(amendment) => Ok(Deed::Change { amendment }),
+        Err(fault) => Err(edit_denial(fault)),
+    }
+}
+
+/// Why an edit is refused.
+fn edit_denial(fault: EditFault) -> Denial
+    ensures { result ≡ edit_denial fault }
+{
+    match fault {
+        EditFault::NotAdmin => Denial::NotAdmin,
+        EditFault::Unknown(what) => Denial::Unknown(what),
+        EditFault::Fixed => Denial::Fixed,
+        EditFault::Already => Denial::Already,
+        EditFault::Absent => Denial::Absent,
+        EditFault::Full | EditFault::NoMemory => Denial::Full,
+        EditFault::LastAdmin => Denial::LastAdmin,
+    }
+}
+
 /// Denies who does not administer.
 fn check_admin(p: &Policy, by: &Name) -> Result<(), Denial>
-    ensures { (cases : List Numbered) (ever : ℕ)
-        → result ≡ check (is_admin (record { policy = p.now; cases = cases; ever = ever }) by.now) Denial.NotAdmin }
+    ensures { result ≡ check (is_admin p.now by.now) Denial.NotAdmin }
 {
     match p.roster().users().find(by) {
         Some(u) if p.roster().has(UserId(u), p.admin()) => Ok(()),

@@ -16,8 +16,8 @@ ghost use Rattle.wf_board.specs.Decisions.{cause_aside, decision_aside, decision
 ghost use Rattle.wf_board.specs.Found.{AreFound, IsFound, IsOpenAt};
 ghost use Rattle.wf_board.specs.States.{is_full};
 ghost use Rattle.wf_board.specs.Steps.{face_of};
-ghost use Rattle.wf_board.specs.Taking.{full_or, HasAnsweredAlone, HasAnsweredBy, HasChanged, HasTaken, IsKept};
-ghost use Rattle.wf_board.specs.Verdicts.{is_opening, IsMadeOf, IsPlanFor, IsRight, IsTreeFor};
+ghost use Rattle.wf_board.specs.Taking.{full_or, keeps_policy, HasAnsweredAlone, HasAnsweredBy, HasChanged, HasTaken, IsKept};
+ghost use Rattle.wf_board.specs.Verdicts.{is_opening, IsMadeOf, IsPlanFor, IsRight, IsStrandingFor, IsTreeFor};
 
 use crate::decision::{Refused, decision_of, is_full, needs_plan};
 use crate::resolve::resolve;
@@ -31,7 +31,7 @@ use std::alloc::{AllocError, Global};
 use wf_names::{CaseId, FlowId, StepId, UserId};
 use wf_talk::{Ask, Denial, Face, Reply, States};
 
-/// Answers what a line asks, with a verdict where one is needed.
+/// Answers what a line asks, with a verdict where one is needed, under the same policy.
 pub(crate) fn answer(
     alloc: Global,
     p: &Policy,
@@ -41,11 +41,16 @@ pub(crate) fn answer(
 ) -> Answered
     requires kept { IsKept p.now cases.old }
     requires right { IsRight (book_of p.now cases.old) ask.now verdict }
+    requires same { keeps_policy verdict ≡ true }
     ensures answered { HasAnsweredBy p.now cases.old cases.new ask.now verdict result }
 {
     match verdict {
         Verdict::Plan(plan) => Answered::Done(by_plan(p, cases, ask, plan)),
         Verdict::Refuted(tree) => Answered::Done(by_tree(p, cases, ask, tree)),
+        Verdict::Strands(number, tree) => {
+            Answered::Done(by_stranding(p, cases, ask, number, tree))
+        }
+        Verdict::Edited(_) => unreachable!(),
         Verdict::Nothing => without_verdict(alloc, p, cases, ask),
         Verdict::NoMemory => match without_verdict(alloc, p, cases, ask) {
             Answered::Done(reply) => Answered::Done(reply),
@@ -151,6 +156,33 @@ fn unsatisfiable(p: &Policy, cases: &Cases, flow: FlowId, tree: Tree) -> Reply
     Reply::Denied(Denial::Unsatisfiable { flow, tree })
 }
 
+/// Denies an edit by a tree that shows that an open case could not be completed any more.
+pub(crate) fn by_stranding(
+    p: &Policy,
+    cases: &Cases,
+    ask: &Ask,
+    number: CaseId,
+    tree: Tree,
+) -> Reply
+    requires kept { IsKept p.now cases.now }
+    requires tree { IsStrandingFor (book_of p.now cases.now) (decision_aside (book_of p.now cases.now) ask.now) number tree }
+    ensures taken { HasTaken p.now cases.now cases.now (decision_of (book_of p.now cases.now) ask.now) result }
+    ensures made { IsMadeOf (verdicts.Strands number tree) result }
+    ensures memory { result ≢ replies.NoMemory }
+{
+    let _ = p;
+    let _ = ask;
+    let _ascending = cases.live();
+    match cases.case(number) {
+        Some(case) => Reply::Denied(Denial::Strands {
+            case: number,
+            flow: case.flow(),
+            tree,
+        }),
+        None => unreachable!(),
+    }
+}
+
 /// Does a deed that needs no verdict.
 fn perform(p: &Policy, cases: &mut Cases, deed: Deed) -> Reply
     requires kept { IsKept p.now cases.old }
@@ -186,7 +218,7 @@ fn perform(p: &Policy, cases: &mut Cases, deed: Deed) -> Reply
         }
         Deed::Show { case } => Reply::Shown(face_of(&case)),
         Deed::TurnAway { bad } => Reply::Bad(bad),
-        Deed::Open { .. } | Deed::Claim { .. } => unreachable!(),
+        Deed::Open { .. } | Deed::Claim { .. } | Deed::Change { .. } => unreachable!(),
     }
 }
 

@@ -11,8 +11,8 @@ use Rattle.wf_talk.specs.declared.request.Ask.{Ask}
 use Rattle.wf_board.specs.Boards.{BoardShape, state_on}
 use Rattle.wf_board.specs.Counting.{counted, counts_for, lane_end}
 use Rattle.wf_board.specs.Histories.{IsRightAfter, IsWantRightful, RestsFrom, job_of_entry, lane_jobs}
-use Rattle.wf_board.specs.HistoryLaws.{after_more, each_more, rests_more, wants_more}
-use Rattle.wf_board.specs.States.{opening_state}
+use Rattle.wf_board.specs.HistoryLaws.{after_more, each_more, edits_within, rests_more, wants_more}
+use Rattle.wf_board.specs.States.{State, opening_state}
 use Rattle.wf_board.specs.Steps.{state_after_step}
 use Rattle.wf_board.proofs.Counted.{count_from_more, count_later, count_past, end_more, end_within}
 use Rattle.wf_desk.specs.declared.loss.Loss.{Loss}
@@ -282,6 +282,15 @@ has_room d places lane j is next =
     let short = batch_short d lane j is.sound.begun is.sound.front next in
     let room = is.room in
     omega (arith, short, room)
+
+-- there were fewer edits than there can be entries
+pub few_edits : (d : DeskShape) (places : List ℕ) (lane : ℕ) (j : Job) → IsDesk d places → next_job d lane ≡ Some j → d.board.edits < 4294967295
+few_edits d places lane j is next =
+    let short = batch_short d lane j is.sound.begun is.sound.front next in
+    let small = is.small in
+    let within = edits_within d.opening d.entries in
+    let now = ap (λ (s : State). s.edits) is.sound.state in
+    omega (arith, short, small, within, now)
 
 pub stands_here : (d : DeskShape) (places : List ℕ) (lane : ℕ) (j : Job) → IsDesk d places → lane < d.lanes → next_job d lane ≡ Some j →
     slice_index_or places lane 0 < length d.jobs

@@ -1,3 +1,4 @@
 pub mod DeskLaws
 pub mod CommitLaws
 pub mod Scheduling
+pub mod Crossing

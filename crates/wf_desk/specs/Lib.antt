@@ -6,3 +6,4 @@ pub mod BatchLaws
 pub mod DocketLaws
 pub mod Schedules
 pub mod Holding
+pub mod Tabling

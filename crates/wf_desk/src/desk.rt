@@ -5,7 +5,7 @@ ghost use Rattle.wf_board.specs.Boards.{book_on, state_on};
 ghost use Rattle.wf_board.specs.States.{opening_state};
 ghost use Rattle.wf_board.specs.Verdicts.{Decides, IsDecided, IsRight};
 ghost use Rattle.wf_desk.specs.Desks.{AreOfLanes, HasAdded, IsDone, IsSoundDesk, left_of, next_job, no_loss, with_batch, with_room};
-ghost use Rattle.wf_desk.specs.Commits.{HasCommitted, HasCommittedChecked, HasServed, IsAgain, IsNext, IsRightFor, IsTask, floor_of, is_fresh, is_last_round, is_lost, job_of_task, with_loss};
+ghost use Rattle.wf_desk.specs.Commits.{HasCommitted, HasCommittedChecked, HasServed, IsAgain, IsNext, IsRightFor, IsTask, floor_of, is_change, is_fresh, is_kept, is_last_round, is_lost, job_of_task, with_loss};
 ghost use Rattle.wf_desk.specs.Keeping.{HasCommittedNone, HasMissed};
 
 use crate::docket::{count_of_lane, first_places, go_on, job_at};
@@ -17,7 +17,7 @@ use std::marker::Model;
 use std::sync::Arc;
 use wf_board::{Board, Decider, Verdict};
 use wf_names::LANE_LIMIT;
-use wf_talk::{Job, Jobs, Journal, Reply};
+use wf_talk::{Ask, Job, Jobs, Journal, Reply, Request};
 
 /// A journal with the board after it, and the jobs of one batch, lane by lane.
 #[derive(Drop)]
@@ -145,7 +145,7 @@ impl Desk {
     }
 
     /// Takes a task's verdict, in a turn, whatever is known of it: a plan or a tree is checked
-    /// once more, and decides where it is right now.
+    /// once more, and decides where it is right now. An edit is always decided anew.
     pub fn commit_checked<V: Decider>(
         &mut self,
         alloc: Global,
@@ -187,6 +187,13 @@ impl Desk {
         ensures within { self.now.lanes ≤ LANE_LIMIT }
     {
         self.lanes
+    }
+
+    /// After how many lost rounds a request is answered again.
+    pub fn rounds(&self) -> u8
+        ensures count { result ≡ self.now.rounds }
+    {
+        self.rounds
     }
 
     /// How many jobs a lane has left.
@@ -263,6 +270,14 @@ impl Desk {
         !any_counts(entries_from(&self.journal, task.number), &task.ask)
     }
 
+    // Whether a task is not lost where its verdict is not certified.
+    fn is_kept(&self, task: &Task) -> bool
+        ensures kept { result ≡ is_kept self.now task.now }
+        ensures stale { result ≡ false → is_fresh self.now task.now ≡ false }
+    {
+        self.is_fresh(task) || is_change(&task.ask)
+    }
+
     // Whether a task that is stale is lost.
     fn is_lost(&self, task: &Task) -> bool
         requires { task.now.lane < self.now.lanes }
@@ -302,7 +317,7 @@ impl Desk {
         requires next { IsNext self.old task.now }
         ensures { HasCommittedNone self.old self.new task.now result }
     {
-        if self.is_fresh(task) {
+        if self.is_kept(task) {
             return Outcome::Recorded(self.serve(alloc, decider, job, Verdict::Nothing));
         }
         self.miss(alloc, decider, task, job)
@@ -375,6 +390,13 @@ impl Desk {
         let count = self.losses[task.lane as usize].count + 1;
         self.losses[task.lane as usize] = Loss { count, end };
     }
+}
+
+// Whether this is an edit of the policy.
+fn is_change(ask: &Ask) -> bool
+    ensures { result ≡ is_change ask.now }
+{
+    matches!(ask, Ask::Request(Request::Change { .. }))
 }
 
 // The job of a task.

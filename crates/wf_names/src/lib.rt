@@ -7,6 +7,7 @@ pub mod laws;
 mod limits;
 mod name;
 mod states;
+mod stored;
 mod table;
 #[cfg(test)]
 mod tests;

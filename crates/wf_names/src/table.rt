@@ -3,7 +3,8 @@ ghost use Rattle.std.specs.Prelude.{◌≡◌, ◌<◌, ◌≤◌, ◌↔◌, Is
 ghost use Rattle.wf_names.specs.Table.{Table, place_of, AreNames};
 
 use crate::Name;
-use indexmap::IndexSet;
+use crate::stored::StoredNames;
+use shared_part::Shared;
 use std::alloc::{AllocError, Global};
 use std::marker::Model;
 
@@ -21,7 +22,7 @@ pub enum NameFault {
 /// A list of distinct names, at most `limit` of them. A name's number is its place in the list.
 #[derive(Drop)]
 pub struct NameTable {
-    names: IndexSet<Name>,
+    names: Shared<StoredNames>,
     limit: u16,
 }
 
@@ -31,13 +32,9 @@ impl Model for NameTable {
 
     ghost Value = { Table };
 
-    ghost view = { λ t. record { names = t.names.keys; limit = t.limit } };
+    ghost view = { λ t. record { names = t.names; limit = t.limit } };
 
-    ghost use Rattle.std.specs.Prelude.{IsTrue};
-    ghost use Rattle.std.specs.List.{All};
-    ghost use Rattle.wf_names.specs.Names.{is_name};
-
-    ghost invariant = { λ t. (length t.names.keys ≤ t.limit) × (t.limit < 2 ^ 16) × All (λ name. IsTrue (is_name name)) t.names.keys };
+    ghost invariant = { λ t. (length t.names ≤ t.limit) × (t.limit < 2 ^ 16) };
 }
 
 impl NameTable {
@@ -46,7 +43,7 @@ impl NameTable {
         ensures { IfOk result (λ t. t ≡ record { names = []; limit = limit }) }
     {
         Ok(NameTable {
-            names: IndexSet::new(alloc),
+            names: Shared::new(alloc, StoredNames::new(alloc))?,
             limit,
         })
     }
@@ -62,15 +59,15 @@ impl NameTable {
         ensures full { IsErrOf result NameFault.Full ↔ ((is_some (place_of self.old.names name) ≡ false) × (length self.old.names ≡ self.old.limit)) }
         ensures unchanged { OnErr result (self.new ≡ self.old) }
     {
-        if self.names.get_index_of(&name).is_some() {
+        if self.find(&name).is_some() {
             return Err(NameFault::Twice);
         }
-        let count = self.names.len();
-        if count >= self.limit as usize {
+        let count = self.len();
+        if count >= self.limit {
             return Err(NameFault::Full);
         }
-        match self.names.insert_full(name) {
-            Ok(_) => Ok(count as u16),
+        match put_last(&mut self.names, name) {
+            Ok(()) => Ok(count),
             Err(_) => Err(NameFault::NoMemory),
         }
     }
@@ -80,7 +77,7 @@ impl NameTable {
         ensures place { result ≡ place_of self.now.names name.now }
         ensures within { IfSome result (λ n. n < length self.now.names) }
     {
-        match self.names.get_index_of(name) {
+        match self.names.get().find(name) {
             Some(place) => Some(place as u16),
             None => None,
         }
@@ -92,12 +89,7 @@ impl NameTable {
         ensures name { slice_get self.now.names n ≡ Some result }
         ensures alone { place_of self.now.names result ≡ Some n }
     {
-        let count = self.names.len();
-        prove!((n as usize) < count);
-        match self.names.get_index(n as usize) {
-            Some(name) => *name,
-            None => unreachable!(),
-        }
+        self.names.get().name(n as usize)
     }
 
     /// How many names there are.
@@ -106,14 +98,14 @@ impl NameTable {
         ensures within { length self.now.names ≤ self.now.limit }
         ensures names { AreNames self.now.names }
     {
-        self.names.len() as u16
+        self.names.get().len() as u16
     }
 
     /// Whether there is no name.
     pub fn is_empty(&self) -> bool
         ensures { IsTrue result ↔ (self.now.names ≡ []) }
     {
-        self.names.is_empty()
+        self.names.get().is_empty()
     }
 
     /// A table with the same names and the same limit.
@@ -121,8 +113,18 @@ impl NameTable {
         ensures { IfOk result (λ t. t ≡ self.now) }
     {
         Ok(NameTable {
-            names: self.names.clone()?,
+            names: self.names.share()?,
             limit: self.limit,
         })
     }
+}
+
+// Adds a name that is not there at the end, for this table alone.
+fn put_last(names: &mut Shared<StoredNames>, name: Name) -> Result<(), AllocError>
+    requires { is_some (place_of names.old name) ≡ false }
+    ensures added { OnOk result (names.new ≡ names.old ++ name ∷ []) }
+    ensures unchanged { OnErr result (names.new ≡ names.old) }
+{
+    let own = names.edit()?;
+    own.add(name)
 }

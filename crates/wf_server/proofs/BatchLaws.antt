@@ -11,9 +11,8 @@ use Rattle.wf_talk.specs.declared.entry.Entry.{Entry}
 use Rattle.wf_talk.specs.declared.job.Job.{Job}
 use Rattle.wf_board.specs.Boards.{BoardShape, state_on}
 use Rattle.wf_board.specs.States.{State, opening_state}
-use Rattle.wf_board.specs.Steps.{state_after_step}
-use Rattle.wf_board.specs.Histories.{AreAnsweredOnce, FillsJobs, batch_end, batch_start, state_after}
-use Rattle.wf_board.specs.HistoryLaws.{once_all, policy_stays}
+use Rattle.wf_board.specs.Histories.{AreAnsweredOnce, FillsJobs, IsLegal, batch_end, batch_start, state_after}
+use Rattle.wf_board.specs.HistoryLaws.{once_all}
 use Rattle.wf_desk.specs.Desks.{DeskShape, IsDone, IsSoundDesk}
 use Rattle.wf_desk.specs.BatchLaws.{AnswersBatch, EndAt, batch_fills}
 use Rattle.wf_desk.specs.DocketLaws.{batch_done}
@@ -22,19 +21,17 @@ use Rattle.line_cutter.specs.Cutter.{ends_after}
 use Rattle.run_record.specs.declared.fault.RunFault.{RunFault}
 use Rattle.run_record.specs.declared.fault.RunFault.TheVariants as fault
 use Rattle.run_record.specs.Report.{Told}
-use Rattle.wf_server.specs.Sessions.{Setting, last_start}
+use Rattle.wf_server.specs.Sessions.{Setting, WritesPart, last_start}
+use Rattle.wf_server.specs.Transcripts.{transcript_text}
+use Rattle.wf_server.specs.Names.{KeepsTexts}
 use Rattle.wf_server.specs.Turns.{setting_of}
 use Rattle.wf_server.specs.declared.batch.Answered.{Answered}
-use Rattle.wf_server.specs.Batches.{entries_text, told_of, WritesLast, HasAnswered, HasAnsweredPart, IsAdded, AnswersTo, IsWriteEnding}
+use Rattle.wf_server.proofs.Names.{transcript_more}
+use Rattle.wf_server.specs.Batches.{entries_text, told_of, HasAnswered, HasAnsweredPart, IsAdded, AnswersTo, IsWriteEnding}
 
 -- the rest behind a place
 pub rest_after : {A : Type 0} (xs : List A) (n : ℕ) → take (length xs - n) (drop n xs) ≡ drop n xs
 rest_after xs n = take_rest xs n
-
--- no history changes the policy
-pub history_stays : (s : State) (entries : List Entry) → (state_after s entries).book.policy ≡ s.book.policy
-history_stays s [] = refl
-history_stays s (e ∷ es) = history_stays (state_after_step s e.ask e.reply) es ∙ policy_stays s e.ask e.reply
 
 text_append : (p : PolicyShape) (xs ys : List Entry) → entries_text p (xs ++ ys) ≡ entries_text p xs ++ entries_text p ys
 text_append p [] ys = refl
@@ -114,12 +111,15 @@ fills_more es new js (m ∷ more) ends fills are answers = rw (ends_some ends (l
 -- ---- the text
 
 -- all entries written are all of the batches before the last, and all of the last
-pub writes_whole : (p : PolicyShape) (held after : Option (List ℕ)) (told : Told) → after ≡ with_bytes held (entries_text p told.entries) → WritesLast p held after told
+pub writes_whole : (p : PolicyShape) (held after : Option (List ℕ)) (told : Told) → after ≡ with_bytes held (transcript_text (opening_state p) told.entries) →
+    WritesPart p held after (last_start told.batch_ends) told.entries
 writes_whole p held after told written =
     let n = last_start told.batch_ends in
-    let front = entries_text p (take n told.entries) in
-    let rest = entries_text p (drop n told.entries) in
-    let whole : entries_text p told.entries ≡ front ++ rest = ap (entries_text p) (sym (take-append-drop n told.entries)) ∙ text_append p (take n told.entries) (drop n told.entries) in
+    let start = opening_state p in
+    let front = transcript_text start (take n told.entries) in
+    let rest = transcript_text (state_after start (take n told.entries)) (drop n told.entries) in
+    let whole : transcript_text start told.entries ≡ front ++ rest =
+    ap (transcript_text start) (sym (take-append-drop n told.entries)) ∙ transcript_more start (take n told.entries) (drop n told.entries) in
     subst (λ a. HasPart (with_bytes held front) a rest) (sym (written ∙ ap (with_bytes held) whole ∙ sym (more_put held front rest))) (part_all (with_bytes held front) rest)
 
 -- a batch was answered at a desk
@@ -154,49 +154,52 @@ batch_once : (held mid : Option (List ℕ)) (old d : DeskShape) (before : Told) 
     → AreAnsweredOnce after.entries
 batch_once held mid old d before batch after h = rw h.entries (once_all before.entries h.new h.answered.once h.once)
 
-batch_text : (p : PolicyShape) (before after new : List Entry) → after ≡ before ++ new → entries_text p after ≡ entries_text p before ++ entries_text p new
-batch_text p before after new entries = ap (entries_text p) entries ∙ text_append p before new
+-- what is written of the entries of the batch
+abbrev batch_text : DeskShape → Told → List Entry → List ℕ
+batch_text old before new = transcript_text (state_after (opening_state old.opening) before.entries) new
 
 -- a part of the entries of the batch is a part of the last batch
 part_last : (held mid aft : Option (List ℕ)) (old d : DeskShape) (before : Told) (batch : List Job) (after : Told) → (h : HasAnsweredBatch held mid old d before batch after)
-    → HasPart mid aft (entries_text old.opening h.new) → 0 < length h.new → WritesLast old.opening held aft after
+    → HasPart mid aft (batch_text old before h.new) → 0 < length h.new → WritesPart old.opening held aft (last_start after.batch_ends) after.entries
 part_last held mid aft old d before batch after h part some =
+    let start = opening_state old.opening in
     let size : length h.new ≡ length batch = (the_batch held mid old d before batch after h).whole in
     let more : 0 < length batch = omega (arith, some, size) in
     let ends : after.batch_ends ≡ before.batch_ends ++ (length before.jobs + length batch) ∷ [] = h.added.ends ∙ grind (arith, common_steps) in
     let begins : last_start after.batch_ends ≡ length before.entries = ap last_start ends ∙ last_begins before.batch_ends (length before.jobs + length batch) ∙ h.answered.ends.closed ∙ sym h.answered.fills.whole in
     let front : take (length before.entries) after.entries ≡ before.entries = ap (take (length before.entries)) h.entries ∙ take-append_seam before.entries h.new in
     let rest : drop (length before.entries) after.entries ≡ h.new = ap (drop (length before.entries)) h.entries ∙ drop-append_seam before.entries h.new in
-    subst (λ n. HasPart (with_bytes held (entries_text old.opening (take n after.entries))) aft (entries_text old.opening (drop n after.entries))) (sym begins)
-    (subst (λ es. HasPart (with_bytes held (entries_text old.opening es)) aft (entries_text old.opening (drop (length before.entries) after.entries))) (sym front)
-    (subst (λ es. HasPart (with_bytes held (entries_text old.opening before.entries)) aft (entries_text old.opening es)) (sym rest)
-    (subst (λ m. HasPart m aft (entries_text old.opening h.new)) h.answered.written part)))
+    subst (λ n. WritesPart old.opening held aft n after.entries) (sym begins)
+    (subst (λ es. HasPart (with_bytes held (transcript_text start es)) aft (transcript_text (state_after start es) (drop (length before.entries) after.entries))) (sym front)
+    (subst (λ es. HasPart (with_bytes held (transcript_text start before.entries)) aft (transcript_text (state_after start before.entries) es)) (sym rest)
+    (subst (λ m. HasPart m aft (batch_text old before h.new)) h.answered.written part)))
 
 part_answered : (held mid aft : Option (List ℕ)) (old d : DeskShape) (before : Told) (batch : List Job) (after : Told) → (h : HasAnsweredBatch held mid old d before batch after)
-    → HasPart mid aft (entries_text old.opening h.new) → 0 < length h.new → HasAnsweredPart d.opening held aft after
+    → HasPart mid aft (batch_text old before h.new) → 0 < length h.new → HasAnsweredPart d.opening held aft after
 part_answered held mid aft old d before batch after h part some = record {
   once = batch_once held mid old d before batch after h;
   fills = batch_filled held mid old d before batch after h;
-  written = subst (λ p. WritesLast p held aft after) (sym (ap (λ (s : Setting). s.policy) h.setting)) (part_last held mid aft old d before batch after h part some);
+  written = subst (λ p. WritesPart p held aft (last_start after.batch_ends) after.entries) (sym (ap (λ (s : Setting). s.policy) h.setting)) (part_last held mid aft old d before batch after h part some);
 }
 
 -- what came of answering a batch, by how its entries were written
 pub answers_to : (held mid aft : Option (List ℕ)) (old d : DeskShape) (before : Told) (batch : List Job) (after : Told) (text : List ℕ) (es : List Entry) (result : Result (Unit {0}) RunFault)
-    → (h : HasAnsweredBatch held mid old d before batch after) → text ≡ entries_text old.opening h.new → es ≡ h.new
+    → (h : HasAnsweredBatch held mid old d before batch after) → text ≡ transcript_text (state_after (opening_state old.opening) before.entries) h.new → es ≡ h.new
     → OnOk result (aft ≡ with_bytes mid text) → HasPart mid aft text → OnErr result (0 < length es) → IfErr result IsWriteEnding
     → AnswersTo held aft before batch d after result
-answers_to held mid aft old d before batch after text es (Ok done) h is new all part some ending = (
-  h.added,
-  record {
-    done = h.done;
-    once = batch_once held mid old d before batch after h;
-    fills = batch_filled held mid old d before batch after h;
-    ends = rw (h.added.jobs, h.added.ends) (ends_more before.jobs batch before.batch_ends h.answered.ends);
-    written =
-        all ∙ ap (with_bytes mid) is ∙ ap (λ m. with_bytes m (entries_text old.opening h.new)) h.answered.written ∙ more_put held (entries_text old.opening before.entries) (entries_text old.opening h.new)
-        ∙ ap (with_bytes held) (sym (batch_text old.opening before.entries after.entries h.new h.entries) ∙ ap (λ (s : Setting). entries_text s.policy after.entries) (sym h.setting));
-  },
-)
+answers_to held mid aft old d before batch after text es (Ok done) h is new all part some ending =
+    let start = opening_state old.opening in (
+      h.added,
+      record {
+        done = h.done;
+        once = batch_once held mid old d before batch after h;
+        fills = batch_filled held mid old d before batch after h;
+        ends = rw (h.added.jobs, h.added.ends) (ends_more before.jobs batch before.batch_ends h.answered.ends);
+        written =
+            all ∙ ap (with_bytes mid) is ∙ ap (λ m. with_bytes m (batch_text old before h.new)) h.answered.written ∙ more_put held (transcript_text start before.entries) (batch_text old before h.new)
+            ∙ ap (with_bytes held) (sym (ap (transcript_text start) h.entries ∙ transcript_more start before.entries h.new) ∙ ap (λ (s : Setting). transcript_text (opening_state s.policy) after.entries) (sym h.setting));
+      },
+    )
 answers_to held mid aft old d before batch after text es (Err fault.NoMemory) h is new all part some ending =
     (inr h.added, part_answered held mid aft old d before batch after h (subst (HasPart mid aft) is part) (subst (λ xs. 0 < length xs) new some))
 answers_to held mid aft old d before batch after text es (Err fault.Write) h is new all part some ending =
@@ -217,11 +220,17 @@ answers_none held aft old d before batch after result answered setting same memo
       record {
         once = answered.once;
         fills = answered.fills;
-        written = subst (λ p. WritesLast p held aft before) (sym policy) (writes_whole old.opening held aft before answered.written);
+        written = subst (λ p. WritesPart p held aft (last_start before.batch_ends) before.entries) (sym policy) (writes_whole old.opening held aft before answered.written);
       },
     )
 
--- the text of entries with the names of the board's policy
-pub text_on : (d : DeskShape) (q : PolicyShape) (es : List Entry) → IsSoundDesk d → q ≡ d.board.policy → entries_text q es ≡ entries_text d.opening es
-text_on d q es sound found =
-    ap (λ x. entries_text x es) (found ∙ ap (λ (x : State). x.book.policy) sound.state ∙ history_stays (opening_state d.opening) d.entries)
+-- the text of the entries of a batch with the names of the policy after it
+pub text_on : (old d : DeskShape) (q : PolicyShape) (new : List Entry) → KeepsTexts old → IsSoundDesk d → setting_of d ≡ setting_of old → d.entries ≡ old.entries ++ new → q ≡ d.board.policy →
+    entries_text q new ≡ transcript_text (state_after (opening_state old.opening) old.entries) new
+text_on old d q new texts sound setting entries found =
+    let legal : IsLegal (opening_state old.opening) old.rounds (old.entries ++ new) =
+    subst (λ (s : Setting). IsLegal (opening_state s.policy) s.rounds (old.entries ++ new)) setting (subst (IsLegal (opening_state d.opening) d.rounds) entries sound.legal) in
+    let after : q ≡ (state_after (opening_state old.opening) (old.entries ++ new)).book.policy =
+    found ∙ ap (λ (x : State). x.book.policy) sound.state ∙ ap (λ es. (state_after (opening_state d.opening) es).book.policy) entries
+    ∙ ap (λ (s : Setting). (state_after (opening_state s.policy) (old.entries ++ new)).book.policy) setting in
+    ap (λ x. entries_text x new) after ∙ sym (texts new legal)

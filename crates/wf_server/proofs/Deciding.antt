@@ -1,5 +1,5 @@
 -- What the decider finds on a deed.
-use Rattle.std.proofs.Common.{◌≡◌, ◌≢◌, ℕ, ◌<◌, ◌⊎◌, inl, inr, Bool, true, false, List, [], ◌∷◌, length, Option, None, Some, Result, Ok, Err, IfErr, slice_set, refl, sym, ap, subst, ◌∙◌, arith}
+use Rattle.std.proofs.Common.{◌≡◌, ℕ, ◌<◌, Bool, true, false, List, [], ◌∷◌, length, Option, None, Some, Result, Ok, Err, slice_set, refl, sym, ap, subst, ◌∙◌}
 use Rattle.std.specs.Option.{option_map}
 use Rattle.std.specs.Prelude.{nat_eq, if◌then◌else◌}
 use Rattle.std.proofs.lemmas.Bool.Decides.{eqb_tells}
@@ -8,10 +8,10 @@ use Rattle.constraint_forms.specs.Assigned.{no_steps, no_users, planned, user_at
 use Rattle.policy_book.specs.Shapes.{PolicyShape}
 use Rattle.policy_book.specs.Policies.{problem_of}
 use Rattle.policy_book.specs.Plans.{AreAssigned, IsValidPlan, IsWithin, Problem}
-use Rattle.certificate_check.proofs.Assigned.{either, given, given_other, given_same, same_some}
+use Rattle.certificate_check.proofs.Assigned.{either, given, given_other, given_same}
 use Rattle.case_record.specs.Cases.{CaseShape, assigned_of, finished_of, is_open}
 use Rattle.grant_table.specs.declared.rows.Row.{Row}
-use Rattle.grant_table.specs.Tables.{case_in, number_of, plan_of, row_at}
+use Rattle.grant_table.specs.Tables.{case_in, plan_of, row_at}
 use Rattle.wf_talk.specs.declared.reply.Denial.{Denial}
 use Rattle.denial_reasons.specs.Causes.{assigned_with}
 use Rattle.wsp_solver.specs.Searches.{Decides}
@@ -33,7 +33,8 @@ use Rattle.wf_board.specs.Kept.{ArePlanned, EachRow, IsOfPolicy, IsPlanned}
 use Rattle.wf_board.specs.Found.{AreFound}
 use Rattle.wf_board.proofs.Within.{claimed_within, planned_within}
 use Rattle.wf_board.proofs.Exact.{finished_assigned}
-use Rattle.wf_server.specs.Deciding.{DecidesDeed, DecidesFor, IsVerdictOf}
+use Rattle.admin_edits.specs.declared.amendment.Amendment.{Amendment}
+use Rattle.wf_server.specs.Deciding.{DecidesChange, DecidesDeed, DecidesFor, IsVerdictOf}
 
 each_at : (P : Row → Type 0) (n : ℕ) (rows : List Row) (r : Row) → EachRow P rows → row_at n rows ≡ Some r → P r
 each_at P n [] r each is = cc
@@ -128,6 +129,8 @@ verdict_decides p a d (outcome.Refuted tree) v found is = subst (DecidesFor p a 
 -- a verdict on an opening
 pub decides_open : (b : Book) (f : ℕ) (v : Verdict) → DecidesFor (problem_of b.policy f) no_users no_steps v → DecidesDeed b (deed.Open f) v
 decides_open b f verdict.Nothing h = absurd h
+decides_open b f (verdict.Edited edition) h = absurd h
+decides_open b f (verdict.Strands m tree) h = absurd h
 decides_open b f verdict.NoMemory h = record { fits = tt; nothing = λ e. cc; something = λ e same. cc }
 decides_open b f (verdict.Plan plan) h = record { fits = h; nothing = λ e. cc; something = λ e same. cc }
 decides_open b f (verdict.Refuted tree) h = record { fits = h; nothing = λ e. cc; something = λ e same. cc }
@@ -135,9 +138,20 @@ decides_open b f (verdict.Refuted tree) h = record { fits = h; nothing = λ e. c
 -- a verdict on a claim
 pub decides_claim : (b : Book) (n : ℕ) (c : CaseShape) (t u : ℕ) (v : Verdict) → DecidesFor (problem_of b.policy c.flow) (assigned_with c t u) (finished_of c) v → DecidesDeed b (deed.Claim n c t u) v
 decides_claim b n c t u verdict.Nothing h = absurd h
+decides_claim b n c t u (verdict.Edited edition) h = absurd h
+decides_claim b n c t u (verdict.Strands m tree) h = absurd h
 decides_claim b n c t u verdict.NoMemory h = record { fits = tt; nothing = λ e. cc; something = λ e same. cc }
 decides_claim b n c t u (verdict.Plan plan) h = record { fits = h; nothing = λ e. cc; something = λ e same. cc }
 decides_claim b n c t u (verdict.Refuted tree) h = record { fits = h; nothing = λ e. cc; something = λ e same. cc }
+
+-- a verdict on a change of the policy
+pub decides_change : (b : Book) (a : Amendment) (v : Verdict) → DecidesChange b a v → DecidesDeed b (deed.Change a) v
+decides_change b a verdict.Nothing h = absurd h
+decides_change b a verdict.NoMemory h = record { fits = tt; nothing = λ e. cc; something = λ e same. cc }
+decides_change b a (verdict.Plan plan) h = absurd h
+decides_change b a (verdict.Refuted tree) h = absurd h
+decides_change b a (verdict.Edited edition) h = record { fits = h; nothing = λ e. cc; something = λ e same. cc }
+decides_change b a (verdict.Strands n tree) h = record { fits = h; nothing = λ e. cc; something = λ e same. cc }
 
 listed_needs_none : (reading : Result Deed Denial) → takes_memory reading ≡ true → needs_verdict reading ≡ false
 listed_needs_none (Ok given) h = cc

@@ -5,7 +5,6 @@ use Rattle.std.proofs.lemmas.List.{length-append, length-take, take-append-drop}
 use Rattle.wf_names.specs.declared.limits.TheConstants.{BATCH_LINE_LIMIT, SESSION_LINE_LIMIT}
 use Rattle.wf_outside.specs.Outside.{HasPart, HasTaken, with_bytes}
 use Rattle.wf_outside.proofs.OutsideLaws.{nothing_taken, nothing_put}
-use Rattle.policy_book.specs.Shapes.{PolicyShape}
 use Rattle.wf_talk.specs.declared.job.Job.{Job}
 use Rattle.line_cutter.specs.declared.stop.Stop.TheVariants as stop
 use Rattle.line_cutter.specs.Jobs.{start, jobs_of_input, last_or}
@@ -15,11 +14,8 @@ use Rattle.line_cutter.specs.Laws as cutting
 use Rattle.batch_reader.specs.declared.reader.Paused.{Paused}
 use Rattle.batch_reader.specs.declared.reader.Paused.TheVariants as paused
 use Rattle.batch_reader.specs.Reading.{ReaderShape, Handed, handed_more, HasRead, IsReadUp, ReadsTo, CountsAs}
-use Rattle.wf_board.specs.States.{State, opening_state}
-use Rattle.wf_talk.specs.declared.entry.Entry.{Entry}
-use Rattle.wf_board.specs.Steps.{state_after_step}
-use Rattle.wf_board.specs.Histories.{FillsJobs, IsLegal, state_after}
-use Rattle.wf_board.specs.HistoryLaws.{policy_stays}
+use Rattle.wf_board.specs.States.{opening_state}
+use Rattle.wf_board.specs.Histories.{FillsJobs, IsLegal}
 use Rattle.wf_desk.specs.Desks.{AreOfLanes, DeskShape, IsSoundDesk}
 use Rattle.policy_book.specs.Facts.{IsSoundPolicy}
 use Rattle.wf_board.specs.Laws.{HistoriesKeepCompletable}
@@ -28,12 +24,10 @@ use Rattle.run_record.specs.declared.fault.RunFault.TheVariants as fault
 use Rattle.run_record.specs.Fault.{is_before_input, CountsReads, CountsWrites}
 use Rattle.run_record.specs.Report.{Told, nothing_told}
 use Rattle.run_record.specs.Run.{Streams}
-use Rattle.wire_json.specs.Replies.{entry_text}
-use Rattle.wf_server.specs.Transcripts.{transcript_text}
-use Rattle.wf_server.specs.Sessions.{ReadsFor, Served, Setting, WritesFor, WritesPart, handed_in, last_start}
+use Rattle.wf_server.specs.Sessions.{ReadsFor, Served, Setting, handed_in}
 use Rattle.wf_server.specs.Turns.{setting_of}
-use Rattle.wf_server.specs.Batches.{entries_text, Serves, WritesBy, HasAnswered, IsAdded, IsBatch, AnswersTo, IsServing, BatchEnds, IsWriteEnding, ending_of}
-use Rattle.wf_server.proofs.BatchLaws.{ends_some, history_stays, writes_whole}
+use Rattle.wf_server.specs.Batches.{Serves, HasAnswered, IsAdded, IsBatch, AnswersTo, IsServing, BatchEnds, IsWriteEnding, ending_of}
+use Rattle.wf_server.proofs.BatchLaws.{ends_some, writes_whole}
 
 -- no count of faults falls
 counts_le : (how : Paused) (before after : ℕ) → CountsAs how before after → before ≤ after
@@ -236,43 +230,6 @@ bare_serves set room streams told ending nothing memory = rw (nothing, memory) (
   write_faults = refl;
 })
 
--- the names of the policy after each entry are those of the policy before all
-one_text : (s : State) (es : List Entry) → transcript_text s es ≡ entries_text s.book.policy es
-one_text s [] = refl
-one_text s (e ∷ es) =
-    let next = state_after_step s e.ask e.reply in
-    ap (λ t. entry_text next.book.policy e ++ t) (one_text next es) ∙ ap (λ q. entry_text q e ++ entries_text q es) (policy_stays s e.ask e.reply)
-
-rest_text : (p : PolicyShape) (n : ℕ) (es : List Entry)
-    → transcript_text (state_after (opening_state p) (take n es)) (drop n es) ≡ entries_text p (drop n es)
-rest_text p n es =
-    one_text (state_after (opening_state p) (take n es)) (drop n es)
-    ∙ ap (λ q. entries_text q (drop n es)) (history_stays (opening_state p) (take n es))
-
-writes_part : (p : PolicyShape) (before after : Option (List ℕ)) (n : ℕ) (es : List Entry)
-    → HasPart (with_bytes before (entries_text p (take n es))) after (entries_text p (drop n es)) → WritesPart p before after n es
-writes_part p before after n es h =
-    subst (λ t. HasPart (with_bytes before t) after (transcript_text (state_after (opening_state p) (take n es)) (drop n es))) (sym (one_text (opening_state p) (take n es)))
-    (subst (λ t. HasPart (with_bytes before (entries_text p (take n es))) after t) (sym (rest_text p n es)) h)
-
-writes_all : (p : PolicyShape) (before after : Option (List ℕ)) (es : List Entry)
-    → after ≡ with_bytes before (entries_text p es) → after ≡ with_bytes before (transcript_text (opening_state p) es)
-writes_all p before after es h = h ∙ ap (with_bytes before) (sym (one_text (opening_state p) es))
-
-writes_for : (p : PolicyShape) (before after : Option (List ℕ)) (told : Told) (ending : RunFault) → WritesBy p before after told ending → WritesFor p before after told ending
-writes_for p before after told fault.Write h = writes_part p before after (last_start told.batch_ends) told.entries h
-writes_for p before after told fault.NoMemory h = writes_part p before after (last_start told.batch_ends) told.entries h
-writes_for p before after told fault.Nothing h = writes_all p before after told.entries h
-writes_for p before after told fault.Found h = writes_all p before after told.entries h
-writes_for p before after told fault.Usage h = writes_all p before after told.entries h
-writes_for p before after told (fault.Policy e) h = writes_all p before after told.entries h
-writes_for p before after told fault.Read h = writes_all p before after told.entries h
-writes_for p before after told fault.Load h = writes_all p before after told.entries h
-writes_for p before after told fault.FileTooLong h = writes_all p before after told.entries h
-writes_for p before after told (fault.LineTooLong line) h = writes_all p before after told.entries h
-writes_for p before after told fault.TooManyLines h = writes_all p before after told.entries h
-writes_for p before after told (fault.BadInput e) h = writes_all p before after told.entries h
-
 -- a session is one as it is promised
 pub serves_kept : (set : Setting) (room : ℕ) (before after : Streams) (told : Told) (ending : RunFault) → IsSoundPolicy set.policy → HistoriesKeepCompletable
     → IsLegal (opening_state set.policy) set.rounds told.entries → Serves set room before after told ending → Served set room before after told ending
@@ -280,7 +237,7 @@ serves_kept set room before after told ending sound keeps legal h = record {
   reads = h.reads;
   legal = legal;
   fills = h.fills;
-  writes = writes_for set.policy before.output after.output told ending h.writes;
+  writes = h.writes;
   kept = keeps set.policy set.rounds told.entries sound legal;
   read_faults = h.read_faults;
   write_faults = h.write_faults;

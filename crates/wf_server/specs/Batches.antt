@@ -2,7 +2,7 @@
 use Rattle.std.specs.Prelude.{◌≡◌, ℕ, ◌+◌, ◌-◌, ◌≤◌, List, [], ◌∷◌, ◌++◌, length, take, drop, Option, None, Some, Result, Ok, Err}
 use Rattle.std.proofs.Common.{◌⊎◌}
 use Rattle.wf_names.specs.declared.limits.TheConstants.{BATCH_LINE_LIMIT, SESSION_LINE_LIMIT}
-use Rattle.wf_outside.specs.Outside.{HasPart, with_bytes}
+use Rattle.wf_outside.specs.Outside.{with_bytes}
 use Rattle.wf_talk.specs.declared.entry.Entry.{Entry}
 use Rattle.wf_talk.specs.declared.job.Job.{Job}
 use Rattle.line_cutter.specs.Cutter.{ends_after}
@@ -12,6 +12,7 @@ use Rattle.batch_reader.specs.declared.reader.Paused.TheVariants as paused
 use Rattle.batch_reader.specs.Reading.{ReaderShape, HasRead}
 use Rattle.wire_json.specs.Replies.{entry_text}
 use Rattle.policy_book.specs.Shapes.{PolicyShape}
+use Rattle.wf_board.specs.States.{opening_state}
 use Rattle.wf_board.specs.Histories.{AreAnsweredOnce, FillsJobs}
 use Rattle.wf_desk.specs.BatchLaws.{EndAt}
 use Rattle.wf_desk.specs.Desks.{AreOfLanes, DeskShape, IsDone}
@@ -21,7 +22,8 @@ use Rattle.run_record.specs.Fault.{CountsReads, CountsWrites}
 use Rattle.run_record.specs.Report.{Told}
 use Rattle.run_record.specs.Run.{Streams}
 use Rattle.wf_server.specs.declared.batch.Answered.{Answered}
-use Rattle.wf_server.specs.Sessions.{Setting, handed_in, last_start, ReadsFor}
+use Rattle.wf_server.specs.Sessions.{Setting, handed_in, last_start, ReadsFor, WritesFor, WritesPart}
+use Rattle.wf_server.specs.Transcripts.{transcript_text}
 use Rattle.wf_server.specs.Turns.{setting_of}
 
 -- the texts of entries, in order, with the names of one policy
@@ -29,24 +31,12 @@ abbrev pub entries_text : PolicyShape → List Entry → List ℕ
 entries_text p [] = []
 entries_text p (e ∷ es) = entry_text p e ++ entries_text p es
 
--- the entries of all batches but the last are written, and of the last one's a part
-abbrev pub WritesLast : PolicyShape → Option (List ℕ) → Option (List ℕ) → Told → Type 0
-WritesLast p before after told =
-    HasPart (with_bytes before (entries_text p (take (last_start told.batch_ends) told.entries))) after
-    (entries_text p (drop (last_start told.batch_ends) told.entries))
-
--- what is written where a session ended so
-abbrev pub WritesBy : PolicyShape → Option (List ℕ) → Option (List ℕ) → Told → RunFault → Type 0
-WritesBy p before after told Write = WritesLast p before after told
-WritesBy p before after told NoMemory = WritesLast p before after told
-WritesBy p before after told fault = after ≡ with_bytes before (entries_text p told.entries)
-
--- a session in which no step changes the policy, but that its history is legal
+-- a session, but that its history is legal
 pub record Serves (set : Setting) (room : ℕ) (before after : Streams) (told : Told) (fault : RunFault) : Type 0 where
   pub reads : ReadsFor before.input after.input room (handed_in set.lanes told) fault
   pub once : AreAnsweredOnce told.entries
   pub fills : FillsJobs told.entries told.jobs told.batch_ends
-  pub writes : WritesBy set.policy before.output after.output told fault
+  pub writes : WritesFor set.policy before.output after.output told fault
   pub read_faults : CountsReads fault before.read_faults after.read_faults
   pub write_faults : CountsWrites fault before.write_faults after.write_faults
 
@@ -66,13 +56,13 @@ pub record HasAnswered (held held-after : Option (List ℕ)) (d : DeskShape) (to
   pub once : AreAnsweredOnce told.entries
   pub fills : FillsJobs told.entries told.jobs told.batch_ends
   pub ends : EndAt told.batch_ends (length told.jobs)
-  pub written : held-after ≡ with_bytes held (entries_text d.opening told.entries)
+  pub written : held-after ≡ with_bytes held (transcript_text (opening_state d.opening) told.entries)
 
 -- the jobs so far are answered, and the entries of the last batch written in part
 pub record HasAnsweredPart (p : PolicyShape) (held held-after : Option (List ℕ)) (told : Told) : Type 0 where
   pub once : AreAnsweredOnce told.entries
   pub fills : FillsJobs told.entries told.jobs told.batch_ends
-  pub written : WritesLast p held held-after told
+  pub written : WritesPart p held held-after (last_start told.batch_ends) told.entries
 
 -- the jobs of one more batch are told, with its end
 pub record IsAdded (before : Told) (batch : List Job) (after : Told) : Type 0 where

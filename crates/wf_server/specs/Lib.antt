@@ -5,5 +5,6 @@ pub mod Transcripts
 pub mod Sessions
 pub mod Turns
 pub mod Batches
+pub mod Names
 pub mod Serving
 pub mod Run

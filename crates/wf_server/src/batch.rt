@@ -9,6 +9,7 @@ ghost use Rattle.run_record.specs.Fault.{fault_in, CountsWrites};
 ghost use Rattle.wf_server.specs.Batches.{entries_text, told_of, HasAnswered, IsBatch, AnswersTo, IsWriteEnding};
 ghost use Rattle.wf_server.specs.Turns.{setting_of};
 
+use crate::texts::texts_stay;
 use crate::turns::serve_by_turns;
 use policy_book::Policy;
 use run_record::RunFault;
@@ -58,6 +59,7 @@ pub(crate) fn answer_batch<K: Sink>(
     ensures counts { CountsWrites (fault_in result) (K.faults sink.old) (K.faults sink.new) }
 {
     let done = desk.journal().len();
+    texts_stay(desk);
     desk.load_batch(alloc, batch)?;
     add_batch(told, batch)?;
     serve_by_turns(alloc, desk);

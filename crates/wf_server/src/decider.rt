@@ -9,6 +9,7 @@ ghost use Rattle.wf_board.specs.Boards.{book_on};
 ghost use Rattle.wf_board.specs.Found.{AreFound, IsFound};
 ghost use Rattle.wf_server.specs.Deciding.{DecidesDeed, DecidesFor, IsVerdictOf};
 
+use crate::edit_decider::edit_verdict;
 use case_record::Case;
 use constraint_forms::{Assign, StepSet};
 use policy_book::{Plan, Policy};
@@ -59,6 +60,7 @@ fn verdict_on(alloc: Global, snap: &Snap, deed: &Deed) -> Verdict
             step,
             user,
         } => claim_verdict(alloc, snap, *number, case, *step, *user),
+        Deed::Change { amendment } => edit_verdict(alloc, snap, amendment),
         _ => Verdict::Nothing,
     }
 }

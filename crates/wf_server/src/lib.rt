@@ -4,10 +4,15 @@
 mod batch;
 #[cfg(test)]
 mod change_tests;
+#[cfg(test)]
+mod copy_tests;
 mod decider;
+mod edit_decider;
 #[cfg(test)]
 mod edit_tests;
 mod run;
+#[cfg(test)]
+mod schedule_parts;
 #[cfg(test)]
 mod schedule_tests;
 mod serve;
@@ -15,7 +20,12 @@ mod session;
 #[cfg(test)]
 mod solve_tests;
 #[cfg(test)]
+mod stale_tests;
+#[cfg(test)]
 mod tests;
+mod texts;
+#[cfg(test)]
+mod trim_tests;
 mod turns;
 mod words;
 

@@ -5,14 +5,15 @@ ghost use Rattle.wf_desk.specs.Desks.{AreOfLanes, IsDone};
 ghost use Rattle.wf_desk.specs.Schedules.{AreEventsOf};
 
 use crate::decider::PlainDecider;
+use crate::schedule_parts::{
+    claims, empty_over, finishes, goes_at, has_kinds, job, opens, returns, shows,
+};
 use crate::tests::PAY;
 use crate::turns::serve_by_turns;
 use std::alloc::{AllocError, Global};
 use std::test::Fail;
 use wf_board::Verdict;
 use wf_desk::{Desk, Event, Mark, Outcome};
-use wf_names::{CaseId, Name};
-use wf_talk::{Ask, Denial, Entry, Job, Reply, Request};
 
 // Nothing has changed since the task was taken; its lane has no task any more.
 #[test]
@@ -261,21 +262,6 @@ fn goes(
     Ok(goes_at(alloc, &mut desk, events, marks)? && has_kinds(&desk, kinds))
 }
 
-fn goes_at(
-    alloc: Global,
-    desk: &mut Desk,
-    events: &[Event],
-    marks: &[Mark],
-) -> Result<bool, AllocError>
-    requires { AreEventsOf 2 events.now }
-{
-    if desk.lanes() != 2 {
-        return Ok(false);
-    }
-    let found = desk.run_schedule(alloc, &PlainDecider, events)?;
-    Ok(found.as_slice() == marks)
-}
-
 // In lane 0 ann prepares a payment, which bob then claims to approve, twice; in lane 1 cyd takes
 // the approval and gives it back, twice. Bob's approval would leave nobody to pay.
 fn loaded(alloc: Global, rounds: u8) -> Result<Desk, Fail>
@@ -292,8 +278,7 @@ fn empty(alloc: Global, rounds: u8) -> Result<Desk, Fail>
     ensures entries { IfOk result (λ d. d.entries ≡ []) }
     ensures done { IfOk result (λ d. IsDone d) }
 {
-    let policy = policy_reader::read(alloc, PAY.as_bytes())?;
-    Ok(Desk::new(alloc, policy, 2, rounds)?)
+    empty_over(alloc, PAY, rounds)
 }
 
 fn load(alloc: Global, desk: &mut Desk) -> Result<(), Fail>
@@ -314,76 +299,4 @@ fn load(alloc: Global, desk: &mut Desk) -> Result<(), Fail>
     ];
     desk.load_batch(alloc, &jobs)?;
     Ok(())
-}
-
-fn job(lane: u8, line: u32, request: Request) -> Job
-    ensures { result.lane ≡ lane }
-{
-    let ask = Ask::Request(request);
-    Job { lane, line, ask }
-}
-
-fn opens() -> Result<Request, Fail> {
-    Ok(Request::OpenCase { flow: name("pay")? })
-}
-
-fn claims(step: &str, user: &str) -> Result<Request, Fail> {
-    Ok(Request::Claim {
-        case: CaseId(0),
-        step: name(step)?,
-        user: name(user)?,
-    })
-}
-
-fn finishes(step: &str, user: &str) -> Result<Request, Fail> {
-    Ok(Request::Finish {
-        case: CaseId(0),
-        step: name(step)?,
-        user: name(user)?,
-    })
-}
-
-fn returns(step: &str, user: &str) -> Result<Request, Fail> {
-    Ok(Request::GiveBack {
-        case: CaseId(0),
-        step: name(step)?,
-        user: name(user)?,
-    })
-}
-
-fn shows() -> Request {
-    Request::Show { case: CaseId(0) }
-}
-
-fn name(text: &str) -> Result<Name, Fail> {
-    Ok(Name::read(text).ok_or("not a name")?)
-}
-
-// Whether the entries are of these kinds, in order.
-fn has_kinds(desk: &Desk, kinds: &[&str]) -> bool {
-    let entries = desk.journal().as_slice();
-    if entries.len() != kinds.len() {
-        return false;
-    }
-    for (entry, kind) in entries.iter().zip(kinds) {
-        if !is_kind(entry, kind) {
-            return false;
-        }
-    }
-    true
-}
-
-fn is_kind(entry: &Entry, kind: &str) -> bool {
-    match &entry.reply {
-        Reply::Opened { case, .. } => kind == "opened" && case.0 == 0,
-        Reply::Granted(_) => kind == "granted",
-        Reply::Finished { done } => kind == "finished" && !done,
-        Reply::Returned => kind == "returned",
-        Reply::Shown(_) => kind == "shown",
-        Reply::Denied(Denial::Stranded { .. }) => kind == "stranded",
-        Reply::Denied(Denial::Taken(user)) => kind == "taken" && user.0 == 2,
-        Reply::Again { rounds: 1, at: 4 } => kind == "again 1 4",
-        Reply::Again { rounds: 2, at: 7 } => kind == "again 2 7",
-        _ => false,
-    }
 }

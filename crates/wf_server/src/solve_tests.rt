@@ -14,7 +14,7 @@ use wsp_solver::Outcome;
 
 const FLOW: FlowId = FlowId(0);
 
-const DUO: &str = r#"
+pub(crate) const DUO: &str = r#"
 format = 1
 admin = "chief"
 roles = ["boss", "chief", "clerk"]
@@ -33,7 +33,7 @@ rules = [
 ]
 "#;
 
-const TRIO: &str = r#"
+pub(crate) const TRIO: &str = r#"
 format = 1
 admin = "chief"
 roles = ["boss", "chief", "clerk"]
@@ -59,7 +59,7 @@ const ALL_DIFFER: &str = r#"
   { form = "pair", relation = "other", first = "a", second = "c" },
 "#;
 
-const SAME_AND_OTHER: &str = r#"
+pub(crate) const SAME_AND_OTHER: &str = r#"
   { form = "pair", relation = "same", first = "a", second = "c" },
   { form = "pair", relation = "other", first = "a", second = "c" },
 "#;

@@ -3,7 +3,6 @@
 
 mod edit;
 mod entry;
-mod flows;
 mod job;
 mod lists;
 mod reply;
@@ -14,7 +13,6 @@ mod tests;
 
 pub use edit::{Edit, Missing};
 pub use entry::Entry;
-pub use flows::FlowOf;
 pub use job::Job;
 pub use lists::{Ends, Jobs, Journal, Line, RoleList};
 pub use reply::{Denial, Face, Reply};

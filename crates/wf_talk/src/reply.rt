@@ -53,7 +53,10 @@ pub enum Denial {
     /// No more cases can be opened, no more users added, or no more pairs put into the relation.
     Full,
     /// The workflow has no valid plan, as the tree shows.
-    Unsatisfiable { flow: FlowId, tree: Tree },
+    Unsatisfiable {
+        flow: FlowId,
+        tree: Tree,
+    },
     /// There is no case of that number.
     NoCase,
     /// The case is not open.
@@ -65,13 +68,19 @@ pub enum Denial {
     /// The step is held or finished by this user.
     Taken(UserId),
     /// This step of the workflow comes before and is not finished.
-    Order { flow: FlowId, step: StepId },
+    Order {
+        flow: FlowId,
+        step: StepId,
+    },
     /// The user is not authorised for the step; the roles that are, by ascending number.
     Role(RoleList),
     /// The claim would falsify the rule with this number.
     Rule(u8),
     /// The claim would leave the case without a valid plan, as the tree shows.
-    Stranded { flow: FlowId, tree: Tree },
+    Stranded {
+        flow: FlowId,
+        tree: Tree,
+    },
     /// The step is not held by the user, or by nobody at all; it stands so.
     NotHeld(StepState),
     /// No user of that name holds the admin role.
@@ -87,5 +96,9 @@ pub enum Denial {
     /// Nobody would hold the admin role any more.
     LastAdmin,
     /// The edit would leave this open case without a valid plan, as the tree shows.
-    Strands { case: CaseId, flow: FlowId, tree: Tree },
+    Strands {
+        case: CaseId,
+        flow: FlowId,
+        tree: Tree,
+    },
 }

@@ -6,14 +6,15 @@ use crate::{
 use refutation_tree::Tree;
 use std::alloc::{AllocError, Global};
 use std::test::Fail;
-use wf_names::{CaseId, FlowId, Name, RoleId, StepState, UserId};
+use wf_names::{CaseId, FlowId, Name, RoleId, StepId, StepState, UserId};
 
 #[test]
 fn a_journal_with_room_takes_its_entries(rt: HostRuntime) -> Result<(), Fail> {
     let mut journal = Journal::new(rt.alloc());
-    journal.reserve(2)?;
+    journal.reserve(3)?;
     add_entry(&mut journal, 0, roles(rt.alloc())?)?;
     add_entry(&mut journal, 1, stranded())?;
+    add_entry(&mut journal, 2, strands())?;
     assert!(rt; copies_the_entries(&journal)?);
     Ok(())
 }
@@ -43,10 +44,19 @@ fn stranded() -> Reply {
     })
 }
 
+fn strands() -> Reply {
+    let tree = Tree::Holder(StepId(1));
+    Reply::Denied(Denial::Strands {
+        case: CaseId(65_535),
+        flow: FlowId(3),
+        tree,
+    })
+}
+
 fn copies_the_entries(journal: &Journal) -> Result<bool, AllocError> {
     let copy = journal.copy_each()?;
     Ok(match copy.as_slice() {
-        [first, last] => has_roles(first) && has_tree(last),
+        [first, second, last] => has_roles(first) && has_tree(second) && has_stranded(last),
         _ => false,
     })
 }
@@ -66,6 +76,19 @@ fn has_tree(entry: &Entry) -> bool {
                 tree: Tree::Rule(2),
             },
         ) => flow.0 == 3 && entry.at == 1,
+        _ => false,
+    }
+}
+
+fn has_stranded(entry: &Entry) -> bool {
+    match &entry.reply {
+        Reply::Denied(
+            Denial::Strands {
+                case,
+                flow,
+                tree: Tree::Holder(step),
+            },
+        ) => case.0 == 65_535 && flow.0 == 3 && step.0 == 1,
         _ => false,
     }
 }

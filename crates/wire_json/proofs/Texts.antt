@@ -31,6 +31,9 @@ added_7 x0 x1 x2 x3 x4 x5 x6 x7 a b c d e f g e1 e2 e3 e4 e5 e6 e7 = added_3 x0 
 pub added_in_two : (x0 x1 x2 x3 a b : List ℕ) → x1 ≡ x0 ++ a → x2 ≡ x1 ++ b → x3 ≡ x2 ++ 125 ∷ 125 ∷ [] → x3 ≡ x0 ++ (a ++ ((b ++ 125 ∷ []) ++ 125 ∷ []))
 added_in_two x0 x1 x2 x3 a b e1 e2 e3 = added_3 x0 x1 x2 x3 a b _ e1 e2 e3 ∙ ap (λ x. x0 ++ (a ++ x)) (sym (append_assoc b (125 ∷ []) (125 ∷ [])))
 
+pub one_number_added_in_two : (x0 x1 x2 a n : List ℕ) → x1 ≡ x0 ++ (a ++ n) → x2 ≡ x1 ++ 125 ∷ 125 ∷ [] → x2 ≡ x0 ++ (a ++ ((n ++ 125 ∷ []) ++ 125 ∷ []))
+one_number_added_in_two x0 x1 x2 a n e1 e2 = rw (e2, e1) (simp append_assoc)
+
 pub number_added_in_two : (x0 x1 x2 x3 x4 a n b d : List ℕ) → x1 ≡ x0 ++ (a ++ n) → x2 ≡ x1 ++ b → x3 ≡ x2 ++ d → x4 ≡ x3 ++ 125 ∷ 125 ∷ []
     → x4 ≡ x0 ++ (a ++ ((n ++ (b ++ (d ++ 125 ∷ []))) ++ 125 ∷ []))
 number_added_in_two x0 x1 x2 x3 x4 a n b d e1 e2 e3 e4 = rw (e4, e3, e2, e1) (simp append_assoc)

@@ -1,9 +1,13 @@
 //! Requests, entries and what a search finds as lines of JSON.
 #![tactic(auto)]
 
+mod change;
+mod denial;
 mod entry;
 mod finding;
 mod plain;
+#[cfg(test)]
+mod reading_tests;
 mod reply;
 mod request;
 #[cfg(test)]
@@ -14,5 +18,5 @@ mod word;
 
 pub use finding::{write_plan, write_tree};
 pub use reply::write_entry;
-pub use request::{Asked, read_request, read_value};
+pub use request::{Asked, read_request};
 pub use tree::tree_value;

@@ -1,21 +1,18 @@
 //! Writing entries.
-ghost use Rattle.std.specs.Prelude.{◌≡◌, ◌++◌, ◌∷◌, [], codes, decimal, map, IfOk, OnOk};
+ghost use Rattle.std.specs.Prelude.{◌≡◌, ◌++◌, codes, map, IfOk, OnOk};
 ghost use Rattle.serde_json.specs.Data.{boolean, number, unsigned, array};
 ghost use Rattle.serde_json.specs.View.{items_of};
 ghost use Rattle.serde_json.specs.Written.{comma_if, compact_text};
-ghost use Rattle.refutation_tree.specs.Views.{shape_of};
-ghost use Rattle.wire_json.specs.Entries.{single, named, names_data, step_data, plan_data, state_data, seen_data, phase_data, bad_data};
-ghost use Rattle.wire_json.specs.Trees.{tree_data};
+ghost use Rattle.wire_json.specs.Entries.{single, named, plan_data, seen_data, phase_data, bad_data};
 ghost use Rattle.wire_json.specs.Replies.{denial_data, face_data, again_data, reply_data, entry_data, entry_text};
 
+use crate::denial::push_denial;
 use crate::text::{
-    push, push_comma, push_name, push_name_in, push_number, push_plan, push_quoted, push_roles,
+    push, push_case, push_comma, push_name, push_name_in, push_number, push_plan, push_quoted,
 };
-use crate::tree::tree_value;
 use policy_book::{Plan, Policy};
-use refutation_tree::Tree;
 use std::alloc::{AllocError, Global};
-use wf_names::{CaseId, FlowId, Name, Phase, RoleId, StepId, StepState};
+use wf_names::{CaseId, FlowId, Name, Phase, StepState};
 use wf_talk::{Bad, Denial, Entry, Face, Line, Reply, States};
 
 // The room that most lines need.
@@ -56,6 +53,7 @@ fn push_reply(alloc: Global, out: &mut Vec<u8>, p: &Policy, reply: &Reply) -> Re
         Reply::Released => push(out, b"\"released\""),
         Reply::Opened { case, plan } => push_opened(out, p, *case, plan),
         Reply::Withdrawn => push(out, b"\"withdrawn\""),
+        Reply::Edited { number } => push_edited(out, *number),
         Reply::Shown(face) => push_shown(out, p, face),
         Reply::Denied(denial) => push_denied(alloc, out, p, denial),
         Reply::Again { rounds, at } => push_again(out, *rounds, *at),
@@ -101,11 +99,12 @@ fn push_opened(out: &mut Vec<u8>, p: &Policy, case: CaseId, plan: &Plan) -> Resu
     Ok(())
 }
 
-// Adds bytes and the number of a case.
-fn push_case(out: &mut Vec<u8>, before: &[u8], case: CaseId) -> Result<(), AllocError>
-    ensures { OnOk result (out.new.items ≡ out.old.items ++ (before.now ++ decimal case)) }
+fn push_edited(out: &mut Vec<u8>, n: u32) -> Result<(), AllocError>
+    ensures { OnOk result (out.new.items ≡ out.old.items ++ compact_text (single (codes "edited") (single (codes "number") (number (unsigned n))))) }
 {
-    push_number(out, before, case.0 as u32)
+    push_number(out, b"{\"edited\":{\"number\":", n)?;
+    push(out, b"}}")?;
+    Ok(())
 }
 
 fn push_again(out: &mut Vec<u8>, rounds: u8, at: u32) -> Result<(), AllocError>
@@ -236,139 +235,5 @@ fn push_denied(
     push(out, b"{\"denied\":")?;
     push_denial(alloc, out, p, denial)?;
     push(out, b"}")?;
-    Ok(())
-}
-
-#[tactic(auto, unfolding(json::specs::Print::escape_byte))]
-fn push_denial(
-    alloc: Global,
-    out: &mut Vec<u8>,
-    p: &Policy,
-    denial: &Denial,
-) -> Result<(), AllocError>
-    ensures { OnOk result (out.new.items ≡ out.old.items ++ compact_text (denial_data p.now denial.now)) }
-{
-    match denial {
-        Denial::NoFlow => push(out, b"\"no_flow\""),
-        Denial::Retired => push(out, b"\"retired\""),
-        Denial::Full => push(out, b"\"full\""),
-        Denial::Unsatisfiable { flow, tree } => {
-            push_tree_in(alloc, out, b"{\"unsatisfiable\":", p, *flow, tree)
-        }
-        Denial::NoCase => push(out, b"\"no_case\""),
-        Denial::Closed => push(out, b"\"closed\""),
-        Denial::NoStep => push(out, b"\"no_step\""),
-        Denial::NoUser => push(out, b"\"no_user\""),
-        Denial::Taken(u) => push_name_in(out, b"{\"taken\":", p.roster().users(), u.0, b"}"),
-        Denial::Order { flow, step } => push_step_in(out, b"{\"order\":", p, *flow, *step),
-        Denial::Role(roles) => push_roles_in(out, b"{\"role\":", p, roles.as_slice()),
-        Denial::Rule(rule) => push_rule(out, *rule),
-        Denial::Stranded { flow, tree } => {
-            push_tree_in(alloc, out, b"{\"stranded\":", p, *flow, tree)
-        }
-        Denial::NotHeld(state) => push_not_held(out, p, *state),
-        Denial::NotAdmin => push(out, b"\"not_admin\""),
-    }
-}
-
-fn push_rule(out: &mut Vec<u8>, rule: u8) -> Result<(), AllocError>
-    ensures { OnOk result (out.new.items ≡ out.old.items ++ compact_text (single (codes "rule") (number (unsigned rule)))) }
-{
-    push_number(out, b"{\"rule\":", rule as u32)?;
-    push(out, b"}")?;
-    Ok(())
-}
-
-fn push_not_held(out: &mut Vec<u8>, p: &Policy, state: StepState) -> Result<(), AllocError>
-    ensures { OnOk result (out.new.items ≡ out.old.items ++ compact_text (single (codes "not_held") (state_data p.now state))) }
-{
-    push(out, b"{\"not_held\":")?;
-    push_state(out, p, state)?;
-    push(out, b"}")?;
-    Ok(())
-}
-
-#[tactic(auto, unfolding(json::specs::Print::escape_byte))]
-fn push_state(out: &mut Vec<u8>, p: &Policy, state: StepState) -> Result<(), AllocError>
-    ensures { OnOk result (out.new.items ≡ out.old.items ++ compact_text (state_data p.now state)) }
-{
-    let users = p.roster().users();
-    match state {
-        StepState::Free => push(out, b"\"free\""),
-        StepState::Held(u) => push_name_in(out, b"{\"held\":", users, u.0, b"}"),
-        StepState::Finished(u) => push_name_in(out, b"{\"finished\":", users, u.0, b"}"),
-    }
-}
-
-// Adds bytes, the name of a step and a closing brace.
-fn push_step_in(
-    out: &mut Vec<u8>,
-    before: &[u8],
-    p: &Policy,
-    f: FlowId,
-    s: StepId,
-) -> Result<(), AllocError>
-    ensures { OnOk result (out.new.items ≡ out.old.items ++ (before.now ++ (compact_text (step_data p.now f s) ++ 125 ∷ []))) }
-{
-    push(out, before)?;
-    push_step(out, p, f, s)?;
-    push(out, b"}")?;
-    Ok(())
-}
-
-fn push_step(out: &mut Vec<u8>, p: &Policy, f: FlowId, s: StepId) -> Result<(), AllocError>
-    ensures { OnOk result (out.new.items ≡ out.old.items ++ compact_text (step_data p.now f s)) }
-{
-    if (f.0 as u16) < p.flows().len() {
-        push_name(out, p.flow(f).steps(), s.0 as u16)
-    } else {
-        push(out, b"\"\"")
-    }
-}
-
-// Adds bytes, the names of roles and a closing brace.
-fn push_roles_in(
-    out: &mut Vec<u8>,
-    before: &[u8],
-    p: &Policy,
-    roles: &[RoleId],
-) -> Result<(), AllocError>
-    ensures { OnOk result (out.new.items ≡ out.old.items ++ (before.now ++ (compact_text (names_data p.now.roster.roles roles.now) ++ 125 ∷ []))) }
-{
-    push(out, before)?;
-    push_roles(out, p.roster().roles(), roles)?;
-    push(out, b"}")?;
-    Ok(())
-}
-
-// Adds bytes, a tree and a closing brace.
-fn push_tree_in(
-    alloc: Global,
-    out: &mut Vec<u8>,
-    before: &[u8],
-    p: &Policy,
-    f: FlowId,
-    tree: &Tree,
-) -> Result<(), AllocError>
-    ensures { OnOk result (out.new.items ≡ out.old.items ++ (before.now ++ (compact_text (tree_data p.now f (shape_of tree.now)) ++ 125 ∷ []))) }
-{
-    push(out, before)?;
-    push_tree(alloc, out, p, f, tree)?;
-    push(out, b"}")?;
-    Ok(())
-}
-
-#[tactic(auto, using(crate::proofs::Floats::shape_without_float))]
-fn push_tree(
-    alloc: Global,
-    out: &mut Vec<u8>,
-    p: &Policy,
-    f: FlowId,
-    tree: &Tree,
-) -> Result<(), AllocError>
-    ensures { OnOk result (out.new.items ≡ out.old.items ++ compact_text (tree_data p.now f (shape_of tree.now))) }
-{
-    let text = tree_value(alloc, p, f, tree)?.to_string(alloc)?;
-    push(out, text.as_bytes())?;
     Ok(())
 }

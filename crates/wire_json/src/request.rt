@@ -11,6 +11,10 @@ ghost use Rattle.wire_json.specs.Values.{value_of};
 ghost use Rattle.wire_json.specs.Requests as read;
 ghost use Rattle.wire_json.specs.Words.{row_of_word};
 
+use crate::change::{
+    add_user_in, dismiss_in, enrol_in, forbid_in, leave_in, permit_in, relate_in, retire_in,
+    unrelate_in,
+};
 use crate::plain::read_plain;
 use crate::word::Word;
 use serde_json::{Map, Value};
@@ -48,9 +52,9 @@ fn read_any(alloc: Global, line: &[u8], lanes: u8) -> Result<Asked, AllocError>
     Ok(asked_in(&value, lanes))
 }
 
-/// The JSON value of a line; None where it is no JSON.
+// The JSON value of a line, where it is one.
 #[tactic(auto, unfolding(crate::specs::Values::value_of))]
-pub fn read_value(alloc: Global, line: &[u8]) -> Result<Option<Value>, AllocError>
+fn read_value(alloc: Global, line: &[u8]) -> Result<Option<Value>, AllocError>
     ensures { IfOk result (λ o. option_map view o ≡ value_of line.now) }
 {
     let Ok(text) = str::from_utf8(line) else {
@@ -140,6 +144,15 @@ fn request_named(word: Word, value: &Value, members: &Map<String, Value>) -> Res
         Word::GiveBack => give_back_in(value, members),
         Word::Release => release_in(value, members),
         Word::Withdraw => withdraw_in(value, members),
+        Word::AddUser => add_user_in(value, members),
+        Word::Leave => leave_in(value, members),
+        Word::Enrol => enrol_in(value, members),
+        Word::Dismiss => dismiss_in(value, members),
+        Word::Relate => relate_in(value, members),
+        Word::Unrelate => unrelate_in(value, members),
+        Word::Permit => permit_in(value, members),
+        Word::Forbid => forbid_in(value, members),
+        Word::Retire => retire_in(value, members),
         Word::View => view_in(value, members),
     }
 }
@@ -227,8 +240,8 @@ fn case_at(value: &Value) -> Result<CaseId, Bad>
     }
 }
 
-// The name at a key.
-fn name_at(value: &Value, key: &str) -> Result<Name, Bad>
+/// The name at a key.
+pub(crate) fn name_at(value: &Value, key: &str) -> Result<Name, Bad>
     requires { IsTrue (is_name key.now) }
     ensures { Gives Some (λ n. n) result (or_fault (read.name_at key.now (view value.now)) (bad.Key key.now)) }
 {
@@ -261,8 +274,8 @@ fn text_at<'v>(value: &'v Value, key: &str) -> Option<&'v str>
     value.get(key).and_then(Value::as_str)
 }
 
-// Refuses an object with another key than these.
-fn no_others(members: &Map<String, Value>, known: &[&str]) -> Result<(), Bad>
+/// Refuses an object with another key than these.
+pub(crate) fn no_others(members: &Map<String, Value>, known: &[&str]) -> Result<(), Bad>
     ensures { Gives Some (λ u. u) result (check (read.has_only (map (λ k. k.now) known.now) (members_view members.now.entries)) bad.Extra) }
 {
     'members: for (key, _value) in members {

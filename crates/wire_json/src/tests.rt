@@ -1,23 +1,33 @@
-//! What no clause shows: that lines are read and written while there is memory.
+//! What no clause shows: that entries are written while there is memory.
 ghost use Rattle.std.specs.Prelude.{◌≡◌, ◌≤◌, length, IfOk};
 ghost use Rattle.std.specs.FinSet as set;
 
-use crate::{Asked, read_request, write_entry};
+use crate::write_entry;
 use policy_book::{Flow, Plan, Policy, Relations, Roster, Rules};
 use refutation_tree::Tree;
 use std::alloc::{AllocError, Global};
 use std::test::Fail;
 use wf_names::{CaseId, FlowId, Name, NameTable, Phase, RoleId, StepId, StepState, UserId};
-use wf_talk::{Ask, Bad, Denial, Entry, Face, Reply, Request, RoleList, States};
+use wf_talk::{Ask, Bad, Denial, Entry, Face, Missing, Reply, RoleList, States};
 
 #[test]
 fn entries_have_their_texts(rt: HostRuntime) -> Result<(), Fail> {
     let p = policy(rt.alloc())?;
-    assert!(rt; replies_have_their_texts(rt.alloc(), &p)?);
-    assert!(rt; denials_have_their_texts(rt.alloc(), &p)?);
-    assert!(rt; faults_have_their_texts(rt.alloc(), &p)?);
-    assert!(rt; roles_have_their_text(rt.alloc(), &p)?);
+    assert!(rt; all_have_their_texts(rt.alloc(), &p)?);
     Ok(())
+}
+
+fn all_have_their_texts(alloc: Global, p: &Policy) -> Result<bool, Fail> {
+    Ok(replies_have_their_texts(alloc, p)? && all_denials_have_their_texts(alloc, p)?)
+}
+
+fn all_denials_have_their_texts(alloc: Global, p: &Policy) -> Result<bool, Fail> {
+    Ok(
+        denials_have_their_texts(alloc, p)?
+            && edit_denials_have_their_texts(alloc, p)?
+            && faults_have_their_texts(alloc, p)?
+            && roles_have_their_text(alloc, p)?,
+    )
 }
 
 fn replies_have_their_texts(alloc: Global, p: &Policy) -> Result<bool, Fail> {
@@ -43,9 +53,12 @@ fn reply(i: usize) -> Reply {
             plan,
         },
         5 => Reply::Withdrawn,
-        6 => Reply::Shown(face(Phase::Live)),
-        7 => Reply::Shown(face(Phase::Withdrawn)),
-        8 => Reply::Again {
+        6 => Reply::Edited {
+            number: 4_294_967_295,
+        },
+        7 => Reply::Shown(face(Phase::Live)),
+        8 => Reply::Shown(face(Phase::Withdrawn)),
+        9 => Reply::Again {
             rounds: 2,
             at: 4_294_967_295,
         },
@@ -53,7 +66,7 @@ fn reply(i: usize) -> Reply {
     }
 }
 
-fn reply_texts() -> [&'static str; 10] {
+fn reply_texts() -> [&'static str; 11] {
     [
         r#"{"granted":{"plan":["ann","cyd","bob"]}}"#,
         r#"{"finished":{"done":true}}"#,
@@ -61,6 +74,7 @@ fn reply_texts() -> [&'static str; 10] {
         r#""released""#,
         r#"{"opened":{"case":65535,"plan":["ann","cyd","bob"]}}"#,
         r#""withdrawn""#,
+        r#"{"edited":{"number":4294967295}}"#,
         r#"{"view":{"flow":"pay","phase":"open","steps":[["finished","ann"],["held","cyd"],["free"]]}}"#,
         r#"{"view":{"flow":"pay","phase":"withdrawn","steps":[["finished","ann"],["held","cyd"],["free"]]}}"#,
         r#"{"again":{"at":4294967295,"rounds":2}}"#,
@@ -141,6 +155,51 @@ fn denial_texts() -> [&'static str; 16] {
     ]
 }
 
+fn edit_denials_have_their_texts(alloc: Global, p: &Policy) -> Result<bool, Fail> {
+    let texts = edit_denial_texts();
+    for i in 0..texts.len() {
+        if !is_written(alloc, p, Reply::Denied(edit_denial(i)), texts[i])? {
+            return Ok(false);
+        }
+    }
+    Ok(true)
+}
+
+// The denials of edits, in the order of their texts.
+fn edit_denial(i: usize) -> Denial {
+    match i {
+        0 => Denial::Unknown(Missing::Flow),
+        1 => Denial::Unknown(Missing::Step),
+        2 => Denial::Unknown(Missing::Relation),
+        3 => Denial::Unknown(Missing::User),
+        4 => Denial::Unknown(Missing::Role),
+        5 => Denial::Fixed,
+        6 => Denial::Already,
+        7 => Denial::Absent,
+        8 => Denial::LastAdmin,
+        _ => Denial::Strands {
+            case: CaseId(65_535),
+            flow: FlowId(0),
+            tree: Tree::Holder(StepId(1)),
+        },
+    }
+}
+
+fn edit_denial_texts() -> [&'static str; 10] {
+    [
+        r#"{"denied":{"unknown":"flow"}}"#,
+        r#"{"denied":{"unknown":"step"}}"#,
+        r#"{"denied":{"unknown":"relation"}}"#,
+        r#"{"denied":{"unknown":"user"}}"#,
+        r#"{"denied":{"unknown":"role"}}"#,
+        r#"{"denied":"fixed"}"#,
+        r#"{"denied":"already"}"#,
+        r#"{"denied":"absent"}"#,
+        r#"{"denied":"last_admin"}"#,
+        r#"{"denied":{"strands":{"case":65535,"tree":{"holder":"approve"}}}}"#,
+    ]
+}
+
 fn faults_have_their_texts(alloc: Global, p: &Policy) -> Result<bool, Fail> {
     let key = read("case")?;
     for (bad, wanted) in faults(key) {
@@ -194,182 +253,6 @@ fn is_written(alloc: Global, p: &Policy, reply: Reply, wanted: &str) -> Result<b
 fn is_line(alloc: Global, p: &Policy, entry: &Entry, wanted: &str) -> Result<bool, Fail> {
     let text = format!(in alloc; "{{\"at\":4,\"lane\":1,\"line\":7,\"reply\":{wanted}}}\n")?;
     Ok(write_entry(alloc, p, entry)?.as_bytes() == text.as_bytes())
-}
-
-#[test]
-fn requests_are_read(rt: HostRuntime) -> Result<(), Fail> {
-    let (flow, by, step, user) = (read("pay")?, read("eve")?, read("approve")?, read("bob")?);
-    for (line, lane, request) in requests(flow, by, step, user) {
-        let ask = Ask::Request(request);
-        assert!(rt; is_asked(rt.alloc(), line, &Asked { lane, ask })?, "{line}");
-    }
-    Ok(())
-}
-
-fn is_asked(alloc: Global, line: &str, wanted: &Asked) -> Result<bool, AllocError> {
-    match read_request(alloc, line.as_bytes(), 2) {
-        Ok(asked) => Ok(asked == *wanted),
-        Err(e) => Err(e),
-    }
-}
-
-fn requests(flow: Name, by: Name, step: Name, user: Name) -> [(&'static str, u8, Request); 9] {
-    let case = CaseId(3);
-    [
-        (
-            r#"{"do":"open","flow":"pay"}"#,
-            0,
-            Request::OpenCase { flow },
-        ),
-        (
-            r#"{"do":"claim","case":3,"step":"approve","user":"bob"}"#,
-            0,
-            Request::Claim { case, step, user },
-        ),
-        (
-            r#" {"user":"bob","lane":1,"step":"approve","case":3,"do":"finish"} "#,
-            1,
-            Request::Finish { case, step, user },
-        ),
-        (
-            r#"{"do":"give_back","case":3,"step":"approve","user":"bob","lane":1}"#,
-            1,
-            Request::GiveBack { case, step, user },
-        ),
-        (
-            r#"{"do":"release","by":"eve","case":3,"step":"approve"}"#,
-            0,
-            Request::Release { by, case, step },
-        ),
-        (
-            r#"{"do":"withdraw","by":"eve","case":3}"#,
-            0,
-            Request::Withdraw { by, case },
-        ),
-        (r#"{"do":"view","case":3}"#, 0, Request::Show { case }),
-        (
-            r#"{"do":"view","case":65535}"#,
-            0,
-            Request::Show {
-                case: CaseId(65_535),
-            },
-        ),
-        (
-            r#"{"do":"view","case":"x","case":3}"#,
-            0,
-            Request::Show { case },
-        ),
-    ]
-}
-
-#[test]
-fn bad_lines_are_of_the_first_lane(rt: HostRuntime) -> Result<(), Fail> {
-    for (line, wanted) in bad_lines() {
-        assert!(rt; is_bad(rt.alloc(), line.as_bytes(), wanted)?, "{line}");
-    }
-    assert!(rt; is_bad(rt.alloc(), b"{\"do\":\"view\xff\",\"case\":3}", "syntax")?);
-    Ok(())
-}
-
-// Lines with what is wrong with them: the key's name where it is a key.
-fn bad_lines() -> [(&'static str, &'static str); 35] {
-    [
-        (r#"{"do":"claim","case":3"#, "syntax"),
-        (r#"{"do":"view","case":3}}"#, "syntax"),
-        (r#"["claim"]"#, "object"),
-        ("7", "object"),
-        (r#"{"lane":9}"#, "do"),
-        (r#"{"do":7,"lane":9}"#, "do"),
-        (r#"{"do":"grant","case":3,"step":"pay","user":"bob"}"#, "do"),
-        (r#"{"do":"add_user","by":"eve","user":"fay"}"#, "do"),
-        (r#"{"do":"worklist","user":"bob"}"#, "do"),
-        (r#"{"do":"claim","lane":2}"#, "lane"),
-        (r#"{"do":"view","case":3,"lane":-0}"#, "lane"),
-        (r#"{"do":"view","case":3,"lane":1.0}"#, "lane"),
-        (r#"{"do":"view","case":3,"lane":"1"}"#, "lane"),
-        (
-            r#"{"do":"view","case":3,"lane":99999999999999999999}"#,
-            "lane",
-        ),
-        (r#"{"do":"view","lane":1}"#, "case"),
-        (r#"{"do":"view","case":65536}"#, "case"),
-        (r#"{"do":"view","case":-0}"#, "case"),
-        (r#"{"do":"view","case":1.0}"#, "case"),
-        (r#"{"do":"view","case":"3"}"#, "case"),
-        (r#"{"do":"view","case":99999999999999999999}"#, "case"),
-        (r#"{"do":"view","case":3,"case":null}"#, "case"),
-        (r#"{"do":"claim","step":1,"user":1,"x":1}"#, "case"),
-        (r#"{"do":"claim","case":3,"user":1,"x":1}"#, "step"),
-        (r#"{"do":"finish","case":3,"step":"pay","x":1}"#, "user"),
-        (
-            r#"{"do":"give_back","case":3,"step":"pay","user":"Bob"}"#,
-            "user",
-        ),
-        (r#"{"do":"release","case":-1}"#, "by"),
-        (r#"{"do":"release","by":"eve","step":"Pay"}"#, "case"),
-        (r#"{"do":"release","by":"eve","case":3}"#, "step"),
-        (r#"{"do":"withdraw","case":3}"#, "by"),
-        (r#"{"do":"withdraw","by":"eve"}"#, "case"),
-        (r#"{"do":"open","plan":[]}"#, "flow"),
-        (r#"{"do":"open","flow":""}"#, "flow"),
-        (r#"{"do":"open","flow":"pay","plan":["ann"]}"#, "extra"),
-        (r#"{"do":"view","case":3,"edit":"leave"}"#, "extra"),
-        (r#"{"do":"view","case":3,"Lane":0}"#, "extra"),
-    ]
-}
-
-#[test]
-fn nearly_plain_lines_are_bad(rt: HostRuntime) -> Result<(), Fail> {
-    for (line, wanted) in nearly_plain_lines() {
-        assert!(rt; is_bad(rt.alloc(), line.as_bytes(), wanted)?, "{line}");
-    }
-    Ok(())
-}
-
-// Lines that are nearly of the form that is read fastest.
-fn nearly_plain_lines() -> [(&'static str, &'static str); 6] {
-    [
-        (
-            r#"{"do":"claim","case":3,"step":"pay","user":"bob"}}"#,
-            "syntax",
-        ),
-        (
-            r#"{"do":"claim","case":03,"step":"pay","user":"bob"}"#,
-            "syntax",
-        ),
-        (
-            r#"{"do":"claim","case":3,"step":"pay","user":"bob","lane":2}"#,
-            "lane",
-        ),
-        (
-            r#"{"do":"claim","case":65536,"step":"pay","user":"bob"}"#,
-            "case",
-        ),
-        (r#"{"do":"claim","case":3,"step":"","user":"bob"}"#, "step"),
-        (
-            r#"{"do":"finish","case":3,"step":"pay","user":"bob","lane":1,"x":1}"#,
-            "extra",
-        ),
-    ]
-}
-
-fn is_bad(alloc: Global, line: &[u8], wanted: &str) -> Result<bool, AllocError> {
-    match read_request(alloc, line, 2) {
-        Ok(asked) => Ok(asked.lane == 0 && is_fault(&asked, wanted)),
-        Err(e) => Err(e),
-    }
-}
-
-fn is_fault(asked: &Asked, wanted: &str) -> bool {
-    match &asked.ask {
-        Ask::Request(_) => false,
-        Ask::Bad(Bad::Syntax) => wanted == "syntax",
-        Ask::Bad(Bad::Object) => wanted == "object",
-        Ask::Bad(Bad::Do) => wanted == "do",
-        Ask::Bad(Bad::Lane) => wanted == "lane",
-        Ask::Bad(Bad::Key(key)) => wanted == key.as_str(),
-        Ask::Bad(Bad::Extra) => wanted == "extra",
-    }
 }
 
 // A policy of four users with one workflow of three steps.

@@ -8,7 +8,7 @@ ghost use Rattle.wire_json.specs.Entries.{named, names_data, plan_data};
 use itoa::Buffer;
 use policy_book::Plan;
 use std::alloc::AllocError;
-use wf_names::{Name, NameTable, RoleId, StepId};
+use wf_names::{CaseId, Name, NameTable, RoleId, StepId};
 
 /// Adds bytes.
 #[inline(always)]
@@ -26,6 +26,13 @@ pub(crate) fn push_number(out: &mut Vec<u8>, before: &[u8], n: u32) -> Result<()
     push(out, before)?;
     push(out, digits.format(n).as_bytes())?;
     Ok(())
+}
+
+/// Adds bytes and the number of a case.
+pub(crate) fn push_case(out: &mut Vec<u8>, before: &[u8], case: CaseId) -> Result<(), AllocError>
+    ensures { OnOk result (out.new.items ≡ out.old.items ++ (before.now ++ decimal case)) }
+{
+    push_number(out, before, case.0 as u32)
 }
 
 /// Adds the name with a number, as text; the empty text where there is none.

@@ -9,17 +9,24 @@ use crate::FlowFault;
 use crate::lists::{order_set, order_table, permit_table};
 use crate::table::{clear_flag, close, first_own_flag, has_flag, set_flag};
 use pair_set::PairSet;
+use shared_part::Shared;
 use std::alloc::{AllocError, Global};
 use std::marker::Model;
 use wf_names::{NameTable, RoleId, STEP_LIMIT, StepId};
 
-/// The steps of a workflow, the order in which they come, and the roles permitted for each.
+/// What no call changes of a workflow.
 #[derive(Drop)]
-pub struct Flow {
+struct Frame {
     steps: NameTable,
     order: PairSet,
     // Row s has the flag t where s comes before t.
     later: [u64; STEP_LIMIT],
+}
+
+/// The steps of a workflow, the order in which they come, and the roles permitted for each.
+#[derive(Drop)]
+pub struct Flow {
+    frame: Shared<Frame>,
     // Row s has the flag r where the role r is permitted for s.
     roles: [u64; STEP_LIMIT],
 }
@@ -34,9 +41,9 @@ impl Model for Flow {
     ghost use Rattle.workflow_schema.specs.Tables.{pairs_of};
     ghost use Rattle.workflow_schema.specs.Stored.{IsStored};
 
-    ghost view = { λ f. record { steps = f.steps.names; order = f.order; permits = pairs_of f.roles } };
+    ghost view = { λ f. record { steps = f.frame.steps.names; order = f.frame.order; permits = pairs_of f.roles } };
 
-    ghost invariant = { λ f. IsStored f.steps.names f.order f.later f.roles };
+    ghost invariant = { λ f. IsStored f.frame.steps.names f.frame.order f.frame.later f.roles };
 }
 
 impl Flow {
@@ -67,13 +74,8 @@ impl Flow {
         if let Some(s) = first_own_flag(&later) {
             return Err(FlowFault::Cycle(s));
         }
-        match order_set(alloc, order) {
-            Ok(order) => Ok(Flow {
-                steps,
-                order,
-                later,
-                roles,
-            }),
+        match frame_of(alloc, steps, order, later) {
+            Ok(frame) => Ok(Flow { frame, roles }),
             Err(_) => Err(FlowFault::NoMemory),
         }
     }
@@ -83,7 +85,7 @@ impl Flow {
         ensures names { result.now.names ≡ self.now.steps }
         ensures kept { IsFlow self.now }
     {
-        &self.steps
+        &self.frame.get().steps
     }
 
     /// Whether a step comes before another, in constant time.
@@ -91,14 +93,14 @@ impl Flow {
         ensures answer { result ≡ is_before self.now.order s t }
         ensures chain { IsTrue result ↔ Precedes self.now.order s t }
     {
-        has_flag(&self.later, s.0 as usize, t.0)
+        has_flag(&self.frame.get().later, s.0 as usize, t.0)
     }
 
     /// Whether the pair itself was handed in.
     pub fn ordered(&self, s: StepId, t: StepId) -> bool
         ensures { result ≡ set.contains self.now.order (s, t) }
     {
-        self.order.has(s.0 as u16, t.0 as u16)
+        self.frame.get().order.has(s.0 as u16, t.0 as u16)
     }
 
     /// Whether a role is permitted for a step.
@@ -139,10 +141,28 @@ impl Flow {
         ensures { IfOk result (λ f. f ≡ self.now) }
     {
         Ok(Flow {
-            steps: self.steps.copy()?,
-            order: self.order.copy()?,
-            later: self.later,
+            frame: self.frame.share()?,
             roles: self.roles,
         })
     }
+}
+
+// The frame of these steps, where `order` has the pairs (before, after) and `later` their closure.
+fn frame_of(
+    alloc: Global,
+    steps: NameTable,
+    order: &[(StepId, StepId)],
+    later: [u64; STEP_LIMIT],
+) -> Result<Shared<Frame>, AllocError>
+    ensures { IfOk result (λ f. f ≡ record { steps = steps; order = set.from_list order.now; later = later }) }
+{
+    let order = order_set(alloc, order)?;
+    Shared::new(
+        alloc,
+        Frame {
+            steps,
+            order,
+            later,
+        },
+    )
 }

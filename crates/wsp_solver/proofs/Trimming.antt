@@ -64,7 +64,7 @@ swap_tree (x ∷ xs) (tree_kid v w front) kid u rest t = ap (λ b. x == v && b) 
 swap_tree (x ∷ xs) (twin_kid v w front) kid u rest t = ap (λ b. x == v && b) (swap_tree xs front kid u rest t)
 
 -- the branch at a place, and what is left behind it
-next_users : (p : Problem) (s : ℕ) (bs : List Branch) (i : ℕ) (b : Branch) (front : Kids) (t : Shape) → i < length bs → b ≡ get_or bs i b → have_users (authorised_users p s) (joined front (kids_of_items (drop i bs))) ≡ true → have_users (authorised_users p s) (joined front (tree_kid b.user t (kids_of_items (drop (i + 1) bs)))) ≡ true
+pub next_users : (p : Problem) (s : ℕ) (bs : List Branch) (i : ℕ) (b : Branch) (front : Kids) (t : Shape) → i < length bs → b ≡ get_or bs i b → have_users (authorised_users p s) (joined front (kids_of_items (drop i bs))) ≡ true → have_users (authorised_users p s) (joined front (tree_kid b.user t (kids_of_items (drop (i + 1) bs)))) ≡ true
 next_users p s bs i b front t below is users =
     sym (ap (λ k. have_users (authorised_users p s) (joined front k)) (kids_of_items-drop bs i b below is) ∙ swap_tree (authorised_users p s) front b.kid b.user (kids_of_items (drop (i + 1) bs)) t) ∙ users
 

@@ -1,17 +1,19 @@
 -- The users of branches that have trees, and twins among them.
-use Rattle.std.proofs.Common.{◌≡◌, refl, sym, ap, subst, ◌∙◌, ℕ, ◌<◌, true, false, ◌||◌, ◌==◌, List, [], ◌∷◌, Option, ◌⊎◌, inl, inr, arith}
+use Rattle.std.proofs.Common.{◌≡◌, refl, sym, ap, subst, ◌∙◌, ℕ, zero, suc, ◌+◌, ◌<◌, ◌≤◌, Bool, true, false, ◌&&◌, ◌||◌, ◌==◌, List, [], ◌∷◌, Option, if◌then◌else◌, ◌⊎◌, inl, inr, arith}
 use Rattle.std.proofs.lemmas.Bool.{false≢true}
-use Rattle.basics.proofs.Booleans.{eq_back, or-false, or_cases, or_left, or_right}
-use Rattle.refutation_tree.specs.Shapes.{Kids, no_kids, tree_kid, twin_kid}
+use Rattle.basics.proofs.Booleans.{and_both, eq_back, eq_is, not_true, or-false, or_cases, or_left, or_right}
+use Rattle.refutation_tree.specs.Shapes.{Shape, Kids, no_kids, tree_kid, twin_kid, joined}
 use Rattle.refutation_tree.specs.Views.{kid_onto, kids_of_items}
 use Rattle.refutation_tree.specs.declared.tree.Branch.{Branch}
 use Rattle.refutation_tree.specs.declared.tree.Kid.{Kid}
 use Rattle.refutation_tree.specs.declared.tree.Kid.TheVariants.{Tree as Tree_kid, Twin}
 use Rattle.policy_book.specs.Plans.{Problem}
-use Rattle.policy_book.specs.Twins.{are_twins, has_twin, is_one_of}
+use Rattle.policy_book.specs.Refuting.{have_users, passing}
+use Rattle.policy_book.specs.Twins.{are_related_alike, are_twins, has_no_step, has_twin, is_one_of, may_do_the_same}
 use Rattle.certificate_check.specs.Walks.{AreUsersBelow, tree_users, user_onto}
 use Rattle.certificate_check.proofs.Assigned.{either}
 use Rattle.certificate_check.proofs.TwinLaws.{twins_chain}
+use Rattle.wsp_solver.specs.Crews.{AreClassesBelow, class_of}
 use Rattle.wsp_solver.specs.Trims.{kid_users}
 
 -- branches as they are kept, and as pure data
@@ -64,6 +66,47 @@ users_below n (twin_kid u v kids) users x known before h = users_below n kids us
 
 pub kid_user_below : (n : ℕ) (kids : Kids) (x : ℕ) → AreUsersBelow n kids → is_one_of (kid_users [] kids) x ≡ true → x < n
 kid_user_below n kids x known h = users_below n kids [] x known (λ e. absurd (false≢true e)) h
+
+-- a user whose class is the user's own number has no twin among lower users
+pub first_alone : (p : Problem) (a : List (Option ℕ)) (classes : List ℕ) (u : ℕ) (users : List ℕ) → AreClassesBelow p p.users classes → u < p.users → class_of classes u ≡ u → ((w : ℕ) → is_one_of users w ≡ true → w < u) → has_twin p a u users ≡ false
+first_alone p a classes u [] right u_in first low = refl
+first_alone p a classes u (v ∷ vs) right u_in first low =
+    ap (λ b. b || has_twin p a u vs) (not_true (are_twins p a u v) (apart v (low v (or_left (v == v) (is_one_of vs v) (eq_is v v refl)))))
+    ∙ first_alone p a classes u vs right u_in first (λ w h. low w (or_right (v == w) (is_one_of vs w) h))
+  where
+    apart : (v : ℕ) → v < u → are_twins p a u v ≡ true → ⊥
+    apart v below twins =
+        let both = and_both (has_no_step a u && has_no_step a v) (may_do_the_same p u v && are_related_alike p u v) twins in
+        let known : v < p.users = omega (arith, below, u_in) in
+        let same = eq_back (class_of classes u) (class_of classes v) (right.alike u v u_in known ∙ both.1) in
+        omega (arith, same, first, below, right.least v known)
+
+-- branches of users below n are of users below n + 1
+pub below_more : (n : ℕ) (kids : Kids) → AreUsersBelow n kids → AreUsersBelow (n + 1) kids
+below_more n no_kids h = tt
+below_more n (tree_kid u t kids) h = (omega (arith, h.0), below_more n kids h.1)
+below_more n (twin_kid u v kids) h = (omega (arith, h.0), below_more n kids h.1)
+
+-- branches of ascending users stand before one of a greater user
+pub earlier_below : (test : ℕ → Bool) (k n u : ℕ) (t : Shape) (rest front : Kids) → have_users (passing test k n) (joined front (tree_kid u t rest)) ≡ true → AreUsersBelow u front × (k ≤ u)
+earlier_below test k zero u t rest no_kids h = absurd (false≢true h)
+earlier_below test k zero u t rest (tree_kid v w front) h = absurd (false≢true h)
+earlier_below test k zero u t rest (twin_kid v w front) h = absurd (false≢true h)
+earlier_below test k (suc n) u t rest front h = at (test k) front h (λ f e. earlier_below test (k + 1) n u t rest f e)
+  where
+    at : (b : Bool) (f : Kids) → have_users (if b then k ∷ passing test (k + 1) n else passing test (k + 1) n) (joined f (tree_kid u t rest)) ≡ true → ((g : Kids) → have_users (passing test (k + 1) n) (joined g (tree_kid u t rest)) ≡ true → AreUsersBelow u g × (k + 1 ≤ u)) → AreUsersBelow u f × (k ≤ u)
+    at true no_kids e later =
+        let both = and_both (k == u) (have_users (passing test (k + 1) n) rest) e in
+        (tt, omega (arith, eq_back k u both.0))
+    at true (tree_kid v w f) e later =
+        let both = and_both (k == v) (have_users (passing test (k + 1) n) (joined f (tree_kid u t rest))) e in
+        let more = later f both.1 in
+        ((omega (arith, more.1, eq_back k v both.0), more.0), omega (arith, more.1))
+    at true (twin_kid v w f) e later =
+        let both = and_both (k == v) (have_users (passing test (k + 1) n) (joined f (tree_kid u t rest))) e in
+        let more = later f both.1 in
+        ((omega (arith, more.1, eq_back k v both.0), more.0), omega (arith, more.1))
+    at false f e later = let more = later f e in (more.0, omega (arith, more.1))
 
 -- a twin of a user who is one of some, or is a twin of one of them, is a twin of one of them
 pub twin_of_covered : (p : Problem) (a : List (Option ℕ)) (u v : ℕ) (users : List ℕ) → u < p.users → v < p.users → ((w : ℕ) → is_one_of users w ≡ true → w < p.users) → are_twins p a u v ≡ true → (is_one_of users v ≡ true) ⊎ (has_twin p a v users ≡ true) → has_twin p a u users ≡ true

@@ -4,10 +4,10 @@ ghost use Rattle.wf_names.specs.declared.limits.TheConstants.{STEP_LIMIT};
 ghost use Rattle.policy_book.specs.Plans.{IsWithin, IsValidPlan};
 ghost use Rattle.policy_book.specs.Policies.{problem_of};
 
-use crate::found::{checked, has_known, is_whole};
+use crate::found::checked;
 use crate::next::no_users;
-use certificate_check::{PlanFault, check_plan};
-use constraint_forms::Rule;
+use certificate_check::is_valid_plan;
+use constraint_forms::{Rule, falsified};
 use policy_book::{Assign, Plan, Policy, StepSet};
 use wf_names::{FlowId, STEP_LIMIT, StepId, UserId};
 
@@ -19,37 +19,38 @@ pub fn plan_near(p: &Policy, f: FlowId, a: &Assign, done: &StepSet, plan: &Plan)
     ensures { IfSome result (IsValidPlan (problem_of p.now f) a.now done.now) }
 {
     let moved = with_assigned(plan, a);
-    if !is_whole(p, f, &moved) || !has_known(p, &moved) {
-        return None;
+    if is_valid_plan(p, f, a, done, &moved) {
+        return Some(moved);
     }
-    match check_plan(p, f, a, done, &moved) {
-        Ok(()) => Some(moved),
-        Err(fault) => mended(p, f, a, done, &moved, fault),
+    match first_broken(p, f, &moved) {
+        Some(rule) => mended_for(p, f, a, done, &moved, &rule),
+        None => None,
     }
 }
 
-// A valid plan that gives one step of the rule at fault to another user.
-fn mended(
-    p: &Policy,
-    f: FlowId,
-    a: &Assign,
-    done: &StepSet,
-    plan: &Plan,
-    fault: PlanFault,
-) -> Option<Plan>
-    requires flow { f < length p.now.flows }
-    requires within { IsWithin (problem_of p.now f) a.now }
-    ensures { IfSome result (IsValidPlan (problem_of p.now f) a.now done.now) }
+// The first rule that a plan breaks.
+fn first_broken(p: &Policy, f: FlowId, plan: &Plan) -> Option<Rule>
+    requires { f < length p.now.flows }
 {
-    match fault {
-        PlanFault::Rule(k) => match p.rules(f).as_slice().get(k as usize) {
-            Some(rule) => mended_for(p, f, a, done, plan, rule),
-            None => None,
-        },
-        _ => None,
+    let given = assignment_of(plan);
+    for rule in p.rules(f).as_slice() {
+        if falsified(rule, p, &given) {
+            return Some(*rule);
+        }
     }
+    None
 }
 
+// What a plan gives to whom.
+fn assignment_of(plan: &Plan) -> Assign {
+    let mut given = Assign::empty();
+    for s in 0..plan.len() {
+        given = given.with(StepId(s), plan.at(StepId(s)));
+    }
+    given
+}
+
+// A valid plan that gives one step of a rule to another user.
 fn mended_for(
     p: &Policy,
     f: FlowId,

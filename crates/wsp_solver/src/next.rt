@@ -11,11 +11,17 @@ use policy_book::{Assign, Plan, Policy};
 use wf_names::{FlowId, STEP_LIMIT, StepId, UserId};
 
 /// A step that is not assigned: the one that the finder advises, or else the least.
-pub(crate) fn next_step(p: &Policy, f: FlowId, a: &Assign, finder: &mut Finder) -> Option<StepId>
+pub(crate) fn next_step(
+    p: &Policy,
+    f: FlowId,
+    a: &Assign,
+    finder: &mut Finder,
+    depth: u8,
+) -> Option<StepId>
     requires flow { f < length p.now.flows }
     ensures { MatchOption result ((s : ℕ) → s < (problem_of p.now f).steps → is_some (user_at a.now s) ≡ true) (λ s. (s < STEP_LIMIT) × IsTrue (is_unassigned (problem_of p.now f) a.now s)) }
 {
-    match finder.next_step(a) {
+    match finder.next_step(a, depth) {
         Some(s) if is_unassigned(p, f, a, s) => Some(s),
         _ => first_free(p, f, a),
     }

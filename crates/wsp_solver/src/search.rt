@@ -5,13 +5,13 @@ ghost use Rattle.policy_book.specs.Plans.{AreAssigned, IsWithin};
 ghost use Rattle.policy_book.specs.Policies.{problem_of};
 ghost use Rattle.policy_book.specs.Refuting.{is_unassigned};
 ghost use Rattle.wsp_solver.specs.Crews.{IsCrewOf};
-ghost use Rattle.wsp_solver.specs.Searches.{Decides, HasSearched, IsRefutation, NoLeafRefutes, NoLeafRefutesWithout};
+ghost use Rattle.wsp_solver.specs.Searches.{Decides, HasSearched, NoLeafRefutes, NoLeafRefutesWithout};
 
 use crate::crew::{Crew, duties_at};
 use crate::found::found;
 use crate::leaf::{Refutation, falsified_rule, falsified_with, refuting_leaf};
 use crate::lean::trim_tree;
-use crate::next::{is_unassigned, next_step, plan_of};
+use crate::next::{next_step, plan_of};
 use crate::steps::united;
 use crate::twin::twin_among;
 use plan_finder::Finder;
@@ -20,8 +20,8 @@ use refutation_tree::{Branch, Branches, Kid, Tree};
 use std::alloc::{AllocError, Global};
 use wf_names::{FlowId, StepId, UserId};
 
-/// How often each free step is tried at the root of a smaller tree.
-const ROUNDS: u8 = 3;
+/// The most runs that are bounded.
+const RUNS: u8 = 64;
 
 /// What a search found.
 #[derive(Drop)]
@@ -72,7 +72,7 @@ pub fn solve(
     }
 }
 
-// A search without bound, and then for a smaller tree.
+// A search in runs that go further and further, so that a small tree is found where there is one.
 fn search(
     alloc: Global,
     p: &Policy,
@@ -89,68 +89,15 @@ fn search(
     requires quiet { NoLeafRefutes (problem_of p.now f) a.now done.now }
     ensures { IfOk result (HasSearched (problem_of p.now f) a.now done.now false) }
 {
-    let mut left = u32::MAX;
-    match decide(alloc, p, f, a, done, crew, finder, 0, false, &mut left)? {
-        Searched::Refuted(found) => {
-            let size = u32::MAX.saturating_sub(left);
-            smallest(alloc, p, f, a, done, crew, finder, found, size)
+    'runs: for _ in 0..RUNS {
+        finder.begin_run(a);
+        match decide(alloc, p, f, a, done, crew, finder, 0, true)? {
+            Searched::Plan(found) => return Ok(Searched::Plan(found)),
+            Searched::Refuted(found) => return Ok(Searched::Refuted(found)),
+            Searched::Stopped => {}
         }
-        ended => Ok(ended),
     }
-}
-
-// Looks for a smaller tree than one of a size: with each free step at the root, first within a small
-// part of the size, then within more, as long as all that is tried is about as much as the size.
-fn smallest(
-    alloc: Global,
-    p: &Policy,
-    f: FlowId,
-    a: &Assign,
-    done: &StepSet,
-    crew: &Crew,
-    finder: &mut Finder,
-    found: Refutation,
-    size: u32,
-) -> Result<Searched, AllocError>
-    requires flow { f < length p.now.flows }
-    requires within { IsWithin (problem_of p.now f) a.now }
-    requires assigned { AreAssigned done.now a.now }
-    requires crew { IsCrewOf (problem_of p.now f) crew.now }
-    requires quiet { NoLeafRefutes (problem_of p.now f) a.now done.now }
-    requires found { IsRefutation (problem_of p.now f) a.now done.now found }
-    ensures { IfOk result (HasSearched (problem_of p.now f) a.now done.now false) }
-{
-    let mut best = found;
-    let mut least = size;
-    let mut part = size / 32 + 32;
-    let mut rest = size.saturating_add(1_000);
-    'rounds: for _ in 0..ROUNDS {
-        'roots: for s in 0..p.flow(f).steps().len() {
-            let step = StepId(s as u8);
-            if !is_unassigned(p, f, a, step) {
-                continue;
-            }
-            let bound = smaller(smaller(part, rest), least.saturating_sub(1));
-            let mut left = bound;
-            match try_users(alloc, p, f, a, done, step, crew, finder, 0, true, &mut left)? {
-                Searched::Plan(plan) => {
-                    return Ok(Searched::Plan(plan));
-                }
-                Searched::Refuted(found) => {
-                    best = found;
-                    least = bound.saturating_sub(left);
-                }
-                Searched::Stopped => {}
-            }
-            rest = rest.saturating_sub(bound.saturating_sub(left));
-        }
-        part = part.saturating_mul(4);
-    }
-    Ok(Searched::Refuted(best))
-}
-
-fn smaller(a: u32, b: u32) -> u32 {
-    if a < b { a } else { b }
+    decide(alloc, p, f, a, done, crew, finder, 0, false)
 }
 
 // Tries everything, one free step after the other, where no leaf refutes.
@@ -165,7 +112,6 @@ fn decide(
     finder: &mut Finder,
     depth: u8,
     bounded: bool,
-    left: &mut u32,
 ) -> Result<Searched, AllocError>
     requires flow { f < length p.now.flows }
     requires within { IsWithin (problem_of p.now f) a.now }
@@ -175,8 +121,8 @@ fn decide(
     ensures { IfOk result (HasSearched (problem_of p.now f) a.now done.now bounded) }
 {
     let _ = p.rules(f);
-    match next_step(p, f, a, finder) {
-        Some(s) => try_users(alloc, p, f, a, done, s, crew, finder, depth, bounded, left),
+    match next_step(p, f, a, finder, depth) {
+        Some(s) => try_users(alloc, p, f, a, done, s, crew, finder, depth, bounded),
         None => Ok(Searched::Plan(plan_of(p, f, a))),
     }
 }
@@ -196,7 +142,6 @@ fn try_users(
     finder: &mut Finder,
     depth: u8,
     bounded: bool,
-    left: &mut u32,
 ) -> Result<Searched, AllocError>
     requires flow { f < length p.now.flows }
     requires within { IsWithin (problem_of p.now f) a.now }
@@ -222,15 +167,14 @@ fn try_users(
             })?;
             continue;
         }
-        if bounded && *left == 0 {
+        if !finder.may_try(depth) && bounded {
             return Ok(Searched::Stopped);
         }
-        *left = left.saturating_sub(1);
         let reason = finder.reason(depth, user);
         let given = a.with(s, user);
         let next = depth.saturating_add(1);
         match try_user(
-            alloc, p, f, &given, done, s, crew, finder, next, bounded, left, reason,
+            alloc, p, f, &given, done, s, crew, finder, next, bounded, reason,
         )? {
             Searched::Plan(plan) => return Ok(Searched::Plan(plan)),
             Searched::Stopped => return Ok(Searched::Stopped),
@@ -265,7 +209,6 @@ fn try_user(
     finder: &mut Finder,
     depth: u8,
     bounded: bool,
-    left: &mut u32,
     reason: u8,
 ) -> Result<Searched, AllocError>
     requires flow { f < length p.now.flows }
@@ -277,7 +220,7 @@ fn try_user(
 {
     match falsified_with(p, f, a, done, s, reason) {
         Some(k) => Ok(Searched::Refuted(falsified_rule(p, f, k))),
-        None => decide(alloc, p, f, a, done, crew, finder, depth, bounded, left),
+        None => decide(alloc, p, f, a, done, crew, finder, depth, bounded),
     }
 }
 

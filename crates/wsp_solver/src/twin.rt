@@ -14,7 +14,8 @@ use policy_book::{Assign, Policy};
 use refutation_tree::{Branch, Branches, Kid};
 use wf_names::{FlowId, STEP_LIMIT, StepId, UserId};
 
-/// A user whose branch has a tree, and who is a twin of this one; if there is one.
+/// A user whose branch has a tree, and who is a twin of this one; if there is one. The branches are
+/// of lower users, so that there is none for the first user of a class.
 pub(crate) fn twin_among(
     p: &Policy,
     f: FlowId,
@@ -24,14 +25,17 @@ pub(crate) fn twin_among(
     u: UserId,
 ) -> Option<UserId>
     requires crew { IsCrewOf (problem_of p.now f) crew.now }
-    requires users { AreUsersBelow (problem_of p.now f).users branches.now }
+    requires users { AreUsersBelow u branches.now }
     requires user { u < (problem_of p.now f).users }
     ensures { MatchOption result (has_twin (problem_of p.now f) a.now u (kid_users [] branches.now) ≡ false) (λ v. (is_one_of (kid_users [] branches.now) v ≡ true) × (are_twins (problem_of p.now f) a.now u v ≡ true)) }
 {
+    let class = class_at(&crew.classes, u);
+    if class == u {
+        return None;
+    }
     if !has_no_step(a, u) {
         return None;
     }
-    let class = class_at(&crew.classes, u);
     let items = branches.as_slice();
     'branches: for branch in items {
         if is_twin_branch(p, f, a, crew, branch, u, class) {

@@ -14,5 +14,5 @@ returns c = record {
   roles = subst AreNames (c.roles.ensures.names ∙ ap (λ r. r.roles) c.roster-2.ensures.roster) c.know-2.ensures;
   flow_names = subst AreNames c.flows-2.ensures.names c.know-3.ensures;
   steps = all_steps c.args.p.now (λ f below. c.flows.invariant f
-    (omega (arith, below, c.flows-test.false, c.len-f-end.ensures.count, ap length c.flows-3.ensures.names, c.flows-3.ensures.count)));
+      (omega (arith, below, c.flows-test.false, c.len-f-end.ensures.count, ap length c.flows-3.ensures.names, c.flows-3.ensures.count)));
 }

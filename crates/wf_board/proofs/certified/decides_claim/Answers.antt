@@ -12,7 +12,7 @@ is_certificate-requires-clause-within c =
     let k = c.args.case.now in
     let given : c.with-assigned.result ≡ assigned_with k c.args.step c.args.user = c.with-assigned.ensures.given ∙ ap (λ a. slice_set a c.args.step (Some c.args.user)) c.assigned.ensures.value in
     subst (λ f. IsWithin (problem_of p f) c.with-assigned.result) (sym c.flow.ensures)
-    (subst (IsWithin (problem_of p k.flow)) (sym given) (claim_within p c.args.cases.now.rows c.args.number k c.args.step c.args.user c.requires.planned c.requires.found))
+    (subst (IsWithin (problem_of p k.flow)) (sym given) (claim_within p c.args.cases.now.rows c.args.number k c.args.step c.args.user c.requires.found))
 
 pub returns : goal.returns
 returns c =

@@ -22,8 +22,8 @@ returns-clause-answers g c held answered =
     let setting = on.setting ∙ ap setting_of loaded in
     let found = c.policy.ensures.policy ∙ ap (λ (b : BoardShape). b.policy) c.board.ensures.board in
     let text =
-    text_on d c.policy.result.now c.entries_after.result.now c.board.ensures.sound found ∙ ap (λ (s : Setting). entries_text s.policy c.entries_after.result.now) setting
-    ∙ ap (entries_text old.opening) new in
+    ap (entries_text c.policy.result.now) new
+    ∙ text_on old d c.policy.result.now on.new c.texts_stay.ensures c.board.ensures.sound setting entries found in
     answers_to held _ _ old d before c.args.batch.now after _ c.entries_after.result.now c.write_entries.result
     (record {
       answered = answered;

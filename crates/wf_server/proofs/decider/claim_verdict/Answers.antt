@@ -1,4 +1,4 @@
-use Rattle.std.proofs.Common.{◌≡◌, ◌<◌, ◌∙◌, length, Some, refl, sym, ap, arith}
+use Rattle.std.proofs.Common.{◌≡◌, ◌∙◌, sym, ap, arith}
 use Rattle.std.proofs.lemmas.Grind.{common_steps}
 use Rattle.constraint_forms.specs.Assigned.{planned}
 use Rattle.policy_book.specs.Policies.{problem_of}

@@ -1,7 +1,7 @@
 use Rattle.std.proofs.Common.{refl, sym, subst}
 use Rattle.wf_board.specs.Boards.{book_on}
 use Rattle.wf_server.specs.Deciding.{DecidesDeed}
-use Rattle.wf_server.proofs.Deciding.{decides_claim, decides_open, decides_same}
+use Rattle.wf_server.proofs.Deciding.{decides_change, decides_claim, decides_open, decides_same}
 use Rattle.wf_server.proofs.decider.verdict_on.Goals as goal
 
 pub returns-in-Open : goal.returns-in-Open
@@ -17,3 +17,9 @@ returns-in-Claim c =
     let b = book_on c.args.snap.now in
     subst (λ d. DecidesDeed b d c.claim_verdict.result) (sym c.in-Claim.is)
     (decides_claim b c.in-Claim.number c.in-Claim.case c.in-Claim.step c.in-Claim.user c.claim_verdict.result c.claim_verdict.ensures)
+
+pub returns-in-Change : goal.returns-in-Change
+returns-in-Change c =
+    let b = book_on c.args.snap.now in
+    subst (λ d. DecidesDeed b d c.edit_verdict.result) (sym c.in-Change.is)
+    (decides_change b c.in-Change.amendment c.edit_verdict.result c.edit_verdict.ensures)

@@ -1,4 +1,4 @@
-use Rattle.std.proofs.Common.{◌≡◌, ◌<◌, ◌≤◌, ◌+◌, ℕ, Bool, true, false, not, ◌&&◌, nat_lt, List, [], Option, Some, is_some, length, slice_set, sym, ap, subst, ◌∙◌, arith}
+use Rattle.std.proofs.Common.{◌≡◌, ◌<◌, ◌≤◌, ◌+◌, ℕ, Bool, true, false, not, ◌&&◌, nat_lt, List, [], Option, Some, is_some, length, drop, slice_set, sym, ap, subst, ◌∙◌, arith}
 use Rattle.std.proofs.lemmas.Bool.{ltb-true}
 use Rattle.basics.proofs.Booleans.{and_both}
 use Rattle.constraint_forms.specs.Assigned.{user_at, is_member}
@@ -15,7 +15,8 @@ use Rattle.certificate_check.proofs.Dropped.{unmentioned_step_drops as drops}
 use Rattle.certificate_check.proofs.Trees.{branch_user, nodes_within, within_given}
 use Rattle.wsp_solver.specs.Searches.{AreMentioned}
 use Rattle.wsp_solver.specs.Trims.{IsTrimming}
-use Rattle.wsp_solver.proofs.Trimming.{IsTrimmedFront, front_end, front_tree, front_twin, tree_refutes, twin_is_found}
+use Rattle.wsp_solver.proofs.Trimming.{IsTrimmedFront, front_end, front_tree, front_twin, next_users, tree_refutes, twin_is_found}
+use Rattle.wsp_solver.proofs.TwinUsers.{earlier_below}
 use Rattle.std.proofs.lemmas.Result.{IfOk-weaker}
 use Rattle.wsp_solver.specs.declared.leaf.Refutation.{Refutation}
 use Rattle.wsp_solver.proofs.lean.+trim.Goals as goal
@@ -68,6 +69,15 @@ trim_tree-returns-in-Holder t c =
       };
       steps = subst (λ x. AreMentioned p.rules x c.held_wrongly.result.steps) (sym made.tree) (made.steps p.rules);
     }
+
+pub trim_node-twin_among-requires-clause-users : goal.trim_node-twin_among-requires-clause-users
+trim_node-twin_among-requires-clause-users t c =
+    let p = problem_of c.args.p.now c.args.f in
+    let bs = c.args.branches.now in
+    let i = c.branches.branch-index in
+    let b = c.branch-item.result in
+    let users = next_users p c.args.s bs i b c.branches.kept (node 0 no_kids) c.branches-test.true c.branch-item.is c.branches.invariant.users in
+    (earlier_below (p.authorised c.args.s) 0 p.users b.user (node 0 no_kids) (kids_of_items (drop (i + 1) bs)) c.branches.kept users).0
 
 pub trim_node-twin_among-requires-clause-user : goal.trim_node-twin_among-requires-clause-user
 trim_node-twin_among-requires-clause-user t c =

@@ -15,6 +15,7 @@ use Rattle.wsp_solver.proofs.Members.{mentioned_push, mentioned_push_twin}
 use Rattle.certificate_check.proofs.Dropped.{unmentioned_step_drops as drops}
 use Rattle.wsp_solver.proofs.Searching.{quiet_given, valid_full, valid_without, users_skip, users_end, count_less}
 use Rattle.wsp_solver.proofs.Pushes.{below_push, below_push_twin, refute_push, refute_push_twin, users_push, users_push_twin}
+use Rattle.wsp_solver.proofs.TwinUsers.{below_more}
 use Rattle.wsp_solver.proofs.search.+search.Goals as goal
 
 pub decide-returns-in-None : goal.decide-returns-in-None
@@ -37,7 +38,7 @@ pub try_users-users-preserved-then-not-is_authorised_user :
 try_users-users-preserved-then-not-is_authorised_user t c =
     let p = problem_of c.args.p.now c.args.f in
     let known = users_known _ _ _ c.len-u-end.ensures.count (c.users-2.ensures.names ∙ ap (λ r. r.users) c.roster.ensures.roster) in
-    (users_skip (p.authorised c.args.s) c.users.u p.users c.users.branches (omega (arith, known, c.users-test.true)) (sym c.if-not-is_authorised_user.ensures) c.users.invariant.0, c.users.invariant.1, c.users.invariant.2, c.users.invariant.3)
+    (users_skip (p.authorised c.args.s) c.users.u p.users c.users.branches (omega (arith, known, c.users-test.true)) (sym c.if-not-is_authorised_user.ensures) c.users.invariant.0, c.users.invariant.1, c.users.invariant.2, below_more c.users.u c.users.branches c.users.invariant.3)
 
 pub try_users-try_user-requires : goal.try_users-try_user-requires
 try_users-try_user-requires t c =
@@ -101,7 +102,7 @@ try_users-users-preserved-in-Some t c =
       subst (AreOfUsersBelow (p.authorised s) (u + 1) p.users) (sym pushed) (users_push_twin (p.authorised s) u twin p.users front (omega (arith, known, c.users-test.true)) (sym c.if-not-is_authorised_user.ensures) c.users.invariant.0),
       subst (λ k. all_refute p a c.args.done.now s [] k ≡ true) (sym pushed) (refute_push_twin p a c.args.done.now s u twin front [] c.users.invariant.1 c.in-Some.ensures.0 c.in-Some.ensures.1),
       subst (λ k. AreMentionedIn p.rules k c.users.steps) (sym pushed) (mentioned_push_twin p.rules front u twin c.users.steps c.users.invariant.2),
-      subst (AreUsersBelow p.users) (sym pushed) (below_push_twin p.users u twin front (omega (arith, known, c.users-test.true)) c.users.invariant.3),
+      subst (AreUsersBelow (u + 1)) (sym pushed) (below_push_twin (u + 1) u twin front (omega arith) (below_more u front c.users.invariant.3)),
     )
 
 pub try_users-users-preserved : goal.try_users-users-preserved
@@ -122,7 +123,7 @@ try_users-users-preserved t c =
       subst (AreOfUsersBelow (p.authorised s) (u + 1) p.users) (sym pushed) (users_push (p.authorised s) u p.users front tree (omega (arith, known, c.users-test.true)) (sym c.if-not-is_authorised_user.ensures) c.users.invariant.0),
       subst (λ k. all_refute p a done s [] k ≡ true) (sym pushed) (refute_push p a done s u tree front [] c.users.invariant.1 here),
       subst (λ k. AreMentionedIn p.rules k c.united-steps.result) (sym pushed) said,
-      subst (AreUsersBelow p.users) (sym pushed) (below_push p.users u tree front (omega (arith, known, c.users-test.true)) c.users.invariant.3),
+      subst (AreUsersBelow (u + 1)) (sym pushed) (below_push (u + 1) u tree front (omega arith) (below_more u front c.users.invariant.3)),
     )
 
 pub try_users-returns : goal.try_users-returns

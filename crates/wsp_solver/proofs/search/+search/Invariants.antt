@@ -19,4 +19,4 @@ invariant-try_users-users l =
     AreOfUsersBelow ((problem_of l.p l.f).authorised l.s) l.u (problem_of l.p l.f).users l.branches ×
     (all_refute (problem_of l.p l.f) l.a l.done l.s [] l.branches ≡ true) ×
     AreMentionedIn (problem_of l.p l.f).rules l.branches l.steps ×
-    AreUsersBelow (problem_of l.p l.f).users l.branches
+    AreUsersBelow l.u l.branches

@@ -1,21 +1,22 @@
-use Rattle.std.proofs.Common.{◌≡◌, ◌+◌, ◌||◌, [], take, sym, ap, subst, ◌∙◌}
+use Rattle.std.proofs.Common.{◌≡◌, ℕ, ◌+◌, ◌||◌, List, [], take, sym, ap, subst, ◌∙◌, arith}
 use Rattle.std.proofs.lemmas.List.{take_all}
 use Rattle.refutation_tree.specs.Shapes.{Kids}
 use Rattle.policy_book.specs.Policies.{problem_of}
 use Rattle.policy_book.specs.Twins.{has_twin, is_one_of}
-use Rattle.basics.proofs.Booleans.{or_left}
+use Rattle.basics.proofs.Booleans.{eq_back, or_left}
 use Rattle.certificate_check.specs.Walks.{AreUsersBelow, tree_users, user_onto}
 use Rattle.certificate_check.proofs.Trees.{one_of_all, one_of_more, tree_users-more, user_below}
+use Rattle.wsp_solver.specs.Crews.{class_of}
 use Rattle.wsp_solver.specs.Trims.{kid_users}
 use Rattle.wsp_solver.proofs.Crews.{busy_alone}
-use Rattle.wsp_solver.proofs.TwinUsers.{kid_users-items, twin_here, twin_onto}
+use Rattle.wsp_solver.proofs.TwinUsers.{first_alone, kid_user_below, kid_users-items, twin_here, twin_onto}
 use Rattle.wsp_solver.proofs.twin.twin_among.Goals as goal
 
 pub is_twin_branch-requires-clause-first : goal.is_twin_branch-requires-clause-first
 is_twin_branch-requires-clause-first c =
     let bs = c.as_slice-items.result.now in
-    user_below (problem_of c.args.p.now c.args.f).users bs c.branches.branch-index c.branches-test.true c.branch-item.result c.branch-item.is
-    (subst (λ (k : Kids). AreUsersBelow (problem_of c.args.p.now c.args.f).users k) c.as_slice-items.ensures c.requires.users)
+    let low = user_below c.args.u bs c.branches.branch-index c.branches-test.true c.branch-item.result c.branch-item.is (subst (λ (k : Kids). AreUsersBelow c.args.u k) c.as_slice-items.ensures c.requires.users) in
+    omega (arith, low, c.requires.user)
 
 pub returns-then-is_twin_branch : goal.returns-then-is_twin_branch
 returns-then-is_twin_branch c =
@@ -46,3 +47,10 @@ returns c =
 
 pub returns-then-not-has_no_step : goal.returns-then-not-has_no_step
 returns-then-not-has_no_step c = busy_alone (problem_of c.args.p.now c.args.f) c.args.a.now c.args.u (kid_users [] c.args.branches.now) (sym c.if-not-has_no_step.ensures)
+
+pub returns-then-eq : goal.returns-then-eq
+returns-then-eq c =
+    let p = problem_of c.args.p.now c.args.f in
+    let class = c.class_at-class.ensures ∙ ap (λ (x : List ℕ). class_of x c.args.u) c.deref.ensures.value in
+    first_alone p c.args.a.now c.args.crew.now.classes.items c.args.u (kid_users [] c.args.branches.now) c.requires.crew.classes c.requires.user (sym class ∙ eq_back c.class_at-class.result c.args.u (sym c.if-eq.ensures))
+    (λ w h. kid_user_below c.args.u c.args.branches.now w c.requires.users h)

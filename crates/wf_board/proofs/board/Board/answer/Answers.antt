@@ -1,17 +1,28 @@
-use Rattle.std.proofs.Common.{◌≡◌, subst}
+use Rattle.std.proofs.Common.{◌≡◌, ◌≤◌, ◌+◌, true, subst}
 use Rattle.std.specs.Arc.{arc_value}
 use Rattle.wf_talk.specs.declared.reply.Reply.TheVariants as replies
-use Rattle.wf_board.specs.declared.verdict.Answered.TheVariants.{Done}
+use Rattle.wf_board.specs.declared.verdict.Verdict.TheVariants as verdicts
+use Rattle.wf_board.specs.declared.verdict.Answered.TheVariants.{Done, Needs}
+use Rattle.wf_board.specs.Boards.{state_on}
+use Rattle.wf_board.specs.Decisions.{decision_of, needs_verdict}
 use Rattle.wf_board.specs.Taking.{board_of, HasAnsweredBy}
-use Rattle.wf_board.specs.Verdicts.{HasAnswered, MayLackMemory}
+use Rattle.wf_board.specs.Verdicts.{HasAnswered, HasUsed, MayLackMemory}
+use Rattle.wf_board.proofs.Answering.{reply_of}
 use Rattle.wf_board.proofs.board.Board.answer.Goals as goal
 
-pub returns-clause-answered : goal.returns-clause-answered
-returns-clause-answered c =
-    let by = subst (λ p. HasAnsweredBy p c.self.inside.cases c.answer.new.cases c.args.ask.now c.args.verdict c.answer.result) c.deref-policy.ensures c.answer.ensures.answered in
-    subst (λ b. HasAnswered b (board_of (arc_value c.self.inside.policy) c.answer.new.cases c.self.inside.edits) c.args.ask.now c.args.verdict c.answer.result) c.self.view_is (by.answered c.self.inside.edits)
+pub returns-in-Edited-clause-memory : goal.returns-in-Edited-clause-memory
+returns-in-Edited-clause-memory c = λ short. absurd (c.edit.ensures.memory (reply_of c.edit.result replies.NoMemory short))
 
-pub returns-clause-memory : goal.returns-clause-memory
-returns-clause-memory c =
-    let by = subst (λ p. HasAnsweredBy p c.self.inside.cases c.answer.new.cases c.args.ask.now c.args.verdict c.answer.result) c.deref-policy.ensures c.answer.ensures.answered in
-    subst (λ b. c.answer.result ≡ Done replies.NoMemory → MayLackMemory b c.args.ask.now c.args.verdict) c.self.view_is (by.memory c.self.inside.edits)
+pub returns-in_default : goal.returns-in_default
+returns-in_default c =
+    let edits = c.self.inside.edits in
+    let what = c.args.ask.now in
+    let given = c.answer.result in
+    let by = subst (λ q. HasAnsweredBy q c.self.inside.cases c.answer.new.cases what c.args.verdict given) c.deref-policy.ensures c.answer.ensures.answered in
+    record {
+      answered = subst (λ b. HasAnswered b (board_of (arc_value c.self.inside.policy) c.answer.new.cases edits) what c.args.verdict given) c.self.view_is (by.answered edits);
+      needs = subst (λ b. needs_verdict (decision_of (state_on b).book what) ≡ true → c.args.verdict ≡ verdicts.Nothing → given ≡ Needs) c.self.view_is by.needs;
+      made = subst (λ b. needs_verdict (decision_of (state_on b).book what) ≡ true → HasUsed c.args.verdict given) c.self.view_is by.made;
+      memory = subst (λ b. given ≡ Done replies.NoMemory → MayLackMemory b what c.args.verdict) c.self.view_is (by.memory edits);
+      room = subst (λ b. b.cases.spare ≤ c.answer.new.cases.spare + 1) c.self.view_is by.room;
+    }

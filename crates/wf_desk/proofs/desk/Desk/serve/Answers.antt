@@ -1,6 +1,9 @@
 use Rattle.wf_desk.proofs.CommitLaws.{serve_keeps}
-use Rattle.wf_desk.proofs.DeskLaws.{desk_small, has_room, stands_here}
+use Rattle.wf_desk.proofs.DeskLaws.{desk_small, few_edits, has_room, stands_here}
 use Rattle.wf_desk.proofs.desk.Desk.serve.Goals as goal
+
+pub decide-reply-requires-clause-few : goal.decide-reply-requires-clause-few
+decide-reply-requires-clause-few g c = few_edits _ _ c.args.job.now.lane c.args.job.now c.self.invariant (rw (← c.self.view_is) at c.requires.next)
 
 pub add_entry-at-requires-clause-room : goal.add_entry-at-requires-clause-room
 add_entry-at-requires-clause-room g c = has_room _ _ c.args.job.now.lane c.args.job.now c.self.invariant (rw (← c.self.view_is) at c.requires.next)

@@ -1,6 +1,7 @@
 use Rattle.std.proofs.Common.{◌≡◌, length, false, ◌||◌, sym, ap, subst}
 use Rattle.std.specs.FinSet as set
-use Rattle.pair_set.specs.Pairs.{Pairs, pair_cmp}
+use Rattle.pair_set.specs.Pairs.{pair_cmp}
+use Rattle.workflow_schema.specs.declared.flow.Frame.{Frame}
 use Rattle.workflow_schema.specs.declared.fault.FlowFault.TheVariants.{Cycle}
 use Rattle.workflow_schema.specs.Flows.{has_twice, IsLeastCycle}
 use Rattle.workflow_schema.specs.Stored.{IsStored}
@@ -20,7 +21,7 @@ returns-in-Some-clause-cycle c s =
 
 pub invariant_of-result : goal.invariant_of-result
 invariant_of-result c =
-    subst (λ (order : Pairs). IsStored c.args.steps.names order c.close.new.rows c.in-Some-Some.roles) (sym c.in-Ok.ensures)
+    subst (λ (f : Frame). IsStored f.steps.names f.order f.later c.in-Some-Some.roles) (sym c.in-Ok.ensures)
     (built_flow c.args.steps.names c.args.order.now c.args.permits.now c.close.new.rows c.in-Some-Some.roles
     (counted (length c.args.steps.names) c.len-count.result c.len-count.ensures.count c.if-count-eq0.false c.if-count-gt-STEP_LIMIT.false) c.requires.order_in c.requires.permits_in (closed_order (set.from_list {R = pair_cmp} c.args.order.now) c.in-Some-Some.later c.close.new.rows c.in-Some-Some.ensures.1 c.in-Some-Some.ensures.2 c.close.ensures)
     c.in_default-first_own_flag.ensures c.in-Some-Some.ensures'.2 c.in-Some-Some.ensures'.1)
@@ -28,8 +29,8 @@ invariant_of-result c =
 pub returns-in-Ok-clause-built : goal.returns-in-Ok-clause-built
 returns-in-Ok-clause-built c =
     λ i. record {
-      steps = c.args.steps.names;
-      order = c.in-Ok.ensures i;
+      steps = (c.in-Ok.ensures i).steps.names;
+      order = (c.in-Ok.ensures i).order;
       permits = pairs_of-is c.in-Some-Some.roles (set.from_list c.args.permits.now) c.in-Some-Some.ensures'.2 i;
     }
 

@@ -8,14 +8,14 @@ use Rattle.workflow_schema.proofs.flow.Flow.forbid.Goals as goal
 
 pub invariant_of-self : goal.invariant_of-self
 invariant_of-self c =
-    keeps_forbidden c.self.inside.steps.names c.self.inside.order c.self.inside.later c.self.inside.roles c.clear_flag.new.rows c.r.inside.0 c.s.inside.0
+    keeps_forbidden c.self.inside.frame.steps.names c.self.inside.frame.order c.self.inside.frame.later c.self.inside.roles c.clear_flag.new.rows c.r.inside.0 c.s.inside.0
     c.self.invariant c.clear_flag.ensures
     (omega (arith, c.clear_flag.auto.rows))
 
 pub returns-clause-forbidden : goal.returns-clause-forbidden
 returns-clause-forbidden c =
     rw (← c.self.view_is, ← c.s.view_is, ← c.r.view_is)
-    (ap (λ (p : Pairs). record { steps = c.self.inside.steps.names; order = c.self.inside.order; permits = p })
+    (ap (λ (p : Pairs). record { steps = c.self.inside.frame.steps.names; order = c.self.inside.frame.order; permits = p })
     (pairs_of-without c.self.inside.roles c.clear_flag.new.rows c.r.inside.0 c.s.inside.0 c.clear_flag.ensures))
 
 pub returns-clause-changed : goal.returns-clause-changed
@@ -26,7 +26,7 @@ returns-clause-changed c =
 pub returns-clause-unchanged : goal.returns-clause-unchanged
 returns-clause-unchanged c h =
     rw (← c.self.view_is)
-    (ap (λ (p : Pairs). record { steps = c.self.inside.steps.names; order = c.self.inside.order; permits = p })
+    (ap (λ (p : Pairs). record { steps = c.self.inside.frame.steps.names; order = c.self.inside.frame.order; permits = p })
     (pairs_of-without c.self.inside.roles c.clear_flag.new.rows c.r.inside.0 c.s.inside.0 c.clear_flag.ensures
     ∙ remove_absent pair_cmp_total pair_cmp-IsAntisymmetric (pairs_of c.self.inside.roles) (c.r.inside.0, c.s.inside.0)
     (pairs_of-has c.self.inside.roles c.r.inside.0 c.s.inside.0 ∙ sym c.has_flag-held.ensures ∙ h)))

@@ -10,7 +10,7 @@ use Rattle.workflow_schema.proofs.flow.Flow.permit.Goals as goal
 
 pub invariant_of-self : goal.invariant_of-self
 invariant_of-self c =
-    keeps_permitted c.self.inside.steps.names c.self.inside.order c.self.inside.later c.self.inside.roles c.set_flag.new.rows c.r.inside.0 c.s.inside.0
+    keeps_permitted c.self.inside.frame.steps.names c.self.inside.frame.order c.self.inside.frame.later c.self.inside.roles c.set_flag.new.rows c.r.inside.0 c.s.inside.0
     c.self.invariant c.set_flag.ensures
     (omega (arith, c.requires.role_in, c.r.view_is))
     (omega (arith, c.requires.step_in, c.s.view_is, ap (λ (f : FlowShape). length f.steps) c.self.view_is))
@@ -19,7 +19,7 @@ invariant_of-self c =
 pub returns-clause-permitted : goal.returns-clause-permitted
 returns-clause-permitted c =
     rw (← c.self.view_is, ← c.s.view_is, ← c.r.view_is)
-    (ap (λ (p : Pairs). record { steps = c.self.inside.steps.names; order = c.self.inside.order; permits = p })
+    (ap (λ (p : Pairs). record { steps = c.self.inside.frame.steps.names; order = c.self.inside.frame.order; permits = p })
     (pairs_of-with c.self.inside.roles c.set_flag.new.rows c.r.inside.0 c.s.inside.0 c.set_flag.ensures))
 
 pub returns-clause-changed : goal.returns-clause-changed
@@ -30,7 +30,7 @@ returns-clause-changed c =
 pub returns-clause-unchanged : goal.returns-clause-unchanged
 returns-clause-unchanged c h =
     rw (← c.self.view_is)
-    (ap (λ (p : Pairs). record { steps = c.self.inside.steps.names; order = c.self.inside.order; permits = p })
+    (ap (λ (p : Pairs). record { steps = c.self.inside.frame.steps.names; order = c.self.inside.frame.order; permits = p })
     (pairs_of-with c.self.inside.roles c.set_flag.new.rows c.r.inside.0 c.s.inside.0 c.set_flag.ensures
     ∙ insert_held pair_cmp_total pair_cmp-IsAntisymmetric (pairs_of c.self.inside.roles) (c.r.inside.0, c.s.inside.0)
     (pairs_of-has c.self.inside.roles c.r.inside.0 c.s.inside.0 ∙ sym c.has_flag-held.ensures ∙ not_false c.has_flag-held.result h)))

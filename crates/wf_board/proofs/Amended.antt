@@ -1,0 +1,201 @@
+-- What an edit of the policy keeps.
+use Rattle.std.proofs.Common.{◌≡◌, ℕ, ◌+◌, ◌<◌, ◌≤◌, inl, inr, Bool, true, false, nat_eq, List, [], ◌∷◌, length, map, Option, None, Some, is_some, Result, Ok, if◌then◌else◌, refl, sym, ap, subst, ◌∙◌, arith}
+use Rattle.std.specs.Option.{option_map}
+use Rattle.std.proofs.lemmas.Bool.Decides.{nat_tests}
+use Rattle.basics.proofs.Booleans.{bool_cases, eq_is}
+use Rattle.first_fault.specs.Reading.{◌>>=◌}
+use Rattle.refutation_tree.specs.declared.tree.Tree.{Tree}
+use Rattle.policy_book.specs.Shapes.{PolicyShape}
+use Rattle.case_record.specs.Cases.{CaseShape, assigned_of, is_open}
+use Rattle.grant_table.specs.declared.rows.Row.{Row}
+use Rattle.grant_table.specs.Lookup.{look_up}
+use Rattle.grant_table.specs.Tables.{CasesShape, case_in, is_open_row, replanned}
+use Rattle.grant_table.specs.Kept.{AscendFrom}
+use Rattle.grant_table.specs.Kept as table
+use Rattle.grant_table.proofs.Replanning.{replanned_closed, replanned_none, replanned_open}
+use Rattle.wf_talk.specs.declared.request.Ask.{Ask}
+use Rattle.wf_talk.specs.declared.reply.Denial.{Denial}
+use Rattle.admin_edits.specs.declared.amendment.Amendment.{Amendment}
+use Rattle.admin_edits.specs.Edits.{amended}
+use Rattle.admin_edits.specs.Found.{IsFound}
+use Rattle.admin_edits.proofs.Keeping.{changes_keep_names, within_after}
+use Rattle.wf_board.specs.declared.deed.Deed.{Deed}
+use Rattle.wf_board.specs.declared.deed.Deed.TheVariants as deed
+use Rattle.wf_board.specs.States.{Book, Numbered, case_at, open_cases}
+use Rattle.wf_board.specs.Boards.{EditionShape, numbered, state_on}
+use Rattle.wf_board.specs.Decisions.{cause_full, decision_aside, decision_of, unless_denied}
+use Rattle.wf_board.specs.Edited.{ArePlansOf, CanAllBeCompleted, CanBeCompleted, IsFirstStranded}
+use Rattle.wf_board.specs.Kept.{EachRow, IsOfPolicy, IsPlanned}
+use Rattle.wf_board.specs.Steps.{with_edited}
+use Rattle.wf_board.specs.Taking.{board_of, IsKept}
+use Rattle.wf_board.specs.Verdicts.{IsEditionFor, IsStrandingFor}
+use Rattle.wf_board.proofs.Rows.{case_numbered}
+
+-- ---- cases of a state
+
+pub same_case : (c d : CaseShape) → Some c ≡ Some d → c ≡ d
+same_case c d h = cc
+
+-- each open case can be completed where all of them can
+pub open_can : (p : PolicyShape) (cases : List Numbered) → CanAllBeCompleted p (open_cases cases) → (n : ℕ) (c : CaseShape) → case_at cases n ≡ Some c → is_open c ≡ true → CanBeCompleted p c
+open_can p [] all n c h live = cc
+open_can p (x ∷ xs) all n c h live = at_first (is_open x.case) (nat_eq x.number n) refl all h (λ rest found. open_can p xs rest n c found live)
+  where
+    at_first : (b d : Bool) → is_open x.case ≡ b → CanAllBeCompleted p (if b then x ∷ open_cases xs else open_cases xs) →
+        option_map (λ (e : Numbered). e.case) (if d then Some x else look_up (λ (e : Numbered). e.number) n xs) ≡ Some c →
+        (CanAllBeCompleted p (open_cases xs) → case_at xs n ≡ Some c → CanBeCompleted p c) → CanBeCompleted p c
+    at_first true true is can found rest = subst (CanBeCompleted p) (same_case x.case c found) can.0
+    at_first true false is can found rest = rest can.1 found
+    at_first false true is can found rest = let apart : true ≡ false = sym live ∙ ap is_open (sym (same_case x.case c found)) ∙ is in cc
+    at_first false false is can found rest = rest can found
+
+-- a case of the policy is one of the policy after a change
+pub of_policy_amended : (p : PolicyShape) (a : Amendment) (c : CaseShape) → IsFound p a → IsOfPolicy p c → IsOfPolicy (amended p a) c
+of_policy_amended p a c found known =
+    let names = changes_keep_names p a found in
+    record {
+      flow = subst (λ n. c.flow < n) (sym names.flows) known.flow;
+      steps = known.steps ∙ ap length (sym (names.steps c.flow));
+      users = within_after p a c.flow (assigned_of c) found known.users;
+    }
+
+-- where there are plans, cases can be completed
+pub plans_complete : (p : PolicyShape) (cases : List Numbered) (plans : List (List ℕ)) → ArePlansOf p cases plans → CanAllBeCompleted p cases
+plans_complete p [] [] is = tt
+plans_complete p [] (plan ∷ plans) is = absurd is
+plans_complete p (e ∷ es) [] is = absurd is
+plans_complete p (e ∷ es) (plan ∷ plans) is = ((plan, is.0), plans_complete p es plans is.1)
+
+-- ---- rows of a table
+
+-- other plans leave the cases as they are
+pub numbered_replanned : (rows : List Row) (plans : List (List ℕ)) → map numbered (replanned rows plans) ≡ map numbered rows
+numbered_replanned [] plans = refl
+numbered_replanned (r ∷ rs) [] = refl
+numbered_replanned (r ∷ rs) (plan ∷ plans) = elim (bool_cases (is_open_row r)) [
+  | inl live ↦ ap (map numbered) (replanned_open r rs plan plans live) ∙ ap (λ es. numbered r ∷ es) (numbered_replanned rs plans)
+  | inr closed ↦ ap (map numbered) (replanned_closed r rs (plan ∷ plans) closed) ∙ ap (λ es. numbered r ∷ es) (numbered_replanned rs (plan ∷ plans))
+]
+
+pub there_replanned : (n : ℕ) (rows : List Row) (plans : List (List ℕ)) → case_in n (replanned rows plans) ≡ case_in n rows
+there_replanned n rows plans =
+    sym (case_numbered n (replanned rows plans)) ∙ ap (λ es. case_at es n) (numbered_replanned rows plans) ∙ case_numbered n rows
+
+closed_planned : (p : PolicyShape) (c : CaseShape) (o : Option (List ℕ)) → is_some o ≡ is_open c → is_open c ≡ false → IsPlanned p c o
+closed_planned p c None kept closed = closed
+closed_planned p c (Some plan) kept closed = let apart : true ≡ false = kept ∙ closed in cc
+
+-- the plans of the rows that are open, if this one is
+abbrev ArePlansAfter : PolicyShape → Bool → Row → List Row → List (List ℕ) → Type 0
+ArePlansAfter p b r rs plans = ArePlansOf p (if b then numbered r ∷ open_cases (map numbered rs) else open_cases (map numbered rs)) plans
+
+-- each row is planned again
+pub each_replanned : (p : PolicyShape) (rows : List Row) (plans : List (List ℕ)) → table.ArePlanned rows → ArePlansOf p (open_cases (map numbered rows)) plans →
+    EachRow (λ r. IsPlanned p r.case r.plan) (replanned rows plans)
+each_replanned p [] plans kept is = tt
+each_replanned p (r ∷ rs) [] kept is = elim (bool_cases (is_open_row r)) [
+  | inl live ↦ absurd (subst (λ b. ArePlansAfter p b r rs []) live is)
+  | inr closed ↦ (closed_planned p r.case r.plan kept.0 closed, subst (EachRow (λ x. IsPlanned p x.case x.plan)) (replanned_none rs) (each_replanned p rs [] kept.1 (subst (λ b. ArePlansAfter p b r rs []) closed is)))
+]
+each_replanned p (r ∷ rs) (plan ∷ plans) kept is = elim (bool_cases (is_open_row r)) [
+  | inl live ↦
+      let both = subst (λ b. ArePlansAfter p b r rs (plan ∷ plans)) live is in
+      subst (EachRow (λ x. IsPlanned p x.case x.plan)) (sym (replanned_open r rs plan plans live)) (both.0, each_replanned p rs plans kept.1 both.1)
+  | inr closed ↦
+      subst (EachRow (λ x. IsPlanned p x.case x.plan)) (sym (replanned_closed r rs (plan ∷ plans) closed))
+      (closed_planned p r.case r.plan kept.0 closed, each_replanned p rs (plan ∷ plans) kept.1 (subst (λ b. ArePlansAfter p b r rs (plan ∷ plans)) closed is))
+]
+
+-- the cases of the rows stay of the policy
+each_of_policy : (p : PolicyShape) (a : Amendment) (rows : List Row) (plans : List (List ℕ)) → IsFound p a → EachRow (λ r. IsOfPolicy p r.case) rows →
+    EachRow (λ r. IsOfPolicy (amended p a) r.case) (replanned rows plans)
+each_of_policy p a [] plans found each = tt
+each_of_policy p a (r ∷ rs) [] found each =
+    (of_policy_amended p a r.case found each.0, subst (EachRow (λ x. IsOfPolicy (amended p a) x.case)) (replanned_none rs) (each_of_policy p a rs [] found each.1))
+each_of_policy p a (r ∷ rs) (plan ∷ plans) found each = elim (bool_cases (is_open_row r)) [
+  | inl live ↦
+      subst (EachRow (λ x. IsOfPolicy (amended p a) x.case)) (sym (replanned_open r rs plan plans live))
+      (of_policy_amended p a r.case found each.0, each_of_policy p a rs plans found each.1)
+  | inr closed ↦
+      subst (EachRow (λ x. IsOfPolicy (amended p a) x.case)) (sym (replanned_closed r rs (plan ∷ plans) closed))
+      (of_policy_amended p a r.case found each.0, each_of_policy p a rs (plan ∷ plans) found each.1)
+]
+
+-- a table with other plans
+abbrev pub with_plans : CasesShape → List (List ℕ) → CasesShape
+with_plans t plans = record t { rows = replanned t.rows plans }
+
+-- what a board keeps of its table is kept under the changed policy, with the plans for it
+pub edited_keeps : (p : PolicyShape) (t : CasesShape) (a : Amendment) (plans : List (List ℕ)) → IsKept p t → IsFound p a → table.ArePlanned t.rows →
+    ArePlansOf (amended p a) (open_cases (map numbered t.rows)) plans → IsKept (amended p a) (with_plans t plans)
+edited_keeps p t a plans kept found planned are = record {
+  planned = record {
+    cases = each_of_policy p a t.rows plans found kept.planned.cases;
+    plans = each_replanned (amended p a) t.rows plans planned are;
+  };
+  numbered = λ n below. ap is_some (there_replanned n t.rows plans) ∙ kept.numbered n below;
+}
+
+pub edited_state : (p : PolicyShape) (t : CasesShape) (a : Amendment) (plans : List (List ℕ)) (edits : ℕ) →
+    state_on (board_of (amended p a) (with_plans t plans) (edits + 1)) ≡ with_edited (state_on (board_of p t edits)) a
+edited_state p t a plans edits =
+    λ i. record { book = record { policy = amended p a; cases = numbered_replanned t.rows plans i; ever = t.ever }; edits = edits + 1 }
+
+-- ---- verdicts
+
+-- what was decided is a change with this edition
+pub record IsChange (b : Book) (r : Result Deed Denial) (edition : EditionShape) : Type 0 where
+  pub amendment : Amendment
+  pub decided : r ≡ Ok (deed.Change amendment)
+  pub policy : edition.policy ≡ amended b.policy amendment
+  pub plans : ArePlansOf edition.policy (open_cases b.cases) edition.plans
+
+pub edition_change : (b : Book) (r : Result Deed Denial) (edition : EditionShape) → IsEditionFor b r edition → IsChange b r edition
+edition_change b (Ok (deed.Change a)) edition is = record { amendment = a; decided = refl; policy = is.0; plans = is.1 }
+edition_change b r edition is = absurd is
+
+-- what was decided is a change that strands a case
+pub record IsStranding (b : Book) (r : Result Deed Denial) (n : ℕ) (tree : Tree) : Type 0 where
+  pub amendment : Amendment
+  pub decided : r ≡ Ok (deed.Change amendment)
+  pub flow : ℕ
+  pub stranded : IsFirstStranded (amended b.policy amendment) (open_cases b.cases) n flow tree
+
+pub stranding_change : (b : Book) (r : Result Deed Denial) (n : ℕ) (tree : Tree) → IsStrandingFor b r n tree → IsStranding b r n tree
+stranding_change b (Ok (deed.Change a)) n tree is = record { amendment = a; decided = refl; flow = is.0; stranded = is.1 }
+stranding_change b r n tree is = absurd is
+
+-- no more cases being opened is no cause against a change
+pub change_decided : (b : Book) (what : Ask) (a : Amendment) → decision_aside b what ≡ Ok (deed.Change a) → decision_of b what ≡ Ok (deed.Change a)
+change_decided b what a is = ap (λ r. r >>= (λ given. unless_denied given (cause_full b given))) is
+
+-- a case is found by its number
+pub record IsFoundCase (n f : ℕ) (rows : List Row) : Type 0 where
+  pub case : CaseShape
+  pub there : case_in n rows ≡ Some case
+  pub flow : case.flow ≡ f
+
+found_later : (n f : ℕ) (r : Row) (rs : List Row) → r.number < n → IsFoundCase n f rs → IsFoundCase n f (r ∷ rs)
+found_later n f r rs above is =
+    let apart : nat_eq r.number n ≡ false = grind (arith, nat_tests) in
+    record { case = is.case; there = rw apart is.there; flow = is.flow }
+
+-- the number of a stranded case is not below that of the first row
+stranded_from : (p : PolicyShape) (low : ℕ) (rows : List Row) (n f : ℕ) (tree : Tree) → AscendFrom low rows → IsFirstStranded p (open_cases (map numbered rows)) n f tree →
+    (low ≤ n) × IsFoundCase n f rows
+stranded_from p low [] n f tree order is = absurd is
+stranded_from p low (r ∷ rs) n f tree order is = at_first (is_open r.case) is (λ rest. stranded_from p (r.number + 1) rs n f tree order.1 rest)
+  where
+    later : (r.number + 1 ≤ n) × IsFoundCase n f rs → (low ≤ n) × IsFoundCase n f (r ∷ rs)
+    later found = (omega (arith, order.0, found.0), found_later n f r rs (omega (arith, found.0)) found.1)
+
+    at_first : (b : Bool) → IsFirstStranded p (if b then numbered r ∷ open_cases (map numbered rs) else open_cases (map numbered rs)) n f tree →
+        (IsFirstStranded p (open_cases (map numbered rs)) n f tree → (r.number + 1 ≤ n) × IsFoundCase n f rs) → (low ≤ n) × IsFoundCase n f (r ∷ rs)
+    at_first true (inl here) rest =
+        let same : nat_eq r.number n ≡ true = eq_is r.number n here.0 in
+        (omega (arith, order.0, here.0), record { case = r.case; there = rw same refl; flow = here.1.0 })
+    at_first true (inr there) rest = later (rest there.1)
+    at_first false there rest = later (rest there)
+
+pub stranded_case : (p : PolicyShape) (rows : List Row) (n f : ℕ) (tree : Tree) → AscendFrom 0 rows → IsFirstStranded p (open_cases (map numbered rows)) n f tree → IsFoundCase n f rows
+stranded_case p rows n f tree order is = (stranded_from p 0 rows n f tree order is).1

@@ -1,0 +1,75 @@
+-- Under a change that makes no plan invalid the plans stay.
+use Rattle.std.proofs.Common.{◌≡◌, ℕ, ◌+◌, Bool, true, false, List, [], ◌∷◌, map, Option, None, Some, if◌then◌else◌, refl, sym, subst}
+use Rattle.policy_book.specs.Shapes.{PolicyShape}
+use Rattle.case_record.specs.Cases.{CaseShape, assigned_of, finished_of, is_open}
+use Rattle.grant_table.specs.declared.rows.Row.{Row}
+use Rattle.grant_table.specs.Tables.{CasesShape}
+use Rattle.wf_talk.specs.declared.request.Ask.{Ask}
+use Rattle.wf_talk.specs.declared.reply.Reply.TheVariants as reply
+use Rattle.admin_edits.specs.declared.amendment.Amendment.{Amendment}
+use Rattle.admin_edits.specs.declared.amendment.Amendment.TheVariants as amend
+use Rattle.admin_edits.specs.Edits.{amended}
+use Rattle.admin_edits.specs.Found.{IsFound}
+use Rattle.admin_edits.specs.Hurting.{may_hurt}
+use Rattle.admin_edits.proofs.Unhurt.{unhurt_plans_stay_valid}
+use Rattle.wf_board.specs.declared.verdict.Verdict.TheVariants as verdict
+use Rattle.wf_board.specs.declared.verdict.Answered.TheVariants.{Done}
+use Rattle.wf_board.specs.States.{open_cases}
+use Rattle.wf_board.specs.Boards.{book_of, numbered, state_on}
+use Rattle.wf_board.specs.Edited.{CanAllBeCompleted}
+use Rattle.wf_board.specs.Kept.{EachRow, IsOfPolicy, IsPlanned}
+use Rattle.wf_board.specs.Steps.{Answers, state_after_decision}
+use Rattle.wf_board.specs.Taking.{IsHarmlessChange, IsKept, board_of, is_harmless}
+use Rattle.wf_board.specs.Verdicts.{HasAnswered}
+use Rattle.wf_board.proofs.Amended.{of_policy_amended}
+use Rattle.wf_board.proofs.Planned.{planned_open}
+
+hurts_none : (p : PolicyShape) (a : Amendment) (f : ℕ) (finished : List Bool) (plan : List ℕ) → is_harmless a ≡ true → may_hurt p a f finished plan ≡ false
+hurts_none p (amend.AddUser name) f finished plan h = refl
+hurts_none p (amend.Leave u) f finished plan h = cc
+hurts_none p (amend.Enrol u r) f finished plan h = refl
+hurts_none p (amend.Dismiss u r) f finished plan h = cc
+hurts_none p (amend.Relate rho u v) f finished plan h = cc
+hurts_none p (amend.Unrelate rho u v) f finished plan h = cc
+hurts_none p (amend.Permit g r s) f finished plan h = refl
+hurts_none p (amend.Forbid g r s) f finished plan h = cc
+hurts_none p (amend.Retire g) f finished plan h = refl
+
+each_still : (P Q : Row → Type 0) (rows : List Row) → ((r : Row) → P r → Q r) → EachRow P rows → EachRow Q rows
+each_still P Q [] still each = tt
+each_still P Q (r ∷ rs) still each = (still r each.0, each_still P Q rs still each.1)
+
+planned_still : (p : PolicyShape) (a : Amendment) (c : CaseShape) (o : Option (List ℕ)) → IsFound p a → is_harmless a ≡ true → IsPlanned p c o → IsPlanned (amended p a) c o
+planned_still p a c None found harmless planned = planned
+planned_still p a c (Some plan) found harmless planned =
+    unhurt_plans_stay_valid p a c.flow (assigned_of c) (finished_of c) plan found (hurts_none p a c.flow (finished_of c) plan harmless) planned
+
+-- where each row is planned, all open cases can be completed
+planned_complete : (p : PolicyShape) (rows : List Row) → EachRow (λ r. IsPlanned p r.case r.plan) rows → CanAllBeCompleted p (open_cases (map numbered rows))
+planned_complete p [] planned = tt
+planned_complete p (r ∷ rs) planned = at_first (is_open r.case) refl (planned_complete p rs planned.1)
+  where
+    at_first : (b : Bool) → is_open r.case ≡ b → CanAllBeCompleted p (open_cases (map numbered rs)) →
+        CanAllBeCompleted p (if b then numbered r ∷ open_cases (map numbered rs) else open_cases (map numbered rs))
+    at_first true live rest = (planned_open p r.case r.plan live planned.0, rest)
+    at_first false closed rest = rest
+
+-- what a board then keeps, and what it has answered
+abbrev pub HasChangedTo : PolicyShape → CasesShape → ℕ → Ask → PolicyShape → Type 0
+HasChangedTo p t edits what q =
+    IsKept q t × HasAnswered (board_of p t edits) (board_of q t (edits + 1)) what verdict.Nothing (Done (reply.Edited (edits + 1)))
+
+pub harmless_taken : (p q : PolicyShape) (t : CasesShape) (edits : ℕ) (what : Ask) (a : Amendment) → IsKept p t → IsHarmlessChange (book_of p t) what a → q ≡ amended p a →
+    HasChangedTo p t edits what q
+harmless_taken p q t edits what a kept is same =
+    let found = is.allowed.found in
+    let planned = each_still (λ r. IsPlanned p r.case r.plan) (λ r. IsPlanned (amended p a) r.case r.plan) t.rows
+    (λ r known. planned_still p a r.case r.plan found is.harmless known) kept.planned.plans in
+    let cases = each_still (λ r. IsOfPolicy p r.case) (λ r. IsOfPolicy (amended p a) r.case) t.rows (λ r known. of_policy_amended p a r.case found known) kept.planned.cases in
+    let s = state_on (board_of p t edits) in
+    let given = reply.Edited (edits + 1) in
+    subst (HasChangedTo p t edits what) (sym same) (
+      record { planned = record { cases = cases; plans = planned }; numbered = kept.numbered },
+      subst (λ r. Answers s r given × (state_on (board_of (amended p a) t (edits + 1)) ≡ state_after_decision s r given)) (sym is.decided)
+          ((refl, planned_complete (amended p a) t.rows planned), refl),
+    )

@@ -1,5 +1,0 @@
-use Rattle.wf_names.proofs.Places.{are_names}
-use Rattle.wf_names.proofs.table.NameTable.len.Goals as goal
-
-pub returns-clause-names : goal.returns-clause-names
-returns-clause-names c = rw (← c.self.view_is) (are_names c.self.inside.names.keys c.len.ensures.unique c.self.invariant.2)

@@ -1,6 +1,0 @@
-use Rattle.std.proofs.Common.{sym}
-use Rattle.wf_names.proofs.Places.{place_of-name}
-use Rattle.wf_names.proofs.table.NameTable.name.Goals as goal
-
-pub returns-clause-alone : goal.returns-clause-alone
-returns-clause-alone c = rw (← c.self.view_is) (place_of-name c.self.inside.names.keys c.args.n c.in-Some.name.now c.len-count.ensures.unique (sym c.in-Some.ensures.key))

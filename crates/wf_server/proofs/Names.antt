@@ -1,0 +1,128 @@
+-- The entries of a legal history are written with the names of the policy after them all.
+use Rattle.std.proofs.Common.{◌≡◌, ℕ, ◌⊎◌, inl, inr, List, [], ◌∷◌, ◌++◌, length, refl, sym, ap, subst, ◌∙◌, append_assoc, codes}
+use Rattle.serde_json.specs.Data.{number, object, member, no_members, unsigned}
+use Rattle.serde_json.specs.Written.{compact_text}
+use Rattle.policy_book.specs.Shapes.{PolicyShape}
+use Rattle.wf_talk.specs.declared.entry.Entry.{Entry}
+use Rattle.wf_talk.specs.declared.request.Ask.{Ask}
+use Rattle.wf_talk.specs.declared.reply.Reply.{Reply}
+use Rattle.wf_talk.specs.declared.reply.Reply.TheVariants as reply
+use Rattle.admin_edits.specs.Keeping.{ChangesKeepNames, KeepsNames}
+use Rattle.wf_board.specs.Boards.{state_on}
+use Rattle.wf_board.specs.States.{State, opening_state}
+use Rattle.wf_board.specs.Decisions.{decision_of}
+use Rattle.wf_board.specs.Steps.{IsStep, state_after_step}
+use Rattle.wf_board.specs.Histories.{EachAfter, IsRightAfter, state_after}
+use Rattle.wf_board.specs.HistoryLaws.{after_all, after_more, again_stays, each_later}
+use Rattle.wf_board.specs.Kept.{IsSoundState, KeepsCompletable}
+use Rattle.wf_board.specs.Laws.{StepsKeepCompletable}
+use Rattle.wire_json.specs.Replies.{entry_text, reply_data}
+use Rattle.wf_desk.specs.Desks.{DeskShape, IsSoundDesk}
+use Rattle.wf_server.specs.Transcripts.{transcript_text}
+use Rattle.wf_server.specs.Batches.{entries_text}
+use Rattle.wf_server.specs.Names.{IsKeptState, KeepsTexts, TextsStay}
+use Rattle.wf_server.proofs.NamesKept.{keeps_same, keeps_then}
+use Rattle.wf_server.proofs.NamesTold.{IsToldAlike, decision_fares}
+use Rattle.wf_server.proofs.NamesStep.{AreMembersBelow, decided_members, decided_names, decided_text}
+
+-- a state as the law goes over it
+record IsNamed (s : State) : Type 0 where
+  sound : IsSoundState s
+  kept : KeepsCompletable s
+  members : AreMembersBelow (length s.book.policy.roster.users) s.book.policy.roster.members
+
+-- a reply is a step, or it is answered again
+abbrev IsStepOrAgain : State → Ask → Reply → Type 0
+IsStepOrAgain s what given = IsStep s what given ⊎ ((n : ℕ) × ((place : ℕ) × (given ≡ reply.Again n place)))
+
+abbrev AreSteps : State → List Entry → Type 0
+AreSteps s [] = Unit {0}
+AreSteps s (e ∷ es) = IsStepOrAgain s e.ask e.reply × AreSteps (state_after_step s e.ask e.reply) es
+
+one_step : (start : State) (rounds : ℕ) (earlier : List Entry) (e : Entry) → IsRightAfter start rounds earlier e → IsStepOrAgain (state_after start earlier) e.ask e.reply
+one_step start rounds earlier e (at, inl step) = inl step
+one_step start rounds earlier e (at, inr retry) = inr (retry.0, (retry.1.0, retry.1.1.0))
+
+all_steps : (start : State) (rounds : ℕ) (earlier more : List Entry) → EachAfter (IsRightAfter start rounds) earlier more → AreSteps (state_after start earlier) more
+all_steps start rounds earlier [] each = tt
+all_steps start rounds earlier (e ∷ es) each = (
+  one_step start rounds earlier e each.0,
+  subst (λ s. AreSteps s es) (after_more start earlier e) (all_steps start rounds (earlier ++ e ∷ []) es each.1),
+)
+
+-- what is known of a state and the one after an entry
+record IsGoneOn (s : State) (what : Ask) (given : Reply) : Type 0 where
+  next : IsNamed (state_after_step s what given)
+  names : KeepsNames s.book.policy (state_after_step s what given).book.policy
+  text : (q : PolicyShape) → KeepsNames s.book.policy q → reply_data q given ≡ reply_data s.book.policy given
+
+goes_on : (s : State) (what : Ask) (given : Reply) → StepsKeepCompletable → ChangesKeepNames → IsNamed s → IsStepOrAgain s what given → IsGoneOn s what given
+goes_on s what given steps names is (inl step) =
+    let p = s.book.policy in
+    let fares = decision_fares s p what is.sound (keeps_same p p refl) in
+    let kept = steps s what given is.sound is.kept step in
+    record {
+      next = record {
+        sound = kept.0;
+        kept = kept.1;
+        members = decided_members s (decision_of s.book what) given (IsToldAlike p p) names fares is.members;
+      };
+      names = decided_names s (decision_of s.book what) given (IsToldAlike p p) names fares;
+      text = λ q keeps. decided_text s q (decision_of s.book what) given keeps is.members (decision_fares s q what is.sound keeps) step;
+    }
+goes_on s what given steps names is (inr again) =
+    let same = again_stays s what given again.0 again.1.0 again.1.1 in
+    record {
+      next = subst IsNamed (sym same) is;
+      names = keeps_same s.book.policy (state_after_step s what given).book.policy (ap (λ (t : State). t.book.policy) same);
+      text = λ q keeps. subst (λ x. reply_data q x ≡ reply_data s.book.policy x) (sym again.1.1) refl;
+    }
+
+entry_same : (p q : PolicyShape) (e : Entry) → reply_data q e.reply ≡ reply_data p e.reply → entry_text q e ≡ entry_text p e
+unfolding entry_text
+entry_same p q e same =
+    ap (λ d. compact_text (object
+    (member (codes "at") (number (unsigned e.at))
+    (member (codes "lane") (number (unsigned e.lane))
+    (member (codes "line") (number (unsigned e.line))
+    (member (codes "reply") d no_members))))) ++ 10 ∷ []) same
+
+texts : (s : State) (es : List Entry) → StepsKeepCompletable → ChangesKeepNames → IsNamed s → AreSteps s es
+    → KeepsNames s.book.policy (state_after s es).book.policy × (transcript_text s es ≡ entries_text (state_after s es).book.policy es)
+texts s [] steps names is all = (keeps_same s.book.policy s.book.policy refl, refl)
+texts s (e ∷ es) steps names is all =
+    let t = state_after_step s e.ask e.reply in
+    let q = (state_after t es).book.policy in
+    let gone = goes_on s e.ask e.reply steps names is all.0 in
+    let rest = texts t es steps names gone.next all.1 in
+    let keeps = keeps_then s.book.policy t.book.policy q gone.names rest.0 in
+    let here : entry_text t.book.policy e ≡ entry_text q e = sym (entry_same t.book.policy q e (gone.text q keeps ∙ sym (gone.text t.book.policy gone.names))) in (
+      keeps,
+      ap (λ x. x ++ transcript_text t es) here ∙ ap (λ x. entry_text q e ++ x) rest.1,
+    )
+
+pub texts_stay : StepsKeepCompletable → ChangesKeepNames → TextsStay
+texts_stay steps names start rounds earlier more kept legal =
+    let s = state_after start earlier in
+    let is : IsNamed s = record {
+      sound = kept.sound;
+      kept = kept.kept;
+      members = record { each = λ u r has. (kept.roster.members.each u r has).0 };
+    } in
+    let all = all_steps start rounds earlier more (each_later (IsRightAfter start rounds) [] earlier more legal) in
+    (texts s more steps names is all).1 ∙ ap (λ (t : State). entries_text t.book.policy more) (sym (after_all start earlier more))
+
+-- so are those behind the entries of a desk
+pub desk_texts : (d : DeskShape) → StepsKeepCompletable → ChangesKeepNames → IsSoundDesk d → IsKeptState (state_on d.board) → KeepsTexts d
+desk_texts d steps names sound kept more legal =
+    texts_stay steps names (opening_state d.opening) d.rounds d.entries more (subst IsKeptState sound.state kept) legal
+
+-- ---- parts
+
+-- what is written of a history with more entries
+pub transcript_more : (s : State) (es more : List Entry) → transcript_text s (es ++ more) ≡ transcript_text s es ++ transcript_text (state_after s es) more
+transcript_more s [] more = refl
+transcript_more s (e ∷ es) more =
+    let t = state_after_step s e.ask e.reply in
+    ap (λ x. entry_text t.book.policy e ++ x) (transcript_more t es more)
+    ∙ sym (append_assoc (entry_text t.book.policy e) (transcript_text t es) (transcript_text (state_after t es) more))

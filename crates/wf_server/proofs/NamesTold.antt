@@ -1,0 +1,203 @@
+-- What a decision denies is written alike with the names of a later policy.
+use Rattle.std.proofs.Common.{◌≡◌, ℕ, ◌<◌, Bool, true, false, List, [], ◌∷◌, length, Option, None, Some, Result, Ok, Err, refl, ap, ◌∙◌, codes}
+use Rattle.std.specs.Option.{option_map}
+use Rattle.first_fault.specs.Reading.{◌>>=◌, check, or_fault}
+use Rattle.wf_names.specs.States.{user_of}
+use Rattle.policy_book.specs.Shapes.{PolicyShape}
+use Rattle.policy_book.specs.Facts.{IsSoundPolicy}
+use Rattle.case_record.specs.Cases.{CaseShape, is_open, state_at}
+use Rattle.case_record.proofs.Laws.{assigned_of-at}
+use Rattle.wf_talk.specs.declared.edit.Edit.{Edit}
+use Rattle.wf_talk.specs.declared.request.Request.TheVariants as request
+use Rattle.wf_talk.specs.declared.request.Ask.{Ask}
+use Rattle.wf_talk.specs.declared.request.Ask.TheVariants as ask
+use Rattle.wf_talk.specs.declared.reply.Denial.{Denial}
+use Rattle.wf_talk.specs.declared.reply.Denial.TheVariants as denial
+use Rattle.denial_reasons.specs.Causes.{first_cause, first_of, unless}
+use Rattle.admin_edits.specs.declared.amendment.Amendment.{Amendment}
+use Rattle.admin_edits.specs.declared.fault.EditFault.{EditFault}
+use Rattle.admin_edits.specs.declared.fault.EditFault.TheVariants as fault
+use Rattle.admin_edits.specs.Edits.{amendment_of, is_admin}
+use Rattle.admin_edits.specs.Found as edits
+use Rattle.admin_edits.specs.Keeping.{KeepsNames}
+use Rattle.admin_edits.proofs.Keeping.{amendment_found}
+use Rattle.wf_board.specs.declared.deed.Deed.{Deed}
+use Rattle.wf_board.specs.declared.deed.Deed.TheVariants as deed
+use Rattle.wf_board.specs.States.{State, case_at, flow_named, step_named, user_named}
+use Rattle.wf_board.specs.Resolved.{changed, edit_denial, on_step, open_case_at, resolve}
+use Rattle.wf_board.specs.Decisions.{cause_aside, cause_full, decision_aside, decision_of, unless_denied}
+use Rattle.wf_board.specs.Kept.{IsOfPolicy, IsSoundState}
+use Rattle.wire_json.specs.Entries.{single}
+use Rattle.wire_json.specs.Replies.{denial_data}
+use Rattle.wf_server.proofs.NamesKept.{roles_same, state_same, step_same, user_same}
+
+-- P holds of what was read, and Q of why it was not
+abbrev pub Fares : {A F : Type 0} → (A → Type 0) → (F → Type 0) → Result A F → Type 0
+Fares P Q (Ok x) = P x
+Fares P Q (Err d) = Q d
+
+then_fares : {A B F : Type 0} (P : A → Type 0) (R : B → Type 0) (Q : F → Type 0) (r : Result A F) (f : A → Result B F) → Fares P Q r
+    → ((x : A) → P x → Fares R Q (f x)) → Fares R Q (r >>= f)
+then_fares P R Q (Ok x) f has each = each x has
+then_fares P R Q (Err d) f has each = has
+
+or_fares : {A F : Type 0} (Q : F → Type 0) (o : Option A) (d : F) → Q d → Fares (λ x. o ≡ Some x) Q (or_fault o d)
+or_fares Q (Some x) d none = refl
+or_fares Q None d none = none
+
+check_fares : {F : Type 0} (Q : F → Type 0) (b : Bool) (d : F) → Q d → Fares (λ _. Unit {0}) Q (check b d)
+check_fares Q true d failed = tt
+check_fares Q false d failed = failed
+
+-- Q holds of the cause, if there is one
+abbrev IsCauseSo : (Denial → Type 0) → Option Denial → Type 0
+IsCauseSo Q None = Unit {0}
+IsCauseSo Q (Some d) = Q d
+
+abbrev AreCausesSo : (Denial → Type 0) → List (Option Denial) → Type 0
+AreCausesSo Q [] = Unit {0}
+AreCausesSo Q (o ∷ os) = IsCauseSo Q o × AreCausesSo Q os
+
+first_so : (Q : Denial → Type 0) (os : List (Option Denial)) → AreCausesSo Q os → IsCauseSo Q (first_of os)
+first_so Q [] all = tt
+first_so Q (Some d ∷ os) all = all.0
+first_so Q (None ∷ os) all = first_so Q os all.1
+
+four_so : (Q : Denial → Type 0) (first second third fourth : Option Denial) → IsCauseSo Q first → IsCauseSo Q second → IsCauseSo Q third → IsCauseSo Q fourth
+    → IsCauseSo Q (first_of (first ∷ second ∷ third ∷ fourth ∷ []))
+four_so Q first second third fourth a b c d = first_so Q (first ∷ second ∷ third ∷ fourth ∷ []) (a, (b, (c, (d, tt))))
+
+unless_so : (Q : Denial → Type 0) (b : Bool) (d : Denial) → Q d → IsCauseSo Q (unless b d)
+unless_so Q true d so = tt
+unless_so Q false d so = so
+
+map_so : {A : Type 0} (Q : Denial → Type 0) (f : A → Denial) (o : Option A) → ((x : A) → o ≡ Some x → Q (f x)) → IsCauseSo Q (option_map f o)
+map_so Q f None so = tt
+map_so Q f (Some x) so = so x refl
+
+-- what a deed names is of a policy
+abbrev pub IsDeedOf : PolicyShape → Deed → Type 0
+IsDeedOf p (deed.Open f) = Unit {0}
+IsDeedOf p (deed.Claim n c t u) = IsOfPolicy p c
+IsDeedOf p (deed.Finish n c t u) = IsOfPolicy p c
+IsDeedOf p (deed.GiveBack n c t u) = IsOfPolicy p c
+IsDeedOf p (deed.Release n c t) = IsOfPolicy p c
+IsDeedOf p (deed.Withdraw n) = Unit {0}
+IsDeedOf p (deed.Change a) = edits.IsFound p a
+IsDeedOf p (deed.Show c) = IsOfPolicy p c
+IsDeedOf p (deed.TurnAway bad) = Unit {0}
+
+-- a denial is written alike with the names of two policies
+abbrev pub IsToldAlike : PolicyShape → PolicyShape → Denial → Type 0
+IsToldAlike p q d = denial_data q d ≡ denial_data p d
+
+-- the users of a case are users of its policy
+pub user_known : (p : PolicyShape) (c : CaseShape) (t u : ℕ) → IsOfPolicy p c → user_of (state_at c t) ≡ Some u → u < length p.roster.users
+user_known p c t u of is = of.users.users t u (assigned_of-at c t ∙ is)
+
+fault_alike : (p q : PolicyShape) (why : EditFault) → IsToldAlike p q (edit_denial why)
+fault_alike p q fault.NotAdmin = refl
+fault_alike p q (fault.Unknown what) = refl
+fault_alike p q fault.Fixed = refl
+fault_alike p q fault.Already = refl
+fault_alike p q fault.Absent = refl
+fault_alike p q fault.Full = refl
+fault_alike p q fault.LastAdmin = refl
+fault_alike p q fault.NoMemory = refl
+
+changed_fares : (p q : PolicyShape) (by : List ℕ) (e : Edit) (r : Result Amendment EditFault) → IsSoundPolicy p → amendment_of p by e ≡ r → Fares (IsDeedOf p) (IsToldAlike p q) (changed r)
+changed_fares p q by e (Ok a) sound is = (amendment_found p by e a sound is).0
+changed_fares p q by e (Err why) sound is = fault_alike p q why
+
+-- ---- what a line asks
+
+case_fares : (s : State) (q : PolicyShape) (n : ℕ) → IsSoundState s → Fares (IsOfPolicy s.book.policy) (IsToldAlike s.book.policy q) (open_case_at s.book n)
+case_fares s q n sound =
+    let Q = IsToldAlike s.book.policy q in
+    then_fares (λ c. case_at s.book.cases n ≡ Some c) (IsOfPolicy s.book.policy) Q (or_fault (case_at s.book.cases n) denial.NoCase) _ (or_fares Q (case_at s.book.cases n) denial.NoCase refl)
+    (λ c is. then_fares (λ _. Unit {0}) (IsOfPolicy s.book.policy) Q (check (is_open c) denial.Closed) _ (check_fares Q (is_open c) denial.Closed refl) (λ _ _. sound.cases n c is))
+
+step_fares : (s : State) (q : PolicyShape) (make : ℕ → CaseShape → ℕ → ℕ → Deed) (n : ℕ) (step user : List ℕ) → IsSoundState s
+    → ((c : CaseShape) (t u : ℕ) → IsOfPolicy s.book.policy c → IsDeedOf s.book.policy (make n c t u))
+    → Fares (IsDeedOf s.book.policy) (IsToldAlike s.book.policy q) (on_step make s.book n step user)
+step_fares s q make n step user sound made =
+    let P = IsDeedOf s.book.policy in
+    let Q = IsToldAlike s.book.policy q in
+    then_fares (IsOfPolicy s.book.policy) P Q (open_case_at s.book n) _ (case_fares s q n sound)
+    (λ c of. then_fares (λ t. step_named s.book c.flow step ≡ Some t) P Q (or_fault (step_named s.book c.flow step) denial.NoStep) _ (or_fares Q (step_named s.book c.flow step) denial.NoStep refl)
+    (λ t _. then_fares (λ u. user_named s.book user ≡ Some u) P Q (or_fault (user_named s.book user) denial.NoUser) _ (or_fares Q (user_named s.book user) denial.NoUser refl)
+    (λ u _. made c t u of)))
+
+resolve_fares : (s : State) (q : PolicyShape) (what : Ask) → IsSoundState s → Fares (IsDeedOf s.book.policy) (IsToldAlike s.book.policy q) (resolve s.book what)
+resolve_fares s q (ask.Request (request.OpenCase flow)) sound =
+    let Q = IsToldAlike s.book.policy q in
+    then_fares (λ f. flow_named s.book flow ≡ Some f) (IsDeedOf s.book.policy) Q (or_fault (flow_named s.book flow) denial.NoFlow) _ (or_fares Q (flow_named s.book flow) denial.NoFlow refl) (λ f _. tt)
+resolve_fares s q (ask.Request (request.Claim n step user)) sound = step_fares s q deed.Claim n step user sound (λ c t u of. of)
+resolve_fares s q (ask.Request (request.Finish n step user)) sound = step_fares s q deed.Finish n step user sound (λ c t u of. of)
+resolve_fares s q (ask.Request (request.GiveBack n step user)) sound = step_fares s q deed.GiveBack n step user sound (λ c t u of. of)
+resolve_fares s q (ask.Request (request.Release by n step)) sound =
+    let P = IsDeedOf s.book.policy in
+    let Q = IsToldAlike s.book.policy q in
+    then_fares (λ _. Unit {0}) P Q (check (is_admin s.book.policy by) denial.NotAdmin) _ (check_fares Q (is_admin s.book.policy by) denial.NotAdmin refl)
+    (λ _ _. then_fares (IsOfPolicy s.book.policy) P Q (open_case_at s.book n) _ (case_fares s q n sound)
+    (λ c of. then_fares (λ t. step_named s.book c.flow step ≡ Some t) P Q (or_fault (step_named s.book c.flow step) denial.NoStep) _ (or_fares Q (step_named s.book c.flow step) denial.NoStep refl) (λ t _. of)))
+resolve_fares s q (ask.Request (request.Withdraw by n)) sound =
+    let P = IsDeedOf s.book.policy in
+    let Q = IsToldAlike s.book.policy q in
+    then_fares (λ _. Unit {0}) P Q (check (is_admin s.book.policy by) denial.NotAdmin) _ (check_fares Q (is_admin s.book.policy by) denial.NotAdmin refl)
+    (λ _ _. then_fares (IsOfPolicy s.book.policy) P Q (open_case_at s.book n) _ (case_fares s q n sound) (λ c of. tt))
+resolve_fares s q (ask.Request (request.Change by e)) sound = changed_fares s.book.policy q by e (amendment_of s.book.policy by e) sound.policy refl
+resolve_fares s q (ask.Request (request.Show n)) sound =
+    let Q = IsToldAlike s.book.policy q in
+    then_fares (λ c. case_at s.book.cases n ≡ Some c) (IsDeedOf s.book.policy) Q (or_fault (case_at s.book.cases n) denial.NoCase) _ (or_fares Q (case_at s.book.cases n) denial.NoCase refl) (λ c is. sound.cases n c is)
+resolve_fares s q (ask.Bad bad) sound = tt
+
+-- ---- causes
+
+held_so : (p q : PolicyShape) (c : CaseShape) (t : ℕ) → KeepsNames p q → IsOfPolicy p c → IsToldAlike p q (denial.NotHeld (state_at c t))
+held_so p q c t keeps of = ap (single (codes "not_held")) (state_same p q (state_at c t) keeps (λ u is. user_known p c t u of is))
+
+claim_so : (p q : PolicyShape) (c : CaseShape) (t u : ℕ) → KeepsNames p q → IsOfPolicy p c → IsCauseSo (IsToldAlike p q) (first_cause p c t u)
+claim_so p q c t u keeps of =
+    let Q = IsToldAlike p q in
+    four_so Q _ _ _ _
+    (map_so Q denial.Taken (user_of (state_at c t)) (λ v is. ap (single (codes "taken")) (user_same p q v keeps (user_known p c t v of is))))
+    (map_so Q (denial.Order c.flow) _ (λ v is. ap (single (codes "order")) (step_same p q c.flow v keeps)))
+    (unless_so Q _ (denial.Role _) (ap (single (codes "role")) (roles_same p q _ keeps)))
+    (map_so Q denial.Rule _ (λ k is. refl))
+
+cause_so : (s : State) (q : PolicyShape) (given : Deed) → KeepsNames s.book.policy q → IsDeedOf s.book.policy given → IsCauseSo (IsToldAlike s.book.policy q) (cause_aside s.book given)
+cause_so s q (deed.Open f) keeps of = unless_so (IsToldAlike s.book.policy q) _ denial.Retired refl
+cause_so s q (deed.Claim n c t u) keeps of = claim_so s.book.policy q c t u keeps of
+cause_so s q (deed.Finish n c t u) keeps of = unless_so (IsToldAlike s.book.policy q) _ (denial.NotHeld (state_at c t)) (held_so s.book.policy q c t keeps of)
+cause_so s q (deed.GiveBack n c t u) keeps of = unless_so (IsToldAlike s.book.policy q) _ (denial.NotHeld (state_at c t)) (held_so s.book.policy q c t keeps of)
+cause_so s q (deed.Release n c t) keeps of = unless_so (IsToldAlike s.book.policy q) _ (denial.NotHeld (state_at c t)) (held_so s.book.policy q c t keeps of)
+cause_so s q (deed.Withdraw n) keeps of = tt
+cause_so s q (deed.Change a) keeps of = tt
+cause_so s q (deed.Show c) keeps of = tt
+cause_so s q (deed.TurnAway bad) keeps of = tt
+
+full_so : (s : State) (q : PolicyShape) (given : Deed) → IsCauseSo (IsToldAlike s.book.policy q) (cause_full s.book given)
+full_so s q (deed.Open f) = unless_so (IsToldAlike s.book.policy q) _ denial.Full refl
+full_so s q (deed.Claim n c t u) = tt
+full_so s q (deed.Finish n c t u) = tt
+full_so s q (deed.GiveBack n c t u) = tt
+full_so s q (deed.Release n c t) = tt
+full_so s q (deed.Withdraw n) = tt
+full_so s q (deed.Change a) = tt
+full_so s q (deed.Show c) = tt
+full_so s q (deed.TurnAway bad) = tt
+
+unless_fares : (P : Deed → Type 0) (Q : Denial → Type 0) (given : Deed) (o : Option Denial) → P given → IsCauseSo Q o → Fares P Q (unless_denied given o)
+unless_fares P Q given None has so = has
+unless_fares P Q given (Some d) has so = so
+
+-- what is decided is a deed of the policy, or a denial that is written alike
+pub decision_fares : (s : State) (q : PolicyShape) (what : Ask) → IsSoundState s → KeepsNames s.book.policy q
+    → Fares (IsDeedOf s.book.policy) (IsToldAlike s.book.policy q) (decision_of s.book what)
+decision_fares s q what sound keeps =
+    let P = IsDeedOf s.book.policy in
+    let Q = IsToldAlike s.book.policy q in
+    then_fares P P Q (decision_aside s.book what) _
+    (then_fares P P Q (resolve s.book what) _ (resolve_fares s q what sound) (λ given of. unless_fares P Q given (cause_aside s.book given) of (cause_so s q given keeps of)))
+    (λ given of. unless_fares P Q given (cause_full s.book given) of (full_so s q given))

@@ -1,0 +1,187 @@
+//! Writing why a request was denied.
+ghost use Rattle.std.specs.Prelude.{◌≡◌, ◌++◌, ◌∷◌, [], codes, OnOk};
+ghost use Rattle.serde_json.specs.Data.{number, unsigned};
+ghost use Rattle.serde_json.specs.Written.{compact_text};
+ghost use Rattle.refutation_tree.specs.Views.{shape_of};
+ghost use Rattle.wire_json.specs.Entries.{single, names_data, step_data, state_data};
+ghost use Rattle.wire_json.specs.Trees.{tree_data};
+ghost use Rattle.wire_json.specs.Replies.{denial_data, missing_data, strands_data};
+
+use crate::text::{push, push_case, push_name, push_name_in, push_number, push_roles};
+use crate::tree::tree_value;
+use policy_book::Policy;
+use refutation_tree::Tree;
+use std::alloc::{AllocError, Global};
+use wf_names::{CaseId, FlowId, RoleId, StepId, StepState};
+use wf_talk::{Denial, Missing};
+
+/// Adds why a request was denied.
+#[tactic(auto, unfolding(json::specs::Print::escape_byte))]
+pub(crate) fn push_denial(
+    alloc: Global,
+    out: &mut Vec<u8>,
+    p: &Policy,
+    denial: &Denial,
+) -> Result<(), AllocError>
+    ensures { OnOk result (out.new.items ≡ out.old.items ++ compact_text (denial_data p.now denial.now)) }
+{
+    match denial {
+        Denial::NoFlow => push(out, b"\"no_flow\""),
+        Denial::Retired => push(out, b"\"retired\""),
+        Denial::Full => push(out, b"\"full\""),
+        Denial::Unsatisfiable { flow, tree } => {
+            push_tree_in(alloc, out, b"{\"unsatisfiable\":", p, *flow, tree)
+        }
+        Denial::NoCase => push(out, b"\"no_case\""),
+        Denial::Closed => push(out, b"\"closed\""),
+        Denial::NoStep => push(out, b"\"no_step\""),
+        Denial::NoUser => push(out, b"\"no_user\""),
+        Denial::Taken(u) => push_name_in(out, b"{\"taken\":", p.roster().users(), u.0, b"}"),
+        Denial::Order { flow, step } => push_step_in(out, b"{\"order\":", p, *flow, *step),
+        Denial::Role(roles) => push_roles_in(out, b"{\"role\":", p, roles.as_slice()),
+        Denial::Rule(rule) => push_rule(out, *rule),
+        Denial::Stranded { flow, tree } => {
+            push_tree_in(alloc, out, b"{\"stranded\":", p, *flow, tree)
+        }
+        Denial::NotHeld(state) => push_not_held(out, p, *state),
+        Denial::NotAdmin => push(out, b"\"not_admin\""),
+        Denial::Unknown(missing) => push_unknown(out, *missing),
+        Denial::Fixed => push(out, b"\"fixed\""),
+        Denial::Already => push(out, b"\"already\""),
+        Denial::Absent => push(out, b"\"absent\""),
+        Denial::LastAdmin => push(out, b"\"last_admin\""),
+        Denial::Strands { case, flow, tree } => push_strands(alloc, out, p, *case, *flow, tree),
+    }
+}
+
+fn push_rule(out: &mut Vec<u8>, rule: u8) -> Result<(), AllocError>
+    ensures { OnOk result (out.new.items ≡ out.old.items ++ compact_text (single (codes "rule") (number (unsigned rule)))) }
+{
+    push_number(out, b"{\"rule\":", rule as u32)?;
+    push(out, b"}")?;
+    Ok(())
+}
+
+fn push_not_held(out: &mut Vec<u8>, p: &Policy, state: StepState) -> Result<(), AllocError>
+    ensures { OnOk result (out.new.items ≡ out.old.items ++ compact_text (single (codes "not_held") (state_data p.now state))) }
+{
+    push(out, b"{\"not_held\":")?;
+    push_state(out, p, state)?;
+    push(out, b"}")?;
+    Ok(())
+}
+
+#[tactic(auto, unfolding(json::specs::Print::escape_byte))]
+fn push_unknown(out: &mut Vec<u8>, missing: Missing) -> Result<(), AllocError>
+    ensures { OnOk result (out.new.items ≡ out.old.items ++ compact_text (single (codes "unknown") (missing_data missing))) }
+{
+    match missing {
+        Missing::Flow => push(out, b"{\"unknown\":\"flow\"}"),
+        Missing::Step => push(out, b"{\"unknown\":\"step\"}"),
+        Missing::Relation => push(out, b"{\"unknown\":\"relation\"}"),
+        Missing::User => push(out, b"{\"unknown\":\"user\"}"),
+        Missing::Role => push(out, b"{\"unknown\":\"role\"}"),
+    }
+}
+
+fn push_strands(
+    alloc: Global,
+    out: &mut Vec<u8>,
+    p: &Policy,
+    case: CaseId,
+    f: FlowId,
+    tree: &Tree,
+) -> Result<(), AllocError>
+    ensures { OnOk result (out.new.items ≡ out.old.items ++ compact_text (single (codes "strands") (strands_data case (tree_data p.now f (shape_of tree.now))))) }
+{
+    push_case(out, b"{\"strands\":{\"case\":", case)?;
+    push(out, b",\"tree\":")?;
+    push_tree(alloc, out, p, f, tree)?;
+    push(out, b"}}")?;
+    Ok(())
+}
+
+#[tactic(auto, unfolding(json::specs::Print::escape_byte))]
+fn push_state(out: &mut Vec<u8>, p: &Policy, state: StepState) -> Result<(), AllocError>
+    ensures { OnOk result (out.new.items ≡ out.old.items ++ compact_text (state_data p.now state)) }
+{
+    let users = p.roster().users();
+    match state {
+        StepState::Free => push(out, b"\"free\""),
+        StepState::Held(u) => push_name_in(out, b"{\"held\":", users, u.0, b"}"),
+        StepState::Finished(u) => push_name_in(out, b"{\"finished\":", users, u.0, b"}"),
+    }
+}
+
+// Adds bytes, the name of a step and a closing brace.
+fn push_step_in(
+    out: &mut Vec<u8>,
+    before: &[u8],
+    p: &Policy,
+    f: FlowId,
+    s: StepId,
+) -> Result<(), AllocError>
+    ensures { OnOk result (out.new.items ≡ out.old.items ++ (before.now ++ (compact_text (step_data p.now f s) ++ 125 ∷ []))) }
+{
+    push(out, before)?;
+    push_step(out, p, f, s)?;
+    push(out, b"}")?;
+    Ok(())
+}
+
+fn push_step(out: &mut Vec<u8>, p: &Policy, f: FlowId, s: StepId) -> Result<(), AllocError>
+    ensures { OnOk result (out.new.items ≡ out.old.items ++ compact_text (step_data p.now f s)) }
+{
+    if (f.0 as u16) < p.flows().len() {
+        push_name(out, p.flow(f).steps(), s.0 as u16)
+    } else {
+        push(out, b"\"\"")
+    }
+}
+
+// Adds bytes, the names of roles and a closing brace.
+fn push_roles_in(
+    out: &mut Vec<u8>,
+    before: &[u8],
+    p: &Policy,
+    roles: &[RoleId],
+) -> Result<(), AllocError>
+    ensures { OnOk result (out.new.items ≡ out.old.items ++ (before.now ++ (compact_text (names_data p.now.roster.roles roles.now) ++ 125 ∷ []))) }
+{
+    push(out, before)?;
+    push_roles(out, p.roster().roles(), roles)?;
+    push(out, b"}")?;
+    Ok(())
+}
+
+// Adds bytes, a tree and a closing brace.
+fn push_tree_in(
+    alloc: Global,
+    out: &mut Vec<u8>,
+    before: &[u8],
+    p: &Policy,
+    f: FlowId,
+    tree: &Tree,
+) -> Result<(), AllocError>
+    ensures { OnOk result (out.new.items ≡ out.old.items ++ (before.now ++ (compact_text (tree_data p.now f (shape_of tree.now)) ++ 125 ∷ []))) }
+{
+    push(out, before)?;
+    push_tree(alloc, out, p, f, tree)?;
+    push(out, b"}")?;
+    Ok(())
+}
+
+#[tactic(auto, using(crate::proofs::Floats::shape_without_float))]
+fn push_tree(
+    alloc: Global,
+    out: &mut Vec<u8>,
+    p: &Policy,
+    f: FlowId,
+    tree: &Tree,
+) -> Result<(), AllocError>
+    ensures { OnOk result (out.new.items ≡ out.old.items ++ compact_text (tree_data p.now f (shape_of tree.now))) }
+{
+    let text = tree_value(alloc, p, f, tree)?.to_string(alloc)?;
+    push(out, text.as_bytes())?;
+    Ok(())
+}

@@ -1,7 +1,0 @@
-use Rattle.std.proofs.Common.{◌<◌, ℕ, length}
-use Rattle.constraint_forms.specs.Assigned.{planned}
-use Rattle.wsp_solver.proofs.found.has_known.Given as goal
-
--- the policy has the users of the steps so far
-abbrev pub invariant-steps : goal.invariant-steps
-invariant-steps l = (t : ℕ) → t < l.s → planned l.plan t < length l.p.roster.users
