@@ -1,0 +1,12 @@
+pub mod Ended
+pub mod ReadBack
+pub mod Readings
+pub mod NamesBack
+pub mod TreeParts
+pub mod TreesBack
+pub mod PlainReplies
+pub mod RepliesBack
+pub mod RepliesWithin
+pub mod LinesBack
+pub mod Small
+pub mod Flows

@@ -1,0 +1,163 @@
+-- Replies are read as they were written.
+use Rattle.std.proofs.Common.{◌≡◌, ℕ, ◌<◌, ◌≤◌, ◌^◌, List, [], ◌∷◌, length, refl, ap, ◌∙◌, arith, lt-ltb, le-leb, true}
+use Rattle.std.specs.Prelude.{codes, map, Option, Some, option_map, option_and_then, nat_lt}
+use Rattle.std.specs.List.{All}
+use Rattle.serde_json.specs.View.{items_of}
+use Rattle.wf_names.specs.declared.limits.TheConstants.{STEP_LIMIT, CASE_NUMBER_LIMIT}
+use Rattle.wf_names.specs.declared.states.StepState.{StepState}
+use Rattle.wf_names.specs.declared.states.StepState.TheVariants.{Free, Held, Finished}
+use Rattle.wf_names.specs.declared.states.Phase.{Phase}
+use Rattle.wf_names.specs.declared.states.Phase.TheVariants.{Live, Done, Withdrawn}
+use Rattle.refutation_tree.specs.Views.{shape_of}
+use Rattle.refutation_tree.specs.declared.tree.Tree.{Tree}
+use Rattle.refutation_tree.specs.declared.tree.Tree.TheVariants.{Holder, Rule, Step}
+use Rattle.wf_talk.specs.declared.edit.Missing.{Missing}
+use Rattle.wf_talk.specs.declared.edit.Missing.TheVariants as missing
+use Rattle.wf_talk.specs.declared.request.Bad.{Bad}
+use Rattle.wf_talk.specs.declared.request.Bad.TheVariants as bad
+use Rattle.wf_talk.specs.declared.reply.Face.{Face}
+use Rattle.wf_talk.specs.declared.reply.Reply.{Reply}
+use Rattle.wf_talk.specs.declared.reply.Reply.TheVariants as reply
+use Rattle.wf_talk.specs.declared.reply.Denial.{Denial}
+use Rattle.wf_talk.specs.declared.reply.Denial.TheVariants as denial
+use Rattle.policy_book.specs.Shapes.{PolicyShape}
+use Rattle.policy_book.specs.Policies.{flow_at}
+use Rattle.wire_json.specs.Entries.{named, step_data, plan_data, state_data, seen_data, bad_data}
+use Rattle.wire_json.specs.Trees.{tree_data}
+use Rattle.wire_json.specs.Replies.{missing_data, strands_data, denial_data, face_data, reply_data}
+use Rattle.wf_names.specs.Table.{AreNames}
+use Rattle.entry_reader.specs.Named.{HasNames}
+use Rattle.entry_reader.specs.Within.{IsPlan, IsTree, IsState, IsFace, IsBad, IsConcerned, IsDenial, IsReply}
+use Rattle.entry_reader.specs.Values.{each_in, few, few_in, numbered, user_in, user_state, seen_in, state_in, tree_in}
+use Rattle.entry_reader.specs.Told.{tree_from, flow_within, tree_by, step_by, strands_in, missing_in, denial_in, states_in, phase_in, flow_in, face_in, bad_in, reply_in}
+use Rattle.entry_reader.proofs.NamesBack.{numbered_named}
+use Rattle.entry_reader.proofs.PlainReplies.{all_first, all_more}
+use Rattle.entry_reader.proofs.TreesBack.{below_back, user_back, step_back, tree_back}
+
+-- ---- lists
+
+names_back : (names : List (List ℕ)) (ns : List ℕ) → AreNames names → All (λ n. n < length names) ns → each_in (numbered names) (items_of (map (named names) ns)) ≡ Some ns
+names_back names [] k h = refl
+names_back names (n ∷ ns) k h =
+    ap (option_and_then (λ x. option_map (λ xs. x ∷ xs) (each_in (numbered names) (items_of (map (named names) ns))))) (numbered_named names n k (all_first (λ m. m < length names) n ns h))
+    ∙ ap (option_map (λ xs. n ∷ xs)) (names_back names ns k (all_more (λ m. m < length names) n ns h))
+
+few_back : {X : Type 0} (xs : List X) → length xs ≤ STEP_LIMIT → few xs ≡ Some xs
+few_back xs h = rw (le-leb (length xs) STEP_LIMIT h) refl
+
+plan_back : (p : PolicyShape) (plan : List ℕ) → HasNames p → IsPlan p plan → few_in (user_in p) (plan_data p.roster.users plan) ≡ Some plan
+plan_back p plan k h = ap (option_and_then few) (names_back p.roster.users plan k.users h.1) ∙ few_back plan h.0
+
+-- ---- states
+
+state_back : (p : PolicyShape) (s : StepState) → HasNames p → IsState p s → state_in p (state_data p s) ≡ Some s
+state_back p Free k h = refl
+state_back p (Held u) k h = ap (option_and_then (user_state (codes "held"))) (user_back p u k h)
+state_back p (Finished u) k h = ap (option_and_then (user_state (codes "finished"))) (user_back p u k h)
+
+seen_back : (p : PolicyShape) (s : StepState) → HasNames p → IsState p s → seen_in p (seen_data p s) ≡ Some s
+seen_back p Free k h = refl
+seen_back p (Held u) k h = ap (option_and_then (user_state (codes "held"))) (user_back p u k h)
+seen_back p (Finished u) k h = ap (option_and_then (user_state (codes "finished"))) (user_back p u k h)
+
+states_back : (p : PolicyShape) (states : List StepState) → HasNames p → All (IsState p) states → each_in (seen_in p) (items_of (map (seen_data p) states)) ≡ Some states
+states_back p [] k h = refl
+states_back p (s ∷ states) k h =
+    ap (option_and_then (λ x. option_map (λ xs. x ∷ xs) (each_in (seen_in p) (items_of (map (seen_data p) states))))) (seen_back p s k (all_first (IsState p) s states h))
+    ∙ ap (option_map (λ xs. s ∷ xs)) (states_back p states k (all_more (IsState p) s states h))
+
+phase_back : (p : PolicyShape) (face : Face) (phase : Phase) → face.phase ≡ phase → phase_in (face_data p face) ≡ Some phase
+phase_back p face Live e = rw e refl
+phase_back p face Done e = rw e refl
+phase_back p face Withdrawn e = rw e refl
+
+face_back : (p : PolicyShape) (face : Face) → HasNames p → IsFace p face → face_in p (face_data p face) ≡ Some face
+face_back p face k h =
+    let flow : flow_in p (face_data p face) ≡ Some face.flow = numbered_named p.flow_names face.flow k.flow_names h.0 in
+    let phase : phase_in (face_data p face) ≡ Some face.phase = phase_back p face face.phase refl in
+    let states : states_in p (face_data p face) ≡ Some face.states = ap (option_and_then few) (states_back p face.states k h.2) ∙ few_back face.states h.1 in
+    rw (flow, phase, states) refl
+
+-- ---- denials
+
+tree_again : (t : Tree) → tree_from (shape_of t) ≡ t
+tree_again (Holder s) = refl
+tree_again (Rule k) = refl
+tree_again (Step s kids) = refl
+
+flow_back : (p : PolicyShape) (o : Option ℕ) (f : ℕ) → IsConcerned p o f → flow_within p o ≡ Some f
+flow_back p o f h = ap (flow_within p) h.0 ∙ rw (lt-ltb f (length p.flow_names) h.1) refl
+
+tree_by_back : (p : PolicyShape) (o : Option ℕ) (f : ℕ) (t : Tree) → HasNames p → IsConcerned p o f → IsTree p f (shape_of t) → tree_by p o (tree_data p f (shape_of t)) ≡ Some (f, t)
+tree_by_back p o f t k c h =
+    ap (option_and_then (λ n. option_map (λ x. (n, tree_from x)) (tree_in p n (tree_data p f (shape_of t))))) (flow_back p o f c)
+    ∙ ap (option_map (λ x. (f, tree_from x))) (tree_back p f (shape_of t) k h) ∙ ap (λ x. Some (f, x)) (tree_again t)
+
+step_by_back : (p : PolicyShape) (o : Option ℕ) (f s : ℕ) → HasNames p → IsConcerned p o f → s < length (flow_at p f).flow.steps → step_by p o (step_data p f s) ≡ Some (f, s)
+step_by_back p o f s k c h =
+    ap (option_and_then (λ n. option_map (λ x. (n, x)) (numbered (flow_at p n).flow.steps (step_data p f s)))) (flow_back p o f c)
+    ∙ ap (option_map (λ x. (f, x))) (step_back p f s k h)
+
+case_back : (c : ℕ) → c ≤ 65535 → nat_lt c 65536 ≡ true
+case_back c h = lt-ltb c 65536 (omega (arith, h))
+
+strands_back : (p : PolicyShape) (flows : ℕ → Option ℕ) (c f : ℕ) (t : Tree) → HasNames p → c ≤ CASE_NUMBER_LIMIT → IsConcerned p (flows c) f → IsTree p f (shape_of t)
+    → strands_in p flows (strands_data c (tree_data p f (shape_of t))) ≡ Some (denial.Strands c f t)
+strands_back p flows c f t k few_cases concerns h =
+    rw (case_back c few_cases) (ap (option_map (λ x. denial.Strands c x.0 x.1)) (tree_by_back p (flows c) f t k concerns h))
+
+missing_back : (what : Missing) → missing_in (missing_data what) ≡ Some what
+missing_back missing.Flow = refl
+missing_back missing.Step = refl
+missing_back missing.Relation = refl
+missing_back missing.User = refl
+missing_back missing.Role = refl
+
+denial_back : (p : PolicyShape) (flows : ℕ → Option ℕ) (f : Option ℕ) (d : Denial) → HasNames p → IsDenial p flows f d → denial_in p flows f (denial_data p d) ≡ Some d
+unfolding denial_in
+denial_back p flows f denial.NoFlow k h = refl
+denial_back p flows f denial.Retired k h = refl
+denial_back p flows f denial.Full k h = refl
+denial_back p flows f (denial.Unsatisfiable g t) k h = ap (option_map (λ x. denial.Unsatisfiable x.0 x.1)) (tree_by_back p f g t k h.0 h.1)
+denial_back p flows f denial.NoCase k h = refl
+denial_back p flows f denial.Closed k h = refl
+denial_back p flows f denial.NoStep k h = refl
+denial_back p flows f denial.NoUser k h = refl
+denial_back p flows f (denial.Taken u) k h = ap (option_map denial.Taken) (user_back p u k h)
+denial_back p flows f (denial.Order g s) k h = ap (option_map (λ x. denial.Order x.0 x.1)) (step_by_back p f g s k h.0 h.1)
+denial_back p flows f (denial.Role roles) k h = ap (option_map denial.Role) (names_back p.roster.roles roles k.roles h)
+denial_back p flows f (denial.Rule n) k h = ap (option_map denial.Rule) (below_back 256 n h)
+denial_back p flows f (denial.Stranded g t) k h = ap (option_map (λ x. denial.Stranded x.0 x.1)) (tree_by_back p f g t k h.0 h.1)
+denial_back p flows f (denial.NotHeld s) k h = ap (option_map denial.NotHeld) (state_back p s k h)
+denial_back p flows f denial.NotAdmin k h = refl
+denial_back p flows f (denial.Unknown what) k h = ap (option_map denial.Unknown) (missing_back what)
+denial_back p flows f denial.Fixed k h = refl
+denial_back p flows f denial.Already k h = refl
+denial_back p flows f denial.Absent k h = refl
+denial_back p flows f denial.LastAdmin k h = refl
+denial_back p flows f (denial.Strands c g t) k h = strands_back p flows c g t k h.0 h.1 h.2
+
+-- ---- replies
+
+bad_back : (b : Bad) → IsBad b → bad_in (bad_data b) ≡ Some b
+bad_back bad.Syntax h = refl
+bad_back bad.Object h = refl
+bad_back bad.Do h = refl
+bad_back bad.Lane h = refl
+bad_back (bad.Key key) h = rw h refl
+bad_back bad.Extra h = refl
+
+pub reply_back : (p : PolicyShape) (flows : ℕ → Option ℕ) (f : Option ℕ) (r : Reply) → HasNames p → IsReply p flows f r → reply_in p flows f (reply_data p r) ≡ Some r
+unfolding reply_in
+reply_back p flows f (reply.Granted plan) k h = ap (option_map reply.Granted) (plan_back p plan k h)
+reply_back p flows f (reply.Finished done) k h = refl
+reply_back p flows f reply.Returned k h = refl
+reply_back p flows f reply.Released k h = refl
+reply_back p flows f (reply.Opened c plan) k h = rw (case_back c h.0) (ap (option_map (reply.Opened c)) (plan_back p plan k h.1))
+reply_back p flows f reply.Withdrawn k h = refl
+reply_back p flows f (reply.Edited n) k h = rw (lt-ltb n (2 ^ 32) h) refl
+reply_back p flows f (reply.Shown face) k h = ap (option_map reply.Shown) (face_back p face k h)
+reply_back p flows f (reply.Denied d) k h = ap (option_map reply.Denied) (denial_back p flows f d k h)
+reply_back p flows f (reply.Again rounds n) k h = rw (lt-ltb n (2 ^ 32) h.1, lt-ltb rounds 256 h.0) refl
+reply_back p flows f reply.NoMemory k h = refl
+reply_back p flows f (reply.Bad b) k h = ap (option_map reply.Bad) (bad_back b h)

@@ -1,0 +1,17 @@
+-- Inside: code that reads a value.
+use Rattle.std.specs.Prelude.{◌≡◌, Option, None, Some, Result, Ok, Err, option_map}
+use Rattle.refutation_tree.specs.Shapes.{Kids}
+use Rattle.refutation_tree.specs.Views.{branch_onto}
+use Rattle.refutation_tree.specs.declared.tree.Branch.{Branch}
+use Rattle.entry_reader.specs.declared.fault.TextFault.{TextFault}
+use Rattle.entry_reader.specs.declared.fault.TextFault.TheVariants.{NotText}
+
+-- code returned what a reading gives, seen by view; want of memory says nothing
+abbrev pub Reads : {X Y : Type 0} → (X → Y) → Result X TextFault → Option Y → Type 0
+Reads view (Ok x) reading = reading ≡ Some (view x)
+Reads view (Err e) reading = e ≡ NotText → reading ≡ None
+
+-- the same of a branch, put before the others
+abbrev pub ReadsOnto : Result Branch TextFault → Option Kids → Option Kids → Type 0
+ReadsOnto (Ok b) rest reading = reading ≡ option_map (branch_onto b) rest
+ReadsOnto (Err e) rest reading = e ≡ NotText → reading ≡ None

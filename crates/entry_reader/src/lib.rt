@@ -1,0 +1,22 @@
+//! Reading a transcript's lines back: the place that a line names, and the reply that it tells.
+#![tactic(auto)]
+
+mod denial;
+mod fault;
+mod flows;
+mod json;
+mod kind;
+mod list;
+mod names;
+mod parts;
+mod place;
+mod reply;
+#[cfg(test)]
+mod tests;
+mod tree;
+
+pub use fault::TextFault;
+pub use flows::FlowOf;
+pub use place::{Place, read_place};
+pub use reply::read_reply;
+pub use tree::tree_of;

@@ -1,0 +1,103 @@
+//! Lists of users, roles and states.
+ghost use Rattle.std.specs.Prelude.{◌≡◌};
+ghost use Rattle.serde_json.specs.View.{view, items_view};
+ghost use Rattle.serde_json.specs.Find.{as_array};
+ghost use Rattle.entry_reader.specs.Reads.{Reads};
+ghost use Rattle.entry_reader.specs.Values as read;
+ghost use Rattle.entry_reader.specs.Told as told;
+
+use crate::TextFault;
+use crate::parts::{numbered, seen_of, user_of};
+use basics::List;
+use policy_book::{Plan, Policy};
+use serde_json::Value;
+use std::alloc::Global;
+use wf_names::{RoleId, STEP_LIMIT, StepState, UserId};
+use wf_talk::{RoleList, States};
+
+/// The plan at the key plan.
+pub(crate) fn plan_of(alloc: Global, p: &Policy, value: &Value) -> Result<Plan, TextFault>
+    ensures { Reads (λ plan. plan) result (told.plan_in p.now (view value.now)) }
+{
+    let Some(value) = value.get("plan") else {
+        return Err(TextFault::NotText);
+    };
+    let users = users_of(alloc, p, items_of(value)?)?;
+    if users.len() > STEP_LIMIT {
+        return Err(TextFault::NotText);
+    }
+    Ok(Plan::of(users.as_slice()))
+}
+
+/// The states at the key steps.
+pub(crate) fn states_of(alloc: Global, p: &Policy, value: &Value) -> Result<States, TextFault>
+    ensures { Reads (λ states. states) result (told.states_in p.now (view value.now)) }
+{
+    let Some(value) = value.get("steps") else {
+        return Err(TextFault::NotText);
+    };
+    let states = each_state(alloc, p, items_of(value)?)?;
+    if states.len() > STEP_LIMIT {
+        return Err(TextFault::NotText);
+    }
+    Ok(States::of(states.as_slice()))
+}
+
+/// Roles.
+pub(crate) fn roles_of(alloc: Global, p: &Policy, value: &Value) -> Result<RoleList, TextFault>
+    ensures { Reads (λ roles. roles) result (told.roles_in p.now (view value.now)) }
+{
+    each_role(alloc, p, items_of(value)?)
+}
+
+// The items of an array.
+fn items_of(value: &Value) -> Result<&[Value], TextFault>
+    ensures { Reads (λ items. items_view items.now) result (as_array (view value.now)) }
+{
+    match value.as_array() {
+        Some(items) => Ok(items),
+        None => Err(TextFault::NotText),
+    }
+}
+
+#[tactic(auto, using(crate::proofs::Readings::each_more, crate::proofs::Readings::each_none, crate::proofs::Readings::each_end, crate::proofs::Readings::each_start))]
+fn users_of(alloc: Global, p: &Policy, items: &[Value]) -> Result<List<UserId>, TextFault>
+    ensures { Reads (λ users. users) result (read.each_in (read.user_in p.now) (items_view items.now)) }
+{
+    let mut users = List::new(alloc);
+    'items: for item in items {
+        let Some(user) = user_of(p, item) else {
+            return Err(TextFault::NotText);
+        };
+        users.push(user)?;
+    }
+    Ok(users)
+}
+
+#[tactic(auto, using(crate::proofs::Readings::each_more, crate::proofs::Readings::each_none, crate::proofs::Readings::each_end, crate::proofs::Readings::each_start))]
+fn each_state(alloc: Global, p: &Policy, items: &[Value]) -> Result<List<StepState>, TextFault>
+    ensures { Reads (λ states. states) result (read.each_in (read.seen_in p.now) (items_view items.now)) }
+{
+    let mut states = List::new(alloc);
+    'items: for item in items {
+        let Some(state) = seen_of(p, item) else {
+            return Err(TextFault::NotText);
+        };
+        states.push(state)?;
+    }
+    Ok(states)
+}
+
+#[tactic(auto, using(crate::proofs::Readings::each_more, crate::proofs::Readings::each_none, crate::proofs::Readings::each_end, crate::proofs::Readings::each_start))]
+fn each_role(alloc: Global, p: &Policy, items: &[Value]) -> Result<RoleList, TextFault>
+    ensures { Reads (λ roles. roles) result (read.each_in (read.numbered p.now.roster.roles) (items_view items.now)) }
+{
+    let mut roles = List::new(alloc);
+    'items: for item in items {
+        let Some(role) = numbered(p.roster().roles(), item) else {
+            return Err(TextFault::NotText);
+        };
+        roles.push(RoleId(role as u8))?;
+    }
+    Ok(roles)
+}

@@ -1,0 +1,228 @@
+//! What no clause shows: that lines are read while there is memory.
+ghost use Rattle.std.specs.Prelude.{◌≡◌, ◌≤◌, ℕ, Some, length, IfOk};
+ghost use Rattle.std.specs.FinSet as set;
+
+use crate::{FlowOf, Place, TextFault, read_place, read_reply, tree_of};
+use policy_book::{Flow, Policy, Relations, Roster, Rules};
+use refutation_tree::Tree;
+use serde_json::Value;
+use std::alloc::{AllocError, Global};
+use std::test::Fail;
+use wf_names::{CaseId, FlowId, Name, NameTable, RoleId};
+use wf_talk::{Ask, Reply, Request};
+
+// Each case is of the first workflow.
+struct OneFlow;
+
+impl FlowOf for OneFlow {
+    ghost flows = { λ _ _. Some 0 };
+
+    fn flow_of(&self, _case: CaseId) -> Option<FlowId> {
+        Some(FlowId(0))
+    }
+}
+
+#[test]
+fn replies_are_read(rt: HostRuntime) -> Result<(), Fail> {
+    let p = policy(rt.alloc())?;
+    for reply in replies() {
+        assert!(rt; is_told(rt.alloc(), &p, reply)?, "{reply}");
+    }
+    Ok(())
+}
+
+fn replies() -> [&'static str; 16] {
+    [
+        r#"{"granted":{"plan":["ann","cyd","bob"]}}"#,
+        r#"{"finished":{"done":true}}"#,
+        r#""returned""#,
+        r#""released""#,
+        r#"{"opened":{"case":65535,"plan":["ann"]}}"#,
+        r#""withdrawn""#,
+        r#"{"edited":{"number":4294967295}}"#,
+        r#"{"view":{"flow":"pay","phase":"open","steps":[["finished","ann"],["held","cyd"],["free"]]}}"#,
+        r#"{"again":{"at":4294967295,"rounds":255}}"#,
+        r#""no_memory""#,
+        r#"{"bad":"syntax"}"#,
+        r#"{"bad":{"key":"case"}}"#,
+        r#"{"denied":"last_admin"}"#,
+        r#"{"denied":{"role":["boss","clerk"]}}"#,
+        r#"{"denied":{"unknown":"relation"}}"#,
+        r#"{"denied":{"strands":{"case":7,"tree":{"rule":255}}}}"#,
+    ]
+}
+
+#[test]
+fn denials_are_read(rt: HostRuntime) -> Result<(), Fail> {
+    let p = policy(rt.alloc())?;
+    for denial in denials() {
+        assert!(rt; is_denied(rt.alloc(), &p, denial)?, "{denial}");
+    }
+    Ok(())
+}
+
+fn denials() -> [&'static str; 9] {
+    [
+        r#"{"taken":"ann"}"#,
+        r#"{"order":"approve"}"#,
+        r#"{"rule":9}"#,
+        r#"{"stranded":{"holder":"pay"}}"#,
+        r#"{"unsatisfiable":{"step":"pay","users":[]}}"#,
+        r#"{"stranded":{"step":"pay","users":[["ann",{"rule":2}],["bob",{"twin":"ann"}]]}}"#,
+        r#"{"not_held":"free"}"#,
+        r#"{"not_held":{"held":"ann"}}"#,
+        r#"{"not_held":{"finished":"eve"}}"#,
+    ]
+}
+
+#[test]
+fn other_texts_are_not_read(rt: HostRuntime) -> Result<(), Fail> {
+    let p = policy(rt.alloc())?;
+    for text in other_texts() {
+        assert!(rt; is_refused(rt.alloc(), &p, text)?, "{text}");
+    }
+    assert!(rt; is_refused(rt.alloc(), &p, &deep_text(rt.alloc())?)?);
+    Ok(())
+}
+
+// Lines that are the text of no entry for a claim.
+fn other_texts() -> [&'static str; 16] {
+    [
+        "",
+        "{\"at\":4,\"lane\":1,\"line\":7,\"reply\":\"returned\"",
+        "{\"at\":4,\"lane\":1,\"line\":7,\"reply\":\"returned\"}",
+        "{\"at\":4,\"lane\":1,\"line\":7,\"reply\": \"returned\"}\n",
+        "{\"at\":4,\"lane\":1,\"line\":7,\"reply\":\"returned\"}\r\n",
+        "{\"lane\":1,\"at\":4,\"line\":7,\"reply\":\"returned\"}\n",
+        "{\"at\":4,\"at\":4,\"lane\":1,\"line\":7,\"reply\":\"returned\"}\n",
+        "{\"at\":4,\"lane\":256,\"line\":7,\"reply\":\"returned\"}\n",
+        "{\"at\":4,\"lane\":1,\"line\":7,\"reply\":\"kept\"}\n",
+        "{\"at\":4,\"lane\":1,\"line\":7,\"reply\":{\"denied\":{\"rule\":300}}}\n",
+        "{\"at\":4,\"lane\":1,\"line\":7,\"reply\":{\"granted\":{\"plan\":[\"dan\"]}}}\n",
+        "{\"at\":4,\"lane\":1,\"line\":7,\"reply\":{\"granted\":{\"plan\":[\"\\u0061nn\"]}}}\n",
+        "{\"at\":4,\"lane\":1,\"line\":7,\"reply\":{\"opened\":{\"case\":65536,\"plan\":[]}}}\n",
+        "{\"at\":4,\"lane\":1,\"line\":7,\"reply\":{\"again\":{\"at\":4294967296,\"rounds\":1}}}\n",
+        "{\"at\":4,\"lane\":1,\"line\":7,\"reply\":{\"denied\":{\"taken\":\"ann\",\"why\":1}}}\n",
+        "{\"at\":4,\"lane\":1,\"line\":7,\"reply\":{\"denied\":{\"order\":\"sign\"}}}\n",
+    ]
+}
+
+// A line with a tree that nests 200 levels.
+fn deep_text(alloc: Global) -> Result<String, AllocError> {
+    let mut text = String::from_str(
+        alloc,
+        "{\"at\":4,\"lane\":1,\"line\":7,\"reply\":{\"denied\":{\"stranded\":",
+    )?;
+    for _ in 0..200u32 {
+        text.push_str("{\"step\":\"pay\",\"users\":[[\"ann\",")?;
+    }
+    text.push_str("{\"rule\":0}")?;
+    for _ in 0..200u32 {
+        text.push_str("]]}")?;
+    }
+    text.push_str("}}}\n")?;
+    Ok(text)
+}
+
+#[test]
+fn places_are_read(rt: HostRuntime) -> Result<(), Fail> {
+    let place = Place {
+        at: 4,
+        lane: 1,
+        line: 7,
+    };
+    let line = b" {\"reply\":0,\"line\":7,\"at\":4,\"lane\":1} \n";
+    assert!(rt; read_place(rt.alloc(), line.as_slice()) == Ok(place));
+    let other = b"{\"at\":4.0,\"lane\":1,\"line\":7}\n";
+    assert!(rt; read_place(rt.alloc(), other.as_slice()) == Err(TextFault::NotText));
+    Ok(())
+}
+
+#[test]
+fn a_tree_is_read(rt: HostRuntime) -> Result<(), Fail> {
+    let p = policy(rt.alloc())?;
+    assert!(rt; is_rule(rt.alloc(), &p, "{\"rule\":255}", 255)?);
+    assert!(rt; !is_rule(rt.alloc(), &p, "{\"rule\":256}", 0)?);
+    Ok(())
+}
+
+// Whether a text is that of a leaf that names this rule.
+fn is_rule(alloc: Global, p: &Policy, text: &str, rule: u8) -> Result<bool, Fail> {
+    let value = Value::from_str(alloc, text)?;
+    Ok(matches!(tree_of(alloc, p, FlowId(0), &value), Ok(Tree::Rule(k)) if k == rule))
+}
+
+// Whether the line with a reply is read.
+fn is_told(alloc: Global, p: &Policy, reply: &str) -> Result<bool, Fail> {
+    let text = format!(in alloc; "{{\"at\":4,\"lane\":1,\"line\":7,\"reply\":{reply}}}\n")?;
+    Ok(told(alloc, p, text.as_bytes())?.is_ok())
+}
+
+fn is_denied(alloc: Global, p: &Policy, denial: &str) -> Result<bool, Fail> {
+    let reply = format!(in alloc; "{{\"denied\":{denial}}}")?;
+    is_told(alloc, p, &reply)
+}
+
+fn is_refused(alloc: Global, p: &Policy, text: &str) -> Result<bool, Fail> {
+    Ok(matches!(told(alloc, p, text.as_bytes())?, Err(TextFault::NotText)))
+}
+
+fn told(alloc: Global, p: &Policy, text: &[u8]) -> Result<Result<Reply, TextFault>, Fail> {
+    let ask = Ask::Request(Request::Claim {
+        case: CaseId(7),
+        step: read("pay")?,
+        user: read("ann")?,
+    });
+    Ok(read_reply(alloc, p, &OneFlow, &ask, text))
+}
+
+// A policy of four users with one workflow of three steps.
+fn policy(alloc: Global) -> Result<Policy, Fail> {
+    let roster = roster(alloc)?;
+    let flow = flow(alloc)?;
+    start(alloc, roster, flow)
+}
+
+fn roster(alloc: Global) -> Result<Roster, Fail> {
+    let roles = names(alloc, &["boss", "chief", "clerk"])?;
+    let mut roster = Roster::new(alloc, roles)?;
+    for name in ["ann", "bob", "cyd", "eve"] {
+        roster.add_user(read(name)?)?;
+    }
+    Ok(roster)
+}
+
+fn flow(alloc: Global) -> Result<Flow, Fail>
+    ensures { IfOk result (λ f. f.permits ≡ set.empty) }
+{
+    let steps = names(alloc, &["prepare", "approve", "pay"])?;
+    Ok(Flow::build(alloc, steps, &[], &[])?)
+}
+
+fn start(alloc: Global, roster: Roster, flow: Flow) -> Result<Policy, Fail>
+    requires { flow.permits ≡ set.empty }
+{
+    if roster.roles().len() == 0 {
+        return Err("no roles")?;
+    }
+    let mut p = Policy::start(alloc, roster, Relations::new(alloc)?, RoleId(0))?;
+    p.add_flow(read("pay")?, flow, Rules::new(alloc))?;
+    Ok(p)
+}
+
+fn names(alloc: Global, texts: &[&str]) -> Result<NameTable, Fail>
+    ensures { IfOk result (λ t. length t.names ≤ 4) }
+{
+    let mut table = NameTable::new(alloc, 4)?;
+    for text in texts {
+        table.add(read(text)?)?;
+    }
+    if 4 < table.len() {
+        return Err("too many names")?;
+    }
+    Ok(table)
+}
+
+fn read(text: &str) -> Result<Name, Fail> {
+    Ok(Name::read(text).ok_or("not a name")?)
+}

@@ -1,0 +1,167 @@
+//! The tree that a value is.
+ghost use Rattle.std.specs.Prelude.{◌≡◌, ◌≢◌, IfOk, IsErrOf, Option, option_map};
+ghost use Rattle.serde_json.specs.View.{view, items_view};
+ghost use Rattle.refutation_tree.specs.Shapes.{Shape, Kids};
+ghost use Rattle.refutation_tree.specs.Views.{shape_of, branch_onto};
+ghost use Rattle.wire_json.specs.Trees.{tree_data};
+ghost use Rattle.entry_reader.specs.declared.fault.TextFault.TheVariants.{NotText};
+ghost use Rattle.entry_reader.specs.Within.{IsTree};
+ghost use Rattle.entry_reader.specs.Reads.{Reads, ReadsOnto};
+ghost use Rattle.entry_reader.specs.Values as read;
+
+use crate::TextFault;
+use crate::names::know_names;
+use crate::parts::{only, rule_of, step_of, user_of};
+use policy_book::Policy;
+use refutation_tree::{Branch, Branches, Kid, Tree};
+use serde_json::Value;
+use std::alloc::Global;
+use wf_names::{FlowId, StepId, UserId};
+
+/// The tree over users of the policy and steps of a workflow whose value this is.
+#[tactic(auto, using(crate::proofs::LinesBack::tree_told, crate::proofs::LinesBack::no_tree))]
+pub fn tree_of(alloc: Global, p: &Policy, f: FlowId, value: &Value) -> Result<Tree, TextFault>
+    ensures tree { IfOk result (λ t. IsTree p.now f (shape_of t) × (tree_data p.now f (shape_of t) ≡ view value.now)) }
+    ensures none { IsErrOf result NotText → (t : Shape) → IsTree p.now f t → tree_data p.now f t ≢ view value.now }
+{
+    know_names(p);
+    read_tree(alloc, p, f, value)
+}
+
+/// What a value reads as: a leaf, or a node with its branches.
+#[cycle(read_tree)]
+#[tactic(auto, using(crate::proofs::TreeParts::tree_of_node, crate::proofs::TreeParts::tree_of_leaf))]
+pub(crate) fn read_tree(
+    alloc: Global,
+    p: &Policy,
+    f: FlowId,
+    value: &Value,
+) -> Result<Tree, TextFault>
+    ensures { Reads shape_of result (read.tree_in p.now f (view value.now)) }
+{
+    match node_parts(value) {
+        Some((step, users)) => read_node(alloc, p, f, step, users),
+        None => read_leaf(p, f, value),
+    }
+}
+
+#[cycle(read_tree)]
+fn read_node(
+    alloc: Global,
+    p: &Policy,
+    f: FlowId,
+    step: &Value,
+    users: &Value,
+) -> Result<Tree, TextFault>
+    ensures { Reads shape_of result (read.node_in p.now f (view step.now) (view users.now)) }
+{
+    let Some(step) = step_of(p, f, step) else {
+        return Err(TextFault::NotText);
+    };
+    let Some(items) = users.as_array() else {
+        return Err(TextFault::NotText);
+    };
+    Ok(Tree::Step(step, read_branches(alloc, p, f, items)?))
+}
+
+#[cycle(read_tree)]
+fn read_branches(
+    alloc: Global,
+    p: &Policy,
+    f: FlowId,
+    items: &[Value],
+) -> Result<Branches, TextFault>
+    ensures { Reads (λ b. b) result (read.kids_in p.now f (items_view items.now)) }
+{
+    let mut branches = Branches::new(alloc);
+    'items: for item in items {
+        branches.push(read_branch(alloc, p, f, item)?)?;
+    }
+    Ok(branches)
+}
+
+// The user of a branch, and the twin that it names, or its tree.
+#[cycle(read_tree)]
+#[tactic(auto, using(crate::proofs::TreeParts::branch_twin, crate::proofs::TreeParts::branch_tree, crate::proofs::TreeParts::branch_bad))]
+fn read_branch(alloc: Global, p: &Policy, f: FlowId, value: &Value) -> Result<Branch, TextFault>
+    ensures { (rest : Option Kids) → ReadsOnto result rest (read.kid_in p.now f (view value.now) rest) }
+{
+    let Some((user, kid)) = branch_parts(value) else {
+        return Err(TextFault::NotText);
+    };
+    let Some(user) = user_of(p, user) else {
+        return Err(TextFault::NotText);
+    };
+    match twin_of(p, kid) {
+        Some(twin) => Ok(Branch {
+            user,
+            kid: Kid::Twin(twin),
+        }),
+        None => {
+            let tree = read_tree(alloc, p, f, kid)?;
+            Ok(Branch {
+                user,
+                kid: Kid::Tree(tree),
+            })
+        }
+    }
+}
+
+// The step and the users of a node.
+fn node_parts(value: &Value) -> Option<(&Value, &Value)>
+    ensures { option_map (λ n. (view n.0.now, view n.1.now)) result ≡ read.node_parts (view value.now) }
+{
+    let mut members = value.as_object()?.iter();
+    let (first, step) = members.next()?;
+    let (second, users) = members.next()?;
+    if members.next().is_none() && first.as_str() == "step" && second.as_str() == "users" {
+        Some((step, users))
+    } else {
+        None
+    }
+}
+
+// A leaf.
+fn read_leaf(p: &Policy, f: FlowId, value: &Value) -> Result<Tree, TextFault>
+    ensures { Reads shape_of result (read.lone_leaf p.now f (view value.now)) }
+{
+    match leaf_of(p, f, value) {
+        Some(tree) => Ok(tree),
+        None => Err(TextFault::NotText),
+    }
+}
+
+fn leaf_of(p: &Policy, f: FlowId, value: &Value) -> Option<Tree>
+    ensures { option_map shape_of result ≡ read.lone_leaf p.now f (view value.now) }
+{
+    let (key, value) = only(value)?;
+    match key {
+        "holder" => Some(Tree::Holder(step_of(p, f, value)?)),
+        "rule" => Some(Tree::Rule(rule_of(value)?)),
+        _ => None,
+    }
+}
+
+// The user and what stands behind it.
+#[tactic(auto, using(crate::proofs::Small::pair_none, crate::proofs::Small::pair_some))]
+fn branch_parts(value: &Value) -> Option<(&Value, &Value)>
+    ensures { option_map (λ b. (view b.0.now, view b.1.now)) result ≡ read.branch_parts (view value.now) }
+{
+    let items = value.as_array()?;
+    if items.len() != 2 {
+        return None;
+    }
+    Some((&items[0], &items[1]))
+}
+
+// The user of a leaf that names a twin.
+fn twin_of(p: &Policy, value: &Value) -> Option<UserId>
+    ensures { result ≡ read.twin_in p.now (view value.now) }
+{
+    let (key, user) = only(value)?;
+    if key == "twin" {
+        user_of(p, user)
+    } else {
+        None
+    }
+}
