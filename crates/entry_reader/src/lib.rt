@@ -4,12 +4,12 @@
 mod denial;
 mod fault;
 mod flows;
-mod json;
 mod kind;
 mod list;
 mod names;
 mod parts;
 mod place;
+mod reading;
 mod reply;
 #[cfg(test)]
 mod tests;

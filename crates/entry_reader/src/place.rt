@@ -5,8 +5,8 @@ ghost use Rattle.entry_reader.specs.declared.fault.TextFault.TheVariants.{NotTex
 ghost use Rattle.entry_reader.specs.Places.{place_in, place_of_line};
 
 use crate::TextFault;
-use crate::json::read_value;
 use crate::parts::number_below;
+use crate::reading::read_value;
 use serde_json::Value;
 use std::alloc::Global;
 
