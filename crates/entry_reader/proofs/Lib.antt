@@ -9,4 +9,4 @@ pub mod RepliesBack
 pub mod RepliesWithin
 pub mod LinesBack
 pub mod Small
-pub mod Flows
+pub mod FlowsBack

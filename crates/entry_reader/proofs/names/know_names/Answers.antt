@@ -2,7 +2,7 @@ use Rattle.std.proofs.Common.{length, subst, ap, ◌∙◌, arith}
 use Rattle.policy_book.specs.Policies.{flow_at}
 use borrow.Author.Count.{below_more}
 use Rattle.wf_names.specs.Table.{AreNames}
-use Rattle.entry_reader.proofs.Flows.{all_steps}
+use Rattle.entry_reader.proofs.FlowsBack.{all_steps}
 use Rattle.entry_reader.proofs.names.know_names.Goals as goal
 
 pub flows-preserved : goal.flows-preserved
