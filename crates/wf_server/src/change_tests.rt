@@ -122,8 +122,11 @@ fn opens_and_grants(alloc: Global, board: &mut Board, user: &str) -> bool {
     opens(alloc, board) && is_granted(alloc, board, user)
 }
 
-// Whether a case of payments is opened with a valid plan.
+// Whether a case of payments is opened with a valid plan, on a board without edits.
 fn opens(alloc: Global, board: &mut Board) -> bool {
+    if board.number() != 0 {
+        return false;
+    }
     let Some(flow) = Name::read("pay") else {
         return false;
     };
@@ -134,8 +137,12 @@ fn opens(alloc: Global, board: &mut Board) -> bool {
     }
 }
 
-// Whether a user's claim to prepare the payment is granted, by a valid plan.
+// Whether a user's claim to prepare the payment is granted, by a valid plan, on a board without
+// edits.
 fn is_granted(alloc: Global, board: &mut Board, user: &str) -> bool {
+    if board.number() != 0 {
+        return false;
+    }
     let (Some(step), Some(user)) = (Name::read("prepare"), Name::read(user)) else {
         return false;
     };
