@@ -7,7 +7,6 @@ ghost use Rattle.entry_reader.specs.Values as read;
 ghost use Rattle.entry_reader.specs.Told as told;
 
 use crate::TextFault;
-use crate::flows::FlowOf;
 use crate::kind::{DenialKind, denial_word, missing_word};
 use crate::list::roles_of;
 use crate::parts::{case_of, only, rule_of, state_of, step_of, user_of};
@@ -17,7 +16,7 @@ use refutation_tree::Tree;
 use serde_json::Value;
 use std::alloc::Global;
 use wf_names::{FlowId, StepId};
-use wf_talk::{Denial, Missing};
+use wf_talk::{Denial, FlowOf, Missing};
 
 /// The denial that a value is, where this workflow is concerned.
 #[tactic(auto, unfolding(crate::specs::Told::denial_in))]

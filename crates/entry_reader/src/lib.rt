@@ -3,20 +3,17 @@
 
 mod denial;
 mod fault;
-mod flows;
 mod kind;
 mod list;
 mod names;
 mod parts;
 mod place;
-mod reading;
 mod reply;
 #[cfg(test)]
 mod tests;
 mod tree;
 
 pub use fault::TextFault;
-pub use flows::FlowOf;
 pub use place::{Place, read_place};
 pub use reply::read_reply;
 pub use tree::tree_of;

@@ -6,9 +6,9 @@ ghost use Rattle.entry_reader.specs.Places.{place_in, place_of_line};
 
 use crate::TextFault;
 use crate::parts::number_below;
-use crate::reading::read_value;
 use serde_json::Value;
 use std::alloc::Global;
+use wire_json::read_value;
 
 /// Where an entry stands in a session: its place in the journal, the lane of its job and the number
 /// of the job's line, all counted from 0.

@@ -11,19 +11,17 @@ ghost use Rattle.entry_reader.specs.Told as told;
 
 use crate::TextFault;
 use crate::denial::denial_of;
-use crate::flows::FlowOf;
 use crate::kind::{ReplyKind, bad_word, phase_word, reply_word};
 use crate::list::{plan_of, states_of};
 use crate::names::know_names;
 use crate::parts::{case_of, name_of, number_below, numbered, only};
 use crate::place::place_in;
-use crate::reading::read_value;
 use policy_book::Policy;
 use serde_json::Value;
 use std::alloc::Global;
 use wf_names::{FlowId, Name, Phase};
-use wf_talk::{Ask, Bad, Entry, Face, Reply, Request};
-use wire_json::write_entry;
+use wf_talk::{Ask, Bad, Entry, Face, FlowOf, Reply, Request};
+use wire_json::{read_value, write_entry};
 
 /// The reply of the entry whose text is this line, with its line end, where the entry answers this
 /// ask. The steps and trees in it are of the workflow that is concerned: the one of the case in the

@@ -2,14 +2,14 @@
 ghost use Rattle.std.specs.Prelude.{◌≡◌, ◌≤◌, ℕ, Some, length, IfOk};
 ghost use Rattle.std.specs.FinSet as set;
 
-use crate::{FlowOf, Place, TextFault, read_place, read_reply, tree_of};
+use crate::{Place, TextFault, read_place, read_reply, tree_of};
 use policy_book::{Flow, Policy, Relations, Roster, Rules};
 use refutation_tree::Tree;
 use serde_json::Value;
 use std::alloc::{AllocError, Global};
 use std::test::Fail;
 use wf_names::{CaseId, FlowId, Name, NameTable, RoleId};
-use wf_talk::{Ask, Reply, Request};
+use wf_talk::{Ask, FlowOf, Reply, Request};
 
 // Each case is of the first workflow.
 struct OneFlow;

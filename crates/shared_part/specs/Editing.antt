@@ -1,4 +1,4 @@
--- Inside: what a borrow of a shared part leaves behind.
+-- What a borrow of a shared part leaves behind.
 use Rattle.std.specs.Prelude.{◌≡◌, Result}
 use Rattle.std.specs.Borrow.{LendsSoOk, Fml, RattleType, MutBor}
 use Rattle.shared_part.specs.contracts.Shared.{the_row}

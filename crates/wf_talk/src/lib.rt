@@ -3,6 +3,7 @@
 
 mod edit;
 mod entry;
+mod flows;
 mod job;
 mod lists;
 mod reply;
@@ -13,6 +14,7 @@ mod tests;
 
 pub use edit::{Edit, Missing};
 pub use entry::Entry;
+pub use flows::FlowOf;
 pub use job::Job;
 pub use lists::{Ends, Jobs, Journal, Line, RoleList};
 pub use reply::{Denial, Face, Reply};

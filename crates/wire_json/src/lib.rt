@@ -14,9 +14,11 @@ mod request;
 mod tests;
 mod text;
 mod tree;
+mod value;
 mod word;
 
 pub use finding::{write_plan, write_tree};
 pub use reply::write_entry;
 pub use request::{Asked, read_request};
 pub use tree::tree_value;
+pub use value::read_value;

@@ -7,7 +7,6 @@ ghost use Rattle.serde_json.specs.Find.{as_object};
 ghost use Rattle.first_fault.specs.Reading.{Gives, or_fault, check};
 ghost use Rattle.wf_names.specs.Names.{is_name};
 ghost use Rattle.wf_talk.specs.declared.request.Bad.TheVariants as bad;
-ghost use Rattle.wire_json.specs.Values.{value_of};
 ghost use Rattle.wire_json.specs.Requests as read;
 ghost use Rattle.wire_json.specs.Words.{row_of_word};
 
@@ -16,10 +15,10 @@ use crate::change::{
     unrelate_in,
 };
 use crate::plain::read_plain;
+use crate::value::read_value;
 use crate::word::Word;
 use serde_json::{Map, Value};
 use std::alloc::{AllocError, Global};
-use std::str;
 use wf_names::{CASE_NUMBER_LIMIT, CaseId, Name};
 use wf_talk::{Ask, Bad, Request};
 
@@ -50,21 +49,6 @@ fn read_any(alloc: Global, line: &[u8], lanes: u8) -> Result<Asked, AllocError>
         return Ok(bad_line(Bad::Syntax));
     };
     Ok(asked_in(&value, lanes))
-}
-
-// The JSON value of a line, where it is one.
-#[tactic(auto, unfolding(crate::specs::Values::value_of))]
-fn read_value(alloc: Global, line: &[u8]) -> Result<Option<Value>, AllocError>
-    ensures { IfOk result (λ o. option_map view o ≡ value_of line.now) }
-{
-    let Ok(text) = str::from_utf8(line) else {
-        return Ok(None);
-    };
-    match Value::from_str(alloc, text) {
-        Ok(value) => Ok(Some(value)),
-        Err(e) if e.is_memory() => Err(AllocError),
-        Err(_) => Ok(None),
-    }
 }
 
 fn asked_in(value: &Value, lanes: u8) -> Asked

@@ -1,7 +1,7 @@
 use Rattle.std.proofs.Common.{sym}
 use Rattle.serde_json.specs.View.{view}
 use Rattle.wire_json.proofs.Values.{value_of_utf8}
-use Rattle.entry_reader.proofs.reading.read_value.Goals as goal
+use Rattle.wire_json.proofs.value.read_value.Goals as goal
 
 pub returns-in-Ok-from_str : goal.returns-in-Ok-from_str
 returns-in-Ok-from_str c =

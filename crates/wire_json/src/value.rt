@@ -8,8 +8,8 @@ use std::alloc::{AllocError, Global};
 use std::str;
 
 /// The JSON value of a text; None where it is no JSON.
-#[tactic(auto, unfolding(wire_json::specs::Values::value_of))]
-pub(crate) fn read_value(alloc: Global, text: &[u8]) -> Result<Option<Value>, AllocError>
+#[tactic(auto, unfolding(crate::specs::Values::value_of))]
+pub fn read_value(alloc: Global, text: &[u8]) -> Result<Option<Value>, AllocError>
     ensures { IfOk result (λ o. option_map view o ≡ value_of text.now) }
 {
     let Ok(chars) = str::from_utf8(text) else {
