@@ -1,5 +1,5 @@
 -- Laws of sessions.
-use Rattle.std.specs.Prelude.{◌≡◌, ◌↔◌, ℕ, true, List, take, Some, Ok, IsTrue}
+use Rattle.std.specs.Prelude.{◌≡◌, ◌↔◌, ℕ, true, List, [], take, Some, Ok, IsTrue}
 use Rattle.policy_book.specs.Shapes.{PolicyShape}
 use Rattle.policy_book.specs.Facts.{IsSoundPolicy}
 use Rattle.policy_book.specs.Policies.{flow_at, is_authorised, problem_of}
@@ -14,6 +14,9 @@ use Rattle.wf_talk.specs.declared.request.Ask.{Ask}
 use Rattle.wf_talk.specs.declared.request.Ask.TheVariants as ask
 use Rattle.wf_talk.specs.declared.reply.Reply.{Reply}
 use Rattle.wf_talk.specs.declared.reply.Reply.TheVariants as reply
+use Rattle.wf_talk.specs.declared.reply.Denial.{Denial}
+use Rattle.wf_talk.specs.declared.reply.Denial.TheVariants as denial
+use Rattle.refutation_tree.specs.declared.tree.Tree.TheVariants as tree
 use Rattle.wf_board.specs.declared.deed.Deed.TheVariants as deed
 use Rattle.admin_edits.specs.declared.amendment.Amendment.{Amendment}
 use Rattle.admin_edits.specs.Edits.{amended}
@@ -89,3 +92,24 @@ abbrev pub SnapsSuffice : Type 0
 SnapsSuffice =
     (b : BoardShape) (what : Ask) (spare : ℕ) (v : Verdict) → IsRight (book_on (snap_of b what spare)) what v →
     IsRight (state_on b).book what v
+
+-- a denial without its tree
+abbrev pub bare_denial : Denial → Denial
+bare_denial (denial.Unsatisfiable f t) = denial.Unsatisfiable f (tree.Holder 0)
+bare_denial (denial.Stranded f t) = denial.Stranded f (tree.Holder 0)
+bare_denial (denial.Strands n f t) = denial.Strands n f (tree.Holder 0)
+bare_denial d = d
+
+-- a reply without its plan or its tree
+abbrev pub bare : Reply → Reply
+bare (reply.Granted plan) = reply.Granted []
+bare (reply.Opened n plan) = reply.Opened n []
+bare (reply.Denied d) = reply.Denied (bare_denial d)
+bare given = given
+
+-- want of memory aside, a state and what is asked fix the reply but for its plan or tree, and they fix the state after it
+abbrev pub OutcomeIsFixed : Type 0
+OutcomeIsFixed =
+    (s : State) (what : Ask) (one other : Reply) → IsSoundState s → IsStep s what one → IsStep s what other →
+    ¬ (one ≡ reply.NoMemory) → ¬ (other ≡ reply.NoMemory) →
+    (bare one ≡ bare other) × (state_after_step s what one ≡ state_after_step s what other)

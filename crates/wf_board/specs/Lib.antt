@@ -10,6 +10,7 @@ pub mod Kept
 pub mod Found
 pub mod Boards
 pub mod Verdicts
+pub mod Admitting
 pub mod Laws
 pub mod Taking
 pub mod HistoryLaws

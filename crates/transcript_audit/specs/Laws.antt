@@ -1,0 +1,54 @@
+-- What an audit finds, and what a transcript is.
+use Rattle.std.specs.Prelude.{◌≡◌, ◌↔◌, ◌≤◌, ℕ, List, [], ◌∷◌, length, IsTrue}
+use Rattle.wf_names.specs.Names.{is_name}
+use Rattle.wf_names.specs.declared.limits.TheConstants.{LANE_LIMIT, ROUND_LIMIT}
+use Rattle.policy_book.specs.Shapes.{PolicyShape}
+use Rattle.policy_book.specs.Facts.{IsSoundPolicy}
+use Rattle.wf_talk.specs.declared.entry.Entry.{Entry}
+use Rattle.wf_talk.specs.declared.job.Job.{Job}
+use Rattle.wf_talk.specs.declared.request.Ask.{Ask}
+use Rattle.wf_talk.specs.declared.request.Ask.TheVariants as ask
+use Rattle.wf_talk.specs.declared.request.Bad.{Bad}
+use Rattle.wf_talk.specs.declared.request.Bad.TheVariants as bad
+use Rattle.line_cutter.specs.Laws.{AreInOrder}
+use Rattle.transcript_audit.specs.declared.fault.AuditKind.{AuditKind}
+use Rattle.transcript_audit.specs.Audits.{AreNext, AuditShape, HasFault, IsNext, IsTranscript, audit_of}
+
+-- the key that a bad line has too many has a name's form
+abbrev pub IsNamedBad : Bad → Type 0
+IsNamedBad (bad.Key key) = IsTrue (is_name key)
+IsNamedBad b = Unit {0}
+
+abbrev pub IsNamedAsk : Ask → Type 0
+IsNamedAsk (ask.Bad b) = IsNamedBad b
+IsNamedAsk (ask.Request request) = Unit {0}
+
+-- in each of these jobs
+abbrev pub AreNamedJobs : List Job → Type 0
+AreNamedJobs [] = Unit {0}
+AreNamedJobs (j ∷ js) = IsNamedAsk j.ask × AreNamedJobs js
+
+-- a policy, jobs and rounds as those of a session are
+pub record AreOfSession (p : PolicyShape) (rounds : ℕ) (jobs : List Job) (batch_ends : List ℕ) : Type 0 where
+  pub policy : IsSoundPolicy p
+  pub rounds : rounds ≤ ROUND_LIMIT
+  pub order : AreInOrder LANE_LIMIT jobs batch_ends
+  pub named : AreNamedJobs jobs
+
+-- a line that has a fault is the text of no entry that comes next, where all lines before it are such texts
+abbrev pub FaultsExclude : Type 0
+FaultsExclude =
+    (p : PolicyShape) (rounds : ℕ) (jobs : List Job) (batch_ends : List ℕ) (lines : List (List ℕ)) (es : List Entry) →
+    AreOfSession p rounds jobs batch_ends → AreNext (audit_of p rounds jobs batch_ends) lines es →
+    (line : List ℕ) (kind : AuditKind) (e : Entry) →
+    HasFault (record (audit_of p rounds jobs batch_ends) { entries = es }) line kind →
+    ¬ IsNext (record (audit_of p rounds jobs batch_ends) { entries = es }) line e
+
+-- all lines are the texts of entries that come next, one for each job, exactly where they are those of a legal history
+-- that fills the jobs
+abbrev pub AuditIsExact : Type 0
+AuditIsExact =
+    (p : PolicyShape) (rounds : ℕ) (jobs : List Job) (batch_ends : List ℕ) (lines : List (List ℕ)) →
+    AreOfSession p rounds jobs batch_ends →
+    ((es : List Entry) × (AreNext (audit_of p rounds jobs batch_ends) lines es × (length es ≡ length jobs)))
+    ↔ IsTranscript p rounds jobs batch_ends lines

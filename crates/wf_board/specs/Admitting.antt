@@ -1,0 +1,22 @@
+-- Taking the step of a reply that somebody else gave.
+use Rattle.std.specs.Prelude.{◌≡◌, ◌≢◌, Bool, true, false, Result, Ok, Err}
+use Rattle.wf_talk.specs.declared.request.Ask.{Ask}
+use Rattle.wf_talk.specs.declared.reply.Reply.{Reply}
+use Rattle.wf_talk.specs.declared.reply.Reply.TheVariants as reply
+use Rattle.wf_talk.specs.declared.reply.Denial.{Denial}
+use Rattle.wf_board.specs.declared.deed.Deed.{Deed}
+use Rattle.wf_board.specs.declared.deed.Deed.TheVariants as deed
+use Rattle.wf_board.specs.declared.verdict.Verdict.{Verdict}
+use Rattle.wf_board.specs.declared.verdict.Verdict.TheVariants as verdict
+use Rattle.wf_board.specs.States.{State}
+use Rattle.wf_board.specs.Decisions.{decision_of}
+
+-- an edit against which there is no cause
+abbrev pub is_edit_left : Result Deed Denial → Bool
+is_edit_left (Ok (deed.Change a)) = true
+is_edit_left given = false
+
+-- an edit against which there is no cause has a verdict, unless its reply is want of memory
+abbrev pub HasVerdict : State → Ask → Reply → Verdict → Type 0
+HasVerdict s what given v =
+    is_edit_left (decision_of s.book what) ≡ true → given ≢ reply.NoMemory → (v ≢ verdict.Nothing) × (v ≢ verdict.NoMemory)
