@@ -93,7 +93,7 @@ stranding_fits : (s : State) (o : Option ℕ) (c : CaseShape) (t u : ℕ) (tree 
 stranding_fits s o c t u tree is of refuted =
     let p = s.book.policy in
     let fits = tree_fits p c.flow (problem_of p c.flow) (assigned_with c t u) (finished_of c) (shape_of tree)
-        (problem_fits p c.flow is.sound.policy of.1.flow) (is.few c.flow of.1.flow) (given_long c t u (case_few p c is.few of.1)) refuted in
+    (problem_fits p c.flow is.sound.policy of.1.flow) (is.few c.flow of.1.flow) (given_long c t u (case_few p c is.few of.1)) refuted in
     let nests = fits.nests in
     (((of.0, subst (λ m. c.flow < m) (sym is.sound.policy.named) of.1.flow), fits.stands), omega (arith, nests))
 

@@ -140,7 +140,7 @@ mutual
       let inner = and_both (have_users (authorised_users pr s) kids) _ parts.1 in
       let free = and_both (nat_lt s pr.steps) _ parts.0 in
       let users : AllBelow (length p.roster.users) (authorised_users pr s) =
-          subst (λ n. AllBelow n (authorised_users pr s)) of.users (passing_all pr.users (pr.authorised s) 0 pr.users (omega arith)) in (
+      subst (λ n. AllBelow n (authorised_users pr s)) of.users (passing_all pr.users (pr.authorised s) 0 pr.users (omega arith)) in (
         step_there p f pr s of (lt_back s pr.steps free.0),
         kids_stand p f pr a finished s (authorised_users pr s) [] kids of users tt inner.0 inner.1,
       )
