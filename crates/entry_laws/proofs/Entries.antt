@@ -1,11 +1,9 @@
 -- The text of each entry of a legal history is a line of it.
-use Rattle.std.proofs.Common.{◌≡◌, ℕ, zero, suc, ◌+◌, ◌<◌, ◌≤◌, ◌^◌, ◌⊎◌, inl, inr, Bool, true, false, List, [], ◌∷◌, ◌++◌, length, Option, None, Some, Result, Ok, Err, refl, sym, ap, subst, ◌∙◌, arith, codes, append_assoc, append-nil}
+use Rattle.std.proofs.Common.{◌≡◌, ℕ, ◌+◌, ◌<◌, ◌≤◌, ◌^◌, ◌⊎◌, inl, inr, false, List, [], ◌∷◌, ◌++◌, length, Option, Result, Ok, Err, refl, sym, ap, subst, ◌∙◌, arith, codes, append_assoc, append-nil}
 use Rattle.serde_json.specs.Data.{depth, number, object, member, no_members, unsigned}
-use Rattle.serde_json.specs.Read.{max_depth}
 use Rattle.serde_json.specs.Written.{compact_text}
 use Rattle.policy_book.specs.Shapes.{PolicyShape}
 use Rattle.policy_book.specs.Facts.{IsSoundPolicy}
-use Rattle.policy_book.specs.Policies.{flow_at}
 use Rattle.wf_names.specs.declared.limits.TheConstants.{STEP_LIMIT}
 use Rattle.wf_talk.specs.declared.entry.Entry.{Entry}
 use Rattle.wf_talk.specs.declared.request.Ask.{Ask}
@@ -19,17 +17,15 @@ use Rattle.wf_board.specs.States.{State, opening_state}
 use Rattle.wf_board.specs.Counting.{counts_for, is_edited}
 use Rattle.wf_board.specs.Decisions.{decision_of}
 use Rattle.wf_board.specs.Steps.{IsStep, state_after_decision, state_after_deed, state_after_step}
-use Rattle.wf_board.specs.Histories.{EachAfter, IsLegal, IsRetry, IsRightAfter, state_after}
+use Rattle.wf_board.specs.Histories.{EachAfter, IsRetry, IsRightAfter, state_after}
 use Rattle.wf_board.specs.HistoryLaws.{after_more, again_stays, edits_within, policy_stays}
 use Rattle.wf_board.proofs.Counted.{end_within}
 use Rattle.wf_board.proofs.Keeping.{step_keeps}
 use Rattle.wf_board.proofs.Told.{HoldsOf, IsTold, told}
-use Rattle.wire_json.specs.Replies.{entry_data, entry_text, reply_data}
-use Rattle.entry_reader.specs.Within.{IsReply}
-use Rattle.entry_reader.specs.Lines.{IsEntry, IsLineOf, concerned}
-use Rattle.entry_laws.specs.Asks.{IsNamedAsk}
+use Rattle.wire_json.specs.Replies.{entry_text, reply_data}
+use Rattle.entry_reader.specs.Lines.{IsEntry, concerned}
 use Rattle.entry_laws.specs.Laws.{EntriesAreLines, HasFewSteps, IsLastOf, flows_of}
-use Rattle.entry_laws.proofs.Numbers.{AreSerial, step_serial}
+use Rattle.entry_laws.proofs.Numbers.{step_serial}
 use Rattle.entry_laws.proofs.Replies.{FitsReply, IsReached, step_fits}
 
 -- ---- what each step keeps

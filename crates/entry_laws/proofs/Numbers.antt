@@ -1,5 +1,5 @@
 -- Cases are numbered in the order in which they were opened, and no more are ever opened than the limit.
-use Rattle.std.proofs.Common.{◌≡◌, ◌≢◌, ℕ, zero, suc, ◌+◌, ◌<◌, ◌≤◌, Bool, true, false, not, nat_eq, nat_le, ◌||◌, List, [], ◌∷◌, ◌++◌, length, Option, None, Some, Result, Ok, Err, if◌then◌else◌, refl, sym, ap, subst, ◌∙◌, arith}
+use Rattle.std.proofs.Common.{◌≡◌, ℕ, suc, ◌+◌, ◌<◌, ◌≤◌, Bool, true, false, not, nat_eq, nat_le, List, [], ◌∷◌, ◌++◌, length, None, Some, Result, Ok, Err, if◌then◌else◌, refl, sym, ap, subst, ◌∙◌, arith}
 use Rattle.std.specs.Option.{option_map}
 use Rattle.std.proofs.lemmas.List.{length-append}
 use Rattle.basics.proofs.Booleans.{eq_other, or_false, not_yes}
@@ -17,7 +17,7 @@ use Rattle.denial_reasons.specs.Causes.{unless}
 use Rattle.wf_board.specs.declared.deed.Deed.{Deed}
 use Rattle.wf_board.specs.declared.deed.Deed.TheVariants as deed
 use Rattle.wf_board.specs.States.{Book, Numbered, State, case_at, is_full, open_cases, open_count, with_case_changed}
-use Rattle.wf_board.specs.Decisions.{cause_full, decision_aside, decision_of, unless_denied}
+use Rattle.wf_board.specs.Decisions.{cause_full, decision_aside, decision_of}
 use Rattle.wf_board.specs.Steps.{state_after_decision, state_after_deed, state_after_step}
 use Rattle.wf_board.proofs.Told.{HoldsOf, then_holds, unless_holds}
 

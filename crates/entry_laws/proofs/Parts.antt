@@ -1,5 +1,5 @@
 -- The parts of replies stand for something, and nest little.
-use Rattle.std.proofs.Common.{◌≡◌, ℕ, zero, suc, ◌+◌, ◌<◌, ◌≤◌, ◌^◌, max, Bool, true, false, List, [], ◌∷◌, length, map, slice_index_or, Option, None, Some, if◌then◌else◌, refl, sym, ap, subst, ◌∙◌, arith}
+use Rattle.std.proofs.Common.{◌≡◌, ℕ, zero, suc, ◌+◌, ◌<◌, ◌≤◌, Bool, true, false, List, [], ◌∷◌, length, map, slice_index_or, Option, None, Some, if◌then◌else◌, refl, sym, ap, subst, ◌∙◌, arith}
 use Rattle.std.specs.List.{All}
 use Rattle.std.specs.FinSet as set
 use Rattle.std.proofs.lemmas.List.{length-append, length-map, length-replicate, length-set}
@@ -20,8 +20,6 @@ use Rattle.policy_book.specs.Shapes.{PolicyShape}
 use Rattle.policy_book.specs.Facts.{IsSoundPolicy}
 use Rattle.policy_book.specs.Policies.{flow_at, problem_of}
 use Rattle.policy_book.specs.Plans.{IsValidPlan, Problem}
-use Rattle.policy_book.specs.Refuting.{passing}
-use Rattle.workflow_schema.specs.Flows.{is_before}
 use Rattle.certificate_check.proofs.Assigned.{none_not_some, same_some}
 use Rattle.case_record.specs.Cases.{CaseShape, assigned_of, state_at}
 use Rattle.case_record.specs.Cells.{all_steps}
@@ -32,7 +30,7 @@ use Rattle.wf_talk.specs.declared.request.Bad.{Bad}
 use Rattle.wf_talk.specs.declared.request.Bad.TheVariants as bad
 use Rattle.wf_board.specs.Kept.{IsOfPolicy}
 use Rattle.wire_json.specs.Entries.{bad_data, named, phase_data, seen_data, state_data}
-use Rattle.entry_reader.specs.Within.{IsBad, IsPlan, IsRole, IsState}
+use Rattle.entry_reader.specs.Within.{IsPlan, IsRole, IsState}
 use Rattle.entry_laws.specs.Laws.{HasFewSteps}
 use Rattle.entry_laws.proofs.Trees.{AllBelow, IsProblemOf, passing_all}
 

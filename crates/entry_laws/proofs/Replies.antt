@@ -1,7 +1,6 @@
 -- The reply of a step stands for something in the state before it, and nests little.
-use Rattle.std.proofs.Common.{◌≡◌, ℕ, ◌+◌, ◌<◌, ◌≤◌, ◌^◌, inl, inr, Bool, true, List, [], ◌∷◌, length, Option, None, Some, Result, Ok, Err, refl, sym, ap, subst, ◌∙◌, arith}
+use Rattle.std.proofs.Common.{◌≡◌, ℕ, ◌+◌, ◌<◌, ◌≤◌, ◌^◌, inl, inr, Bool, true, List, length, Option, Some, Result, Ok, Err, sym, subst, arith}
 use Rattle.serde_json.specs.Data.{depth}
-use Rattle.wf_names.specs.declared.limits.TheConstants.{CASE_NUMBER_LIMIT, STEP_LIMIT}
 use Rattle.constraint_forms.specs.Assigned.{no_steps, no_users}
 use Rattle.refutation_tree.specs.declared.tree.Tree.{Tree}
 use Rattle.refutation_tree.specs.Views.{shape_of}
@@ -34,7 +33,7 @@ use Rattle.entry_reader.specs.Within.{IsBad, IsReply}
 use Rattle.entry_reader.specs.Lines.{concerned}
 use Rattle.entry_laws.specs.Asks.{IsNamedAsk}
 use Rattle.entry_laws.specs.Laws.{HasFewSteps, flows_of}
-use Rattle.entry_laws.proofs.Trees.{FitsTree, tree_fits}
+use Rattle.entry_laws.proofs.Trees.{tree_fits}
 use Rattle.entry_laws.proofs.Parts.{bad_nests, case_few, case_stands, given_long, names_flat, no_users_long, phase_flat, plan_fits, problem_fits, states_nest}
 use Rattle.entry_laws.proofs.Numbers.{AreSerial}
 use Rattle.entry_laws.proofs.Stranded.{stranded_fits}

@@ -1,15 +1,14 @@
 -- The first case that an edit strands is there, and its tree stands for something and nests little.
-use Rattle.std.proofs.Common.{◌≡◌, ℕ, ◌+◌, ◌<◌, ◌≤◌, ◌^◌, ◌⊎◌, inl, inr, Bool, true, false, List, [], ◌∷◌, length, Option, None, Some, refl, sym, ap, subst, ◌∙◌, arith}
+use Rattle.std.proofs.Common.{◌≡◌, ℕ, ◌<◌, ◌≤◌, inl, inr, true, List, [], ◌∷◌, length, Some, refl, sym, ap, subst, ◌∙◌, arith}
 use Rattle.std.specs.Option.{option_map}
-use Rattle.serde_json.specs.Data.{depth}
-use Rattle.wf_names.specs.declared.limits.TheConstants.{CASE_LIMIT, CASE_NUMBER_LIMIT, STEP_LIMIT}
+use Rattle.wf_names.specs.declared.limits.TheConstants.{CASE_NUMBER_LIMIT, STEP_LIMIT}
 use Rattle.refutation_tree.specs.declared.tree.Tree.{Tree}
 use Rattle.refutation_tree.specs.Views.{shape_of}
 use Rattle.policy_book.specs.Shapes.{PolicyShape}
 use Rattle.policy_book.specs.Facts.{IsSoundPolicy}
 use Rattle.policy_book.specs.Policies.{problem_of}
 use Rattle.policy_book.specs.Refuting.{refutes}
-use Rattle.case_record.specs.Cases.{CaseShape, assigned_of, finished_of, is_open}
+use Rattle.case_record.specs.Cases.{CaseShape, assigned_of, finished_of}
 use Rattle.admin_edits.specs.declared.amendment.Amendment.{Amendment}
 use Rattle.admin_edits.specs.declared.amendment.Amendment.TheVariants as amend
 use Rattle.admin_edits.specs.Edits.{amended}
@@ -19,7 +18,7 @@ use Rattle.admin_edits.proofs.Unhurt.{unhurt_plans_stay_valid}
 use Rattle.wf_board.specs.States.{Numbered, State, case_at, open_cases}
 use Rattle.wf_board.specs.Edited.{CanAllBeCompleted, IsFirstStranded}
 use Rattle.wf_board.specs.Found.{IsAllowed}
-use Rattle.wf_board.specs.Kept.{IsOfPolicy, IsSoundState, KeepsCompletable}
+use Rattle.wf_board.specs.Kept.{IsSoundState, KeepsCompletable}
 use Rattle.wf_board.proofs.Exact.{stranded_not}
 use Rattle.entry_laws.specs.Laws.{HasFewSteps, flows_of}
 use Rattle.entry_laws.proofs.Trees.{FitsTree, IsProblemOf, tree_fits}

@@ -1,5 +1,5 @@
 -- A tree that refutes stands for something, and nests three levels for each step that nobody has and one more.
-use Rattle.std.proofs.Common.{◌≡◌, ℕ, zero, suc, ◌+◌, ◌*◌, ◌<◌, ◌≤◌, ◌^◌, max, nat_lt, inl, inr, Bool, true, false, ◌&&◌, ◌==◌, List, [], ◌∷◌, length, Option, None, Some, slice_get, slice_set, if◌then◌else◌, refl, sym, ap, subst, ◌∙◌, arith}
+use Rattle.std.proofs.Common.{◌≡◌, ℕ, zero, suc, ◌+◌, ◌*◌, ◌<◌, ◌≤◌, ◌^◌, max, nat_lt, inl, inr, Bool, true, false, ◌&&◌, ◌==◌, List, [], ◌∷◌, length, Option, None, Some, slice_get, slice_set, if◌then◌else◌, refl, sym, ap, subst, arith}
 use Rattle.std.proofs.lemmas.Option.{slice_get_within}
 use Rattle.std.proofs.lemmas.List.{length-set}
 use Rattle.serde_json.specs.Data.{depth, items_depth}
@@ -16,7 +16,7 @@ use Rattle.policy_book.specs.Twins.{are_twins, is_one_of}
 use Rattle.policy_book.specs.Refuting.{all_refute, authorised_users, have_users, is_broken, is_unassigned, passing, refutes}
 use Rattle.certificate_check.proofs.Assigned.{not_some}
 use Rattle.wire_json.specs.Trees.{branches_data, tree_data}
-use Rattle.entry_reader.specs.Within.{AreKids, IsStep, IsTree, IsUser}
+use Rattle.entry_reader.specs.Within.{AreKids, IsStep, IsTree}
 
 -- ---- steps that nobody has
 
