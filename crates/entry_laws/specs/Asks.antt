@@ -6,7 +6,7 @@ use Rattle.wf_talk.specs.declared.request.Ask.TheVariants as ask
 use Rattle.wf_talk.specs.declared.request.Bad.{Bad}
 use Rattle.wf_talk.specs.declared.request.Bad.TheVariants as bad
 
--- the key that a bad line has too many has a name's form
+-- the key that a bad line tells of has a name's form
 abbrev pub IsNamedBad : Bad → Type 0
 IsNamedBad (bad.Key key) = IsTrue (is_name key)
 IsNamedBad b = Unit {0}
