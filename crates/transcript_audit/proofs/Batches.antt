@@ -97,6 +97,35 @@ end_is ends total n k lead here = end_here 0 ends total n k lead here.known here
       ap (λ d. slice_index_or ends k d) (here.behind last)
 ]
 
+-- there is a batch in which a place stands
+there_from : (before : ℕ) (ends : List ℕ) (total n : ℕ) → LeadTo before ends total → before ≤ n → n < total →
+    (k : ℕ) × ((k < length ends) × ((from_start before ends k ≤ n) × (n < slice_index_or ends k 0)))
+there_from before [] total n lead begun short = absurd (omega (arith, lead, begun, short))
+there_from before (x ∷ xs) total n lead begun short = elim (bool_cases (nat_lt n x)) [
+  | inl first ↦ (0, (omega arith, (omega (arith, begun), grind (arith, common_steps))))
+  | inr later ↦
+      let past : x ≤ n = grind (arith, common_steps) in
+      let rest = there_from x xs total n lead.2 past short in
+      let known = rest.1.0 in
+      (suc rest.0, (omega (arith, known), (rest.1.1.0, rest.1.1.1)))
+]
+
+pub batch_there : (ends : List ℕ) (total n : ℕ) → LeadTo 0 ends total → n < total → (k : ℕ) × (IsBatchOf ends n k × (k < length ends))
+batch_there ends total n lead short =
+    let found = there_from 0 ends total n lead (omega arith) short in
+    let known = found.1.0 in (
+      found.0,
+      (
+        record {
+          known = omega (arith, known);
+          begun = found.1.1.0;
+          before = λ _. found.1.1.1;
+          behind = λ last. absurd (omega (arith, known, last));
+        },
+        known,
+      ),
+    )
+
 -- ---- where a batch begins and ends
 
 pub ends_within : (ends : List ℕ) (total k : ℕ) → LeadTo 0 ends total → k ≤ length ends → end_of ends k ≤ total

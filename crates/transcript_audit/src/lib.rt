@@ -13,6 +13,7 @@ mod cursor;
 mod fault;
 mod flaw;
 mod flows;
+pub mod laws;
 mod record;
 mod verdict;
 
