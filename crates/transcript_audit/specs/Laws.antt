@@ -1,27 +1,14 @@
 -- What an audit finds, and what a transcript is.
-use Rattle.std.specs.Prelude.{◌≡◌, ◌↔◌, ◌≤◌, ℕ, List, [], ◌∷◌, length, IsTrue}
-use Rattle.wf_names.specs.Names.{is_name}
+use Rattle.std.specs.Prelude.{◌≡◌, ◌↔◌, ◌≤◌, ℕ, List, [], ◌∷◌, length}
 use Rattle.wf_names.specs.declared.limits.TheConstants.{LANE_LIMIT, ROUND_LIMIT}
 use Rattle.policy_book.specs.Shapes.{PolicyShape}
 use Rattle.policy_book.specs.Facts.{IsSoundPolicy}
 use Rattle.wf_talk.specs.declared.entry.Entry.{Entry}
 use Rattle.wf_talk.specs.declared.job.Job.{Job}
-use Rattle.wf_talk.specs.declared.request.Ask.{Ask}
-use Rattle.wf_talk.specs.declared.request.Ask.TheVariants as ask
-use Rattle.wf_talk.specs.declared.request.Bad.{Bad}
-use Rattle.wf_talk.specs.declared.request.Bad.TheVariants as bad
 use Rattle.line_cutter.specs.Laws.{AreInOrder}
+use Rattle.entry_laws.specs.Asks.{IsNamedAsk}
 use Rattle.transcript_audit.specs.declared.fault.AuditKind.{AuditKind}
 use Rattle.transcript_audit.specs.Audits.{AreNext, AuditShape, HasFault, IsNext, IsTranscript, audit_of}
-
--- the key that a bad line has too many has a name's form
-abbrev pub IsNamedBad : Bad → Type 0
-IsNamedBad (bad.Key key) = IsTrue (is_name key)
-IsNamedBad b = Unit {0}
-
-abbrev pub IsNamedAsk : Ask → Type 0
-IsNamedAsk (ask.Bad b) = IsNamedBad b
-IsNamedAsk (ask.Request request) = Unit {0}
 
 -- in each of these jobs
 abbrev pub AreNamedJobs : List Job → Type 0
