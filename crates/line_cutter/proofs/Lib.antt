@@ -1,1 +1,3 @@
 mod Order
+mod Named
+mod CutUp

@@ -1,7 +1,12 @@
 -- What the jobs of every input meet.
-use Rattle.std.specs.Prelude.{◌≡◌, ℕ, ◌+◌, ◌<◌, ◌≤◌, Bool, List, [], ◌∷◌, length}
+use Rattle.std.specs.Prelude.{◌≡◌, ℕ, ◌+◌, ◌<◌, ◌≤◌, Bool, List, [], ◌∷◌, length, IsTrue}
+use Rattle.wf_names.specs.Names.{is_name}
 use Rattle.wf_names.specs.declared.limits.TheConstants.{SESSION_LINE_LIMIT, BATCH_LINE_LIMIT}
 use Rattle.wf_talk.specs.declared.job.Job.{Job}
+use Rattle.wf_talk.specs.declared.request.Ask.{Ask}
+use Rattle.wf_talk.specs.declared.request.Ask.TheVariants as ask
+use Rattle.wf_talk.specs.declared.request.Bad.{Bad}
+use Rattle.wf_talk.specs.declared.request.Bad.TheVariants as bad
 use Rattle.line_cutter.specs.Jobs.{jobs_of_input}
 
 -- the lines of the jobs ascend strictly, from this number on
@@ -30,3 +35,21 @@ pub record AreInOrder (lanes : ℕ) (jobs : List Job) (batch_ends : List ℕ) : 
 abbrev pub JobsAreInOrder : ℕ → Type 0
 JobsAreInOrder lanes =
     (bytes : List ℕ) (ended : Bool) → AreInOrder lanes (jobs_of_input bytes ended lanes).jobs (jobs_of_input bytes ended lanes).ends
+
+-- the key that a bad line lacks has the form of a name
+abbrev pub IsNamedBad : Bad → Type 0
+IsNamedBad (bad.Key key) = IsTrue (is_name key)
+IsNamedBad b = Unit {0}
+
+abbrev pub IsNamedAsk : Ask → Type 0
+IsNamedAsk (ask.Bad b) = IsNamedBad b
+IsNamedAsk (ask.Request request) = Unit {0}
+
+-- in each of these jobs
+abbrev pub AreNamedJobs : List Job → Type 0
+AreNamedJobs [] = Unit {0}
+AreNamedJobs (j ∷ js) = IsNamedAsk j.ask × AreNamedJobs js
+
+-- so it has in the jobs of every input
+abbrev pub JobsAreNamed : ℕ → Type 0
+JobsAreNamed lanes = (bytes : List ℕ) (ended : Bool) → AreNamedJobs (jobs_of_input bytes ended lanes).jobs

@@ -2,3 +2,4 @@ pub mod Jobs
 pub mod Cutter
 pub mod CutLaws
 pub mod Laws
+pub mod Whole

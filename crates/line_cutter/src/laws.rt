@@ -1,6 +1,6 @@
 //! Laws of the jobs of an input.
 ghost use Rattle.std.specs.Prelude.{◌<◌};
-ghost use Rattle.line_cutter.specs.Laws.{JobsAreInOrder};
+ghost use Rattle.line_cutter.specs.Laws.{JobsAreInOrder, JobsAreNamed};
 
 /// The jobs of every input: at most as many as a session may have lines, of lines that ascend
 /// strictly, each of one of the lanes; the ends of their batches ascend by at most what a batch may
@@ -8,6 +8,13 @@ ghost use Rattle.line_cutter.specs.Laws.{JobsAreInOrder};
 pub fn jobs_are_in_order(lanes: u8)
     requires { 0 < lanes }
     ensures { JobsAreInOrder lanes }
+{
+    let _ = lanes;
+}
+
+/// The key that a bad line of an input lacks has the form of a name.
+pub fn jobs_are_named(lanes: u8)
+    ensures { JobsAreNamed lanes }
 {
     let _ = lanes;
 }

@@ -1,0 +1,168 @@
+-- The key that a bad line lacks has the form of a name.
+use Rattle.std.proofs.Common.{refl, subst, sym, ◌∙◌}
+use Rattle.std.specs.Prelude.{◌≡◌, ℕ, ◌==◌, ◌+◌, nat_lt, nat_le, Bool, true, false, ◌&&◌, List, [], ◌∷◌, ◌++◌, length, Option, Some, None, is_some, codes, nat_eq, option_and_then, Result, Ok, Err, IsTrue, if◌then◌else◌}
+use Rattle.std.specs.List.{list_all, find}
+use Rattle.std.specs.Cmp.Lexicographic.{pointwise}
+use Rattle.serde_json.specs.Data.{Data, Members}
+use Rattle.serde_json.specs.Find.{as_object}
+use Rattle.first_fault.specs.Reading.{◌>>=◌, or_fault, check, each}
+use Rattle.wf_names.specs.Names.{is_name}
+use Rattle.wf_names.specs.declared.limits.TheConstants.{LINE_LIMIT, SESSION_LINE_LIMIT, BATCH_LINE_LIMIT}
+use Rattle.wf_talk.specs.declared.job.Job.{Job}
+use Rattle.wf_talk.specs.declared.request.Request.{Request}
+use Rattle.wf_talk.specs.declared.request.Ask.TheVariants as ask
+use Rattle.wf_talk.specs.declared.request.Bad.{Bad}
+use Rattle.wf_talk.specs.declared.request.Bad.TheVariants.{Syntax, Object, Do, Lane, Key, Extra}
+use Rattle.wire_json.specs.declared.request.Asked.{Asked}
+use Rattle.wire_json.specs.Values.{value_of}
+use Rattle.wire_json.specs.Requests.{Row, rows, row_of, text_at, lane_at, has_form, has_only, request_by, request_in, asked, asked_of}
+use Rattle.line_cutter.specs.Jobs.{Cut, start, without_cr, job_of, end_batch, end_full_batch, next_line, with_job, end_line, step, cut_all, flush, jobs_of_input}
+use Rattle.line_cutter.specs.Laws.{IsNamedBad, IsNamedAsk, AreNamedJobs, JobsAreNamed}
+
+-- ---- requests
+
+abbrev IsNamed : {A : Type 0} → Result A Bad → Type 0
+IsNamed (Ok a) = Unit {0}
+IsNamed (Err b) = IsNamedBad b
+
+and_first : (a b : Bool) → (a && b) ≡ true → a ≡ true
+and_first true b h = refl
+and_first false b h = cc
+
+and_second : (a b : Bool) → (a && b) ≡ true → b ≡ true
+and_second true b h = h
+and_second false b h = cc
+
+then_named : {A B : Type 0} (r : Result A Bad) (next : A → Result B Bad) → IsNamed r → ((a : A) → r ≡ Ok a → IsNamed (next a)) → IsNamed (r >>= next)
+then_named (Ok a) next h rest = rest a refl
+then_named (Err b) next h rest = h
+
+or_named : {A : Type 0} (o : Option A) (b : Bad) → IsNamedBad b → IsNamed (or_fault o b)
+or_named (Some a) b h = tt
+or_named None b h = h
+
+check_named : (c : Bool) (b : Bad) → IsNamedBad b → IsNamed (check c b)
+check_named true b h = tt
+check_named false b h = h
+
+keys_named : (d : Data) (keys : List (List ℕ)) → list_all is_name keys ≡ true → IsNamed (each (λ (_ : Unit {0}) key. check (has_form d key) (Key key)) tt keys)
+keys_named d [] h = tt
+keys_named d (key ∷ keys) h =
+    then_named (check (has_form d key) (Key key)) (λ next. each (λ (_ : Unit {0}) key. check (has_form d key) (Key key)) next keys)
+    (check_named (has_form d key) (Key key) (and_first (is_name key) (list_all is_name keys) h))
+    (λ a is. keys_named d keys (and_second (is_name key) (list_all is_name keys) h))
+
+abbrev by_row : Row → Data → Result Request Bad
+by_row r d = Ok (r.request d)
+
+by_named : (r : Row) (d : Data) (ms : Members) → list_all is_name r.keys ≡ true → IsNamed (request_by r d ms)
+unfolding request_by
+by_named r d ms h =
+    then_named (each (λ (_ : Unit {0}) key. check (has_form d key) (Key key)) tt r.keys)
+    (λ _. check (has_only (codes "do" ∷ codes "lane" ∷ r.keys) ms) Extra >>= (λ _. by_row r d)) (keys_named d r.keys h)
+    (λ a is. then_named (check (has_only (codes "do" ∷ codes "lane" ∷ r.keys) ms) Extra) (λ _. by_row r d)
+    (check_named (has_only (codes "do" ∷ codes "lane" ∷ r.keys) ms) Extra tt) (λ b is_b. tt))
+
+-- each request that is served has keys that are names
+abbrev has_names : Row → Bool
+has_names r = list_all is_name r.keys
+
+rows_named : list_all has_names rows ≡ true
+unfolding is_name
+rows_named = refl
+
+pick_named : (b : Bool) (x r : Row) (found : Option Row) → has_names x ≡ true → (found ≡ Some r → has_names r ≡ true)
+    → (if b then Some x else found) ≡ Some r → has_names r ≡ true
+pick_named true x r found first rest e = let same : x ≡ r = cc in subst (λ (y : Row). has_names y ≡ true) same first
+pick_named false x r found first rest e = rest e
+
+find_named : (p : Row → Bool) (rs : List Row) (r : Row) → list_all has_names rs ≡ true → find p rs ≡ Some r → has_names r ≡ true
+find_named p [] r h e = cc
+find_named p (x ∷ xs) r h e =
+    pick_named (p x) x r (find p xs) (and_first (has_names x) (list_all has_names xs) h)
+    (find_named p xs r (and_second (has_names x) (list_all has_names xs) h)) e
+
+found_named : (found : Option Row) (r : Row) → ((x : Row) → found ≡ Some x → has_names x ≡ true) → or_fault found Do ≡ Ok r → has_names r ≡ true
+found_named None r h e = cc
+found_named (Some x) r h e = let same : x ≡ r = cc in subst (λ (y : Row). has_names y ≡ true) same (h x refl)
+
+row_named : (o : Option (List ℕ)) (r : Row) → or_fault (option_and_then row_of o) Do ≡ Ok r → has_names r ≡ true
+row_named None r e = cc
+row_named (Some word) r e = found_named (row_of word) r (λ x is. find_named (λ r. pointwise nat_eq word r.word) rows x rows_named is) e
+
+then_asked : {A : Type 0} (r : Result A Bad) (next : A → Result Asked Bad) → IsNamed r → ((a : A) → r ≡ Ok a → IsNamedAsk (asked (next a)).ask)
+    → IsNamedAsk (asked (r >>= next)).ask
+then_asked (Ok a) next h rest = rest a refl
+then_asked (Err b) next h rest = h
+
+abbrev with_lane : ℕ → Result Request Bad → Result Asked Bad
+with_lane lane asks = asks >>= (λ request. Ok (record { lane = lane; ask = ask.Request request }))
+
+abbrev with_row : ℕ → Data → Members → Row → Result Asked Bad
+with_row lanes d ms r = or_fault (lane_at lanes d) Lane >>= (λ lane. with_lane lane (request_by r d ms))
+
+in_named : (lanes : ℕ) (d : Data) → IsNamedAsk (asked (request_in lanes d)).ask
+unfolding request_in
+in_named lanes d =
+    then_asked (or_fault (as_object d) Object) (λ ms. or_fault (option_and_then row_of (text_at (codes "do") d)) Do >>= (λ r. with_row lanes d ms r))
+    (or_named (as_object d) Object tt) (λ ms is_ms.
+    then_asked (or_fault (option_and_then row_of (text_at (codes "do") d)) Do) (λ r. with_row lanes d ms r)
+    (or_named (option_and_then row_of (text_at (codes "do") d)) Do tt) (λ r is_r.
+    then_asked (or_fault (lane_at lanes d) Lane) (λ lane. with_lane lane (request_by r d ms)) (or_named (lane_at lanes d) Lane tt) (λ lane is_lane.
+    then_asked (request_by r d ms) (λ request. Ok (record { lane = lane; ask = ask.Request request }))
+    (by_named r d ms (row_named (text_at (codes "do") d) r is_r)) (λ request is_request. tt))))
+
+line_named : (lanes : ℕ) (line : List ℕ) → IsNamedAsk (asked_of lanes line).ask
+unfolding asked_of
+line_named lanes line =
+    then_asked (or_fault (value_of line) Syntax) (request_in lanes) (or_named (value_of line) Syntax tt) (λ d is. in_named lanes d)
+
+-- ---- jobs
+
+named_push : (jobs : List Job) (job : Job) → AreNamedJobs jobs → IsNamedAsk job.ask → AreNamedJobs (jobs ++ job ∷ [])
+named_push [] job all h = (h, tt)
+named_push (j ∷ js) job all h = (all.0, named_push js job all.1 h)
+
+named_if : (b : Bool) (c d : Cut) → AreNamedJobs c.jobs → AreNamedJobs d.jobs → AreNamedJobs (if b then c else d).jobs
+named_if true c d first second = first
+named_if false c d first second = second
+
+named_end : (c : Cut) → AreNamedJobs c.jobs → AreNamedJobs (end_batch c).jobs
+unfolding end_batch
+named_end c h = named_if (nat_lt c.from (length c.jobs)) (record c { from = length c.jobs; ends = c.ends ++ length c.jobs ∷ [] }) c h h
+
+named_full : (c : Cut) → AreNamedJobs c.jobs → AreNamedJobs (end_full_batch c).jobs
+unfolding end_full_batch
+named_full c h = named_if (nat_le (c.from + BATCH_LINE_LIMIT) (length c.jobs)) (end_batch c) c (named_end c h) h
+
+named_job : (c : Cut) (line : List ℕ) → AreNamedJobs c.jobs → AreNamedJobs (c.jobs ++ job_of c.lanes c.number line ∷ [])
+named_job c line h = named_push c.jobs (job_of c.lanes c.number line) h (line_named c.lanes line)
+
+named_line : (c : Cut) → AreNamedJobs c.jobs → AreNamedJobs (end_line c).jobs
+unfolding end_line
+named_line c h =
+    named_if (length (without_cr c.line) == 0) (end_batch (next_line c)) (end_full_batch (with_job c (job_of c.lanes c.number (without_cr c.line))))
+    (named_end (next_line c) h)
+    (named_full (with_job c (job_of c.lanes c.number (without_cr c.line))) (named_job c (without_cr c.line) h))
+
+named_step : (c : Cut) (b : ℕ) → AreNamedJobs c.jobs → AreNamedJobs (step c b).jobs
+unfolding step
+named_step c b h =
+    named_if (is_some c.stop) c _ h
+    (named_if (nat_lt c.number SESSION_LINE_LIMIT) _ _
+    (named_if (b == 10) (end_line c) _ (named_line c h) (named_if (nat_lt (length c.line) LINE_LIMIT) _ _ h h))
+    h)
+
+named_all : (c : Cut) (bytes : List ℕ) → AreNamedJobs c.jobs → AreNamedJobs (cut_all c bytes).jobs
+named_all c [] h = h
+named_all c (b ∷ bs) h = named_all (step c b) bs (named_step c b h)
+
+named_flush : (c : Cut) (ended : Bool) → AreNamedJobs c.jobs → AreNamedJobs (flush ended c).jobs
+unfolding flush
+named_flush c ended h =
+    named_if ended _ c (named_if (is_some c.stop) c _ h (named_if (length c.line == 0) c _ h (named_job c c.line h))) h
+
+pub jobs_are_named : (lanes : ℕ) → JobsAreNamed lanes
+unfolding jobs_of_input
+jobs_are_named lanes bytes ended =
+    named_end (flush ended (cut_all (start lanes) bytes)) (named_flush (cut_all (start lanes) bytes) ended (named_all (start lanes) bytes tt))

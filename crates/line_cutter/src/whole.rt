@@ -1,0 +1,84 @@
+//! The jobs of a text that is there as a whole.
+ghost use Rattle.std.specs.Prelude.{◌≡◌, ◌<◌, ◌≤◌, ◌+◌, ℕ, List, true, [], ◌++◌, length, take, None, IfOk, OnOk};
+ghost use Rattle.wf_names.specs.declared.limits.TheConstants.{SESSION_LINE_LIMIT};
+ghost use Rattle.line_cutter.specs.Jobs.{jobs_of_input};
+ghost use Rattle.line_cutter.specs.Cutter.{ends_after};
+ghost use Rattle.line_cutter.specs.Laws.{AreInOrder, AreNamedJobs};
+ghost use Rattle.line_cutter.specs.Whole.{HasCutUp};
+
+use crate::Cutter;
+use std::alloc::{AllocError, Global};
+use wf_talk::{Ends, Job, Jobs};
+
+/// The jobs of a text, and for each of its batches that has a job, the count of jobs up to its end.
+#[derive(Drop)]
+pub struct Batch {
+    pub jobs: Jobs,
+    pub ends: Ends,
+}
+
+/// The jobs of a whole text, with the ends of their batches. Where the text meets a limit, the lines
+/// before it count alone.
+pub fn jobs_of(alloc: Global, bytes: &[u8], lanes: u8) -> Result<Batch, AllocError>
+    ensures jobs { IfOk result (λ batch. batch.jobs ≡ (jobs_of_input bytes.now true lanes).jobs) }
+    ensures ends { IfOk result (λ batch. batch.ends ≡ (jobs_of_input bytes.now true lanes).ends) }
+    ensures order { IfOk result (λ batch. 0 < lanes → AreInOrder lanes batch.jobs batch.ends) }
+    ensures named { IfOk result (λ batch. AreNamedJobs batch.jobs) }
+{
+    let mut cutter = Cutter::new(alloc, lanes);
+    let mut whole = Batch {
+        jobs: Jobs::new(alloc),
+        ends: Ends::new(alloc),
+    };
+    cut_bytes(&mut whole, &mut cutter, bytes)?;
+    cutter.finish(true)?;
+    add_batch(&mut whole, cutter.take_batch().as_slice())?;
+    Ok(whole)
+}
+
+// Cuts all of the bytes, as far as they are within the limits.
+fn cut_bytes(whole: &mut Batch, cutter: &mut Cutter, bytes: &[u8]) -> Result<(), AllocError>
+    requires { (lanes : ℕ) × HasCutUp lanes whole.old.jobs whole.old.ends cutter.old [] }
+    ensures { OnOk result ((lanes : ℕ) → HasCutUp lanes whole.old.jobs whole.old.ends cutter.old [] →
+        HasCutUp lanes whole.new.jobs whole.new.ends cutter.new bytes.now) }
+{
+    let mut at = 0;
+    'cutting: while at < bytes.len() {
+        if cutter.stop().is_some() {
+            return Ok(());
+        }
+        at += cut_some(whole, cutter, &bytes[at..])?;
+    }
+    Ok(())
+}
+
+// Cuts some of the bytes that are left, and adds a batch that has ended. Answers how many were cut.
+fn cut_some(whole: &mut Batch, cutter: &mut Cutter, left: &[u8]) -> Result<usize, AllocError>
+    requires some { 0 < length left.now }
+    requires going { cutter.old.stop ≡ None }
+    requires cut { (lanes : ℕ) × ((seen : List ℕ) × HasCutUp lanes whole.old.jobs whole.old.ends cutter.old seen) }
+    ensures some { IfOk result (λ n. 0 < n) }
+    ensures within { IfOk result (λ n. n ≤ length left.now) }
+    ensures cut { IfOk result (λ n. (lanes : ℕ) (seen : List ℕ) →
+        HasCutUp lanes whole.old.jobs whole.old.ends cutter.old seen →
+        HasCutUp lanes whole.new.jobs whole.new.ends cutter.new (seen ++ take n left.now)) }
+{
+    let count = cutter.feed(left)?;
+    if cutter.has_batch() {
+        add_batch(whole, cutter.take_batch().as_slice())?;
+    }
+    Ok(count)
+}
+
+// Adds the jobs of a batch and its end, if it has a job.
+fn add_batch(whole: &mut Batch, batch: &[Job]) -> Result<(), AllocError>
+    requires few { length whole.old.jobs + length batch.now ≤ SESSION_LINE_LIMIT }
+    ensures jobs { OnOk result (whole.new.jobs ≡ whole.old.jobs ++ batch.now) }
+    ensures ends { OnOk result (whole.new.ends ≡ ends_after whole.old.ends (length whole.old.jobs) batch.now) }
+{
+    if batch.is_empty() {
+        return Ok(());
+    }
+    whole.jobs.push_all(batch)?;
+    whole.ends.push(whole.jobs.len() as u32)
+}

@@ -1,0 +1,217 @@
+//! A reader of lines.
+ghost use Rattle.std.specs.Prelude.{◌≡◌, ◌≤◌, ◌<◌, ◌+◌, ◌++◌, ℕ, List, [], length, take, drop, Option, None, Some, true, false, Ok, IfOk, OnOk, OnErr};
+ghost use Rattle.wf_outside.specs.Outside.{Rose, HasTaken, IsAtEnd};
+ghost use Rattle.line_reader.specs.Lines.{has_end, pending, ReadsTo, CountsAs};
+ghost use Rattle.line_reader.specs.Steps.{StepsTo, CountsStep, FindsEnd};
+
+use crate::Read;
+use basics::List as Bytes;
+use memchr::memchr;
+use std::alloc::{AllocError, Global};
+use std::marker::Model;
+use wf_outside::{Failed, Source};
+
+/// A reader of lines: the line that was read last, and the piece of the input behind it.
+#[derive(Drop)]
+pub struct LineReader {
+    // The line that was handed over last, or the front of the next one.
+    line: Bytes<u8>,
+    handed: bool,
+    piece: Vec<u8>,
+    // How many bytes of the piece are in lines.
+    at: usize,
+    // How many bytes of the piece were taken.
+    filled: usize,
+    limit: usize,
+}
+
+impl Model for LineReader {
+    ghost use Rattle.std.specs.Prelude.{◌≡◌, ◌≤◌, ◌<◌, false, length, take, drop};
+    ghost use Rattle.line_reader.specs.Lines.{ReaderShape, has_end};
+
+    ghost Value = { ReaderShape };
+
+    ghost view = { λ r. record { line = r.line; handed = r.handed; ahead = drop r.at (take r.filled r.piece.items); limit = r.limit; room = length r.piece.items } };
+
+    ghost invariant = { λ r. (r.at ≤ r.filled) × (r.filled ≤ length r.piece.items) × (0 < length r.piece.items)
+        × (r.handed ≡ false → length r.line ≤ r.limit) × (r.handed ≡ false → has_end r.line ≡ false) };
+}
+
+impl LineReader {
+    /// A reader before the first byte, of lines of at most `limit` bytes without their line ends. It
+    /// takes at most `room` bytes at once.
+    pub fn new(alloc: Global, room: usize, limit: usize) -> Result<LineReader, AllocError>
+        requires { 0 < room }
+        ensures { IfOk result (λ r. r ≡ record { line = []; handed = false; ahead = []; limit = limit; room = room }) }
+    {
+        Ok(LineReader {
+            line: Bytes::new(alloc),
+            handed: false,
+            piece: vec![in alloc; 0u8; room]?,
+            at: 0,
+            filled: 0,
+            limit,
+        })
+    }
+
+    /// The line that was read last.
+    pub fn line(&self) -> &[u8]
+        ensures { result.now ≡ self.now.line }
+    {
+        self.line.as_slice()
+    }
+
+    /// Reads the next line. After `Failed` and `NoMemory` what was taken of it is kept.
+    pub fn next<S: Source>(&mut self, source: &mut S) -> Read
+        ensures reads { ReadsTo (S.left source.old) (S.left source.new) self.old self.new result }
+        ensures limit { self.new.limit ≡ self.old.limit }
+        ensures room { self.new.room ≡ self.old.room }
+        ensures counts { CountsAs result (S.faults source.old) (S.faults source.new) }
+    {
+        self.begin();
+        'reading: loop {
+            match self.advance(source) {
+                None => {}
+                Some(read) => return read,
+            }
+        }
+    }
+
+    // Begins the next line, where one was handed over.
+    fn begin(&mut self)
+        ensures pending { pending self.new ≡ pending self.old }
+        ensures handed { self.new.handed ≡ false }
+        ensures limit { self.new.limit ≡ self.old.limit }
+        ensures room { self.new.room ≡ self.old.room }
+    {
+        if self.handed {
+            self.line.truncate(0);
+            self.handed = false;
+        }
+    }
+
+    // Reads on in the piece, or takes the next one where all of it is in lines.
+    fn advance<S: Source>(&mut self, source: &mut S) -> Option<Read>
+        requires { self.old.handed ≡ false }
+        ensures steps { StepsTo (S.left source.old) (S.left source.new) self.old self.new result }
+        ensures limit { self.new.limit ≡ self.old.limit }
+        ensures room { self.new.room ≡ self.old.room }
+        ensures counts { CountsStep result (S.faults source.old) (S.faults source.new) }
+    {
+        if self.at < self.filled {
+            return self.read_on();
+        }
+        match self.take_piece(source) {
+            Ok(true) => None,
+            Ok(false) => Some(self.finish()),
+            Err(_) => Some(Read::Failed),
+        }
+    }
+
+    // Reads on in the piece.
+    fn read_on(&mut self) -> Option<Read>
+        requires kept { self.old.handed ≡ false }
+        requires some { 0 < length self.old.ahead }
+        ensures steps { (left : Option (List ℕ)) → StepsTo left left self.old self.new result }
+        ensures limit { self.new.limit ≡ self.old.limit }
+        ensures room { self.new.room ≡ self.old.room }
+        ensures counts { (count : ℕ) → CountsStep result count count }
+    {
+        let count = self.filled - self.at;
+        let free = self.limit - self.line.len();
+        match self.find_end() {
+            Some(n) if n <= free => match self.read_line(n + 1) {
+                Ok(()) => Some(Read::Line),
+                Err(_) => Some(Read::NoMemory),
+            },
+            None if count <= free => match self.read_all() {
+                Ok(()) => None,
+                Err(_) => Some(Read::NoMemory),
+            },
+            _ => Some(Read::TooLong),
+        }
+    }
+
+    // The place of the first LF in what was taken.
+    fn find_end(&self) -> Option<usize>
+        ensures { FindsEnd self.now.ahead result }
+    {
+        memchr(b'\n', &self.piece[self.at..self.filled])
+    }
+
+    // Takes the rest of the line from the piece, and hands the line over.
+    fn read_line(&mut self, count: usize) -> Result<(), AllocError>
+        requires kept { self.old.handed ≡ false }
+        requires within { count ≤ length self.old.ahead }
+        ensures read { OnOk result (self.new ≡ record self.old { line = self.old.line ++ take count self.old.ahead; handed = true; ahead = drop count self.old.ahead }) }
+        ensures unchanged { OnErr result (self.new ≡ self.old) }
+    {
+        self.line
+            .push_all(&self.piece[self.at..self.at + count])?;
+        self.at += count;
+        self.handed = true;
+        Ok(())
+    }
+
+    // Takes all of the piece into the line, which does not end in it.
+    fn read_all(&mut self) -> Result<(), AllocError>
+        requires kept { self.old.handed ≡ false }
+        requires going { has_end (self.old.line ++ self.old.ahead) ≡ false }
+        requires fits { length self.old.line + length self.old.ahead ≤ self.old.limit }
+        ensures read { OnOk result (self.new ≡ record self.old { line = self.old.line ++ self.old.ahead; ahead = [] }) }
+        ensures unchanged { OnErr result (self.new ≡ self.old) }
+    {
+        self.line.push_all(&self.piece[self.at..self.filled])?;
+        self.at = self.filled;
+        Ok(())
+    }
+
+    // Hands over the last line of the input, if there is one.
+    fn finish(&mut self) -> Read
+        requires kept { self.old.handed ≡ false }
+        requires none { self.old.ahead ≡ [] }
+        ensures reads { (before after : Option (List ℕ)) → HasTaken before after [] → IsAtEnd after → ReadsTo before after self.old self.new result }
+        ensures no_fault { (count : ℕ) → CountsAs result count count }
+        ensures limit { self.new.limit ≡ self.old.limit }
+        ensures room { self.new.room ≡ self.old.room }
+    {
+        if self.line.len() == 0 {
+            return Read::End;
+        }
+        self.handed = true;
+        Read::Line
+    }
+
+    // Takes the next piece, where all of the last one is in lines. False is the end of the input.
+    fn take_piece<S: Source>(&mut self, source: &mut S) -> Result<bool, Failed>
+        requires { self.old.ahead ≡ [] }
+        ensures same { self.new ≡ record self.old { ahead = self.new.ahead } }
+        ensures taken { OnOk result (HasTaken (S.left source.old) (S.left source.new) self.new.ahead) }
+        ensures more { result ≡ Ok true → 0 < length self.new.ahead }
+        ensures ended { result ≡ Ok false → (self.new.ahead ≡ []) × IsAtEnd (S.left source.new) }
+        ensures nothing { OnErr result ((self.new.ahead ≡ []) × (S.left source.new ≡ S.left source.old)) }
+        ensures faults { S.faults source.old ≤ S.faults source.new }
+        ensures rose { OnErr result (Rose (S.faults source.old) (S.faults source.new)) }
+        ensures stays { OnOk result (S.faults source.new ≡ S.faults source.old) }
+    {
+        self.at = 0;
+        self.filled = 0;
+        self.filled = take_into(self.piece.as_mut_slice(), source)?;
+        Ok(self.filled > 0)
+    }
+}
+
+// The next bytes, at the front of the piece; how many there are.
+fn take_into<S: Source>(piece: &mut [u8], source: &mut S) -> Result<usize, Failed>
+    requires { 0 < length piece.old }
+    ensures taken { IfOk result (λ n. HasTaken (S.left source.old) (S.left source.new) (take n piece.new)) }
+    ensures within { IfOk result (λ n. n ≤ length piece.new) }
+    ensures room { length piece.new ≡ length piece.old }
+    ensures ended { IfOk result (λ n. n ≡ 0 → IsAtEnd (S.left source.new)) }
+    ensures kept { OnErr result (S.left source.new ≡ S.left source.old) }
+    ensures faults { S.faults source.old ≤ S.faults source.new }
+    ensures rose { OnErr result (Rose (S.faults source.old) (S.faults source.new)) }
+    ensures stays { OnOk result (S.faults source.new ≡ S.faults source.old) }
+{
+    source.take(piece)
+}
