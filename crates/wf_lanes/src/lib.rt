@@ -5,6 +5,8 @@
 mod gate;
 mod lanes;
 mod table_turns;
+#[cfg(test)]
+mod tests;
 mod turns;
 mod worker;
 
