@@ -38,7 +38,7 @@ pub untag : (xs ys : List Entry) → StartsWith (tagged xs) (tagged ys) → Star
 untag xs ys begins = (
   map (λ (p : ℕ × Entry). p.1) begins.0,
   sym (untagged xs) ∙ ap (map (λ (p : ℕ × Entry). p.1)) begins.1 ∙ map-append (λ (p : ℕ × Entry). p.1) (tagged ys) begins.0
-  ∙ ap (λ l. l ++ map (λ (p : ℕ × Entry). p.1) begins.0) (untagged ys),
+      ∙ ap (λ l. l ++ map (λ (p : ℕ × Entry). p.1) begins.0) (untagged ys),
 )
 
 -- ---- a desk that is taken later
@@ -92,7 +92,7 @@ grows_added n d e job place Is own added =
     inr (
       added.entry,
       ap tagged added.added ∙ map-append (λ (x : Entry). (x.lane, x)) d.entries (added.entry ∷ [])
-      ∙ ap (λ k. tagged_of d ++ (k, added.entry) ∷ []) lane,
+          ∙ ap (λ k. tagged_of d ++ (k, added.entry) ∷ []) lane,
     )
 
 pub grows_committed : (n : ℕ) (d e : DeskShape) (t : Task) (v : Verdict) (result : Outcome) → t.lane ≡ n → HasCommitted d e t v result → GrowsByOne n (tagged_of e) (tagged_of d)

@@ -5,8 +5,6 @@
 mod gate;
 mod lanes;
 mod table_turns;
-#[cfg(test)]
-mod tests;
 mod turns;
 mod worker;
 
