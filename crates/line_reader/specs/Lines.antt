@@ -75,7 +75,7 @@ pub record HasEnded (before after : Option (List ℕ)) (r s : ReaderShape) : Typ
 -- all that was seen is pending: a line that has not ended
 pub record HasStopped (before after : Option (List ℕ)) (r s : ReaderShape) : Type 0 where
   pub seen : HasSeen before after r (pending s)
-  pub open : has_end (pending s) ≡ false
+  pub going : has_end (pending s) ≡ false
   pub fits : length (pending s) ≤ r.limit
 
 -- all that was seen is pending: a line that is too long, of which at most one piece was taken behind the limit

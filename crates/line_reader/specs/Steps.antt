@@ -1,12 +1,12 @@
 -- Inside: how reading a line goes on, step by step.
-use Rattle.std.specs.Prelude.{◌≡◌, ℕ, ◌+◌, ◌-◌, ◌*◌, ◌<◌, Bool, true, false, List, length, take, drop, Option, None, Some}
+use Rattle.std.specs.Prelude.{◌≡◌, ℕ, suc, ◌+◌, ◌-◌, ◌*◌, ◌<◌, Bool, true, false, List, length, take, drop, Option, None, Some}
 use Rattle.line_reader.specs.declared.read.Read.{Read}
 use Rattle.line_reader.specs.Lines.{ReaderShape, HasSeen, pending, first_line, behind_line, has_end, line_length, ReadsTo, CountsAs}
 
 -- the line has not ended yet, and some of it is read
 pub record HasGoneOn (before after : Option (List ℕ)) (r s : ReaderShape) : Type 0 where
   pub seen : HasSeen before after r (pending s)
-  pub open : s.handed ≡ false
+  pub kept : s.handed ≡ false
   pub limit : s.limit ≡ r.limit
   pub room : s.room ≡ r.room
 
@@ -27,8 +27,8 @@ CountsStep (Some read) before after = CountsAs read before after
 -- the first LF of some bytes stands at this place
 pub record HasEndAt (bytes : List ℕ) (n : ℕ) : Type 0 where
   pub within : n < length bytes
-  pub line : first_line bytes ≡ take (n + 1) bytes
-  pub behind : behind_line bytes ≡ drop (n + 1) bytes
+  pub line : first_line bytes ≡ take (suc n) bytes
+  pub behind : behind_line bytes ≡ drop (suc n) bytes
   pub ended : has_end bytes ≡ true
   pub counted : line_length bytes ≡ n
 

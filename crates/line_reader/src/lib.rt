@@ -3,6 +3,8 @@
 
 mod read;
 mod reader;
+#[cfg(test)]
+mod tests;
 
 pub use read::Read;
 pub use reader::LineReader;

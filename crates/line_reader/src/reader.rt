@@ -110,7 +110,7 @@ impl LineReader {
 
     // Reads on in the piece.
     fn read_on(&mut self) -> Option<Read>
-        requires open { self.old.handed ≡ false }
+        requires kept { self.old.handed ≡ false }
         requires some { 0 < length self.old.ahead }
         ensures steps { (left : Option (List ℕ)) → StepsTo left left self.old self.new result }
         ensures limit { self.new.limit ≡ self.old.limit }
@@ -141,7 +141,7 @@ impl LineReader {
 
     // Takes the rest of the line from the piece, and hands the line over.
     fn read_line(&mut self, count: usize) -> Result<(), AllocError>
-        requires open { self.old.handed ≡ false }
+        requires kept { self.old.handed ≡ false }
         requires within { count ≤ length self.old.ahead }
         ensures read { OnOk result (self.new ≡ record self.old { line = self.old.line ++ take count self.old.ahead; handed = true; ahead = drop count self.old.ahead }) }
         ensures unchanged { OnErr result (self.new ≡ self.old) }
@@ -155,7 +155,7 @@ impl LineReader {
 
     // Takes all of the piece into the line, which does not end in it.
     fn read_all(&mut self) -> Result<(), AllocError>
-        requires open { self.old.handed ≡ false }
+        requires kept { self.old.handed ≡ false }
         requires going { has_end (self.old.line ++ self.old.ahead) ≡ false }
         requires fits { length self.old.line + length self.old.ahead ≤ self.old.limit }
         ensures read { OnOk result (self.new ≡ record self.old { line = self.old.line ++ self.old.ahead; ahead = [] }) }
@@ -168,7 +168,7 @@ impl LineReader {
 
     // Hands over the last line of the input, if there is one.
     fn finish(&mut self) -> Read
-        requires open { self.old.handed ≡ false }
+        requires kept { self.old.handed ≡ false }
         requires none { self.old.ahead ≡ [] }
         ensures reads { (before after : Option (List ℕ)) → HasTaken before after [] → IsAtEnd after → ReadsTo before after self.old self.new result }
         ensures no_fault { (count : ℕ) → CountsAs result count count }

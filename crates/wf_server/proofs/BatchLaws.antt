@@ -16,6 +16,7 @@ use Rattle.wf_board.specs.HistoryLaws.{once_all}
 use Rattle.wf_desk.specs.Desks.{DeskShape, IsDone, IsSoundDesk}
 use Rattle.wf_desk.specs.BatchLaws.{AnswersBatch, EndAt, batch_fills}
 use Rattle.wf_desk.specs.DocketLaws.{batch_done}
+use Rattle.wf_desk.specs.Schedules.{HasGrown}
 use Rattle.wire_json.specs.Replies.{entry_text}
 use Rattle.line_cutter.specs.Cutter.{ends_after}
 use Rattle.run_record.specs.declared.fault.RunFault.{RunFault}
@@ -205,6 +206,10 @@ answers_to held mid aft old d before batch after text es (Err fault.NoMemory) h 
 answers_to held mid aft old d before batch after text es (Err fault.Write) h is new all part some ending =
     (h.added, part_answered held mid aft old d before batch after h (subst (HasPart mid aft) is part) (subst (λ xs. 0 < length xs) new some))
 answers_to held mid aft old d before batch after text es (Err other) h is new all part some ending = absurd ending
+
+-- a desk goes on to serve as it did
+pub same_setting : (d e : DeskShape) → HasGrown d e → setting_of e ≡ setting_of d
+same_setting d e grown = rw (grown.opening, grown.lanes, grown.rounds) refl
 
 -- the same is told
 pub same_told : (old d : DeskShape) (before after : Answered) → d.entries ≡ old.entries → after.jobs ≡ before.jobs → after.batch_ends ≡ before.batch_ends → told_of d after ≡ told_of old before

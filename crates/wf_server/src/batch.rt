@@ -9,12 +9,13 @@ ghost use Rattle.run_record.specs.Fault.{fault_in, CountsWrites};
 ghost use Rattle.wf_server.specs.Batches.{entries_text, told_of, HasAnswered, IsBatch, AnswersTo, IsWriteEnding};
 ghost use Rattle.wf_server.specs.Turns.{setting_of};
 
+use crate::decider::PlainDecider;
 use crate::texts::texts_stay;
-use crate::turns::serve_by_turns;
 use policy_book::Policy;
 use run_record::RunFault;
 use std::alloc::{AllocError, Global};
 use wf_desk::Desk;
+use wf_lanes::serve_by_turns;
 use wf_outside::{Sink, put_all};
 use wf_talk::{Ends, Entry, Job, Jobs, Journal};
 use wire_json::write_entry;
@@ -62,7 +63,7 @@ pub(crate) fn answer_batch<K: Sink>(
     texts_stay(desk);
     desk.load_batch(alloc, batch)?;
     add_batch(told, batch)?;
-    serve_by_turns(alloc, desk);
+    serve_by_turns(alloc, &PlainDecider, desk);
     write_entries(
         alloc,
         desk.board().policy(),

@@ -26,7 +26,6 @@ mod tests;
 mod texts;
 #[cfg(test)]
 mod trim_tests;
-mod turns;
 mod words;
 
 pub use run::run_alone;

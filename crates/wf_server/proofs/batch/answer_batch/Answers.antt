@@ -6,24 +6,24 @@ use Rattle.wf_board.specs.Boards.{BoardShape}
 use Rattle.wf_server.specs.Sessions.{Setting}
 use Rattle.wf_server.specs.Turns.{setting_of}
 use Rattle.wf_server.specs.Batches.{entries_text, told_of}
-use Rattle.wf_server.proofs.BatchLaws.{answers_to, answers_none, same_told, text_on}
+use Rattle.wf_server.proofs.BatchLaws.{answers_to, answers_none, same_setting, same_told, text_on}
 use Rattle.wf_server.proofs.batch.answer_batch.Goals as goal
 
 pub returns-clause-answers : goal.returns-clause-answers
 returns-clause-answers g c held answered =
     let old = c.args.desk.now in
     let loaded = c.in_ok-load_batch.ensures.loaded in
-    let on = c.serve_by_turns.ensures.on in
+    let on = c.serve_by_turns.ensures.on.grown in
     let d = c.serve_by_turns.new.desk in
     let before = told_of old c.args.told.now in
     let after = told_of d c.add_batch.new.told in
-    let entries = on.entries ∙ ap (λ (x : DeskShape). x.entries ++ on.new) loaded in
-    let new : c.entries_after.result.now ≡ on.new = c.entries_after.ensures ∙ grind (arith, common_steps) in
-    let setting = on.setting ∙ ap setting_of loaded in
+    let entries = on.extends ∙ ap (λ (x : DeskShape). x.entries ++ on.more) loaded in
+    let new : c.entries_after.result.now ≡ on.more = c.entries_after.ensures ∙ grind (arith, common_steps) in
+    let setting = same_setting c.load_batch.new.self d on ∙ ap setting_of loaded in
     let found = c.policy.ensures.policy ∙ ap (λ (b : BoardShape). b.policy) c.board.ensures.board in
     let text =
     ap (entries_text c.policy.result.now) new
-    ∙ text_on old d c.policy.result.now on.new c.texts_stay.ensures c.board.ensures.sound setting entries found in
+    ∙ text_on old d c.policy.result.now on.more c.texts_stay.ensures c.board.ensures.sound setting entries found in
     answers_to held _ _ old d before c.args.batch.now after _ c.entries_after.result.now c.write_entries.result
     (record {
       answered = answered;
@@ -32,10 +32,10 @@ returns-clause-answers g c held answered =
       setting = setting;
       jobs = on.jobs ∙ ap (λ (x : DeskShape). x.jobs) loaded;
       start = on.start ∙ ap (λ (x : DeskShape). x.start) loaded;
-      new = on.new;
+      new = on.more;
       entries = entries;
       same = refl;
-      once = on.once;
+      once = c.serve_by_turns.ensures.on.once;
       added = record { jobs = c.in_ok-add_batch.ensures.jobs; ends = c.in_ok-add_batch.ensures.ends };
     })
     text new c.write_entries.ensures.all c.write_entries.ensures.part c.write_entries.ensures.some c.write_entries.ensures.ending
