@@ -15,3 +15,4 @@ pub mod Rows
 pub mod Planned
 pub mod Answering
 pub mod Unhurt
+pub mod Fixed
