@@ -16,3 +16,4 @@ pub mod Planned
 pub mod Answering
 pub mod Unhurt
 pub mod Fixed
+pub mod Admission
