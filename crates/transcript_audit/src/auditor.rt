@@ -1,13 +1,14 @@
 //! The auditor, with its calls.
-ghost use Rattle.std.specs.Prelude.{◌≡◌, ◌↔◌, true, IfOk, IsErrOf, None, Some};
+ghost use Rattle.std.specs.Prelude.{◌≡◌, ◌↔◌, ◌-◌, true, length, nat_eq, slice_index_or, IfOk, IfSome, IsErrOf, None, Some};
 ghost use Rattle.wf_names.specs.declared.limits.TheConstants.{LANE_LIMIT};
 ghost use Rattle.line_cutter.specs.Laws.{AreInOrder};
 ghost use Rattle.entry_reader.specs.declared.fault.TextFault.TheVariants.{NotText};
 ghost use Rattle.entry_reader.specs.Lines.{HasNoReply, HasReply};
+ghost use Rattle.entry_reader.specs.Places.{place_of_line};
 ghost use Rattle.wf_talk.specs.declared.reply.Reply.TheVariants as reply;
 ghost use Rattle.transcript_audit.specs.Audits.{ComesNext, audit_of, flows_now, next_job, place_told, state_now};
 ghost use Rattle.transcript_audit.specs.Outcomes.{HasEnded, HasTaken};
-ghost use Rattle.transcript_audit.specs.Keeping.{HasEntered, HasTried, IsDueIf, IsReading, again_in, entry_next};
+ghost use Rattle.transcript_audit.specs.Keeping.{HasEntered, HasRead, HasTried, IsDueIf, IsReading, again_in, entry_next};
 
 use crate::again::again_in;
 use crate::flaw::Flaw;
@@ -15,7 +16,7 @@ use crate::flows::Flows;
 use crate::record::Record;
 use crate::verdict::verdict_for;
 use crate::{AuditFault, AuditKind};
-use entry_reader::{Place, TextFault, read_place, read_reply};
+use entry_reader::{Place, TextFault, guess_place, read_place, read_plain, read_reply};
 use policy_book::Policy;
 use std::alloc::{AllocError, Global};
 use std::marker::Model;
@@ -122,6 +123,35 @@ impl Auditor {
     fn read(&self, alloc: Global, line: &[u8]) -> Result<(Job, Reply), Flaw>
         ensures { IsReading self.now line.now result }
     {
+        match self.read_quickly(alloc, line)? {
+            Some(found) => Ok(found),
+            None => self.read_fully(alloc, line),
+        }
+    }
+
+    // The same of a line as most are; None says nothing.
+    fn read_quickly(&self, alloc: Global, line: &[u8]) -> Result<Option<(Job, Reply)>, AllocError>
+        ensures { IfOk result (λ o. IfSome o (λ found. HasRead self.now line.now found.0 found.1)) }
+    {
+        let Some(place) = guess_place(line) else {
+            return Ok(None);
+        };
+        if !is_ended(line) || place.at != self.record.number() {
+            return Ok(None);
+        }
+        let Some(job) = self.due(&place) else {
+            return Ok(None);
+        };
+        match self.reply_quickly(alloc, &job.ask, place, line)? {
+            Some(reply) => Ok(Some((job, reply))),
+            None => Ok(None),
+        }
+    }
+
+    // The same of any line.
+    fn read_fully(&self, alloc: Global, line: &[u8]) -> Result<(Job, Reply), Flaw>
+        ensures { IsReading self.now line.now result }
+    {
         let place = told_place(alloc, line)?;
         if place.at != self.record.number() {
             return Err(Flaw::Kind(AuditKind::At));
@@ -145,13 +175,33 @@ impl Auditor {
 
     // The reply that a line tells.
     fn reply(&self, alloc: Global, ask: &Ask, line: &[u8]) -> Result<Reply, TextFault>
-        ensures reply { IfOk result (HasReply (state_now self.now).book.policy (flows_now self.now) ask.now line.now) }
-        ensures none { IsErrOf result NotText → HasNoReply (state_now self.now).book.policy (flows_now self.now) ask.now line.now }
+        ensures reply { IfOk result (HasReply (state_now self.now).book.policy
+            (flows_now self.now) ask.now line.now) }
+        ensures none { IsErrOf result NotText → HasNoReply (state_now self.now).book.policy
+            (flows_now self.now) ask.now line.now }
     {
         let flows = Flows {
             cases: self.board.cases(),
         };
         read_reply(alloc, self.board.policy(), &flows, ask, line)
+    }
+
+    // The reply that a line tells at a place, of a line as most are; None says nothing.
+    fn reply_quickly(
+        &self,
+        alloc: Global,
+        ask: &Ask,
+        place: Place,
+        line: &[u8],
+    ) -> Result<Option<Reply>, AllocError>
+        ensures place { IfOk result (λ o. IfSome o (λ r. place_of_line line.now ≡ Some place)) }
+        ensures reply { IfOk result (λ o. IfSome o (HasReply (state_now self.now).book.policy
+            (flows_now self.now) ask.now line.now)) }
+    {
+        let flows = Flows {
+            cases: self.board.cases(),
+        };
+        read_plain(alloc, self.board.policy(), &flows, ask, place, line)
     }
 
     // Takes a reply to a lane's next job.
@@ -225,9 +275,17 @@ fn told_place(alloc: Global, line: &[u8]) -> Result<Place, TextFault>
     ensures place { IfOk result (λ place. place_told line.now ≡ Some place) }
     ensures none { IsErrOf result NotText → place_told line.now ≡ None }
 {
-    if line.last() == Some(&b'\n') {
+    if is_ended(line) {
         read_place(alloc, line)
     } else {
         Err(TextFault::NotText)
     }
+}
+
+// Whether a line ends with LF.
+fn is_ended(line: &[u8]) -> bool
+    ensures { result ≡ nat_eq (slice_index_or line.now (length line.now - 1) 0) 10 }
+{
+    let len = line.len();
+    0 < len && line[len - 1] == b'\n'
 }

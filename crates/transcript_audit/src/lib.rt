@@ -15,6 +15,8 @@ mod flaw;
 mod flows;
 pub mod laws;
 mod record;
+#[cfg(test)]
+mod tests;
 mod verdict;
 
 pub use auditor::Auditor;
