@@ -182,7 +182,13 @@ part_length from end jobs begins within =
     let rest = length-drop from (take end jobs) in
     omega (arith, first, rest, begins)
 
--- the first batches among the ends
+-- a slice of the jobs is a part
+pub slice_part : (from end : ℕ) (jobs : List Job) → from ≤ end → take (end - from) (drop from jobs) ≡ part from end jobs
+slice_part from end jobs begins =
+    let whole : from + (end - from) ≡ end = omega (arith, begins) in
+    sym (drop-take from (end - from) jobs) ∙ ap (λ n. drop from (take n jobs)) whole
+
+-- ---- the first batches among the ends
 
 start_first : (before : ℕ) (ends : List ℕ) (k i : ℕ) → i ≤ k → k ≤ length ends → from_start before (take k ends) i ≡ from_start before ends i
 start_first before ends k zero within known = refl

@@ -5,3 +5,4 @@ pub mod Cursors
 pub mod Exact
 pub mod Excludes
 pub mod Entering
+pub mod Looking

@@ -1,5 +1,5 @@
 //! The auditor, with its calls.
-ghost use Rattle.std.specs.Prelude.{◌≡◌, ◌↔◌, ◌-◌, true, length, nat_eq, slice_index_or, IfOk, IfSome, IsErrOf, None, Some};
+ghost use Rattle.std.specs.Prelude.{◌≡◌, ◌↔◌, ◌≤◌, ◌-◌, true, length, nat_eq, slice_index_or, IfOk, IfSome, IsErrOf, None, OnOk, Some};
 ghost use Rattle.wf_names.specs.declared.limits.TheConstants.{LANE_LIMIT};
 ghost use Rattle.line_cutter.specs.Laws.{AreInOrder};
 ghost use Rattle.entry_reader.specs.declared.fault.TextFault.TheVariants.{NotText};
@@ -79,13 +79,17 @@ impl Auditor {
         line: &[u8],
     ) -> Result<(), AuditFault>
         requires ready { V.ready decider.now }
-        ensures { HasTaken self.old self.new line.now result }
+        ensures taken { HasTaken self.old self.new line.now result }
+        ensures few { OnOk result (length self.new.entries ≤ length self.new.jobs) }
     {
         if let Some(kind) = self.record.fault() {
             return Err(AuditFault::At(self.record.number(), kind));
         }
         match self.take(alloc, decider, line) {
-            Ok(()) => Ok(()),
+            Ok(()) => {
+                let _within = self.record.is_done();
+                Ok(())
+            }
             Err(Flaw::Kind(kind)) => {
                 self.record.keep_fault(kind);
                 Err(AuditFault::At(self.record.number(), kind))
