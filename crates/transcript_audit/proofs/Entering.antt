@@ -1,18 +1,23 @@
 -- A reply that was taken or refused, and what becomes of its line.
-use Rattle.std.proofs.Common.{◌≡◌, ◌≢◌, ◌↔◌, ℕ, zero, suc, ◌+◌, ◌-◌, ◌<◌, ◌≤◌, ◌⊎◌, inl, inr, max, Bool, true, false, ◌&&◌, nat_eq, nat_le, List, [], ◌∷◌, ◌++◌, length, take, drop, slice_get, Option, None, Some, Result, Ok, Err, refl, sym, ap, subst, ◌∙◌, arith}
+use Rattle.std.proofs.Common.{◌≡◌, ◌≢◌, ◌↔◌, ℕ, zero, suc, ◌+◌, ◌-◌, ◌<◌, ◌≤◌, ◌⊎◌, inl, inr, max, Bool, true, false, ◌&&◌, nat_eq, nat_le, List, [], ◌∷◌, ◌++◌, length, map, take, drop, slice_get, Option, None, Some, Result, Ok, Err, refl, sym, ap, subst, ◌∙◌, arith}
 use Rattle.std.proofs.lemmas.Grind.{common_steps}
-use Rattle.basics.proofs.Booleans.{and_both, and_from, bool_cases, eq_back, eq_is}
+use Rattle.std.specs.Option.{option_map}
+use Rattle.basics.proofs.Booleans.{and_both, and_from, bool_cases, eq_back, eq_is, same_by}
+use Rattle.wf_names.specs.declared.limits.TheConstants.{SESSION_LINE_LIMIT}
+use Rattle.policy_book.specs.Shapes.{PolicyShape}
+use Rattle.case_record.specs.Cases.{CaseShape}
+use Rattle.grant_table.specs.Tables.{CasesShape}
 use Rattle.wf_talk.specs.declared.entry.Entry.{Entry}
 use Rattle.wf_talk.specs.declared.job.Job.{Job}
 use Rattle.wf_talk.specs.declared.reply.Reply.{Reply}
 use Rattle.wf_talk.specs.declared.reply.Reply.TheVariants as reply
 use Rattle.wf_talk.specs.declared.request.Ask.{Ask}
-use Rattle.wf_board.specs.Boards.{BoardShape, state_on}
+use Rattle.wf_board.specs.Boards.{BoardShape, numbered, state_on}
 use Rattle.wf_board.specs.Counting.{counted, counted_end, counts_for, lane_end}
 use Rattle.wf_board.specs.Decisions.{decision_of, needs_verdict}
 use Rattle.wf_board.specs.Histories.{IsRetry, IsRightAfter, MayRetry, RestsFrom, job_of_entry, lane_jobs, state_after}
-use Rattle.wf_board.specs.HistoryLaws.{after_again, after_more, again_rests, step_once, step_rests}
-use Rattle.wf_board.specs.States.{State, opening_state}
+use Rattle.wf_board.specs.HistoryLaws.{after_again, after_more, again_rests, edits_within, step_once, step_rests}
+use Rattle.wf_board.specs.States.{State, case_at, opening_state}
 use Rattle.wf_board.specs.Steps.{IsStep, state_after_step}
 use Rattle.wf_board.proofs.Counted.{count_later, end_there}
 use Rattle.wf_desk.specs.Places.{entry_for}
@@ -126,6 +131,47 @@ may_next a j n place next = by_right next.right.1
           rests = and_from _ _ (grind (arith, common_steps, enough)) (eq_is (place + 1) (counted_end j.ask a.entries) (omega (arith, p_same, last)));
         }
 
+-- ---- what is read by
+
+-- the policy and the cases of a board are those after the entries
+pub known_now : (Q : PolicyShape → (ℕ → Option ℕ) → Type 0) (b : BoardShape) (a : AuditShape) (p : PolicyShape) (t : CasesShape) → p ≡ b.policy → t ≡ b.cases → state_on b ≡ state_now a →
+    Q p (λ n. option_map (λ (c : CaseShape). c.flow) (case_at (map numbered t.rows) n)) → Q (state_now a).book.policy (flows_now a)
+known_now Q b a p t policy cases same is =
+    subst (λ (s : State). Q s.book.policy (λ n. option_map (λ (c : CaseShape). c.flow) (case_at s.book.cases n))) same
+    (subst (λ q. Q q (λ n. option_map (λ (c : CaseShape). c.flow) (case_at (map numbered b.cases.rows) n))) policy
+    (subst (λ (u : CasesShape). Q p (λ n. option_map (λ (c : CaseShape). c.flow) (case_at (map numbered u.rows) n))) cases is))
+
+-- the board has few edits
+pub edits_few : (b : BoardShape) (a : AuditShape) → state_on b ≡ state_now a → length a.entries ≤ SESSION_LINE_LIMIT → b.edits < 4294967295
+edits_few b a same few =
+    let count : b.edits ≡ (state_now a).edits = ap (λ (s : State). s.edits) same in
+    let within = edits_within a.opening a.entries in
+    omega (arith, count, within, few)
+
+-- ---- whether entries count
+
+pub rests_then : (a : AuditShape) (start lane : ℕ) (what : Ask) (n place found last : ℕ) → found ≡ counted what (drop (max (lane_end lane a.entries) start) a.entries) → n ≤ found →
+    last + 1 ≡ counted_end what a.entries → nat_eq place last ≡ rests_on a start lane what n place
+rests_then a start lane what n place found last is enough end =
+    let some : nat_le n (counted what (drop (max (lane_end lane a.entries) start) a.entries)) ≡ true = let h : n ≤ counted what (drop (max (lane_end lane a.entries) start) a.entries) = omega (arith, is, enough) in grind (arith, common_steps) in
+    let same : nat_eq place last ≡ nat_eq (place + 1) (counted_end what a.entries) =
+    same_by (nat_eq place last) (nat_eq (place + 1) (counted_end what a.entries))
+    (λ yes. let here = eq_back place last yes in eq_is (place + 1) (counted_end what a.entries) (omega (arith, here, end)))
+    (λ yes. let here = eq_back (place + 1) (counted_end what a.entries) yes in eq_is place last (omega (arith, here, end))) in
+    same ∙ sym (ap (λ b. b && nat_eq (place + 1) (counted_end what a.entries)) some)
+
+pub rests_else : (a : AuditShape) (start lane : ℕ) (what : Ask) (n place found : ℕ) → found ≡ counted what (drop (max (lane_end lane a.entries) start) a.entries) → found < n →
+    false ≡ rests_on a start lane what n place
+rests_else a start lane what n place found is short =
+    let none : nat_le n (counted what (drop (max (lane_end lane a.entries) start) a.entries)) ≡ false = let h : counted what (drop (max (lane_end lane a.entries) start) a.entries) < n = omega (arith, is, short) in grind (arith, common_steps) in
+    sym (ap (λ b. b && nat_eq (place + 1) (counted_end what a.entries)) none)
+
+-- where some count behind a place, some do
+pub some_count : (what : Ask) (entries : List Entry) (n found rounds : ℕ) → found ≡ counted what (drop n entries) → rounds ≤ found → 1 ≤ rounds → 1 ≤ counted what entries
+some_count what entries n found rounds is enough some =
+    let all = count_later (λ e. counts_for e what) entries 0 n (omega arith) in
+    omega (arith, is, enough, some, all)
+
 -- ---- the line
 
 -- the entry at the place that a line tells is that of the job
@@ -160,3 +206,9 @@ tried_of before after line j r (Ok done) read entered = (entry_next before j r, 
 tried_of before after line j r (Err (flaw.Kind kind)) read entered =
     (subst (HasFault before line) (sym entered.0) (read_wrong before line j r read entered.1.0), entered.1.1)
 tried_of before after line j r (Err flaw.NoMemory) read entered = entered
+
+-- the job that a line answers is its lane's next one
+pub read_due : (a : AuditShape) (line : List ℕ) (j : Job) (r : Reply) → HasRead a line j r → next_job a j.lane ≡ Some j
+read_due a line j r read =
+    let lane : j.lane ≡ read.place.lane = next_lane read.place.lane _ (present_jobs a) j read.due.next in
+    ap (next_job a) lane ∙ read.due.next

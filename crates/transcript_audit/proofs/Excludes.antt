@@ -111,7 +111,7 @@ record IsOfSession (a : AuditShape) (k : ℕ) : Type 0 where
 last_of : (a : AuditShape) (k : ℕ) (e : Entry) → IsOfSession a k → ComesNext a e → IsLastOf a.opening a.rounds a.entries e
 last_of a k e is next =
     let few = entries_few a k is.sound in
-    let rounds = is.session.rounds in
+    let rounds = is.session.few_rounds in
     let lane = lane_known a k e.lane (job_of_entry e) is.sound next.answers in
     record {
       policy = is.session.policy;

@@ -6,3 +6,4 @@ pub mod Exact
 pub mod Excludes
 pub mod Entering
 pub mod Looking
+pub mod Taking

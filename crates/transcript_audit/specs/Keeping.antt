@@ -78,8 +78,8 @@ pub record IsRecord (a : AuditShape) (c : Cursor) : Type 0 where
 -- a cursor stands at the first job of each lane in a batch
 pub record IsAtFirst (jobs : List Job) (ends : List ℕ) (k start : ℕ) (c : Cursor) : Type 0 where
   pub batch : c.batch ≡ k
-  pub start : c.start ≡ start
-  pub ends : c.end ≡ slice_index_or ends k start
+  pub begins : c.start ≡ start
+  pub stops : c.end ≡ slice_index_or ends k start
   pub placed : (lane : ℕ) → lane < LANE_LIMIT →
       IsNextPlace (part start (slice_index_or ends k start) jobs) lane 0 (slice_index_or c.places lane 0)
 

@@ -22,7 +22,7 @@ HaveSmallLines (j ∷ js) = (j.line < 2 ^ 32) × HaveSmallLines js
 pub record AreOfSession (p : PolicyShape) (rounds : ℕ) (jobs : List Job) (batch_ends : List ℕ) : Type 0 where
   pub policy : IsSoundPolicy p
   pub steps : HasFewSteps p
-  pub rounds : rounds ≤ ROUND_LIMIT
+  pub few_rounds : rounds ≤ ROUND_LIMIT
   pub order : AreInOrder LANE_LIMIT jobs batch_ends
   pub named : AreNamedJobs jobs
   pub small : HaveSmallLines jobs

@@ -263,6 +263,7 @@ impl Auditor {
         requires once { again_in reply ≡ None }
         ensures { HasEntered self.old self.new job.now reply result }
     {
+        let _few = self.record.number();
         let verdict = verdict_for(&self.board, alloc, decider, &job.ask, &reply);
         if matches!(verdict, Verdict::NoMemory) {
             return Err(Flaw::NoMemory);
