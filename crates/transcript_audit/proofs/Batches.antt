@@ -1,15 +1,14 @@
 -- Batches among the jobs.
-use Rattle.std.proofs.Common.{◌≡◌, ◌≢◌, ℕ, zero, suc, ◌+◌, ◌-◌, ◌<◌, ◌≤◌, inl, inr, Bool, true, false, nat_eq, nat_le, nat_lt, List, [], ◌∷◌, ◌++◌, length, take, drop, get_or, map, slice_index_or, if◌then◌else◌, refl, sym, ap, subst, ◌∙◌, arith}
+use Rattle.std.proofs.Common.{◌≡◌, ℕ, zero, suc, ◌+◌, ◌-◌, ◌<◌, ◌≤◌, inl, inr, true, false, nat_eq, nat_le, nat_lt, List, [], ◌∷◌, length, take, drop, slice_index_or, refl, sym, ap, ◌∙◌, arith}
 use Rattle.std.proofs.lemmas.Grind.{common_steps}
-use Rattle.std.proofs.lemmas.List.{drop-take, length-append, length-drop, length-take-le, take-append-drop, take_all, take_more}
+use Rattle.std.proofs.lemmas.List.{drop-take, length-drop, length-take-le}
 use Rattle.basics.proofs.Booleans.{bool_cases}
-use Rattle.wf_names.specs.declared.limits.TheConstants.{LANE_LIMIT}
 use Rattle.wf_talk.specs.declared.job.Job.{Job}
-use Rattle.wf_board.specs.Histories.{batch_end, batch_start, lane_jobs}
-use Rattle.line_cutter.specs.Laws.{AreInOrder, AreOfLanes, LeadTo}
+use Rattle.wf_board.specs.Histories.{batch_start, lane_jobs}
+use Rattle.line_cutter.specs.Laws.{AreOfLanes, LeadTo}
 use Rattle.wf_desk.specs.BatchLaws.{EndAt}
 use Rattle.transcript_audit.specs.Audits.{end_at, start_at}
-use Rattle.transcript_audit.specs.Keeping.{IsBatchOf, end_of, jobs_in, part}
+use Rattle.transcript_audit.specs.Keeping.{IsBatchOf, end_of, part}
 
 -- where the batch with a number begins, of those from a place on
 abbrev from_start : ℕ → List ℕ → ℕ → ℕ

@@ -1,7 +1,7 @@
 -- The cursor of an audit stands at the next job of each lane.
-use Rattle.std.proofs.Common.{◌≡◌, ◌≢◌, ℕ, zero, suc, ◌+◌, ◌-◌, ◌<◌, ◌≤◌, inl, inr, Bool, true, false, nat_eq, nat_lt, nat_le, List, [], ◌∷◌, ◌++◌, length, take, drop, get_or, map, slice_get, slice_index_or, slice_set, IfSome, Option, None, Some, refl, sym, ap, subst, ◌∙◌, arith}
+use Rattle.std.proofs.Common.{◌≡◌, ◌≢◌, ℕ, ◌+◌, ◌<◌, ◌≤◌, inl, inr, true, false, nat_eq, nat_lt, List, [], ◌∷◌, ◌++◌, length, take, slice_get, slice_index_or, slice_set, None, Some, refl, sym, ap, subst, ◌∙◌, arith}
 use Rattle.std.proofs.lemmas.Grind.{common_steps}
-use Rattle.std.proofs.lemmas.List.{drop_all, get_or-set_other, get_or-set_same, length-append, take_more}
+use Rattle.std.proofs.lemmas.List.{get_or-set_other, get_or-set_same, length-append, take_more}
 use Rattle.std.proofs.lemmas.Option.{get_or_from_slice_get, slice_get_within}
 use Rattle.basics.proofs.Booleans.{bool_cases, eq_back, eq_is}
 use Rattle.wf_names.specs.declared.limits.TheConstants.{LANE_LIMIT}
@@ -16,7 +16,7 @@ use Rattle.wf_desk.specs.Places.{IsNextPlace}
 use Rattle.wf_desk.specs.DocketLaws.{lane_both, lane_own, next_at, served_other, served_own}
 use Rattle.transcript_audit.specs.declared.cursor.Cursor.{Cursor}
 use Rattle.transcript_audit.specs.Audits.{AuditShape, ComesNext, audit_of, next_job, present_jobs, present_start, with_entry}
-use Rattle.transcript_audit.specs.Keeping.{HasGoneOn, HasMoved, IsAtFirst, IsPlaceIn, IsRecord, IsSoundAudit, end_of, jobs_in, part}
+use Rattle.transcript_audit.specs.Keeping.{HasGoneOn, IsAtFirst, IsPlaceIn, IsRecord, IsSoundAudit, end_of, jobs_in, part}
 use Rattle.transcript_audit.proofs.Batches.{ends_within, next_start, part_none, start_before_end}
 use Rattle.transcript_audit.proofs.Sound.{desk_of, end_now, next_is, next_open, next_short, none_served, sound_past, sound_start, sound_within, start_now}
 

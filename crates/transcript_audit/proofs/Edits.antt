@@ -1,7 +1,6 @@
 -- Only an edit changes the policy, and it needs a verdict.
-use Rattle.std.proofs.Common.{◌≡◌, ◌≢◌, ℕ, List, Bool, true, false, Option, None, Some, Result, Ok, Err, refl, sym, ap, subst, ◌∙◌}
+use Rattle.std.proofs.Common.{◌≡◌, ◌≢◌, ℕ, List, true, false, Option, None, Some, Result, Ok, Err, refl, sym, ◌∙◌}
 use Rattle.first_fault.specs.Reading.{◌>>=◌, or_fault, check}
-use Rattle.wf_talk.specs.declared.request.Request.{Request}
 use Rattle.wf_talk.specs.declared.request.Request.TheVariants as request
 use Rattle.wf_talk.specs.declared.request.Ask.{Ask}
 use Rattle.wf_talk.specs.declared.request.Ask.TheVariants as ask
@@ -12,7 +11,7 @@ use Rattle.admin_edits.specs.Edits.{is_admin}
 use Rattle.wf_board.specs.declared.deed.Deed.{Deed}
 use Rattle.wf_board.specs.declared.deed.Deed.TheVariants as deed
 use Rattle.wf_board.specs.States.{Book, State, case_at, flow_named, step_named, user_named}
-use Rattle.wf_board.specs.Resolved.{on_step, open_case_at, resolve, resolve_request}
+use Rattle.wf_board.specs.Resolved.{on_step, open_case_at, resolve}
 use Rattle.wf_board.specs.Decisions.{cause_aside, cause_full, decision_aside, decision_of, needs_verdict, unless_denied}
 use Rattle.wf_board.specs.Admitting.{HasVerdict, is_edit_left}
 use Rattle.wf_board.specs.declared.verdict.Verdict.{Verdict}

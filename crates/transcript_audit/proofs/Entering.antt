@@ -1,8 +1,8 @@
 -- A reply that was taken or refused, and what becomes of its line.
-use Rattle.std.proofs.Common.{◌≡◌, ◌≢◌, ◌↔◌, ℕ, zero, suc, ◌+◌, ◌-◌, ◌<◌, ◌≤◌, ◌⊎◌, inl, inr, max, Bool, true, false, ◌&&◌, nat_eq, nat_le, List, [], ◌∷◌, ◌++◌, length, map, take, drop, slice_get, Option, None, Some, Result, Ok, Err, refl, sym, ap, subst, ◌∙◌, arith}
+use Rattle.std.proofs.Common.{◌≡◌, ◌↔◌, ℕ, ◌+◌, ◌<◌, ◌≤◌, ◌⊎◌, inl, inr, max, Bool, true, false, ◌&&◌, nat_eq, nat_le, List, length, map, drop, Option, None, Some, Result, Ok, Err, refl, sym, ap, subst, ◌∙◌, arith}
 use Rattle.std.proofs.lemmas.Grind.{common_steps}
 use Rattle.std.specs.Option.{option_map}
-use Rattle.basics.proofs.Booleans.{and_both, and_from, bool_cases, eq_back, eq_is, same_by}
+use Rattle.basics.proofs.Booleans.{and_both, and_from, eq_back, eq_is, same_by}
 use Rattle.wf_names.specs.declared.limits.TheConstants.{SESSION_LINE_LIMIT}
 use Rattle.policy_book.specs.Shapes.{PolicyShape}
 use Rattle.case_record.specs.Cases.{CaseShape}
@@ -15,23 +15,19 @@ use Rattle.wf_talk.specs.declared.request.Ask.{Ask}
 use Rattle.wf_board.specs.Boards.{BoardShape, numbered, state_on}
 use Rattle.wf_board.specs.Counting.{counted, counted_end, counts_for, lane_end}
 use Rattle.wf_board.specs.Decisions.{decision_of, needs_verdict}
-use Rattle.wf_board.specs.Histories.{IsRetry, IsRightAfter, MayRetry, RestsFrom, job_of_entry, lane_jobs, state_after}
+use Rattle.wf_board.specs.Histories.{IsRetry}
 use Rattle.wf_board.specs.HistoryLaws.{after_again, after_more, again_rests, edits_within, step_once, step_rests}
 use Rattle.wf_board.specs.States.{State, case_at, opening_state}
 use Rattle.wf_board.specs.Steps.{IsStep, state_after_step}
-use Rattle.wf_board.proofs.Counted.{count_later, end_there}
-use Rattle.wf_desk.specs.Places.{entry_for}
+use Rattle.wf_board.proofs.Counted.{count_later}
 use Rattle.wf_desk.specs.DocketLaws.{next_lane}
 use Rattle.wire_json.specs.Replies.{entry_text}
-use Rattle.entry_reader.specs.declared.place.Place.{Place}
-use Rattle.entry_reader.specs.Places.{place_of_line}
-use Rattle.entry_reader.specs.Lines.{HasReply, entry_at}
+use Rattle.entry_reader.specs.Lines.{entry_at}
 use Rattle.entry_laws.proofs.Entries.{text_stays}
-use Rattle.transcript_audit.specs.declared.fault.AuditKind.{AuditKind}
 use Rattle.transcript_audit.specs.declared.fault.AuditKind.TheVariants as kinds
 use Rattle.transcript_audit.specs.declared.flaw.Flaw.{Flaw}
 use Rattle.transcript_audit.specs.declared.flaw.Flaw.TheVariants as flaw
-use Rattle.transcript_audit.specs.Audits.{AuditShape, ComesNext, HasFault, IsDue, IsNext, StandsAt, flows_now, next_job, next_text, place_told, present_jobs, present_start, state_now, with_entry}
+use Rattle.transcript_audit.specs.Audits.{AuditShape, ComesNext, HasFault, IsNext, flows_now, next_job, present_jobs, present_start, state_now, with_entry}
 use Rattle.transcript_audit.specs.Keeping.{HasEntered, HasRead, HasTried, again_in, entry_next, rests_on}
 use Rattle.transcript_audit.proofs.Excludes.{one_place, told_named}
 

@@ -1,22 +1,20 @@
 -- The lines are the texts of entries that come next, one for each job, exactly where they are those of a legal history that
 -- fills the jobs.
-use Rattle.std.proofs.Common.{◌≡◌, ◌≢◌, ◌↔◌, ℕ, zero, suc, ◌+◌, ◌-◌, ◌<◌, ◌≤◌, inl, inr, Bool, true, false, nat_eq, nat_lt, nat_le, List, [], ◌∷◌, ◌++◌, length, take, drop, get_or, map, slice_get, slice_index_or, Option, None, Some, append_assoc, append-nil, refl, sym, ap, subst, ◌∙◌, arith}
-use Rattle.std.proofs.lemmas.Grind.{common_steps}
+use Rattle.std.proofs.Common.{◌≡◌, ℕ, zero, suc, ◌<◌, ◌≤◌, List, [], ◌∷◌, ◌++◌, length, take, drop, map, slice_get, Some, append_assoc, append-nil, refl, sym, ap, subst, ◌∙◌, arith}
 use Rattle.std.proofs.lemmas.List.{length-append, length-map, map-append, take-append-drop, take-append-le}
-use Rattle.basics.proofs.Booleans.{bool_cases, eq_is}
 use Rattle.wf_names.specs.declared.limits.TheConstants.{LANE_LIMIT}
 use Rattle.policy_book.specs.Shapes.{PolicyShape}
 use Rattle.wf_talk.specs.declared.entry.Entry.{Entry}
 use Rattle.wf_talk.specs.declared.job.Job.{Job}
-use Rattle.wf_board.specs.Histories.{BatchRests, EachAfter, FillsJobs, IsLegal, IsRightAfter, RestsFrom, batch_end, batch_jobs, batch_start, job_of_entry, lane_jobs, state_after}
+use Rattle.wf_board.specs.Histories.{EachAfter, FillsJobs, IsLegal, IsRightAfter, RestsFrom, batch_end, batch_jobs, batch_start, job_of_entry, lane_jobs, state_after}
 use Rattle.wf_board.specs.HistoryLaws.{after_all, each_later}
 use Rattle.wf_board.specs.States.{State, opening_state}
 use Rattle.wire_json.specs.Replies.{entry_text}
-use Rattle.line_cutter.specs.Laws.{AreInOrder, LeadTo}
+use Rattle.line_cutter.specs.Laws.{AreInOrder}
 use Rattle.wf_desk.specs.DocketLaws.{lane_both, lane_own}
-use Rattle.transcript_audit.specs.Audits.{AreNext, AuditShape, ComesNext, IsNext, IsTranscript, audit_of, end_at, next_job, next_text, present_start, start_at, state_now, texts_of, with_entry}
-use Rattle.transcript_audit.specs.Laws.{AreOfSession, AuditIsExact}
-use Rattle.transcript_audit.specs.Keeping.{IsBatchOf, IsSoundAudit, end_of}
+use Rattle.transcript_audit.specs.Audits.{AreNext, AuditShape, ComesNext, IsTranscript, audit_of, end_at, next_job, present_start, state_now, texts_of, with_entry}
+use Rattle.transcript_audit.specs.Laws.{AuditIsExact}
+use Rattle.transcript_audit.specs.Keeping.{IsBatchOf, IsSoundAudit}
 use Rattle.transcript_audit.proofs.Batches.{batch_there, end_is, end_read, start_is}
 use Rattle.transcript_audit.proofs.Sound.{sound_more, sound_start, whole_at_end}
 

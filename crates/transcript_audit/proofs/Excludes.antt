@@ -1,19 +1,17 @@
 -- A line that has a fault is the text of no entry that comes next.
-use Rattle.std.proofs.Common.{◌≡◌, ◌≢◌, ℕ, zero, suc, ◌+◌, ◌-◌, ◌<◌, ◌≤◌, ◌^◌, ◌⊎◌, inl, inr, Bool, true, false, nat_eq, nat_lt, List, [], ◌∷◌, ◌++◌, length, take, drop, get_or, slice_get, slice_index_or, Option, None, Some, if◌then◌else◌, refl, sym, ap, subst, ◌∙◌, arith}
+use Rattle.std.proofs.Common.{◌≡◌, ℕ, zero, suc, ◌-◌, ◌<◌, ◌^◌, inl, inr, Bool, true, false, nat_eq, nat_lt, List, [], ◌∷◌, ◌++◌, length, take, drop, slice_get, slice_index_or, Option, None, Some, if◌then◌else◌, sym, ap, subst, ◌∙◌, arith}
 use Rattle.std.proofs.lemmas.Grind.{common_steps}
 use Rattle.std.proofs.lemmas.List.{length-append}
 use Rattle.std.proofs.Math.Seq.{get_or-append_seam}
 use Rattle.basics.proofs.Booleans.{bool_cases, eq_is}
-use Rattle.wf_names.specs.declared.limits.TheConstants.{LANE_LIMIT, ROUND_LIMIT, SESSION_LINE_LIMIT}
-use Rattle.policy_book.specs.Shapes.{PolicyShape}
+use Rattle.wf_names.specs.declared.limits.TheConstants.{LANE_LIMIT}
 use Rattle.wf_talk.specs.declared.entry.Entry.{Entry}
 use Rattle.wf_talk.specs.declared.job.Job.{Job}
-use Rattle.wf_talk.specs.declared.reply.Reply.{Reply}
 use Rattle.wf_talk.specs.declared.request.Ask.{Ask}
 use Rattle.wf_talk.specs.declared.request.Ask.TheVariants as ask
 use Rattle.wf_talk.specs.declared.request.Bad.{Bad}
 use Rattle.wf_talk.specs.declared.request.Bad.TheVariants as bad
-use Rattle.wf_board.specs.Histories.{IsLegal, IsRightAfter, batch_start, job_of_entry, lane_jobs}
+use Rattle.wf_board.specs.Histories.{IsRightAfter, job_of_entry, lane_jobs}
 use Rattle.wf_board.specs.HistoryLaws.{each_more}
 use Rattle.wf_board.specs.States.{opening_state}
 use Rattle.line_cutter.specs.Laws.{AreNamedJobs}
@@ -22,17 +20,17 @@ use Rattle.line_cutter.specs.Laws as cut
 use Rattle.entry_reader.specs.declared.place.Place.{Place}
 use Rattle.entry_reader.specs.Named.{HasNames}
 use Rattle.entry_reader.specs.Places.{place_of_line}
-use Rattle.entry_reader.specs.Lines.{HasNoReply, HasReply, IsLineOf, entry_at}
+use Rattle.entry_reader.specs.Lines.{IsLineOf, entry_at}
 use Rattle.entry_reader.proofs.LinesBack.{line_placed}
 use Rattle.entry_laws.specs.Asks as asks
 use Rattle.entry_laws.specs.Laws.{EntriesAreLines, IsLastOf, IsOneLine, TextsAreLines}
 use Rattle.transcript_audit.specs.declared.fault.AuditKind.{AuditKind}
 use Rattle.transcript_audit.specs.declared.fault.AuditKind.TheVariants.{Text, At, Job as WrongJob, Reply as WrongReply, Missing}
-use Rattle.transcript_audit.specs.Audits.{AreNext, AuditShape, ComesNext, HasFault, IsDue, IsNext, StandsAt, audit_of, end_at, flows_now, next_job, next_text, place_told, present_jobs, present_start, state_now}
+use Rattle.transcript_audit.specs.Audits.{AuditShape, ComesNext, HasFault, IsDue, IsNext, audit_of, end_at, flows_now, next_job, place_told, present_jobs, present_start, state_now}
 use Rattle.transcript_audit.specs.Laws.{AreOfSession, FaultsExclude, HaveSmallLines}
-use Rattle.transcript_audit.specs.Keeping.{IsSoundAudit, end_of, part}
+use Rattle.transcript_audit.specs.Keeping.{IsSoundAudit}
 use Rattle.transcript_audit.proofs.Batches.{part_none}
-use Rattle.transcript_audit.proofs.Sound.{end_now, entries_few, sound_start, start_now}
+use Rattle.transcript_audit.proofs.Sound.{entries_few, sound_start}
 use Rattle.transcript_audit.proofs.Exact.{all_sound}
 
 -- ---- jobs of a session

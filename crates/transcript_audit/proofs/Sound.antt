@@ -1,24 +1,24 @@
 -- An audit stays sound with one more entry that comes next, and at its end the jobs are filled.
-use Rattle.std.proofs.Common.{◌≡◌, ◌≢◌, ℕ, zero, suc, ◌+◌, ◌-◌, ◌<◌, ◌≤◌, inl, inr, Bool, true, false, nat_eq, nat_lt, nat_le, List, [], ◌∷◌, ◌++◌, length, take, drop, get_or, map, slice_get, slice_index_or, Option, None, Some, refl, sym, ap, subst, ◌∙◌, arith}
+use Rattle.std.proofs.Common.{◌≡◌, ℕ, ◌+◌, ◌<◌, ◌≤◌, inl, inr, nat_eq, nat_lt, List, [], ◌∷◌, ◌++◌, length, take, drop, get_or, map, slice_get, slice_index_or, Some, refl, sym, ap, subst, ◌∙◌, arith}
 use Rattle.std.proofs.lemmas.Grind.{common_steps}
-use Rattle.std.proofs.lemmas.List.{drop_all, length-append, length-drop, length-take-le, take-append-drop, take-append-le, take-take, take_all, take_more}
+use Rattle.std.proofs.lemmas.List.{drop_all, length-append, length-take-le, take-append-drop, take-append-le, take-take, take_all, take_more}
 use Rattle.std.proofs.lemmas.Option.{slice_get_cases}
 use Rattle.basics.proofs.Booleans.{bool_cases, eq_back}
 use Rattle.wf_names.specs.declared.limits.TheConstants.{LANE_LIMIT, SESSION_LINE_LIMIT}
 use Rattle.policy_book.specs.Shapes.{PolicyShape}
 use Rattle.wf_talk.specs.declared.entry.Entry.{Entry}
 use Rattle.wf_talk.specs.declared.job.Job.{Job}
-use Rattle.wf_board.specs.Histories.{EachAfter, FillsJobs, IsLegal, IsRightAfter, RestsFrom, batch_end, batch_start, job_of_entry, lane_jobs}
+use Rattle.wf_board.specs.Histories.{EachAfter, FillsJobs, IsLegal, IsRightAfter, RestsFrom, batch_start, job_of_entry, lane_jobs}
 use Rattle.wf_board.specs.HistoryLaws.{each_more, rests_more}
 use Rattle.wf_board.specs.States.{opening_state}
 use Rattle.line_cutter.specs.Laws.{AreInOrder}
 use Rattle.wf_desk.specs.Desks.{DeskShape, IsDone, served, served_jobs}
 use Rattle.wf_desk.specs.Desks as desk
-use Rattle.wf_desk.specs.BatchLaws.{AnswersBatch, EndAt, batch_fills}
+use Rattle.wf_desk.specs.BatchLaws.{EndAt, batch_fills}
 use Rattle.wf_desk.specs.DocketLaws.{all_done, batch_short, front_more, no_more, served_other, served_own}
 use Rattle.transcript_audit.specs.Audits.{AuditShape, ComesNext, audit_of, end_at, next_job, present_start, with_entry}
 use Rattle.transcript_audit.specs.Outcomes.{IsWhole}
-use Rattle.transcript_audit.specs.Keeping.{IsBatchOf, IsSoundAudit, end_of, jobs_in, part}
+use Rattle.transcript_audit.specs.Keeping.{IsSoundAudit, end_of, jobs_in}
 use Rattle.transcript_audit.proofs.Batches.{end_is, end_read, ends_within, first_ends, last_start, next_start, part_length, read_behind, start_ahead, start_before_end, start_is, start_within}
 
 -- a desk with the jobs and the entries of a batch

@@ -1,14 +1,12 @@
 -- What a line and the end come to.
-use Rattle.std.proofs.Common.{◌≡◌, ◌≢◌, ℕ, ◌+◌, ◌<◌, ◌≤◌, Bool, true, false, nat_eq, List, length, Option, None, Some, Result, Ok, Err, refl, sym, ap, subst, ◌∙◌, arith}
+use Rattle.std.proofs.Common.{◌≡◌, ℕ, ◌≤◌, Bool, true, false, nat_eq, List, length, None, Some, Ok, Err, refl, sym, ap, subst, ◌∙◌, arith}
 use Rattle.std.proofs.lemmas.Grind.{common_steps}
-use Rattle.basics.proofs.Booleans.{eq_back, eq_is}
-use Rattle.transcript_audit.specs.declared.fault.AuditFault.{AuditFault}
+use Rattle.basics.proofs.Booleans.{eq_back}
 use Rattle.transcript_audit.specs.declared.fault.AuditFault.TheVariants.{At, NoMemory}
 use Rattle.transcript_audit.specs.declared.fault.AuditKind.{AuditKind}
 use Rattle.transcript_audit.specs.declared.fault.AuditKind.TheVariants as kinds
-use Rattle.transcript_audit.specs.declared.flaw.Flaw.{Flaw}
 use Rattle.transcript_audit.specs.declared.flaw.Flaw.TheVariants as flaw
-use Rattle.transcript_audit.specs.Audits.{AuditShape, HasFault}
+use Rattle.transcript_audit.specs.Audits.{AuditShape}
 use Rattle.transcript_audit.specs.Outcomes.{HasEnded, HasTaken, IsFirstFault, IsLastFault, IsWhole}
 use Rattle.transcript_audit.specs.Keeping.{HasTried}
 

@@ -1,5 +1,5 @@
 -- The audit of a transcript: line after line is the text of the entry that comes next, or has a first fault.
-use Rattle.std.specs.Prelude.{◌≡◌, ◌≢◌, ℕ, ◌-◌, nat_le, nat_lt, nat_eq, List, [], ◌∷◌, ◌++◌, length, take, drop, map, slice_get, slice_index_or, Option, None, Some, option_map, if◌then◌else◌}
+use Rattle.std.specs.Prelude.{◌≡◌, ◌≢◌, ℕ, ◌-◌, nat_le, nat_eq, List, [], ◌∷◌, ◌++◌, length, take, drop, map, slice_get, slice_index_or, Option, None, Some, option_map, if◌then◌else◌}
 use Rattle.std.proofs.Common.{◌⊎◌}
 use Rattle.policy_book.specs.Shapes.{PolicyShape}
 use Rattle.wf_talk.specs.declared.entry.Entry.{Entry}

@@ -1,5 +1,5 @@
 -- Inside: what an audit keeps beside what is said of it.
-use Rattle.std.specs.Prelude.{◌≡◌, ◌≢◌, ℕ, ◌+◌, ◌<◌, ◌≤◌, ◌&&◌, Bool, true, false, nat_eq, nat_le, List, [], length, take, drop, max, map, slice_get, slice_index_or, slice_set, IfSome, Option, None, Some, Result, Ok, Err}
+use Rattle.std.specs.Prelude.{◌≡◌, ◌≢◌, ℕ, ◌+◌, ◌<◌, ◌≤◌, ◌&&◌, Bool, true, false, nat_eq, nat_le, List, length, take, drop, max, slice_get, slice_index_or, slice_set, IfSome, Option, None, Some, Result, Ok, Err}
 use Rattle.wf_names.specs.declared.limits.TheConstants.{LANE_LIMIT}
 use Rattle.wf_talk.specs.declared.entry.Entry.{Entry}
 use Rattle.wf_talk.specs.declared.job.Job.{Job}

@@ -11,7 +11,7 @@ use Rattle.wf_board.specs.Histories.{state_after}
 use Rattle.entry_reader.specs.Named.{HasNames}
 use Rattle.entry_laws.specs.Laws.{HasFewSteps}
 use Rattle.transcript_audit.specs.declared.fault.AuditKind.{AuditKind}
-use Rattle.transcript_audit.specs.Audits.{AreNext, AuditShape, HasFault, IsNext, IsTranscript, audit_of}
+use Rattle.transcript_audit.specs.Audits.{AreNext, HasFault, IsNext, IsTranscript, audit_of}
 
 -- the numbers of their lines fit
 abbrev pub HaveSmallLines : List Job → Type 0

@@ -1,4 +1,4 @@
-use Rattle.std.proofs.Common.{◌≤◌, ap, sym, ◌∙◌, arith}
+use Rattle.std.proofs.Common.{ap, sym, ◌∙◌, arith}
 use Rattle.basics.proofs.Booleans.{eq_is}
 use Rattle.wf_talk.specs.declared.entry.Entry.{Entry}
 use Rattle.transcript_audit.proofs.Looking.{differs_test, own_hit, own_miss, own_none}

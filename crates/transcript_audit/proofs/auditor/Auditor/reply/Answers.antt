@@ -1,4 +1,4 @@
-use Rattle.std.proofs.Common.{ap, ◌∙◌, IfOk, IfSome}
+use Rattle.std.proofs.Common.{ap, ◌∙◌, IfOk}
 use Rattle.entry_reader.specs.Lines.{HasReply}
 use Rattle.transcript_audit.specs.Audits.{state_now}
 use Rattle.transcript_audit.proofs.Entering.{known_now}

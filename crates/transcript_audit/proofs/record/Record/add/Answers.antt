@@ -1,9 +1,6 @@
-use Rattle.std.proofs.Common.{◌≡◌, ◌+◌, ◌++◌, ◌∷◌, [], length, ap, sym, subst, ◌∙◌, arith}
-use Rattle.std.proofs.lemmas.List.{length_push}
-use Rattle.transcript_audit.specs.Keeping.{HasGoneOn, IsRecord}
-use Rattle.transcript_audit.specs.Audits.{AuditShape}
+use Rattle.std.proofs.Common.{arith}
 use Rattle.transcript_audit.proofs.Sound.{entries_few}
-use Rattle.transcript_audit.proofs.Cursors.{added_record, cursor_order, cursor_within, next_begins, next_ends, next_known, place_short}
+use Rattle.transcript_audit.proofs.Cursors.{added_record, cursor_within, next_begins, next_ends, next_known, place_short}
 use Rattle.transcript_audit.proofs.record.Record.add.Goals as goal
 
 pub add_entry-requires-clause-small : goal.add_entry-requires-clause-small

@@ -1,4 +1,4 @@
-use Rattle.std.proofs.Common.{◌≤◌, length, sym, subst, arith, None}
+use Rattle.std.proofs.Common.{length, sym, subst, arith, None}
 use Rattle.std.specs.Arc.{arc_value}
 use Rattle.transcript_audit.specs.Keeping.{IsAtFirst, IsRecord}
 use Rattle.transcript_audit.proofs.Batches.{ends_within}
