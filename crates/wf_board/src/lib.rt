@@ -2,6 +2,8 @@
 //! the laws of histories.
 #![tactic(auto)]
 
+mod admit;
+mod alike;
 mod board;
 mod certified;
 mod counting;
@@ -9,13 +11,16 @@ mod decider;
 mod decision;
 mod deed;
 mod edition;
+mod granted;
 mod harmless;
 pub mod laws;
 mod resolve;
 mod snap;
+mod strands;
 mod taking;
 mod verdict;
 
+pub use admit::AdmitFault;
 pub use board::Board;
 pub use counting::counts;
 pub use decider::Decider;
