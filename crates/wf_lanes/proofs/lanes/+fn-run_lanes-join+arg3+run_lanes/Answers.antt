@@ -1,18 +1,15 @@
 use Rattle.std.proofs.Common.{◌<◌, arith}
 use Rattle.std.proofs.lemmas.Grind.{common_steps}
-use denote.Param.Send.{sendable, param_send, struct_send}
-use Rattle.std.proofs.Crossing.{crosses}
-use Rattle.turn_table.proofs.lane.Lane.TheSendSync.{the_send as lane_send}
-use Rattle.turn_table.proofs.table.TurnTable.TheSendSync.{the_sync as table_sync}
-use Rattle.wf_desk.proofs.Crossing.{desk_send}
+use denote.Param.Send.{sendable}
+use Rattle.wf_lanes.proofs.Crossing.{desk_lane_send, errand_send}
 use Rattle.wf_lanes.proofs.Turning.{one_joined}
 use Rattle.wf_lanes.proofs.lanes.+fn-run_lanes-join+arg3+run_lanes.Goals as goal
 
 pub join-lane-requires-send-F : goal.join-lane-requires-send-F
-join-lane-requires-send-F g t c κs within = param_send 1 _ (struct_send _ (?, (?, (?, (?, (?, (?, (?, (?, tt)))))))))
+join-lane-requires-send-F g t c κs within = search (sendable, errand_send) depth 20
 
 pub join-lane-requires-send-A : goal.join-lane-requires-send-A
-join-lane-requires-send-A g t c κs within = search (sendable, lane_send, desk_send) depth 20 fits 100000
+join-lane-requires-send-A g t c κs within = search (sendable, desk_lane_send) depth 20
 
 pub returns-clause-joined : goal.returns-clause-joined
 returns-clause-joined g t c =
