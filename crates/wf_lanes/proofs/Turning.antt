@@ -1,5 +1,5 @@
 -- What turns at a table come to at the desk.
-use Rattle.std.proofs.Common.{◌≡◌, ℕ, ◌+◌, ◌-◌, ◌<◌, ◌≤◌, ◌≢◌, ◌⊎◌, inl, inr, Bool, true, false, List, [], ◌∷◌, ◌++◌, length, drop, map, Option, None, Some, IfSome, refl, sym, ap, subst, ◌∙◌, arith, append-nil, append_assoc}
+use Rattle.std.proofs.Common.{◌≡◌, ℕ, ◌+◌, ◌-◌, ◌<◌, ◌⊎◌, inl, inr, true, false, List, [], ◌∷◌, ◌++◌, length, map, None, Some, IfSome, refl, sym, ap, subst, ◌∙◌, arith, append-nil, append_assoc}
 use Rattle.std.specs.List.{Contains}
 use Rattle.std.proofs.lemmas.List.{map-append}
 use mathlib.Core.Logic.{dite}
@@ -11,18 +11,17 @@ use Rattle.wf_talk.specs.declared.job.Job.{Job}
 use Rattle.wf_talk.specs.declared.reply.Reply.{Reply}
 use Rattle.wf_board.specs.declared.verdict.Verdict.{Verdict}
 use Rattle.wf_board.specs.Boards.{book_on}
-use Rattle.wf_board.specs.Histories.{lane_jobs}
 use Rattle.wf_board.specs.Verdicts.{Decides}
 use Rattle.wf_desk.specs.declared.outcome.Outcome.{Outcome}
 use Rattle.wf_desk.specs.declared.outcome.Outcome.TheVariants as outcome
 use Rattle.wf_desk.specs.declared.tabled.Fixed.{Fixed}
 use Rattle.wf_desk.specs.declared.task.Task.{Task}
-use Rattle.wf_desk.specs.Desks.{DeskShape, HasAdded, IsSoundDesk, next_job, served}
+use Rattle.wf_desk.specs.Desks.{DeskShape, HasAdded, next_job, served}
 use Rattle.wf_desk.specs.Commits.{HasCommitted, HasServed, IsRightFor, IsTask, job_of_task}
 use Rattle.wf_desk.specs.DocketLaws as docket
 use Rattle.wf_desk.specs.Schedules.{HasGrown}
 use Rattle.wf_desk.specs.Tabling.{fixed_of, tagged, tagged_of}
-use Rattle.wf_desk.proofs.Scheduling.{begun_held, grown_committed, grown_none, grown_served, held_on}
+use Rattle.wf_desk.proofs.Scheduling.{begun_held, grown_committed, grown_served, held_on}
 use Rattle.wf_lanes.specs.declared.worker.Begun.{Begun}
 use Rattle.wf_lanes.specs.declared.worker.Begun.TheVariants as begun
 use Rattle.wf_lanes.specs.Workers.{HasBegun, HasBegunAt, HasEnded, HasJoined, HasLanes, HasRoom, HasSeen, HasTurned, IsBegun, IsFirst, IsIdle, IsSameLane}

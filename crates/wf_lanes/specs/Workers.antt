@@ -1,5 +1,5 @@
 -- Inside: what the turns of a lane's thread do.
-use Rattle.std.specs.Prelude.{◌≡◌, ℕ, ◌+◌, ◌<◌, ◌≤◌, true, false, Option, Some, None}
+use Rattle.std.specs.Prelude.{◌≡◌, ℕ, ◌+◌, ◌<◌, ◌≤◌, true, false, Some, None}
 use Rattle.std.specs.List.{Contains}
 use Rattle.turn_table.specs.Lists.{StartsWith}
 use Rattle.turn_table.specs.Lanes.{LaneShape, TableId}

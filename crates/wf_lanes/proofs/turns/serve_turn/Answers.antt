@@ -1,4 +1,4 @@
-use Rattle.std.proofs.Common.{◌≡◌, ◌≤◌, ◌+◌, Bool, true, false, sym, subst, arith}
+use Rattle.std.proofs.Common.{◌≤◌, ◌+◌, sym, subst, arith}
 use Rattle.std.proofs.lemmas.Grind.{common_steps}
 use Rattle.wf_desk.specs.Commits.{HasServed}
 use Rattle.wf_lanes.proofs.TurnLaws.{HasTurned, turned_none, turned_served, turned_passed, turned_done, turned_less}

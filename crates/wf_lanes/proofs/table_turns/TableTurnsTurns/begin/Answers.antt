@@ -1,4 +1,3 @@
-use Rattle.std.proofs.Common.{refl, sym, subst}
 use Rattle.wf_lanes.proofs.Turning.{fixed_begun, grows_begun, has_turned, idle_after, may_give}
 use Rattle.wf_lanes.proofs.table_turns.TableTurnsTurns.begin.Goals as goal
 

@@ -1,5 +1,4 @@
-use Rattle.std.proofs.Common.{refl, sym, subst}
-use Rattle.wf_lanes.proofs.Turning.{begun_lane, begun_right, fixed_committed, grows_committed, has_turned, idle_after, may_give, quiet_starts}
+use Rattle.wf_lanes.proofs.Turning.{begun_right, fixed_committed, has_turned, idle_after, quiet_starts}
 use Rattle.wf_lanes.proofs.table_turns.TableTurnsTurns.commit.Goals as goal
 
 pub commit_at-outcome-requires-clause-right : goal.commit_at-outcome-requires-clause-right
