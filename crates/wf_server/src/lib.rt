@@ -10,7 +10,7 @@ mod decider;
 mod edit_decider;
 #[cfg(test)]
 mod edit_tests;
-mod run;
+mod runs;
 #[cfg(test)]
 mod schedule_parts;
 #[cfg(test)]
@@ -26,8 +26,7 @@ mod tests;
 mod texts;
 #[cfg(test)]
 mod trim_tests;
-mod turns;
 mod words;
 
-pub use run::run_alone;
+pub use runs::run_alone;
 pub use run_record::{InputFault, Report, RunFault};

@@ -1,7 +1,7 @@
 use Rattle.std.proofs.Common.{◌≡◌}
 use Rattle.batch_reader.specs.Reading.{IsReady, left_to_read}
 use Rattle.wf_server.specs.Batches.{told_of, IsServing}
-use Rattle.wf_server.specs.Turns.{setting_of}
+use Rattle.wf_server.specs.Ways.{setting_of}
 use Rattle.wf_server.proofs.session.serve_batches.Given as goal
 
 abbrev pub invariant-serving : goal.invariant-serving
