@@ -1,0 +1,102 @@
+-- How a batch is served by turns.
+use Rattle.std.proofs.Common.{◌≡◌, ℕ, ◌+◌, ◌-◌, ◌<◌, ◌≤◌, Bool, true, false, nat_lt, nat_eq, List, [], ◌∷◌, ◌++◌, length, Option, None, Some, inl, inr, refl, sym, ◌∙◌, ap, subst, arith, append_assoc, append-nil, length-append}
+use Rattle.std.proofs.lemmas.Grind.{common_steps}
+use Rattle.std.proofs.lemmas.Bool.Decides.{nat_tests}
+use Rattle.basics.proofs.Booleans.{bool_cases}
+use Rattle.wf_talk.specs.declared.entry.Entry.{Entry}
+use Rattle.wf_talk.specs.declared.job.Job.{Job}
+use Rattle.wf_board.specs.Boards.{state_on}
+use Rattle.wf_board.specs.Histories.{AreAnsweredOnce, lane_jobs}
+use Rattle.wf_board.specs.HistoryLaws.{once_all, step_once}
+use Rattle.wf_desk.specs.Desks.{AreOfLanes, DeskShape, IsDone, IsSoundDesk, next_job}
+use Rattle.wf_desk.specs.Commits.{HasServed}
+use Rattle.wf_desk.specs.DocketLaws.{batch_within}
+use Rattle.wf_desk.specs.Schedules.{HasGrown}
+use Rattle.wf_desk.proofs.Scheduling.{grown_none, grown_served, grown_then}
+use Rattle.wf_lanes.specs.Turns.{HasServedOn, left_at}
+
+-- no job was served
+pub on_none : (d : DeskShape) → HasServedOn d d
+on_none d = record { grown = grown_none d d refl; once = tt }
+
+-- more jobs were served
+pub on_more : (a b c : DeskShape) → HasServedOn a b → HasServedOn b c → HasServedOn a c
+on_more a b c first second = record {
+  grown = grown_then a b c first.grown second.grown;
+  once = once_all first.grown.more second.grown.more first.once second.once;
+}
+
+-- a lane's next job was served, if it had one
+pub on_next : (b c : DeskShape) (lane : ℕ) (had : Bool) → HasServed b c lane had → HasServedOn b c
+on_next b c lane true (job, (next, more)) = record {
+  grown = grown_served b c lane true (job, (next, more));
+  once = (λ n place. step_once (state_on b.board) job.ask more.entry.reply more.reply.step n place, tt);
+}
+on_next b c lane false (none, same) = rw same (on_none b)
+
+-- of the first lanes none has a job left, where none was served
+pub record HasTurned (a c : DeskShape) (lanes : ℕ) (had : Bool) : Type 0 where
+  pub on : HasServedOn a c
+  pub none : had ≡ false → (c ≡ a) × ((k : ℕ) → k < lanes → next_job a k ≡ None)
+  pub some : had ≡ true → length a.entries < length c.entries
+
+pub turned_none : (d : DeskShape) → HasTurned d d 0 false
+turned_none d = record { on = on_none d; none = λ e. (refl, λ k below. absurd (omega (arith, below))); some = λ e. cc }
+
+-- with the next lane, which had a job
+pub turned_served : (a b c : DeskShape) (lane lanes : ℕ) (had : Bool) → HasTurned a b lane had → HasServed b c lane true → HasTurned a c lanes true
+turned_served a b c lane lanes had turned served =
+    let next = on_next b c lane true served in
+    let before = turned.on.grown.extends in
+    let more = served.1.1.added in
+    record {
+      on = on_more a b c turned.on next;
+      none = λ e. cc;
+      some = λ e. let one = ap length more in let old = ap length before in omega (arith, one, old, length-append b.entries (served.1.1.entry ∷ []), length-append a.entries turned.on.grown.more);
+    }
+
+-- or had none
+pub turned_passed : (a b c : DeskShape) (lane : ℕ) (had : Bool) → HasTurned a b lane had → HasServed b c lane false → HasTurned a c (lane + 1) had
+turned_passed a b c lane had turned served = record {
+  on = rw served.1 turned.on;
+  none = λ e. let none = turned.none e in (
+    served.1 ∙ none.0,
+    λ k below. elim (bool_cases (nat_eq k lane)) [
+      | inl here ↦ let same : k ≡ lane = grind (arith, nat_tests) in rw same (subst (λ d. next_job d lane ≡ None) none.0 served.0)
+      | inr other ↦ none.1 k (grind (arith, nat_tests))
+    ],
+  );
+  some = λ e. rw served.1 (turned.some e);
+}
+
+-- a lane past the last has no jobs
+none_past : (lanes lane : ℕ) (jobs : List Job) → AreOfLanes lanes jobs → lanes ≤ lane → lane_jobs lane jobs ≡ []
+none_past lanes lane [] of_lanes past = refl
+none_past lanes lane (j ∷ js) of_lanes past =
+    let other : nat_eq j.lane lane ≡ false = let below = of_lanes.0 in grind (arith, common_steps) in
+    rw other (none_past lanes lane js of_lanes.1 past)
+
+past_next : (d : DeskShape) (lane n : ℕ) → lane_jobs lane d.jobs ≡ [] → next_job d lane ≡ None
+past_next d lane n none = rw none refl
+
+-- where no lane had a job, none is left
+pub turned_done : (a c : DeskShape) (lanes : ℕ) → HasTurned a c lanes false → a.lanes ≤ lanes → AreOfLanes a.lanes a.jobs → IsDone c
+turned_done a c lanes turned all of_lanes lane =
+    let none = turned.none refl in
+    subst (λ d. next_job d lane ≡ None) (sym none.0) (elim (bool_cases (nat_lt lane lanes)) [
+      | inl below ↦ none.1 lane (grind (arith, nat_tests))
+      | inr past ↦ past_next a lane 0 (none_past a.lanes lane a.jobs of_lanes (grind (arith, nat_tests, all)))
+    ])
+
+-- where one had, fewer are left
+pub turned_less : (a c : DeskShape) (lanes : ℕ) → HasTurned a c lanes true → IsSoundDesk c → left_at c < left_at a
+turned_less a c lanes turned sound =
+    let more = turned.some refl in
+    let jobs = ap length turned.on.grown.jobs in
+    let start = turned.on.grown.start in
+    let within = batch_within c sound in
+    omega (arith, more, jobs, start, within)
+
+-- the jobs stay those of the lanes
+pub of_lanes_on : (b c : DeskShape) → HasGrown b c → AreOfLanes b.lanes b.jobs → AreOfLanes c.lanes c.jobs
+of_lanes_on b c grown of_lanes = subst (λ n. AreOfLanes n c.jobs) (sym grown.lanes) (subst (AreOfLanes b.lanes) (sym grown.jobs) of_lanes)
