@@ -2,14 +2,12 @@
 use Rattle.std.proofs.Common.{◌≡◌, ℕ, zero, suc, ◌+◌, ◌-◌, ◌<◌, ◌≤◌, List, [], ◌∷◌, ◌++◌, length, take, drop, get_or, Option, Result, Ok, Err, OnOk, OnErr, IfErr, inl, inr, refl, sym, ◌∙◌, ap, subst, arith, append_assoc}
 use Rattle.std.proofs.lemmas.Grind.{common_steps}
 use Rattle.std.proofs.lemmas.List.{take_rest, take-append-drop, append-nil, drop_more, take_more, length-append, get_or_append_left}
-use Rattle.std.specs.Prelude.{nat_lt, if◌then◌else◌}
 use Rattle.std.proofs.Math.Seq.{drop-append_seam, take-append_seam, get_or-append_seam}
 use Rattle.wf_outside.specs.Outside.{with_bytes, HasPart}
 use Rattle.wf_outside.proofs.OutsideLaws.{more_put, part_first, part_second, part_all}
 use Rattle.policy_book.specs.Shapes.{PolicyShape}
 use Rattle.wf_talk.specs.declared.entry.Entry.{Entry}
 use Rattle.wf_talk.specs.declared.job.Job.{Job}
-use Rattle.wf_board.specs.Boards.{BoardShape, state_on}
 use Rattle.wf_board.specs.States.{State, opening_state}
 use Rattle.wf_board.specs.Histories.{FillsJobs, IsLegal, batch_end, batch_start, state_after}
 use Rattle.wf_desk.specs.Desks.{DeskShape, IsDone, IsSoundDesk}
@@ -242,7 +240,7 @@ pub record HasServedBatch (old loaded d : DeskShape) (a b : Answered) (batch : L
   pub jobs : b.jobs ≡ a.jobs ++ batch
   pub ends : b.batch_ends ≡ ends_after a.batch_ends (length a.jobs) batch
 
-served_batch : (held mid : Option (List ℕ)) (old loaded d : DeskShape) (a b : Answered) (batch : List Job) → HasServedBatch old loaded d a b batch
+abbrev served_batch : (held mid : Option (List ℕ)) (old loaded d : DeskShape) (a b : Answered) (batch : List Job) → HasServedBatch old loaded d a b batch
     → HasAnswered held mid old (told_of old a) → HasAnsweredBatch held mid old d (told_of old a) batch (told_of d b)
 served_batch held mid old loaded d a b batch h answered = record {
   answered = answered;
@@ -258,13 +256,13 @@ served_batch held mid old loaded d a b batch h answered = record {
 }
 
 -- and its entries were written
-pub batch_answers : (held mid aft : Option (List ℕ)) (old loaded d : DeskShape) (a b : Answered) (batch : List Job) (n : ℕ) (result : Result (Unit {0}) RunFault)
-    → HasServedBatch old loaded d a b batch → HasAnswered held mid old (told_of old a) → KeepsTexts old → n ≡ length old.entries
-    → OnOk result (aft ≡ with_bytes mid (entries_text d.board.policy (drop n d.entries))) → HasPart mid aft (entries_text d.board.policy (drop n d.entries))
-    → OnErr result (0 < length (drop n d.entries)) → IfErr result IsWriteEnding → AnswersTo held aft (told_of old a) batch d (told_of d b) result
-batch_answers held mid aft old loaded d a b batch n result h answered texts count all part some ending =
+pub batch_answers : (held mid aft : Option (List ℕ)) (old loaded d : DeskShape) (q : PolicyShape) (a b : Answered) (batch : List Job) (n : ℕ) (es : List Entry) (result : Result (Unit {0}) RunFault)
+    → HasServedBatch old loaded d a b batch → HasAnswered held mid old (told_of old a) → KeepsTexts old → n ≡ length old.entries → es ≡ drop n d.entries → q ≡ d.board.policy
+    → OnOk result (aft ≡ with_bytes mid (entries_text q es)) → HasPart mid aft (entries_text q es) → OnErr result (0 < length es) → IfErr result IsWriteEnding
+    → AnswersTo held aft (told_of old a) batch d (told_of d b) result
+batch_answers held mid aft old loaded d q a b batch n es result h answered texts count behind found all part some ending =
     let served = served_batch held mid old loaded d a b batch h answered in
-    let new : drop n d.entries ≡ h.grown.more =
-    ap (λ k. drop k d.entries) count ∙ ap (drop (length old.entries)) served.entries ∙ drop-append_seam old.entries h.grown.more in
-    let text = ap (entries_text d.board.policy) new ∙ text_on old d d.board.policy h.grown.more texts h.sound served.setting served.entries refl in
-    answers_to held mid aft old d (told_of old a) batch (told_of d b) _ (drop n d.entries) result served text new all part some ending
+    let new : es ≡ h.grown.more =
+    behind ∙ ap (λ k. drop k d.entries) count ∙ ap (drop (length old.entries)) served.entries ∙ drop-append_seam old.entries h.grown.more in
+    let text = ap (entries_text q) new ∙ text_on old d q h.grown.more texts h.sound served.setting served.entries found in
+    answers_to held mid aft old d (told_of old a) batch (told_of d b) _ es result served text new all part some ending

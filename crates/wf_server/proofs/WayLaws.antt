@@ -1,6 +1,5 @@
 -- What comes of a way of serving.
-use Rattle.std.proofs.Common.{List, ◌++◌, sym, subst}
-use Rattle.wf_talk.specs.declared.entry.Entry.{Entry}
+use Rattle.std.proofs.Common.{sym, subst}
 use Rattle.wf_board.specs.Histories.{AreAnsweredOnce}
 use Rattle.wf_board.specs.HistoryLaws.{once_all}
 use Rattle.wf_desk.specs.Desks.{DeskShape}

@@ -1,5 +1,5 @@
 -- Inside: ways of serving the jobs of a batch at a desk.
-use Rattle.std.specs.Prelude.{◌≡◌, ℕ, ◌<◌}
+use Rattle.std.specs.Prelude.{◌<◌}
 use Rattle.wf_desk.specs.Desks.{AreOfLanes, DeskShape, IsDone}
 use Rattle.wf_desk.specs.Schedules.{HasGrown}
 use Rattle.wf_lanes.specs.Turns.{HasServedOn}

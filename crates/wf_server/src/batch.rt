@@ -68,7 +68,12 @@ pub(crate) fn answer_batch<K: Sink, W: Fn(Desk) -> Desk>(
     match take_batch(alloc, &mut desk, told, batch) {
         Ok(()) => {
             let served = serve_jobs(way, desk);
-            let written = write_after(alloc, &served, done, sink);
+            let written = write_entries(
+                alloc,
+                served.board().policy(),
+                entries_after(served.journal(), done),
+                sink,
+            );
             (served, written)
         }
         Err(refused) => (desk, Err(RunFault::from(refused))),
@@ -111,29 +116,6 @@ fn serve_jobs<W: Fn(Desk) -> Desk>(way: &W, desk: Desk) -> Desk
     let served = way(desk);
     let _kept = served.journal();
     served
-}
-
-// Writes the entries behind the first so many.
-fn write_after<K: Sink>(
-    alloc: Global,
-    desk: &Desk,
-    done: usize,
-    sink: &mut K,
-) -> Result<(), RunFault>
-    requires done { done ≤ length desk.now.entries }
-    ensures all { OnOk result (K.held sink.new
-        ≡ with_bytes (K.held sink.old) (entries_text desk.now.board.policy (drop done desk.now.entries))) }
-    ensures part { HasPart (K.held sink.old) (K.held sink.new) (entries_text desk.now.board.policy (drop done desk.now.entries)) }
-    ensures some { OnErr result (0 < length (drop done desk.now.entries)) }
-    ensures ending { IfErr result IsWriteEnding }
-    ensures counts { CountsWrites (fault_in result) (K.faults sink.old) (K.faults sink.new) }
-{
-    write_entries(
-        alloc,
-        desk.board().policy(),
-        entries_after(desk.journal(), done),
-        sink,
-    )
 }
 
 // Adds the jobs of a batch and its end.

@@ -63,9 +63,7 @@ pub fn run<R: Threads + Wait + Sync, F: Shelf, S: Source, K: Sink, G: Gate + Syn
             let on_lanes = |desk: Desk| -> Desk
                 requires { (0 < desk.lanes) × AreOfLanes desk.lanes desk.jobs }
                 ensures { HasGrown desk result × IsDone result }
-            {
-                serve_by_lanes(rt, alloc, &PlainDecider, gate, desk)
-            };
+            { serve_by_lanes(rt, alloc, &PlainDecider, gate, desk) };
             run_serve(alloc, &on_lanes, policy, options, shelf, source, sink)
         }
         _ => run_alone(alloc, words, shelf, source, sink),
@@ -121,9 +119,7 @@ pub fn run_alone<F: Shelf, S: Source, K: Sink>(
             let by_turns = |desk: Desk| -> Desk
                 requires { (0 < desk.lanes) × AreOfLanes desk.lanes desk.jobs }
                 ensures { HasServedOn desk result × IsDone result }
-            {
-                turned(alloc, desk)
-            };
+            { turned(alloc, desk) };
             run_serve(alloc, &by_turns, policy, options, shelf, source, sink)
         }
         None => bare_report(alloc, RunFault::Usage),

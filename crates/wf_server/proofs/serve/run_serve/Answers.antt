@@ -1,7 +1,7 @@
 use Rattle.std.proofs.Common.{sym, subst}
 use Rattle.run_record.specs.Report.{Told}
 use Rattle.wf_board.specs.Histories.{AreAnsweredOnce}
-use Rattle.wf_server.proofs.ServeLaws.{is_served, loads_late, not_served, unread_counts}
+use Rattle.wf_server.proofs.ServeLaws.{is_served, loads_late}
 use Rattle.wf_server.specs.Asked.{options_in}
 use Rattle.wf_server.proofs.serve.run_serve.Goals as goal
 
