@@ -42,6 +42,17 @@ impl<V: Decider, G: Gate> Decider for Gated<'_, V, G> {
     }
 }
 
+impl<V, G> Drop for Gated<'_, V, G> {
+    fn drop(self) {
+        let Gated {
+            decider: _,
+            gate: _,
+            lane: _,
+            line: _,
+        } = self;
+    }
+}
+
 // Whether this is an opening, a claim or an edit: whatever else is asked needs no search.
 fn asks_search(ask: &Ask) -> bool
     ensures { result ≡ may_lack_memory ask.now }

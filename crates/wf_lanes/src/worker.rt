@@ -68,7 +68,7 @@ pub(crate) fn work<R: Wait, V: Decider, G: Gate, T: Turns>(
     ensures same { IsSameLane (T.known turns.old) (T.known turns.new) }
     ensures ended { HasEnded (T.known turns.new) (T.lane turns.new) }
 {
-    for _ in rt.forever() {
+    'working: for _ in rt.forever() {
         match turns.begin() {
             Begun::Task(task) => {
                 let verdict = find(alloc, decider, gate, tells, &task);
