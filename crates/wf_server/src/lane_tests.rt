@@ -323,8 +323,25 @@ fn report_of<R: Threads + Wait + Sync, G: Gate + Sync>(
 ) -> Result<Report, AllocError> {
     let words = words_of(alloc, given)?;
     let mut shelf = shelf_of(alloc, policy)?;
-    let mut source = MemSource::new(input.as_bytes().to_vec(alloc)?, 10_000, Vec::new(alloc));
-    Ok(run(rt, alloc, &words, gate, &mut shelf, &mut source, sink))
+    report_over(rt, alloc, &words, input, gate, &mut shelf, sink)
+}
+
+fn report_over<R: Threads + Wait + Sync, G: Gate + Sync>(
+    rt: &R,
+    alloc: Global,
+    words: &[String],
+    input: &str,
+    gate: &G,
+    shelf: &mut MemShelf,
+    sink: &mut MemSink,
+) -> Result<Report, AllocError> {
+    let mut source = source_of(alloc, input)?;
+    Ok(run(rt, alloc, words, gate, shelf, &mut source, sink))
+}
+
+fn source_of(alloc: Global, input: &str) -> Result<MemSource, AllocError> {
+    let bytes = input.as_bytes().to_vec(alloc)?;
+    Ok(MemSource::new(bytes, 10_000, Vec::new(alloc)))
 }
 
 fn shelf_of(alloc: Global, policy: &str) -> Result<MemShelf, AllocError> {

@@ -6,7 +6,7 @@ ghost use Rattle.wf_board.specs.Histories.{AreAnsweredOnce};
 ghost use Rattle.wf_desk.specs.Desks.{AreOfLanes, IsDone};
 ghost use Rattle.wf_desk.specs.Schedules.{HasGrown};
 ghost use Rattle.wf_lanes.specs.Turns.{HasServedOn};
-ghost use Rattle.wf_server.specs.Words.{command_of, reads_input};
+ghost use Rattle.wf_server.specs.Words.{command_of, may_repeat, reads_input};
 ghost use Rattle.wf_server.specs.Run.{Does};
 
 use crate::decider::PlainDecider;
@@ -57,6 +57,8 @@ pub fn run<R: Threads + Wait + Sync, F: Shelf, S: Source, K: Sink, G: Gate + Syn
     }) }
     ensures untouched { reads_input (command_of (map string_bytes words.now)) ≡ false
         → source.new ≡ source.old }
+    ensures once { may_repeat (command_of (map string_bytes words.now)) ≡ false
+        → AreAnsweredOnce (told_by result).entries }
 {
     match read_words(words) {
         Some(Command::Serve { policy, options }) if options.lanes > 1 => {

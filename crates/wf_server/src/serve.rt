@@ -56,6 +56,7 @@ pub(crate) fn run_serve<F: Shelf, S: Source, K: Sink, W: Fn(Desk) -> Desk>(
       fault = result.fault;
     }) }
     ensures once { ServesOnce (W.post way.now) → AreAnsweredOnce (told_by result).entries }
+    ensures no_rounds { options.rounds ≡ 0 → AreAnsweredOnce (told_by result).entries }
 {
     match load_policy(alloc, shelf, policy) {
         Ok(p) => serve_policy(alloc, way, p, options, source, sink),

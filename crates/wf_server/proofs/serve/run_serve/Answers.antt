@@ -1,6 +1,8 @@
 use Rattle.std.proofs.Common.{sym, subst}
 use Rattle.run_record.specs.Report.{Told}
 use Rattle.wf_board.specs.Histories.{AreAnsweredOnce}
+use Rattle.wf_board.specs.States.{opening_state}
+use Rattle.wf_server.proofs.WayLaws.{once_legal}
 use Rattle.wf_server.proofs.ServeLaws.{is_served, loads_late}
 use Rattle.wf_server.specs.Asked.{options_in}
 use Rattle.wf_server.proofs.serve.run_serve.Goals as goal
@@ -18,3 +20,9 @@ returns-in-Ok-clause-serves g c = record {
 
 pub returns-in-Err-clause-once : goal.returns-in-Err-clause-once
 returns-in-Err-clause-once g c serves = subst (λ (t : Told). AreAnsweredOnce t.entries) (sym c.bare_report.ensures.told) tt
+
+pub returns-in-Ok-clause-no_rounds : goal.returns-in-Ok-clause-no_rounds
+returns-in-Ok-clause-no_rounds g c none = once_legal (opening_state c.in-Ok.p) c.args.options.rounds _ c.serve_policy.ensures.served.legal none
+
+pub returns-in-Err-clause-no_rounds : goal.returns-in-Err-clause-no_rounds
+returns-in-Err-clause-no_rounds g c none = subst (λ (t : Told). AreAnsweredOnce t.entries) (sym c.bare_report.ensures.told) tt
