@@ -45,6 +45,12 @@ unfolding entry_text
 value_back p flows text e k h =
     ap value_of (sym h.written) ∙ line_back (entry_data p e) (plain_entry p flows e k (fits p flows e h.entry)) h.entry.nests
 
+-- a line of an entry names the entry's place
+pub line_placed : (p : PolicyShape) (flows : ℕ → Option ℕ) (text : List ℕ) (e : Entry) → HasNames p → IsLineOf p flows text e →
+    place_of_line text ≡ Some (record { at = e.at; lane = e.lane; line = e.line })
+unfolding place_of_line
+line_placed p flows text e k h = ap (option_and_then place_in) (value_back p flows text e k h) ∙ place_back p flows e h.entry
+
 line_told : (p : PolicyShape) (flows : ℕ → Option ℕ) (text : List ℕ) (e : Entry) → HasNames p → IsLineOf p flows text e → entry_of_line p flows e.ask text ≡ Some e
 unfolding entry_of_line
 line_told p flows text e k h =
