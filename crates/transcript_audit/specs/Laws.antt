@@ -1,20 +1,28 @@
 -- What an audit finds, and what a transcript is.
-use Rattle.std.specs.Prelude.{◌≡◌, ◌↔◌, ◌≤◌, ℕ, List, length}
+use Rattle.std.specs.Prelude.{◌≡◌, ◌↔◌, ◌<◌, ◌≤◌, ◌^◌, ℕ, List, [], ◌∷◌, length}
 use Rattle.wf_names.specs.declared.limits.TheConstants.{LANE_LIMIT, ROUND_LIMIT}
 use Rattle.policy_book.specs.Shapes.{PolicyShape}
 use Rattle.policy_book.specs.Facts.{IsSoundPolicy}
 use Rattle.wf_talk.specs.declared.entry.Entry.{Entry}
 use Rattle.wf_talk.specs.declared.job.Job.{Job}
 use Rattle.line_cutter.specs.Laws.{AreInOrder, AreNamedJobs}
+use Rattle.entry_laws.specs.Laws.{HasFewSteps}
 use Rattle.transcript_audit.specs.declared.fault.AuditKind.{AuditKind}
 use Rattle.transcript_audit.specs.Audits.{AreNext, AuditShape, HasFault, IsNext, IsTranscript, audit_of}
+
+-- the numbers of their lines fit
+abbrev pub HaveSmallLines : List Job → Type 0
+HaveSmallLines [] = Unit {0}
+HaveSmallLines (j ∷ js) = (j.line < 2 ^ 32) × HaveSmallLines js
 
 -- a policy, jobs and rounds as those of a session are
 pub record AreOfSession (p : PolicyShape) (rounds : ℕ) (jobs : List Job) (batch_ends : List ℕ) : Type 0 where
   pub policy : IsSoundPolicy p
+  pub steps : HasFewSteps p
   pub rounds : rounds ≤ ROUND_LIMIT
   pub order : AreInOrder LANE_LIMIT jobs batch_ends
   pub named : AreNamedJobs jobs
+  pub small : HaveSmallLines jobs
 
 -- a line that has a fault is the text of no entry that comes next, where all lines before it are such texts
 abbrev pub FaultsExclude : Type 0

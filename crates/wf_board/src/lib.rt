@@ -2,6 +2,7 @@
 //! the laws of histories.
 #![tactic(auto)]
 
+mod admit;
 mod board;
 mod certified;
 mod counting;
@@ -16,6 +17,7 @@ mod snap;
 mod taking;
 mod verdict;
 
+pub use admit::AdmitFault;
 pub use board::Board;
 pub use counting::counts;
 pub use decider::Decider;

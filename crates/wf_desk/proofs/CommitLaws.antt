@@ -28,7 +28,8 @@ use Rattle.wf_desk.specs.declared.outcome.Outcome.{Outcome}
 use Rattle.wf_desk.specs.declared.outcome.Outcome.TheVariants as outcome
 use Rattle.wf_desk.specs.Desks.{DeskShape, HasAdded, loss_of, next_job, no_loss, served}
 use Rattle.wf_desk.specs.Commits.{HasCommittedChecked, IsNext, IsReplyWhere, IsRightFor, IsTask, floor_of, is_fresh, is_kept, is_last_round, is_lost, job_of_task}
-use Rattle.wf_desk.specs.Keeping.{HasCommittedNone, IsDesk, IsNextPlace, entry_for, own_start}
+use Rattle.wf_desk.specs.Keeping.{HasCommittedNone, IsDesk, own_start}
+use Rattle.wf_desk.specs.Places.{IsNextPlace, entry_for}
 use Rattle.wf_desk.proofs.DeskLaws.{Grows, HasMoved, MayLose, desk_added, desk_lost, with_parts}
 use Rattle.wf_desk.specs.DocketLaws.{next_lane}
 

@@ -146,12 +146,15 @@ pub rest_none : {A : Type 0} (xs : List A) (n : ℕ) → length xs ≤ n → dro
 rest_none xs n past = drop_of_length-le xs past
 
 -- no more jobs are answered than there are
-pub batch_within : (d : DeskShape) → IsSoundDesk d → length d.entries ≤ d.start + length d.jobs
-batch_within d sound =
-    let within = fronts_within (λ (k : Job). k.lane) (map job_of_entry (drop d.start d.entries)) d.jobs (lanes_front d sound.front) in
+pub no_more : (d : DeskShape) → d.start ≤ length d.entries → ((lane : ℕ) → served d lane ≡ take (length (served d lane)) (lane_jobs lane d.jobs)) →
+    length d.entries ≤ d.start + length d.jobs
+no_more d begun front =
+    let within = fronts_within (λ (k : Job). k.lane) (map job_of_entry (drop d.start d.entries)) d.jobs (lanes_front d front) in
     let size = length-map (drop d.start d.entries) job_of_entry in
-    let begun = sound.begun in
     omega (arith, within, size, begun, length-drop d.start d.entries)
+
+pub batch_within : (d : DeskShape) → IsSoundDesk d → length d.entries ≤ d.start + length d.jobs
+batch_within d sound = no_more d sound.begun sound.front
 
 none_past : {A : Type 0} (xs : List A) (n : ℕ) → slice_get xs n ≡ None → length xs ≤ n
 none_past [] n none = omega arith
@@ -162,19 +165,22 @@ lane_done : (d : DeskShape) (lane : ℕ) → served d lane ≡ take (length (ser
 lane_done d lane front none = front ∙ take_all (length (served d lane)) (lane_jobs lane d.jobs) (none_past (lane_jobs lane d.jobs) (length (served d lane)) none)
 
 -- where no lane has a job left, the entries of the batch answer its jobs
-pub batch_done : (d : DeskShape) → IsSoundDesk d → IsDone d → AnswersBatch (take d.start d.entries) (drop d.start d.entries) d.jobs
-batch_done d sound done =
-    let begun = sound.begun in
-    let same : (lane : ℕ) → served d lane ≡ lane_jobs lane d.jobs = λ lane. lane_done d lane (sound.front lane) (done lane) in
+pub all_done : (d : DeskShape) → d.start ≤ length d.entries → ((lane : ℕ) → served d lane ≡ take (length (served d lane)) (lane_jobs lane d.jobs)) →
+    EachAfter (RestsFrom d.start) (take d.start d.entries) (drop d.start d.entries) → IsDone d → AnswersBatch (take d.start d.entries) (drop d.start d.entries) d.jobs
+all_done d begun front rests done =
+    let same : (lane : ℕ) → served d lane ≡ lane_jobs lane d.jobs = λ lane. lane_done d lane (front lane) (done lane) in
     let answered = map job_of_entry (drop d.start d.entries) in
     let back : Fronts (λ (j : Job). j.lane) d.jobs answered =
     record { front = λ lane. subst (λ js. take (length (lane_jobs lane d.jobs)) js ≡ lane_jobs lane d.jobs) (sym (same lane)) (take-length (lane_jobs lane d.jobs)) } in
     let above = fronts_within (λ (j : Job). j.lane) d.jobs answered back in
-    let below = fronts_within (λ (j : Job). j.lane) answered d.jobs (lanes_front d sound.front) in
+    let below = fronts_within (λ (j : Job). j.lane) answered d.jobs (lanes_front d front) in
     let size = length-map (drop d.start d.entries) job_of_entry in
     let first : length (take d.start d.entries) ≡ d.start = length-take-le d.start d.entries begun in
     record {
       whole = omega (arith, above, below, size);
       lanes = same;
-      rests = subst (λ n. EachAfter (RestsFrom n) (take d.start d.entries) (drop d.start d.entries)) (sym first) sound.rests;
+      rests = subst (λ n. EachAfter (RestsFrom n) (take d.start d.entries) (drop d.start d.entries)) (sym first) rests;
     }
+
+pub batch_done : (d : DeskShape) → IsSoundDesk d → IsDone d → AnswersBatch (take d.start d.entries) (drop d.start d.entries) d.jobs
+batch_done d sound done = all_done d sound.begun sound.front sound.rests done

@@ -1,9 +1,7 @@
 -- Inside: what a desk keeps beside what is said of it.
 use Rattle.std.specs.Prelude.{◌≡◌, ℕ, ◌+◌, ◌<◌, ◌≤◌, true, false, List, length, take, drop, max, slice_get, slice_index_or, IfSome, Some}
 use Rattle.wf_names.specs.declared.limits.TheConstants.{LANE_LIMIT}
-use Rattle.wf_talk.specs.declared.entry.Entry.{Entry}
 use Rattle.wf_talk.specs.declared.job.Job.{Job}
-use Rattle.wf_talk.specs.declared.reply.Reply.{Reply}
 use Rattle.wf_talk.specs.declared.request.Ask.{Ask}
 use Rattle.wf_board.specs.Counting.{counted, lane_end}
 use Rattle.wf_board.specs.Histories.{lane_jobs}
@@ -24,12 +22,6 @@ abbrev pub LossRests : DeskShape → ℕ → Ask → Type 0
 LossRests d lane what =
     (loss_of d.losses lane).count + counted what (drop (floor_of d lane) d.entries) ≤ counted what (drop (own_start d lane) d.entries)
 
--- a place among jobs from which a lane goes on: it is the first of the lane's from another place on, or behind all
-pub record IsNextPlace (jobs : List Job) (lane from place : ℕ) : Type 0 where
-  pub within : place ≤ length jobs
-  pub same : lane_jobs lane (take place jobs) ≡ lane_jobs lane (take from jobs)
-  pub here : IfSome (slice_get jobs place) (λ j. j.lane ≡ lane)
-
 -- a lane's next job stands at a place among the jobs
 pub record IsPlace (d : DeskShape) (lane place : ℕ) : Type 0 where
   pub within : place ≤ length d.jobs
@@ -47,10 +39,6 @@ pub record IsDesk (d : DeskShape) (places : List ℕ) : Type 0 where
   pub ends : (lane : ℕ) → (loss_of d.losses lane).end ≤ length d.entries
   pub losses : (lane : ℕ) (j : Job) → next_job d lane ≡ Some j → LossRests d lane j.ask
   pub placed : (lane : ℕ) → lane < LANE_LIMIT → IsPlace d lane (slice_index_or places lane 0)
-
--- the entry of a job at a place
-abbrev pub entry_for : Job → ℕ → Reply → Entry
-entry_for j at given = record { at = at; lane = j.lane; line = j.line; ask = j.ask; reply = given }
 
 -- what became of a task that was stale
 abbrev pub HasMissed : DeskShape → DeskShape → Task → Outcome → Type 0

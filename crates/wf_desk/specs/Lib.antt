@@ -1,5 +1,6 @@
 pub mod Desks
 pub mod Commits
+pub mod Places
 pub mod Keeping
 pub mod Fronts
 pub mod BatchLaws

@@ -2,13 +2,13 @@
 ghost use Rattle.std.specs.Prelude.{◌≡◌, ◌≤◌, ◌<◌, ◌+◌, ℕ, length, slice_get, slice_index_or, slice_set};
 ghost use Rattle.wf_names.specs.declared.limits.TheConstants.{LANE_LIMIT};
 ghost use Rattle.wf_board.specs.Histories.{lane_jobs};
-ghost use Rattle.wf_desk.specs.Keeping.{IsNextPlace};
+ghost use Rattle.wf_desk.specs.Places.{IsNextPlace};
 
 use wf_names::LANE_LIMIT;
 use wf_talk::Job;
 
 /// The place of a lane's first job from a place on, or behind all where there is none.
-pub(crate) fn next_place(jobs: &[Job], lane: u8, from: usize) -> usize
+pub fn next_place(jobs: &[Job], lane: u8, from: usize) -> usize
     requires { from ≤ length jobs.now }
     ensures { IsNextPlace jobs.now lane from result }
 {
@@ -21,7 +21,7 @@ pub(crate) fn next_place(jobs: &[Job], lane: u8, from: usize) -> usize
 }
 
 /// The job at a place, if there is one.
-pub(crate) fn job_at(jobs: &[Job], place: u32) -> Option<Job>
+pub fn job_at(jobs: &[Job], place: u32) -> Option<Job>
     ensures { result ≡ slice_get jobs.now place }
 {
     if (place as usize) < jobs.len() {
@@ -32,7 +32,7 @@ pub(crate) fn job_at(jobs: &[Job], place: u32) -> Option<Job>
 }
 
 /// How many of these jobs are a lane's.
-pub(crate) fn count_of_lane(jobs: &[Job], lane: u8) -> u32
+pub fn count_of_lane(jobs: &[Job], lane: u8) -> u32
     requires { length jobs.now < 4294967296 }
     ensures { result ≡ length (lane_jobs lane jobs.now) }
 {
@@ -46,7 +46,7 @@ pub(crate) fn count_of_lane(jobs: &[Job], lane: u8) -> u32
 }
 
 /// For each lane the place of its first job.
-pub(crate) fn first_places(jobs: &[Job]) -> [u32; LANE_LIMIT as usize]
+pub fn first_places(jobs: &[Job]) -> [u32; LANE_LIMIT as usize]
     requires { length jobs.now < 4294967296 }
     ensures { (lane : ℕ) → lane < LANE_LIMIT → IsNextPlace jobs.now lane 0 (slice_index_or result lane 0) }
 {
@@ -58,7 +58,7 @@ pub(crate) fn first_places(jobs: &[Job]) -> [u32; LANE_LIMIT as usize]
 }
 
 /// Goes on to a lane's next job.
-pub(crate) fn go_on(places: &mut [u32; LANE_LIMIT as usize], jobs: &[Job], lane: u8)
+pub fn go_on(places: &mut [u32; LANE_LIMIT as usize], jobs: &[Job], lane: u8)
     requires known { lane < LANE_LIMIT }
     requires here { slice_index_or places.old lane 0 < length jobs.now }
     requires small { length jobs.now < 4294967296 }

@@ -1,14 +1,14 @@
 //! Entries of the journal, looked through and added.
 ghost use Rattle.std.specs.Prelude.{◌≡◌, ◌≤◌, ◌<◌, ◌+◌, [], ◌∷◌, ◌++◌, nat_eq, nat_lt, length, drop};
 ghost use Rattle.wf_board.specs.Counting.{count_of, counted, counted_end};
-ghost use Rattle.wf_desk.specs.Keeping.{entry_for};
+ghost use Rattle.wf_desk.specs.Places.{entry_for};
 
 use wf_board::counts;
 use wf_talk::{Ask, Entry, Job, Journal, Reply};
 
 /// The entries from a place on.
 #[tactic(auto, using(crate::specs::DocketLaws::rest_from, crate::specs::DocketLaws::rest_none))]
-pub(crate) fn entries_from(journal: &Journal, place: u32) -> &[Entry]
+pub fn entries_from(journal: &Journal, place: u32) -> &[Entry]
     ensures { result.now ≡ drop place journal.now.entries }
 {
     let entries = journal.as_slice();
@@ -46,7 +46,7 @@ pub(crate) fn any_of_lane(entries: &[Entry], lane: u8) -> bool
 }
 
 /// The place of the last entry that counts for what is asked.
-pub(crate) fn last_counting(journal: &Journal, ask: &Ask) -> u32
+pub fn last_counting(journal: &Journal, ask: &Ask) -> u32
     requires some { 1 ≤ counted ask.now journal.now.entries }
     requires small { length journal.now.entries < 4294967296 }
     ensures { result + 1 ≡ counted_end ask.now journal.now.entries }
@@ -70,7 +70,7 @@ fn last_place(entries: &[Entry], ask: &Ask) -> usize
 }
 
 /// Adds the entry of a job at the end, where there is room.
-pub(crate) fn add_entry(journal: &mut Journal, job: &Job, reply: Reply) -> u32
+pub fn add_entry(journal: &mut Journal, job: &Job, reply: Reply) -> u32
     requires room { 0 < journal.old.spare }
     requires small { length journal.old.entries < 4294967296 }
     ensures at { result ≡ length journal.old.entries }

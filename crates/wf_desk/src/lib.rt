@@ -14,8 +14,8 @@
 #![tactic(auto)]
 
 mod desk;
-mod docket;
-mod journal;
+pub mod docket;
+pub mod journal;
 mod loss;
 mod outcome;
 mod schedule;

@@ -1,0 +1,189 @@
+-- Cases are numbered in the order in which they were opened, and no more are ever opened than the limit.
+use Rattle.std.proofs.Common.{◌≡◌, ℕ, suc, ◌+◌, ◌<◌, ◌≤◌, Bool, true, false, not, nat_eq, nat_le, List, [], ◌∷◌, ◌++◌, length, None, Some, Result, Ok, Err, if◌then◌else◌, refl, sym, ap, subst, ◌∙◌, arith}
+use Rattle.std.specs.Option.{option_map}
+use Rattle.std.proofs.lemmas.List.{length-append}
+use Rattle.basics.proofs.Booleans.{eq_other, or_false, not_yes}
+use Rattle.wf_names.specs.declared.limits.TheConstants.{CASE_LIMIT, OPEN_CASE_LIMIT}
+use Rattle.wf_names.specs.declared.states.StepState.TheVariants.{Free, Held}
+use Rattle.wf_names.specs.declared.states.Phase.TheVariants.{Withdrawn}
+use Rattle.case_record.specs.Cases.{CaseShape, finished_case, is_open, with_phase, with_state}
+use Rattle.grant_table.specs.Lookup.{look_up}
+use Rattle.wf_talk.specs.declared.request.Ask.{Ask}
+use Rattle.wf_talk.specs.declared.reply.Reply.{Reply}
+use Rattle.wf_talk.specs.declared.reply.Reply.TheVariants as reply
+use Rattle.wf_talk.specs.declared.reply.Denial.{Denial}
+use Rattle.wf_talk.specs.declared.reply.Denial.TheVariants as denial
+use Rattle.denial_reasons.specs.Causes.{unless}
+use Rattle.wf_board.specs.declared.deed.Deed.{Deed}
+use Rattle.wf_board.specs.declared.deed.Deed.TheVariants as deed
+use Rattle.wf_board.specs.States.{Book, Numbered, State, case_at, is_full, open_cases, open_count, with_case_changed}
+use Rattle.wf_board.specs.Decisions.{cause_full, decision_aside, decision_of}
+use Rattle.wf_board.specs.Steps.{state_after_decision, state_after_deed, state_after_step}
+use Rattle.wf_board.proofs.Told.{HoldsOf, then_holds, unless_holds}
+
+-- these cases have the numbers from k on
+abbrev pub AreFrom : ℕ → List Numbered → Type 0
+AreFrom k [] = Unit {0}
+AreFrom k (e ∷ es) = (e.number ≡ k) × AreFrom (k + 1) es
+
+-- the cases of a book are numbered in order, and no more than the limit were ever opened
+pub record AreSerial (b : Book) : Type 0 where
+  pub numbers : AreFrom 0 b.cases
+  pub ever : b.ever ≡ length b.cases
+  pub within : b.ever ≤ CASE_LIMIT
+
+-- ---- changes
+
+changed_from : (k n : ℕ) (change : CaseShape → CaseShape) (cases : List Numbered) → AreFrom k cases → AreFrom k (with_case_changed n change cases)
+changed_from k n change [] are = tt
+changed_from k n change (x ∷ xs) are = at_first (nat_eq x.number n) (changed_from (k + 1) n change xs are.1)
+  where
+    at_first : (b : Bool) → AreFrom (k + 1) (with_case_changed n change xs) → AreFrom k (if b then record x { case = change x.case } ∷ xs else x ∷ with_case_changed n change xs)
+    at_first true rest = are
+    at_first false rest = (are.0, rest)
+
+changed_length : (n : ℕ) (change : CaseShape → CaseShape) (cases : List Numbered) → length (with_case_changed n change cases) ≡ length cases
+changed_length n change [] = refl
+changed_length n change (x ∷ xs) = at_first (nat_eq x.number n) (changed_length n change xs)
+  where
+    at_first : (b : Bool) → length (with_case_changed n change xs) ≡ length xs →
+        length (if b then record x { case = change x.case } ∷ xs else x ∷ with_case_changed n change xs) ≡ length (x ∷ xs)
+    at_first true rest = refl
+    at_first false rest = ap suc rest
+
+added_from : (k : ℕ) (cases : List Numbered) (new : Numbered) → AreFrom k cases → new.number ≡ k + length cases → AreFrom k (cases ++ new ∷ [])
+added_from k [] new are next = (omega (arith, next), tt)
+added_from k (x ∷ xs) new are next = (are.0, added_from (k + 1) xs new are.1 (omega (arith, next)))
+
+changed_serial : (s : State) (n : ℕ) (change : CaseShape → CaseShape) → AreSerial s.book → AreSerial (record s.book { cases = with_case_changed n change s.book.cases })
+changed_serial s n change are = record {
+  numbers = changed_from 0 n change s.book.cases are.numbers;
+  ever = are.ever ∙ sym (changed_length n change s.book.cases);
+  within = are.within;
+}
+
+opened_serial : (b : Book) (c : CaseShape) → AreSerial b → b.ever < CASE_LIMIT → AreSerial (record b { cases = b.cases ++ record { number = b.ever; case = c } ∷ []; ever = b.ever + 1 })
+opened_serial b c are room =
+    let new : Numbered = record { number = b.ever; case = c } in
+    let longer = length-append b.cases (new ∷ []) in
+    let same = are.ever in
+    record {
+      numbers = added_from 0 b.cases new are.numbers (omega (arith, same));
+      ever = omega (arith, longer, same);
+      within = omega (arith, room);
+    }
+
+-- ---- steps
+
+-- a case is opened only where there is room for it
+abbrev HasRoom : Book → Deed → Type 0
+HasRoom b (deed.Open f) = b.ever < CASE_LIMIT
+HasRoom b given = Unit {0}
+
+not_denied : (b : Bool) (d : Denial) → unless b d ≡ None → b ≡ true
+not_denied true d is = refl
+not_denied false d is = cc
+
+room_left : (b : Book) → is_full b ≡ false → b.ever < CASE_LIMIT
+room_left b free =
+    let few = (or_false (nat_le OPEN_CASE_LIMIT (open_count b.cases)) (nat_le CASE_LIMIT b.ever) free).1 in
+    grind arith
+
+room_of : (b : Book) (given : Deed) → cause_full b given ≡ None → HasRoom b given
+room_of b (deed.Open f) none = room_left b (not_yes (is_full b) (not_denied (not (is_full b)) denial.Full none))
+room_of b (deed.Claim n c t u) none = tt
+room_of b (deed.Finish n c t u) none = tt
+room_of b (deed.GiveBack n c t u) none = tt
+room_of b (deed.Release n c t) none = tt
+room_of b (deed.Withdraw n) none = tt
+room_of b (deed.Change a) none = tt
+room_of b (deed.Show c) none = tt
+room_of b (deed.TurnAway bad) none = tt
+
+always : {A F : Type 0} (r : Result A F) → HoldsOf (λ _. Unit {0}) r
+always (Ok x) = tt
+always (Err d) = tt
+
+decided_room : (b : Book) (what : Ask) → HoldsOf (HasRoom b) (decision_of b what)
+decided_room b what =
+    then_holds (λ _. Unit {0}) (HasRoom b) (decision_aside b what) _ (always (decision_aside b what))
+    (λ given _. unless_holds (HasRoom b) given (cause_full b given) (room_of b given))
+
+deed_serial : (s : State) (given : Deed) (answer : Reply) → AreSerial s.book → HasRoom s.book given → AreSerial (state_after_deed s given answer).book
+deed_serial s (deed.Open f) (reply.Opened n plan) are room = opened_serial s.book _ are room
+deed_serial s (deed.Claim n c t u) (reply.Granted plan) are room = changed_serial s n (λ d. with_state d t (Held u)) are
+deed_serial s (deed.Finish n c t u) (reply.Finished done) are room = changed_serial s n (λ d. finished_case d t) are
+deed_serial s (deed.GiveBack n c t u) reply.Returned are room = changed_serial s n (λ d. with_state d t Free) are
+deed_serial s (deed.Release n c t) reply.Released are room = changed_serial s n (λ d. with_state d t Free) are
+deed_serial s (deed.Withdraw n) reply.Withdrawn are room = changed_serial s n (λ d. with_phase d Withdrawn) are
+deed_serial s (deed.Change a) (reply.Edited number) are room = record { numbers = are.numbers; ever = are.ever; within = are.within }
+deed_serial s given answer are room = are
+
+decision_serial : (s : State) (decision : Result Deed Denial) (answer : Reply) → AreSerial s.book → HoldsOf (HasRoom s.book) decision → AreSerial (state_after_decision s decision answer).book
+decision_serial s (Ok given) answer are room = deed_serial s given answer are room
+decision_serial s (Err d) answer are room = are
+
+-- a step keeps the numbers
+pub step_serial : (s : State) (what : Ask) (answer : Reply) → AreSerial s.book → AreSerial (state_after_step s what answer).book
+step_serial s what answer are = decision_serial s (decision_of s.book what) answer are (decided_room s.book what)
+
+-- ---- each case stands at its number
+
+-- P holds of each of these cases
+abbrev pub EachCase : (Numbered → Type 0) → List Numbered → Type 0
+EachCase P [] = Unit {0}
+EachCase P (e ∷ es) = P e × EachCase P es
+
+-- a case of some is found at its number, which is one of those from k on
+pub record IsFoundIn (cases : List Numbered) (k : ℕ) (e : Numbered) : Type 0 where
+  pub found : case_at cases e.number ≡ Some e.case
+  pub least : k ≤ e.number
+  pub below : e.number < k + length cases
+
+found_first : (k : ℕ) (x : Numbered) (xs : List Numbered) → x.number ≡ k → IsFoundIn (x ∷ xs) k x
+found_first k x xs is = record {
+  found = at_own (nat_eq x.number x.number) refl;
+  least = omega (arith, is);
+  below = omega (arith, is);
+}
+  where
+    at_own : (b : Bool) → nat_eq x.number x.number ≡ b →
+        option_map (λ (e : Numbered). e.case) (if b then Some x else look_up (λ (e : Numbered). e.number) x.number xs) ≡ Some x.case
+    at_own true same = refl
+    at_own false other = grind arith
+
+found_later : (k : ℕ) (x : Numbered) (xs : List Numbered) (e : Numbered) → x.number ≡ k → IsFoundIn xs (k + 1) e → IsFoundIn (x ∷ xs) k e
+found_later k x xs e is later =
+    let least = later.least in
+    let below = later.below in
+    record {
+      found = subst (λ (b : Bool). option_map (λ (y : Numbered). y.case) (if b then Some x else look_up (λ (y : Numbered). y.number) e.number xs) ≡ Some e.case)
+          (sym (eq_other x.number e.number (λ same. omega (arith, same, is, least)))) later.found;
+      least = omega (arith, least);
+      below = omega (arith, below);
+    }
+
+each_later : (k : ℕ) (x : Numbered) (xs es : List Numbered) → x.number ≡ k → EachCase (IsFoundIn xs (k + 1)) es → EachCase (IsFoundIn (x ∷ xs) k) es
+each_later k x xs [] is each = tt
+each_later k x xs (e ∷ es) is each = (found_later k x xs e is each.0, each_later k x xs es is each.1)
+
+pub each_found : (k : ℕ) (cases : List Numbered) → AreFrom k cases → EachCase (IsFoundIn cases k) cases
+each_found k [] are = tt
+each_found k (x ∷ xs) are = (found_first k x xs are.0, each_later k x xs xs are.0 (each_found (k + 1) xs are.1))
+
+-- and so is each that is open
+pub record IsOpenIn (cases : List Numbered) (e : Numbered) : Type 0 where
+  pub found : case_at cases e.number ≡ Some e.case
+  pub below : e.number < length cases
+  pub live : is_open e.case ≡ true
+
+each_open : (cases es : List Numbered) → EachCase (IsFoundIn cases 0) es → EachCase (IsOpenIn cases) (open_cases es)
+each_open cases [] each = tt
+each_open cases (e ∷ es) each = at_first (is_open e.case) refl (each_open cases es each.1)
+  where
+    at_first : (b : Bool) → is_open e.case ≡ b → EachCase (IsOpenIn cases) (open_cases es) → EachCase (IsOpenIn cases) (if b then e ∷ open_cases es else open_cases es)
+    at_first true live rest = (record { found = each.0.found; below = let below = each.0.below in omega (arith, below); live = live }, rest)
+    at_first false closed rest = rest
+
+pub open_found : (b : Book) → AreSerial b → EachCase (IsOpenIn b.cases) (open_cases b.cases)
+open_found b are = each_open b.cases b.cases (each_found 0 b.cases are.numbers)

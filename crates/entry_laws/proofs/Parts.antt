@@ -1,0 +1,164 @@
+-- The parts of replies stand for something, and nest little.
+use Rattle.std.proofs.Common.{◌≡◌, ℕ, zero, suc, ◌+◌, ◌<◌, ◌≤◌, Bool, true, false, List, [], ◌∷◌, length, map, slice_index_or, Option, None, Some, if◌then◌else◌, refl, sym, ap, subst, ◌∙◌, arith}
+use Rattle.std.specs.List.{All}
+use Rattle.std.specs.FinSet as set
+use Rattle.std.proofs.lemmas.List.{length-append, length-map, length-replicate, length-set}
+use Rattle.serde_json.specs.Data.{depth, items_depth}
+use Rattle.serde_json.specs.View.{items_of}
+use Rattle.wf_names.specs.declared.limits.TheConstants.{STEP_LIMIT}
+use Rattle.wf_names.specs.Padded.{padded}
+use Rattle.wf_names.specs.States.{user_of}
+use Rattle.wf_names.specs.declared.states.StepState.{StepState}
+use Rattle.wf_names.specs.declared.states.StepState.TheVariants.{Free, Held, Finished}
+use Rattle.wf_names.specs.declared.states.Phase.{Phase}
+use Rattle.wf_names.specs.declared.states.Phase.TheVariants.{Live, Done, Withdrawn}
+use Rattle.constraint_forms.specs.declared.rule.Rule.{Rule}
+use Rattle.constraint_forms.specs.Assigned.{no_users, planned}
+use Rattle.constraint_forms.specs.Rules.{Relating, is_falsified}
+use Rattle.pair_set.specs.Pairs.{Pairs}
+use Rattle.policy_book.specs.Shapes.{PolicyShape}
+use Rattle.policy_book.specs.Facts.{IsSoundPolicy}
+use Rattle.policy_book.specs.Policies.{flow_at, problem_of}
+use Rattle.policy_book.specs.Plans.{IsValidPlan, Problem}
+use Rattle.certificate_check.proofs.Assigned.{none_not_some, same_some}
+use Rattle.case_record.specs.Cases.{CaseShape, assigned_of, state_at}
+use Rattle.case_record.specs.Cells.{all_steps}
+use Rattle.case_record.specs.Ready.{first_missing_from}
+use Rattle.case_record.proofs.Laws.{assigned_of-at}
+use Rattle.denial_reasons.specs.Causes.{assigned_with, first_falsified, permitted_roles}
+use Rattle.wf_talk.specs.declared.request.Bad.{Bad}
+use Rattle.wf_talk.specs.declared.request.Bad.TheVariants as bad
+use Rattle.wf_board.specs.Kept.{IsOfPolicy}
+use Rattle.wire_json.specs.Entries.{bad_data, named, phase_data, seen_data, state_data}
+use Rattle.entry_reader.specs.Within.{IsPlan, IsRole, IsState}
+use Rattle.entry_laws.specs.Laws.{HasFewSteps}
+use Rattle.entry_laws.proofs.Trees.{AllBelow, IsProblemOf, passing_all}
+
+-- ---- lists
+
+all_from : (n : ℕ) (us : List ℕ) → AllBelow n us → All (λ u. u < n) us
+all_from n [] below k d lt = absurd (omega (arith, lt))
+all_from n (u ∷ us) below zero d lt = below.0
+all_from n (u ∷ us) below (suc k) d lt = all_from n us below.1 k d (omega (arith, lt))
+
+-- names nest nothing
+pub names_flat : (names : List (List ℕ)) (ns : List ℕ) → items_depth (items_of (map (named names) ns)) ≡ 0
+names_flat names [] = refl
+names_flat names (n ∷ ns) = let rest = names_flat names ns in omega (arith, rest)
+
+-- ---- plans
+
+planned_below : (n : ℕ) (plan : List ℕ) → ((s : ℕ) → s < length plan → planned plan s < n) → AllBelow n plan
+planned_below n [] known = tt
+planned_below n (u ∷ us) known = (known 0 (omega arith), planned_below n us (λ s below. known (suc s) (omega (arith, below))))
+
+-- the users of a valid plan are users of the policy, as many as the workflow has steps
+pub plan_fits : (p : PolicyShape) (f : ℕ) (pr : Problem) (a : List (Option ℕ)) (finished : List Bool) (plan : List ℕ) → IsProblemOf p f pr → pr.steps ≤ STEP_LIMIT
+    → IsValidPlan pr a finished plan → IsPlan p plan
+plan_fits p f pr a finished plan of few valid = (
+  subst (λ n. n ≤ STEP_LIMIT) (sym valid.whole) few,
+  all_from (length p.roster.users) plan
+      (planned_below (length p.roster.users) plan (λ s below. subst (λ n. planned plan s < n) of.users (valid.known s (subst (λ n. s < n) valid.whole below)))),
+)
+
+-- ---- problems and assignments
+
+-- what a policy says of one of its workflows
+pub problem_fits : (p : PolicyShape) (f : ℕ) → IsSoundPolicy p → f < length p.flows → IsProblemOf p f (problem_of p f)
+problem_fits p f sound known = record {
+  steps = refl;
+  users = refl;
+  rules = let few = (sound.flows f known).few in omega (arith, few);
+}
+
+pub no_users_long : length no_users ≡ STEP_LIMIT
+unfolding no_users
+no_users_long = length-replicate {A = Option ℕ} STEP_LIMIT None
+
+steps_long : (states : List StepState) → length states ≤ STEP_LIMIT → length (all_steps states) ≡ STEP_LIMIT
+unfolding padded
+steps_long states few = length-append states _ ∙ ap (λ n. length states + n) (length-replicate _ Free) ∙ omega (arith, few)
+
+-- an assignment has a place for each step that there may be
+pub assigned_long : (c : CaseShape) → length c.states ≤ STEP_LIMIT → length (assigned_of c) ≡ STEP_LIMIT
+assigned_long c few = length-map (all_steps c.states) user_of ∙ steps_long c.states few
+
+pub given_long : (c : CaseShape) (t u : ℕ) → length c.states ≤ STEP_LIMIT → length (assigned_with c t u) ≡ STEP_LIMIT
+given_long c t u few = length-set (assigned_of c) t (Some u) ∙ assigned_long c few
+
+-- a case of a policy has no more steps than the limit
+pub case_few : (p : PolicyShape) (c : CaseShape) → HasFewSteps p → IsOfPolicy p c → length c.states ≤ STEP_LIMIT
+case_few p c few of = subst (λ n. n ≤ STEP_LIMIT) (sym of.steps) (few c.flow of.flow)
+
+-- ---- where steps stand
+
+-- the users of a case are users of its policy
+pub user_known : (p : PolicyShape) (c : CaseShape) (t u : ℕ) → IsOfPolicy p c → user_of (state_at c t) ≡ Some u → u < length p.roster.users
+user_known p c t u of is = of.users.users t u (assigned_of-at c t ∙ is)
+
+state_stands : (p : PolicyShape) (x : StepState) → ((u : ℕ) → user_of x ≡ Some u → u < length p.roster.users) → IsState p x
+state_stands p Free known = tt
+state_stands p (Held u) known = known u refl
+state_stands p (Finished u) known = known u refl
+
+pub step_stands : (p : PolicyShape) (c : CaseShape) (t : ℕ) → IsOfPolicy p c → IsState p (state_at c t)
+step_stands p c t of = state_stands p (state_at c t) (λ u is. user_known p c t u of is)
+
+states_stand : (p : PolicyShape) (states : List StepState) → ((s u : ℕ) → user_of (slice_index_or states s Free) ≡ Some u → u < length p.roster.users) → All (IsState p) states
+states_stand p [] known k d lt = absurd (omega (arith, lt))
+states_stand p (x ∷ xs) known zero d lt = state_stands p x (λ u is. known 0 u is)
+states_stand p (x ∷ xs) known (suc k) d lt = states_stand p xs (λ s u is. known (suc s) u is) k d (omega (arith, lt))
+
+pub case_stands : (p : PolicyShape) (c : CaseShape) → IsOfPolicy p c → All (IsState p) c.states
+case_stands p c of = states_stand p c.states (λ s u is. user_known p c s u of is)
+
+pub state_nests : (p : PolicyShape) (x : StepState) → depth (state_data p x) ≤ 1
+state_nests p Free = omega arith
+state_nests p (Held u) = omega arith
+state_nests p (Finished u) = omega arith
+
+seen_nests : (p : PolicyShape) (x : StepState) → depth (seen_data p x) ≤ 1
+seen_nests p Free = omega arith
+seen_nests p (Held u) = omega arith
+seen_nests p (Finished u) = omega arith
+
+pub states_nest : (p : PolicyShape) (states : List StepState) → items_depth (items_of (map (seen_data p) states)) ≤ 1
+states_nest p [] = omega arith
+states_nest p (x ∷ xs) = let here = seen_nests p x in let rest = states_nest p xs in omega (arith, here, rest)
+
+pub phase_flat : (phase : Phase) → depth (phase_data phase) ≡ 0
+phase_flat Live = refl
+phase_flat Done = refl
+phase_flat Withdrawn = refl
+
+pub bad_nests : (b : Bad) → depth (bad_data b) ≤ 1
+bad_nests bad.Syntax = omega arith
+bad_nests bad.Object = omega arith
+bad_nests bad.Do = omega arith
+bad_nests bad.Lane = omega arith
+bad_nests (bad.Key key) = omega arith
+bad_nests bad.Extra = omega arith
+
+-- ---- causes
+
+pub roles_stand : (p : PolicyShape) (f s : ℕ) → All (IsRole p) (permitted_roles p f s)
+roles_stand p f s =
+    all_from (length p.roster.roles) (permitted_roles p f s)
+    (passing_all (length p.roster.roles) (λ r. set.contains (flow_at p f).flow.permits (r, s)) 0 (length p.roster.roles) (omega arith))
+
+-- a first number: this one, or one of a rest
+first_below : (b : Bool) (k n v : ℕ) (o : Option ℕ) → k < n → (o ≡ Some v → v < n) → (if b then Some k else o) ≡ Some v → v < n
+first_below true k n v o here rest is = subst (λ m. m < n) (same_some k v is) here
+first_below false k n v o here rest is = rest is
+
+pub falsified_there : (related : Relating) (users : ℕ → Option ℕ) (k : ℕ) (rules : List Rule) (v : ℕ) → first_falsified related users k rules ≡ Some v → v < k + length rules
+falsified_there related users k [] v is = none_not_some v is
+falsified_there related users k (r ∷ rs) v is =
+    first_below (is_falsified related r users) k (k + length (r ∷ rs)) v (first_falsified related users (k + 1) rs) (omega arith)
+    (λ later. let below = falsified_there related users (k + 1) rs v later in omega (arith, below)) is
+
+pub missing_there : (order : Pairs) (s t : ℕ) (states : List StepState) (v : ℕ) → first_missing_from order s t states ≡ Some v → v < t + length states
+missing_there order s t [] v is = none_not_some v is
+missing_there order s t (x ∷ xs) v is =
+    first_below _ t (t + length (x ∷ xs)) v (first_missing_from order s (t + 1) xs) (omega arith)
+    (λ later. let below = missing_there order s (t + 1) xs v later in omega (arith, below)) is

@@ -1,0 +1,156 @@
+-- The reply of a step stands for something in the state before it, and nests little.
+use Rattle.std.proofs.Common.{◌≡◌, ℕ, ◌+◌, ◌<◌, ◌≤◌, ◌^◌, inl, inr, Bool, true, List, length, Option, Some, Result, Ok, Err, sym, subst, arith}
+use Rattle.serde_json.specs.Data.{depth}
+use Rattle.constraint_forms.specs.Assigned.{no_steps, no_users}
+use Rattle.refutation_tree.specs.declared.tree.Tree.{Tree}
+use Rattle.refutation_tree.specs.Views.{shape_of}
+use Rattle.policy_book.specs.Shapes.{PolicyShape}
+use Rattle.policy_book.specs.Policies.{problem_of}
+use Rattle.policy_book.specs.Plans.{IsValidPlan}
+use Rattle.policy_book.specs.Refuting.{refutes}
+use Rattle.case_record.specs.Cases.{CaseShape, finished_of}
+use Rattle.wf_talk.specs.declared.request.Ask.{Ask}
+use Rattle.wf_talk.specs.declared.request.Bad.{Bad}
+use Rattle.wf_talk.specs.declared.reply.Face.{Face}
+use Rattle.wf_talk.specs.declared.reply.Reply.{Reply}
+use Rattle.wf_talk.specs.declared.reply.Reply.TheVariants as reply
+use Rattle.wf_talk.specs.declared.reply.Denial.{Denial}
+use Rattle.wf_talk.specs.declared.reply.Denial.TheVariants as denial
+use Rattle.denial_reasons.specs.Causes.{assigned_with}
+use Rattle.admin_edits.specs.declared.amendment.Amendment.{Amendment}
+use Rattle.admin_edits.specs.Edits.{amended}
+use Rattle.wf_board.specs.declared.deed.Deed.{Deed}
+use Rattle.wf_board.specs.declared.deed.Deed.TheVariants as deed
+use Rattle.wf_board.specs.States.{State, open_cases}
+use Rattle.wf_board.specs.Edited.{IsFirstStranded}
+use Rattle.wf_board.specs.Found.{IsAllowed}
+use Rattle.wf_board.specs.Decisions.{decision_of}
+use Rattle.wf_board.specs.Steps.{Answers, IsReplyTo, IsStep, face_of}
+use Rattle.wf_board.specs.Kept.{IsOfPolicy, IsSoundState, KeepsCompletable}
+use Rattle.wf_board.proofs.Told.{HoldsOf, IsTold, told}
+use Rattle.wire_json.specs.Replies.{reply_data}
+use Rattle.entry_reader.specs.Within.{IsBad, IsReply}
+use Rattle.entry_reader.specs.Lines.{concerned}
+use Rattle.entry_laws.specs.Asks.{IsNamedAsk}
+use Rattle.entry_laws.specs.Laws.{HasFewSteps, flows_of}
+use Rattle.entry_laws.proofs.Trees.{tree_fits}
+use Rattle.entry_laws.proofs.Parts.{bad_nests, case_few, case_stands, given_long, names_flat, no_users_long, phase_flat, plan_fits, problem_fits, states_nest}
+use Rattle.entry_laws.proofs.Numbers.{AreSerial}
+use Rattle.entry_laws.proofs.Stranded.{stranded_fits}
+use Rattle.entry_laws.proofs.Told.{Fares, FitsDenial, IsDeedFor, IsOn, decision_fares}
+
+-- what is known of a state that a session reaches
+pub record IsReached (s : State) : Type 0 where
+  pub sound : IsSoundState s
+  pub kept : KeepsCompletable s
+  pub few : HasFewSteps s.book.policy
+  pub serial : AreSerial s.book
+
+-- a reply stands for something, and nests little
+abbrev pub FitsReply : PolicyShape → (ℕ → Option ℕ) → Option ℕ → Reply → Type 0
+FitsReply p flows o r = IsReply p flows o r × (depth (reply_data p r) ≤ 70)
+
+-- ---- plans
+
+granted_fits : (s : State) (o : Option ℕ) (c : CaseShape) (a : List (Option ℕ)) (finished : List Bool) (plan : List ℕ) → IsReached s → IsOn s o c
+    → IsValidPlan (problem_of s.book.policy c.flow) a finished plan → FitsReply s.book.policy (flows_of s) o (reply.Granted plan)
+granted_fits s o c a finished plan is of valid =
+    let p = s.book.policy in
+    let flat = names_flat p.roster.users plan in (
+      plan_fits p c.flow (problem_of p c.flow) a finished plan (problem_fits p c.flow is.sound.policy of.1.flow) (is.few c.flow of.1.flow) valid,
+      omega (arith, flat),
+    )
+
+opened_fits : (s : State) (o : Option ℕ) (f n : ℕ) (plan : List ℕ) → IsReached s → f < length s.book.policy.flow_names → n ≡ s.book.ever
+    → IsValidPlan (problem_of s.book.policy f) no_users no_steps plan → FitsReply s.book.policy (flows_of s) o (reply.Opened n plan)
+opened_fits s o f n plan is known next valid =
+    let p = s.book.policy in
+    let within : f < length p.flows = subst (λ m. f < m) is.sound.policy.named known in
+    let flat = names_flat p.roster.users plan in
+    let few = is.serial.within in (
+      (
+        omega (arith, next, few),
+        plan_fits p f (problem_of p f) no_users no_steps plan (problem_fits p f is.sound.policy within) (is.few f within) valid,
+      ),
+      omega (arith, flat),
+    )
+
+-- ---- trees
+
+unsatisfiable_fits : (s : State) (o : Option ℕ) (f : ℕ) (tree : Tree) → IsReached s → (o ≡ Some f) × (f < length s.book.policy.flow_names)
+    → refutes (problem_of s.book.policy f) no_users no_steps (shape_of tree) ≡ true → FitsReply s.book.policy (flows_of s) o (reply.Denied (denial.Unsatisfiable f tree))
+unsatisfiable_fits s o f tree is of refuted =
+    let p = s.book.policy in
+    let within : f < length p.flows = subst (λ m. f < m) is.sound.policy.named of.1 in
+    let fits = tree_fits p f (problem_of p f) no_users no_steps (shape_of tree) (problem_fits p f is.sound.policy within) (is.few f within) no_users_long refuted in
+    let nests = fits.nests in
+    ((of, fits.stands), omega (arith, nests))
+
+stranding_fits : (s : State) (o : Option ℕ) (c : CaseShape) (t u : ℕ) (tree : Tree) → IsReached s → IsOn s o c
+    → refutes (problem_of s.book.policy c.flow) (assigned_with c t u) (finished_of c) (shape_of tree) ≡ true
+    → FitsReply s.book.policy (flows_of s) o (reply.Denied (denial.Stranded c.flow tree))
+stranding_fits s o c t u tree is of refuted =
+    let p = s.book.policy in
+    let fits = tree_fits p c.flow (problem_of p c.flow) (assigned_with c t u) (finished_of c) (shape_of tree)
+    (problem_fits p c.flow is.sound.policy of.1.flow) (is.few c.flow of.1.flow) (given_long c t u (case_few p c is.few of.1)) refuted in
+    let nests = fits.nests in
+    (((of.0, subst (λ m. c.flow < m) (sym is.sound.policy.named) of.1.flow), fits.stands), omega (arith, nests))
+
+edit_fits : (s : State) (o : Option ℕ) (a : Amendment) (n f : ℕ) (tree : Tree) → IsReached s → IsAllowed s.book.policy a
+    → IsFirstStranded (amended s.book.policy a) (open_cases s.book.cases) n f tree → FitsReply s.book.policy (flows_of s) o (reply.Denied (denial.Strands n f tree))
+edit_fits s o a n f tree is allowed stranded =
+    let it = stranded_fits s a n f tree is.sound is.kept is.few is.serial allowed stranded in
+    let nests = it.fits.nests in
+    ((it.number, (it.concerned, it.flow), it.fits.stands), omega (arith, nests))
+
+-- ---- what is seen
+
+face_fits : (s : State) (o : Option ℕ) (c : CaseShape) → IsReached s → IsOfPolicy s.book.policy c → FitsReply s.book.policy (flows_of s) o (reply.Shown (face_of c))
+face_fits s o c is of =
+    let p = s.book.policy in
+    let phase = phase_flat c.phase in
+    let states = states_nest p c.states in (
+      (subst (λ m. c.flow < m) (sym is.sound.policy.named) of.flow, case_few p c is.few of, case_stands p c of),
+      omega (arith, phase, states),
+    )
+
+-- ---- deeds
+
+bad_fits : (s : State) (o : Option ℕ) (b : Bad) → IsBad b → FitsReply s.book.policy (flows_of s) o (reply.Bad b)
+bad_fits s o b is = (is, let nests = bad_nests b in omega (arith, nests))
+
+deed_fits : (s : State) (o : Option ℕ) (given : Deed) (answer : Reply) → s.edits + 1 < 2 ^ 32 → IsReached s → IsTold s.book given → IsDeedFor s o given → IsReplyTo s given answer
+    → FitsReply s.book.policy (flows_of s) o answer
+deed_fits s o given reply.NoMemory edits reached known of is = (tt, omega arith)
+deed_fits s o (deed.Open f) (reply.Opened n plan) edits reached known of is = opened_fits s o f n plan reached of.1 is.0 is.1
+deed_fits s o (deed.Open f) (reply.Denied (denial.Unsatisfiable g tree)) edits reached known of is =
+    subst (λ x. FitsReply s.book.policy (flows_of s) o (reply.Denied (denial.Unsatisfiable x tree))) (sym is.0) (unsatisfiable_fits s o f tree reached of is.1)
+deed_fits s o (deed.Claim n c t u) (reply.Granted plan) edits reached known of is = granted_fits s o c (assigned_with c t u) (finished_of c) plan reached of is
+deed_fits s o (deed.Claim n c t u) (reply.Denied (denial.Stranded g tree)) edits reached known of is =
+    subst (λ x. FitsReply s.book.policy (flows_of s) o (reply.Denied (denial.Stranded x tree))) (sym is.0) (stranding_fits s o c t u tree reached of is.1)
+deed_fits s o (deed.Finish n c t u) (reply.Finished done) edits reached known of is = (tt, omega arith)
+deed_fits s o (deed.GiveBack n c t u) reply.Returned edits reached known of is = (tt, omega arith)
+deed_fits s o (deed.Release n c t) reply.Released edits reached known of is = (tt, omega arith)
+deed_fits s o (deed.Withdraw n) reply.Withdrawn edits reached known of is = (tt, omega arith)
+deed_fits s o (deed.Change a) (reply.Edited n) edits reached known of is = let next = is.0 in (omega (arith, next, edits), omega arith)
+deed_fits s o (deed.Change a) (reply.Denied (denial.Strands n f tree)) edits reached known of is = edit_fits s o a n f tree reached (known.0 reached.sound.policy) is
+deed_fits s o (deed.Show c) (reply.Shown face) edits reached known of is =
+    subst (λ (x : Face). FitsReply s.book.policy (flows_of s) o (reply.Shown x)) (sym is) (face_fits s o c reached of)
+deed_fits s o (deed.TurnAway b) (reply.Bad given) edits reached known of is =
+    subst (λ (x : Bad). FitsReply s.book.policy (flows_of s) o (reply.Bad x)) (sym is) (bad_fits s o b of)
+deed_fits s o given answer edits reached known of is = absurd is
+
+denied_fits : (s : State) (o : Option ℕ) (d : Denial) → FitsDenial s.book.policy (flows_of s) o d → FitsReply s.book.policy (flows_of s) o (reply.Denied d)
+denied_fits s o d of = (of.0, let nests = of.1 in omega (arith, nests))
+
+decided_fits : (s : State) (o : Option ℕ) (r : Result Deed Denial) (answer : Reply) → s.edits + 1 < 2 ^ 32 → IsReached s → HoldsOf (IsTold s.book) r
+    → Fares (IsDeedFor s o) (FitsDenial s.book.policy (flows_of s) o) r → Answers s r answer → FitsReply s.book.policy (flows_of s) o answer
+decided_fits s o (Ok given) answer edits reached known of is = deed_fits s o given answer edits reached known of is
+decided_fits s o (Err d) answer edits reached known of (inl denied) = subst (FitsReply s.book.policy (flows_of s) o) (sym denied) (denied_fits s o d of)
+decided_fits s o (Err d) answer edits reached known of (inr short) = subst (FitsReply s.book.policy (flows_of s) o) (sym short) (tt, omega arith)
+
+-- the reply of a step fits
+pub step_fits : (s : State) (what : Ask) (answer : Reply) → s.edits + 1 < 2 ^ 32 → IsReached s → IsNamedAsk what → IsStep s what answer
+    → FitsReply s.book.policy (flows_of s) (concerned s.book.policy (flows_of s) what) answer
+step_fits s what answer edits reached named step =
+    decided_fits s (concerned s.book.policy (flows_of s) what) (decision_of s.book what) answer edits reached (told s.book what) (decision_fares s what reached.sound named) step

@@ -1,0 +1,108 @@
+-- The first case that an edit strands is there, and its tree stands for something and nests little.
+use Rattle.std.proofs.Common.{◌≡◌, ℕ, ◌<◌, ◌≤◌, inl, inr, true, List, [], ◌∷◌, length, Some, refl, sym, ap, subst, ◌∙◌, arith}
+use Rattle.std.specs.Option.{option_map}
+use Rattle.wf_names.specs.declared.limits.TheConstants.{CASE_NUMBER_LIMIT, STEP_LIMIT}
+use Rattle.refutation_tree.specs.declared.tree.Tree.{Tree}
+use Rattle.refutation_tree.specs.Views.{shape_of}
+use Rattle.policy_book.specs.Shapes.{PolicyShape}
+use Rattle.policy_book.specs.Facts.{IsSoundPolicy}
+use Rattle.policy_book.specs.Policies.{problem_of}
+use Rattle.policy_book.specs.Refuting.{refutes}
+use Rattle.case_record.specs.Cases.{CaseShape, assigned_of, finished_of}
+use Rattle.admin_edits.specs.declared.amendment.Amendment.{Amendment}
+use Rattle.admin_edits.specs.declared.amendment.Amendment.TheVariants as amend
+use Rattle.admin_edits.specs.Edits.{amended}
+use Rattle.admin_edits.specs.Found as edits
+use Rattle.admin_edits.proofs.Keeping.{changes_keep_names, changes_keep_policies_sound}
+use Rattle.admin_edits.proofs.Unhurt.{unhurt_plans_stay_valid}
+use Rattle.wf_board.specs.States.{Numbered, State, case_at, open_cases}
+use Rattle.wf_board.specs.Edited.{CanAllBeCompleted, IsFirstStranded}
+use Rattle.wf_board.specs.Found.{IsAllowed}
+use Rattle.wf_board.specs.Kept.{IsSoundState, KeepsCompletable}
+use Rattle.wf_board.proofs.Exact.{stranded_not}
+use Rattle.entry_laws.specs.Laws.{HasFewSteps, flows_of}
+use Rattle.entry_laws.proofs.Trees.{FitsTree, IsProblemOf, tree_fits}
+use Rattle.entry_laws.proofs.Parts.{assigned_long, case_few, problem_fits}
+use Rattle.entry_laws.proofs.Numbers.{AreSerial, EachCase, IsOpenIn, open_found}
+
+-- the case that is stranded: it stands at the number, and the tree refutes it
+record IsStranded (pol : PolicyShape) (all : List Numbered) (n f : ℕ) (tree : Tree) : Type 0 where
+  case : CaseShape
+  found : case_at all n ≡ Some case
+  below : n < length all
+  flow : case.flow ≡ f
+  refuted : refutes (problem_of pol case.flow) (assigned_of case) (finished_of case) (shape_of tree) ≡ true
+
+find_stranded : (pol : PolicyShape) (all es : List Numbered) (n f : ℕ) (tree : Tree) → EachCase (IsOpenIn all) es → IsFirstStranded pol es n f tree → IsStranded pol all n f tree
+find_stranded pol all [] n f tree each is = absurd is
+find_stranded pol all (e ∷ es) n f tree each (inl here) = record {
+  case = e.case;
+  found = subst (λ m. case_at all m ≡ Some e.case) here.0 each.0.found;
+  below = subst (λ m. m < length all) here.0 each.0.below;
+  flow = here.1.0;
+  refuted = here.1.1;
+}
+find_stranded pol all (e ∷ es) n f tree each (inr later) = find_stranded pol all es n f tree each.1 later.1
+
+-- ---- a user who is added strands no case
+
+still_complete : (s : State) (name : List ℕ) (es : List Numbered) → KeepsCompletable s → EachCase (IsOpenIn s.book.cases) es → CanAllBeCompleted (amended s.book.policy (amend.AddUser name)) es
+still_complete s name [] kept each = tt
+still_complete s name (e ∷ es) kept each =
+    let plan = kept e.number e.case each.0.found each.0.live in (
+      (plan.0, unhurt_plans_stay_valid s.book.policy (amend.AddUser name) e.case.flow _ _ plan.0 tt refl plan.1),
+      still_complete s name es kept each.1,
+    )
+
+-- ---- any other edit leaves the users
+
+users_stay : (s : State) (a : Amendment) (n f : ℕ) (tree : Tree) → KeepsCompletable s → AreSerial s.book → IsSoundPolicy (amended s.book.policy a)
+    → IsFirstStranded (amended s.book.policy a) (open_cases s.book.cases) n f tree → (amended s.book.policy a).roster.users ≡ s.book.policy.roster.users
+users_stay s (amend.AddUser name) n f tree kept are sound is =
+    absurd (stranded_not (amended s.book.policy (amend.AddUser name)) (open_cases s.book.cases) n f tree sound is
+    (still_complete s name (open_cases s.book.cases) kept (open_found s.book are)))
+users_stay s (amend.Leave u) n f tree kept are sound is = refl
+users_stay s (amend.Enrol u r) n f tree kept are sound is = refl
+users_stay s (amend.Dismiss u r) n f tree kept are sound is = refl
+users_stay s (amend.Relate rho u v) n f tree kept are sound is = refl
+users_stay s (amend.Unrelate rho u v) n f tree kept are sound is = refl
+users_stay s (amend.Permit g r t) n f tree kept are sound is = refl
+users_stay s (amend.Forbid g r t) n f tree kept are sound is = refl
+users_stay s (amend.Retire g) n f tree kept are sound is = refl
+
+-- ---- together
+
+-- the case that an edit strands is one of the state's, and its tree is of the case's workflow
+pub record FitsStranded (s : State) (n f : ℕ) (tree : Tree) : Type 0 where
+  pub number : n ≤ CASE_NUMBER_LIMIT
+  pub concerned : flows_of s n ≡ Some f
+  pub flow : f < length s.book.policy.flow_names
+  pub fits : FitsTree s.book.policy f (shape_of tree)
+
+amended_problem : (p : PolicyShape) (a : Amendment) (f : ℕ) → edits.IsFound p a → IsSoundPolicy (amended p a) → f < length p.flows → (amended p a).roster.users ≡ p.roster.users
+    → IsProblemOf p f (problem_of (amended p a) f)
+amended_problem p a f found sound known same =
+    let names = changes_keep_names p a found in
+    let of = problem_fits (amended p a) f sound (subst (λ n. f < n) (sym names.flows) known) in
+    record { steps = ap length (names.steps f); users = ap length same; rules = of.rules }
+
+pub stranded_fits : (s : State) (a : Amendment) (n f : ℕ) (tree : Tree) → IsSoundState s → KeepsCompletable s → HasFewSteps s.book.policy → AreSerial s.book → IsAllowed s.book.policy a
+    → IsFirstStranded (amended s.book.policy a) (open_cases s.book.cases) n f tree → FitsStranded s n f tree
+stranded_fits s a n f tree sound kept few are allowed is =
+    let p = s.book.policy in
+    let after = changes_keep_policies_sound p a sound.policy allowed.found allowed.allowed in
+    let it = find_stranded (amended p a) s.book.cases (open_cases s.book.cases) n f tree (open_found s.book are) is in
+    let of = sound.cases n it.case it.found in
+    let pr = amended_problem p a it.case.flow allowed.found after of.flow (users_stay s a n f tree kept are after is) in
+    let below = it.below in
+    let ever = are.ever in
+    let within = are.within in
+    let few_steps : (problem_of (amended p a) it.case.flow).steps ≤ STEP_LIMIT = subst (λ n. n ≤ STEP_LIMIT) (sym pr.steps) (few it.case.flow of.flow) in
+    record {
+      number = omega (arith, below, ever, within);
+      concerned = ap (option_map (λ (x : CaseShape). x.flow)) it.found ∙ ap Some it.flow;
+      flow = subst (λ g. g < length p.flow_names) it.flow (subst (λ m. it.case.flow < m) (sym sound.policy.named) of.flow);
+      fits = subst (λ g. FitsTree p g (shape_of tree)) it.flow
+          (tree_fits p it.case.flow (problem_of (amended p a) it.case.flow) (assigned_of it.case) (finished_of it.case) (shape_of tree) pr few_steps
+          (assigned_long it.case (case_few p it.case few of)) it.refuted);
+    }

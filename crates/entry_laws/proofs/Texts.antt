@@ -1,0 +1,139 @@
+-- No byte of a text of JSON is LF.
+use Rattle.std.proofs.Common.{◌≡◌, ◌≢◌, ℕ, zero, suc, ◌+◌, ◌/◌, ◌%◌, ◌<◌, ◌==◌, ◌||◌, inl, inr, Bool, true, false, ◌&&◌, cond, nat_lt, List, [], ◌∷◌, ◌++◌, pos, negsuc, if◌then◌else◌, refl, arith}
+use Rattle.std.specs.List.{All}
+use Rattle.std.specs.Char.{digit_char}
+use Rattle.std.specs.Fmt.{decimal, digit_glyph, digits, digits_onto}
+use Rattle.basics.proofs.Booleans.{and_both, eq_back, lt_back, lt_back_no, or_cases}
+use Rattle.json.specs.Print.{escape, escape_byte, escape_letter, quoted}
+use Rattle.serde_json.specs.Data.{Data, null, boolean, number, string, array, object, unsigned, negative, float, Items, no_items, item, Members, no_members, member}
+use Rattle.serde_json.specs.Written.{comma_if, compact_text, items_text, members_text}
+use Rattle.wire_json.specs.Replies.{entry_data, entry_text}
+use Rattle.entry_laws.specs.Laws.{TextsAreLines}
+
+-- none of these is LF
+abbrev NoEnds : List ℕ → Type 0
+NoEnds [] = Unit {0}
+NoEnds (x ∷ xs) = (x ≢ 10) × NoEnds xs
+
+none_all : (xs : List ℕ) → NoEnds xs → All (λ b. b ≢ 10) xs
+none_all [] none k d lt = absurd (omega (arith, lt))
+none_all (x ∷ xs) none zero d lt = none.0
+none_all (x ∷ xs) none (suc k) d lt = none_all xs none.1 k d (omega (arith, lt))
+
+both : (xs ys : List ℕ) → NoEnds xs → NoEnds ys → NoEnds (xs ++ ys)
+both [] ys first later = later
+both (x ∷ xs) ys first later = (first.0, both xs ys first.1 later)
+
+above : (n : ℕ) → 10 < n → n ≢ 10
+above n more is = omega (arith, more, is)
+
+-- ---- digits
+
+glyph_at : (low upper : Bool) (d : ℕ) → (if low then 48 + d else (if upper then 55 + d else 87 + d)) ≢ 10
+glyph_at true upper d = above (48 + d) (omega arith)
+glyph_at false true d = above (55 + d) (omega arith)
+glyph_at false false d = above (87 + d) (omega arith)
+
+either_none : (b : Bool) (xs ys : List ℕ) → NoEnds xs → NoEnds ys → NoEnds (if b then xs else ys)
+either_none true xs ys first other = first
+either_none false xs ys first other = other
+
+digits_none : (k base : ℕ) (upper : Bool) (n : ℕ) (acc : List ℕ) → NoEnds acc → NoEnds (digits_onto k base upper n acc)
+digits_none zero base upper n acc none = none
+digits_none (suc k) base upper n acc none =
+    let more : NoEnds (digit_glyph upper (n % base) ∷ acc) = (glyph_at (nat_lt (n % base) 10) upper (n % base), none) in
+    either_none (n / base == 0) (digit_glyph upper (n % base) ∷ acc) _ more (digits_none k base upper (n / base) (digit_glyph upper (n % base) ∷ acc) more)
+
+decimal_none : (n : ℕ) → NoEnds (decimal n)
+unfolding digits
+decimal_none n = digits_none 64 10 false n [] tt
+
+-- ---- strings
+
+cond_apart : (b : Bool) (m n : ℕ) → (b ≡ true → m ≢ 10) → n ≢ 10 → cond b m n ≢ 10
+cond_apart true m n first other = first refl
+cond_apart false m n first other = other
+
+letter_apart : (x : ℕ) → escape_letter x ≢ 10
+letter_apart x =
+    cond_apart ((x == 34) || (x == 92)) x _ own
+    (cond_apart (x == 8) 98 _ (λ _. above 98 (omega arith))
+    (cond_apart (x == 12) 102 _ (λ _. above 102 (omega arith))
+    (cond_apart (x == 10) 110 _ (λ _. above 110 (omega arith))
+    (cond_apart (x == 13) 114 _ (λ _. above 114 (omega arith))
+    (cond_apart (x == 9) 116 0 (λ _. above 116 (omega arith)) (λ is. omega (arith, is)))))))
+  where
+    own : ((x == 34) || (x == 92)) ≡ true → x ≢ 10
+    own one = elim (or_cases (x == 34) (x == 92) one) [
+      | inl quote ↦ let is = eq_back x 34 quote in above x (omega (arith, is))
+      | inr slash ↦ let is = eq_back x 92 slash in above x (omega (arith, is))
+    ]
+
+char_apart : (d : ℕ) → digit_char d ≢ 10
+char_apart d = cond_apart (nat_lt d 10) (48 + d) (87 + d) (λ _. above (48 + d) (omega arith)) (above (87 + d) (omega arith))
+
+cond_none : (b : Bool) (xs ys : List ℕ) → (b ≡ true → NoEnds xs) → (b ≡ false → NoEnds ys) → NoEnds (cond b xs ys)
+cond_none true xs ys first other = first refl
+cond_none false xs ys first other = other refl
+
+byte_none : (x : ℕ) → NoEnds (escape_byte x)
+unfolding escape_byte
+byte_none x =
+    cond_none (nat_lt 0 (escape_letter x)) _ _ (λ _. (above 92 (omega arith), (letter_apart x, tt)))
+    (λ _. cond_none (nat_lt x 32) _ _
+    (λ _. (above 92 (omega arith), (above 117 (omega arith), (above 48 (omega arith), (above 48 (omega arith), (char_apart (x / 16), (char_apart (x % 16), tt)))))))
+    (λ high. (let least = lt_back_no x 32 high in above x (omega (arith, least)), tt)))
+
+escape_none : (s : List ℕ) → NoEnds (escape s)
+escape_none [] = tt
+escape_none (x ∷ xs) = both (escape_byte x) (escape xs) (byte_none x) (escape_none xs)
+
+quoted_none : (s : List ℕ) → NoEnds (quoted s)
+quoted_none s = (above 34 (omega arith), both (escape s) (34 ∷ []) (escape_none s) (above 34 (omega arith), tt))
+
+-- ---- values
+
+-- none of these is LF, as a test of bytes that are known
+abbrev has_no_end : List ℕ → Bool
+has_no_end [] = true
+has_no_end (x ∷ xs) = nat_lt 10 x && has_no_end xs
+
+known_none : (xs : List ℕ) → has_no_end xs ≡ true → NoEnds xs
+known_none [] is = tt
+known_none (x ∷ xs) is = let all = and_both (nat_lt 10 x) (has_no_end xs) is in (above x (lt_back 10 x all.0), known_none xs all.1)
+
+comma_none : (later : Bool) → NoEnds (comma_if later)
+comma_none true = known_none (44 ∷ []) refl
+comma_none false = tt
+
+mutual
+  text_none : (d : Data) → NoEnds (compact_text d)
+  text_none null = known_none (compact_text null) refl
+  text_none (boolean true) = known_none (compact_text (boolean true)) refl
+  text_none (boolean false) = known_none (compact_text (boolean false)) refl
+  text_none (number (unsigned n)) = decimal_none n
+  text_none (number (negative (pos n))) = decimal_none n
+  text_none (number (negative (negsuc n))) = (above 45 (omega arith), decimal_none (suc n))
+  text_none (number (float x)) = tt
+  text_none (string s) = quoted_none s
+  text_none (array ds) = (above 91 (omega arith), items_none false ds)
+  text_none (object ms) = (above 123 (omega arith), members_none false ms)
+
+  items_none : (later : Bool) (ds : Items) → NoEnds (items_text later ds)
+  items_none later no_items = known_none (93 ∷ []) refl
+  items_none later (item d ds) =
+      both (comma_if later) _ (comma_none later) (both (compact_text d) (items_text true ds) (text_none d) (items_none true ds))
+
+  members_none : (later : Bool) (ms : Members) → NoEnds (members_text later ms)
+  members_none later no_members = known_none (125 ∷ []) refl
+  members_none later (member k d ms) =
+      both (comma_if later) _ (comma_none later)
+      (both (quoted k) _ (quoted_none k) (above 58 (omega arith), both (compact_text d) (members_text true ms) (text_none d) (members_none true ms)))
+
+pub texts_are_lines : TextsAreLines
+unfolding entry_text
+texts_are_lines p e = record {
+  front = compact_text (entry_data p e);
+  ends = refl;
+  inside = none_all (compact_text (entry_data p e)) (text_none (entry_data p e));
+}

@@ -1,0 +1,255 @@
+-- What is decided on in a state: a deed of what is asked, or a denial that stands for something and nests little.
+use Rattle.std.proofs.Common.{◌≡◌, ℕ, ◌<◌, ◌≤◌, Bool, true, false, List, [], ◌∷◌, length, Option, None, Some, Result, Ok, Err, refl, sym, ap, subst, arith}
+use Rattle.std.specs.Option.{option_map}
+use Rattle.serde_json.specs.Data.{depth}
+use Rattle.first_fault.specs.Reading.{◌>>=◌, check, or_fault}
+use Rattle.wf_names.specs.States.{user_of}
+use Rattle.constraint_forms.specs.Assigned.{user_at}
+use Rattle.policy_book.specs.Shapes.{PolicyShape}
+use Rattle.policy_book.specs.Policies.{flow_at, problem_of}
+use Rattle.case_record.specs.Cases.{CaseShape, is_open, state_at}
+use Rattle.case_record.specs.Ready.{first_missing}
+use Rattle.wf_talk.specs.declared.edit.Missing.{Missing}
+use Rattle.wf_talk.specs.declared.edit.Missing.TheVariants as missing
+use Rattle.wf_talk.specs.declared.request.Request.TheVariants as request
+use Rattle.wf_talk.specs.declared.request.Ask.{Ask}
+use Rattle.wf_talk.specs.declared.request.Ask.TheVariants as ask
+use Rattle.wf_talk.specs.declared.request.Bad.{Bad}
+use Rattle.wf_talk.specs.declared.request.Bad.TheVariants as bad
+use Rattle.wf_talk.specs.declared.reply.Denial.{Denial}
+use Rattle.wf_talk.specs.declared.reply.Denial.TheVariants as denial
+use Rattle.denial_reasons.specs.Causes.{assigned_with, first_cause, first_falsified, first_of, permitted_roles, unless}
+use Rattle.admin_edits.specs.declared.amendment.Amendment.{Amendment}
+use Rattle.admin_edits.specs.declared.fault.EditFault.{EditFault}
+use Rattle.admin_edits.specs.declared.fault.EditFault.TheVariants as fault
+use Rattle.admin_edits.specs.Edits.{amendment_of, is_admin}
+use Rattle.wf_board.specs.declared.deed.Deed.{Deed}
+use Rattle.wf_board.specs.declared.deed.Deed.TheVariants as deed
+use Rattle.wf_board.specs.States.{State, case_at, flow_named, step_named, user_named}
+use Rattle.wf_board.specs.Resolved.{changed, edit_denial, on_step, open_case_at, resolve}
+use Rattle.wf_board.specs.Decisions.{cause_aside, cause_full, decision_aside, decision_of, unless_denied}
+use Rattle.wf_board.specs.Kept.{IsOfPolicy, IsSoundState}
+use Rattle.wf_board.proofs.Told.{place_within}
+use Rattle.wire_json.specs.Replies.{denial_data}
+use Rattle.entry_reader.specs.Within.{IsBad, IsDenial}
+use Rattle.entry_reader.specs.Lines.{concerned}
+use Rattle.entry_laws.specs.Asks.{IsNamedAsk, IsNamedBad}
+use Rattle.entry_laws.specs.Laws.{flows_of}
+use Rattle.entry_laws.proofs.Parts.{falsified_there, missing_there, names_flat, roles_stand, state_nests, step_stands, user_known}
+
+-- P holds of what was read, and Q of why it was not
+abbrev pub Fares : {A F : Type 0} → (A → Type 0) → (F → Type 0) → Result A F → Type 0
+Fares P Q (Ok x) = P x
+Fares P Q (Err d) = Q d
+
+then_fares : {A B F : Type 0} (P : A → Type 0) (R : B → Type 0) (Q : F → Type 0) (r : Result A F) (f : A → Result B F) → Fares P Q r
+    → ((x : A) → P x → Fares R Q (f x)) → Fares R Q (r >>= f)
+then_fares P R Q (Ok x) f has each = each x has
+then_fares P R Q (Err d) f has each = has
+
+or_fares : {A F : Type 0} (Q : F → Type 0) (o : Option A) (d : F) → Q d → Fares (λ x. o ≡ Some x) Q (or_fault o d)
+or_fares Q (Some x) d none = refl
+or_fares Q None d none = none
+
+check_fares : {F : Type 0} (Q : F → Type 0) (b : Bool) (d : F) → Q d → Fares (λ _. Unit {0}) Q (check b d)
+check_fares Q true d failed = tt
+check_fares Q false d failed = failed
+
+-- Q holds of the cause, if there is one
+abbrev IsCauseSo : (Denial → Type 0) → Option Denial → Type 0
+IsCauseSo Q None = Unit {0}
+IsCauseSo Q (Some d) = Q d
+
+abbrev AreCausesSo : (Denial → Type 0) → List (Option Denial) → Type 0
+AreCausesSo Q [] = Unit {0}
+AreCausesSo Q (o ∷ os) = IsCauseSo Q o × AreCausesSo Q os
+
+first_so : (Q : Denial → Type 0) (os : List (Option Denial)) → AreCausesSo Q os → IsCauseSo Q (first_of os)
+first_so Q [] all = tt
+first_so Q (Some d ∷ os) all = all.0
+first_so Q (None ∷ os) all = first_so Q os all.1
+
+four_so : (Q : Denial → Type 0) (first second third fourth : Option Denial) → IsCauseSo Q first → IsCauseSo Q second → IsCauseSo Q third → IsCauseSo Q fourth
+    → IsCauseSo Q (first_of (first ∷ second ∷ third ∷ fourth ∷ []))
+four_so Q first second third fourth a b c d = first_so Q (first ∷ second ∷ third ∷ fourth ∷ []) (a, (b, (c, (d, tt))))
+
+unless_so : (Q : Denial → Type 0) (b : Bool) (d : Denial) → Q d → IsCauseSo Q (unless b d)
+unless_so Q true d so = tt
+unless_so Q false d so = so
+
+map_so : {A : Type 0} (Q : Denial → Type 0) (f : A → Denial) (o : Option A) → ((x : A) → o ≡ Some x → Q (f x)) → IsCauseSo Q (option_map f o)
+map_so Q f None so = tt
+map_so Q f (Some x) so = so x refl
+
+-- ---- what is known
+
+-- a denial stands for something, and nests little
+abbrev pub FitsDenial : PolicyShape → (ℕ → Option ℕ) → Option ℕ → Denial → Type 0
+FitsDenial p flows o d = IsDenial p flows o d × (depth (denial_data p d) ≤ 60)
+
+-- a case of the policy, whose workflow is concerned
+abbrev pub IsOn : State → Option ℕ → CaseShape → Type 0
+IsOn s o c = (o ≡ Some c.flow) × IsOfPolicy s.book.policy c
+
+-- what a deed names is of what is concerned
+abbrev pub IsDeedFor : State → Option ℕ → Deed → Type 0
+IsDeedFor s o (deed.Open f) = (o ≡ Some f) × (f < length s.book.policy.flow_names)
+IsDeedFor s o (deed.Claim n c t u) = IsOn s o c
+IsDeedFor s o (deed.Finish n c t u) = IsOn s o c
+IsDeedFor s o (deed.GiveBack n c t u) = IsOn s o c
+IsDeedFor s o (deed.Release n c t) = IsOn s o c
+IsDeedFor s o (deed.Withdraw n) = Unit {0}
+IsDeedFor s o (deed.Change a) = Unit {0}
+IsDeedFor s o (deed.Show c) = IsOfPolicy s.book.policy c
+IsDeedFor s o (deed.TurnAway b) = IsBad b
+
+-- a denial of what concerns this workflow
+abbrev Fits : State → Option ℕ → Denial → Type 0
+Fits s o d = FitsDenial s.book.policy (flows_of s) o d
+
+unknown_nests : (p : PolicyShape) (what : Missing) → depth (denial_data p (denial.Unknown what)) ≤ 60
+unknown_nests p missing.Flow = omega arith
+unknown_nests p missing.Step = omega arith
+unknown_nests p missing.Relation = omega arith
+unknown_nests p missing.User = omega arith
+unknown_nests p missing.Role = omega arith
+
+fault_fits : (p : PolicyShape) (flows : ℕ → Option ℕ) (o : Option ℕ) (why : EditFault) → FitsDenial p flows o (edit_denial why)
+fault_fits p flows o fault.NotAdmin = (tt, omega arith)
+fault_fits p flows o (fault.Unknown what) = (tt, unknown_nests p what)
+fault_fits p flows o fault.Fixed = (tt, omega arith)
+fault_fits p flows o fault.Already = (tt, omega arith)
+fault_fits p flows o fault.Absent = (tt, omega arith)
+fault_fits p flows o fault.Full = (tt, omega arith)
+fault_fits p flows o fault.LastAdmin = (tt, omega arith)
+fault_fits p flows o fault.NoMemory = (tt, omega arith)
+
+changed_fares : (s : State) (o : Option ℕ) (r : Result Amendment EditFault) → Fares (IsDeedFor s o) (Fits s o) (changed r)
+changed_fares s o (Ok a) = tt
+changed_fares s o (Err why) = fault_fits s.book.policy (flows_of s) o why
+
+-- ---- what a line asks
+
+case_fares : (s : State) (n : ℕ) → IsSoundState s → Fares (IsOn s (flows_of s n)) (Fits s (flows_of s n)) (open_case_at s.book n)
+case_fares s n sound =
+    let Q = Fits s (flows_of s n) in
+    then_fares (λ c. case_at s.book.cases n ≡ Some c) (IsOn s (flows_of s n)) Q (or_fault (case_at s.book.cases n) denial.NoCase) _
+    (or_fares Q (case_at s.book.cases n) denial.NoCase (tt, omega arith))
+    (λ c is. then_fares (λ _. Unit {0}) (IsOn s (flows_of s n)) Q (check (is_open c) denial.Closed) _ (check_fares Q (is_open c) denial.Closed (tt, omega arith))
+    (λ _ _. (ap (option_map (λ (x : CaseShape). x.flow)) is, sound.cases n c is)))
+
+step_fares : (s : State) (make : ℕ → CaseShape → ℕ → ℕ → Deed) (n : ℕ) (step user : List ℕ) → IsSoundState s
+    → ((c : CaseShape) (t u : ℕ) → IsOn s (flows_of s n) c → IsDeedFor s (flows_of s n) (make n c t u))
+    → Fares (IsDeedFor s (flows_of s n)) (Fits s (flows_of s n)) (on_step make s.book n step user)
+step_fares s make n step user sound made =
+    let P = IsDeedFor s (flows_of s n) in
+    let Q = Fits s (flows_of s n) in
+    then_fares (IsOn s (flows_of s n)) P Q (open_case_at s.book n) _ (case_fares s n sound)
+    (λ c of. then_fares (λ t. step_named s.book c.flow step ≡ Some t) P Q (or_fault (step_named s.book c.flow step) denial.NoStep) _
+    (or_fares Q (step_named s.book c.flow step) denial.NoStep (tt, omega arith))
+    (λ t _. then_fares (λ u. user_named s.book user ≡ Some u) P Q (or_fault (user_named s.book user) denial.NoUser) _
+    (or_fares Q (user_named s.book user) denial.NoUser (tt, omega arith))
+    (λ u _. made c t u of)))
+
+bad_stands : (b : Bad) → IsNamedBad b → IsBad b
+bad_stands bad.Syntax named = tt
+bad_stands bad.Object named = tt
+bad_stands bad.Do named = tt
+bad_stands bad.Lane named = tt
+bad_stands (bad.Key key) named = named
+bad_stands bad.Extra named = tt
+
+resolve_fares : (s : State) (what : Ask) → IsSoundState s → IsNamedAsk what
+    → Fares (IsDeedFor s (concerned s.book.policy (flows_of s) what)) (Fits s (concerned s.book.policy (flows_of s) what)) (resolve s.book what)
+resolve_fares s (ask.Request (request.OpenCase flow)) sound named =
+    let o = flow_named s.book flow in
+    then_fares (λ f. flow_named s.book flow ≡ Some f) (IsDeedFor s o) (Fits s o) (or_fault (flow_named s.book flow) denial.NoFlow) _
+    (or_fares (Fits s o) (flow_named s.book flow) denial.NoFlow (tt, omega arith)) (λ f is. (is, place_within s.book.policy.flow_names flow f is))
+resolve_fares s (ask.Request (request.Claim n step user)) sound named = step_fares s deed.Claim n step user sound (λ c t u of. of)
+resolve_fares s (ask.Request (request.Finish n step user)) sound named = step_fares s deed.Finish n step user sound (λ c t u of. of)
+resolve_fares s (ask.Request (request.GiveBack n step user)) sound named = step_fares s deed.GiveBack n step user sound (λ c t u of. of)
+resolve_fares s (ask.Request (request.Release by n step)) sound named =
+    let P = IsDeedFor s (flows_of s n) in
+    let Q = Fits s (flows_of s n) in
+    then_fares (λ _. Unit {0}) P Q (check (is_admin s.book.policy by) denial.NotAdmin) _ (check_fares Q (is_admin s.book.policy by) denial.NotAdmin (tt, omega arith))
+    (λ _ _. then_fares (IsOn s (flows_of s n)) P Q (open_case_at s.book n) _ (case_fares s n sound)
+    (λ c of. then_fares (λ t. step_named s.book c.flow step ≡ Some t) P Q (or_fault (step_named s.book c.flow step) denial.NoStep) _
+    (or_fares Q (step_named s.book c.flow step) denial.NoStep (tt, omega arith)) (λ t _. of)))
+resolve_fares s (ask.Request (request.Withdraw by n)) sound named =
+    let P = IsDeedFor s (flows_of s n) in
+    let Q = Fits s (flows_of s n) in
+    then_fares (λ _. Unit {0}) P Q (check (is_admin s.book.policy by) denial.NotAdmin) _ (check_fares Q (is_admin s.book.policy by) denial.NotAdmin (tt, omega arith))
+    (λ _ _. then_fares (IsOn s (flows_of s n)) P Q (open_case_at s.book n) _ (case_fares s n sound) (λ c of. tt))
+resolve_fares s (ask.Request (request.Change by e)) sound named = changed_fares s None (amendment_of s.book.policy by e)
+resolve_fares s (ask.Request (request.Show n)) sound named =
+    let Q = Fits s (flows_of s n) in
+    then_fares (λ c. case_at s.book.cases n ≡ Some c) (IsDeedFor s (flows_of s n)) Q (or_fault (case_at s.book.cases n) denial.NoCase) _
+    (or_fares Q (case_at s.book.cases n) denial.NoCase (tt, omega arith)) (λ c is. sound.cases n c is)
+resolve_fares s (ask.Bad b) sound named = bad_stands b named
+
+-- ---- causes
+
+held_so : (s : State) (o : Option ℕ) (c : CaseShape) (t : ℕ) → IsOn s o c → Fits s o (denial.NotHeld (state_at c t))
+held_so s o c t of = (step_stands s.book.policy c t of.1, let nests = state_nests s.book.policy (state_at c t) in omega (arith, nests))
+
+order_so : (s : State) (o : Option ℕ) (c : CaseShape) (t v : ℕ) → IsSoundState s → IsOn s o c → first_missing c (flow_at s.book.policy c.flow).flow.order t ≡ Some v
+    → Fits s o (denial.Order c.flow v)
+order_so s o c t v sound of is =
+    let there = missing_there (flow_at s.book.policy c.flow).flow.order t 0 c.states v is in
+    (((of.0, subst (λ n. c.flow < n) (sym sound.policy.named) of.1.flow), subst (λ n. v < n) of.1.steps (omega (arith, there))), omega arith)
+
+roles_so : (s : State) (o : Option ℕ) (f t : ℕ) → Fits s o (denial.Role (permitted_roles s.book.policy f t))
+roles_so s o f t = (roles_stand s.book.policy f t, let flat = names_flat s.book.policy.roster.roles (permitted_roles s.book.policy f t) in omega (arith, flat))
+
+rule_so : (s : State) (o : Option ℕ) (c : CaseShape) (t u v : ℕ) → IsSoundState s → IsOn s o c
+    → first_falsified (problem_of s.book.policy c.flow).related (user_at (assigned_with c t u)) 0 (flow_at s.book.policy c.flow).rules ≡ Some v → Fits s o (denial.Rule v)
+rule_so s o c t u v sound of is =
+    let below = falsified_there (problem_of s.book.policy c.flow).related (user_at (assigned_with c t u)) 0 (flow_at s.book.policy c.flow).rules v is in
+    let few = (sound.policy.flows c.flow of.1.flow).few in
+    (omega (arith, below, few), omega arith)
+
+claim_so : (s : State) (o : Option ℕ) (c : CaseShape) (t u : ℕ) → IsSoundState s → IsOn s o c → IsCauseSo (Fits s o) (first_cause s.book.policy c t u)
+claim_so s o c t u sound of =
+    let Q = Fits s o in
+    four_so Q _ _ _ _
+    (map_so Q denial.Taken (user_of (state_at c t)) (λ v is. (user_known s.book.policy c t v of.1 is, omega arith)))
+    (map_so Q (denial.Order c.flow) _ (λ v is. order_so s o c t v sound of is))
+    (unless_so Q _ (denial.Role _) (roles_so s o c.flow t))
+    (map_so Q denial.Rule _ (λ v is. rule_so s o c t u v sound of is))
+
+cause_so : (s : State) (o : Option ℕ) (given : Deed) → IsSoundState s → IsDeedFor s o given → IsCauseSo (Fits s o) (cause_aside s.book given)
+cause_so s o (deed.Open f) sound of = unless_so (Fits s o) _ denial.Retired (tt, omega arith)
+cause_so s o (deed.Claim n c t u) sound of = claim_so s o c t u sound of
+cause_so s o (deed.Finish n c t u) sound of = unless_so (Fits s o) _ (denial.NotHeld (state_at c t)) (held_so s o c t of)
+cause_so s o (deed.GiveBack n c t u) sound of = unless_so (Fits s o) _ (denial.NotHeld (state_at c t)) (held_so s o c t of)
+cause_so s o (deed.Release n c t) sound of = unless_so (Fits s o) _ (denial.NotHeld (state_at c t)) (held_so s o c t of)
+cause_so s o (deed.Withdraw n) sound of = tt
+cause_so s o (deed.Change a) sound of = tt
+cause_so s o (deed.Show c) sound of = tt
+cause_so s o (deed.TurnAway b) sound of = tt
+
+full_so : (s : State) (o : Option ℕ) (given : Deed) → IsCauseSo (Fits s o) (cause_full s.book given)
+full_so s o (deed.Open f) = unless_so (Fits s o) _ denial.Full (tt, omega arith)
+full_so s o (deed.Claim n c t u) = tt
+full_so s o (deed.Finish n c t u) = tt
+full_so s o (deed.GiveBack n c t u) = tt
+full_so s o (deed.Release n c t) = tt
+full_so s o (deed.Withdraw n) = tt
+full_so s o (deed.Change a) = tt
+full_so s o (deed.Show c) = tt
+full_so s o (deed.TurnAway b) = tt
+
+unless_fares : (P : Deed → Type 0) (Q : Denial → Type 0) (given : Deed) (o : Option Denial) → P given → IsCauseSo Q o → Fares P Q (unless_denied given o)
+unless_fares P Q given None has so = has
+unless_fares P Q given (Some d) has so = so
+
+-- what is decided is a deed of what is asked, or a denial that fits
+pub decision_fares : (s : State) (what : Ask) → IsSoundState s → IsNamedAsk what
+    → Fares (IsDeedFor s (concerned s.book.policy (flows_of s) what)) (Fits s (concerned s.book.policy (flows_of s) what)) (decision_of s.book what)
+decision_fares s what sound named =
+    let o = concerned s.book.policy (flows_of s) what in
+    let P = IsDeedFor s o in
+    let Q = Fits s o in
+    then_fares P P Q (decision_aside s.book what) _
+    (then_fares P P Q (resolve s.book what) _ (resolve_fares s what sound named) (λ given of. unless_fares P Q given (cause_aside s.book given) of (cause_so s o given sound of)))
+    (λ given of. unless_fares P Q given (cause_full s.book given) of (full_so s o given))

@@ -1,0 +1,50 @@
+-- Every entry of a legal history is a line that the reader of transcripts accepts.
+use Rattle.std.specs.Prelude.{◌≡◌, ◌≢◌, ℕ, ◌+◌, ◌<◌, ◌≤◌, ◌^◌, List, [], ◌∷◌, ◌++◌, length, Option, option_map}
+use Rattle.std.specs.List.{All}
+use Rattle.wf_names.specs.declared.limits.TheConstants.{STEP_LIMIT}
+use Rattle.policy_book.specs.Shapes.{PolicyShape}
+use Rattle.policy_book.specs.Policies.{flow_at}
+use Rattle.policy_book.specs.Facts.{IsSoundPolicy}
+use Rattle.wf_talk.specs.declared.entry.Entry.{Entry}
+use Rattle.wf_board.specs.States.{State, case_at, opening_state}
+use Rattle.wf_board.specs.Histories.{IsLegal, state_after}
+use Rattle.wire_json.specs.Replies.{entry_text}
+use Rattle.entry_reader.specs.Lines.{IsLineOf}
+use Rattle.entry_laws.specs.Asks.{IsNamedAsk}
+
+-- which workflow each case of a state is of
+abbrev pub flows_of : State → ℕ → Option ℕ
+flows_of s n = option_map (λ c. c.flow) (case_at s.book.cases n)
+
+-- no workflow has more steps than the limit
+abbrev pub HasFewSteps : PolicyShape → Type 0
+HasFewSteps p = (f : ℕ) → f < length p.flows → length (flow_at p f).flow.steps ≤ STEP_LIMIT
+
+-- an entry is the last of a legal history of a sound policy, and place, lane, line and rounds fit
+pub record IsLastOf (p : PolicyShape) (rounds : ℕ) (entries : List Entry) (e : Entry) : Type 0 where
+  pub policy : IsSoundPolicy p
+  pub steps : HasFewSteps p
+  pub legal : IsLegal (opening_state p) rounds (entries ++ e ∷ [])
+  pub few_rounds : rounds < 2 ^ 8
+  pub few_entries : length entries + 1 < 2 ^ 32
+  pub lane : e.lane < 2 ^ 8
+  pub line : e.line < 2 ^ 32
+  pub named : IsNamedAsk e.ask
+
+-- the text of the last entry, with the names of the policy after it, is a line of it in the state before it
+abbrev pub EntriesAreLines : Type 0
+EntriesAreLines =
+    (p : PolicyShape) (rounds : ℕ) (entries : List Entry) (e : Entry) → IsLastOf p rounds entries e →
+    let before = state_after (opening_state p) entries in
+    let after = state_after (opening_state p) (entries ++ e ∷ []) in
+    IsLineOf before.book.policy (flows_of before) (entry_text after.book.policy e) e
+
+-- a text has LF at its end and nowhere else
+pub record IsOneLine (text : List ℕ) : Type 0 where
+  pub front : List ℕ
+  pub ends : text ≡ front ++ 10 ∷ []
+  pub inside : All (λ b. b ≢ 10) front
+
+-- the text of every entry does
+abbrev pub TextsAreLines : Type 0
+TextsAreLines = (p : PolicyShape) (e : Entry) → IsOneLine (entry_text p e)

@@ -1,0 +1,15 @@
+//! Laws of entries: what a session writes is read back. Each function changes nothing; its contract
+//! is the law.
+#![tactic(auto)]
+
+ghost use Rattle.entry_laws.specs.Laws.{EntriesAreLines, TextsAreLines};
+
+/// The text of each entry of a legal history is a line that the reader of transcripts accepts.
+pub fn entries_are_lines()
+    ensures { EntriesAreLines }
+{}
+
+/// The text of an entry has LF at its end and nowhere else.
+pub fn texts_are_lines()
+    ensures { TextsAreLines }
+{}

@@ -1,0 +1,4 @@
+pub mod Edits
+pub mod Batches
+pub mod Sound
+pub mod Cursors

@@ -1,0 +1,233 @@
+//! The auditor, with its calls.
+ghost use Rattle.std.specs.Prelude.{◌≡◌, ◌↔◌, true, IfOk, IsErrOf, None, Some};
+ghost use Rattle.wf_names.specs.declared.limits.TheConstants.{LANE_LIMIT};
+ghost use Rattle.line_cutter.specs.Laws.{AreInOrder};
+ghost use Rattle.entry_reader.specs.declared.fault.TextFault.TheVariants.{NotText};
+ghost use Rattle.entry_reader.specs.Lines.{HasNoReply, HasReply};
+ghost use Rattle.wf_talk.specs.declared.reply.Reply.TheVariants as reply;
+ghost use Rattle.transcript_audit.specs.Audits.{ComesNext, audit_of, flows_now, next_job, place_told, state_now};
+ghost use Rattle.transcript_audit.specs.Outcomes.{HasEnded, HasTaken};
+ghost use Rattle.transcript_audit.specs.Keeping.{HasEntered, HasTried, IsDueIf, IsReading, again_in, entry_next};
+
+use crate::again::again_in;
+use crate::flaw::Flaw;
+use crate::flows::Flows;
+use crate::record::Record;
+use crate::verdict::verdict_for;
+use crate::{AuditFault, AuditKind};
+use entry_reader::{Place, TextFault, read_place, read_reply};
+use policy_book::Policy;
+use std::alloc::{AllocError, Global};
+use std::marker::Model;
+use std::sync::Arc;
+use wf_board::{Board, Decider, Verdict};
+use wf_talk::{Ask, Ends, Job, Jobs, Reply};
+
+/// An audit of a transcript, line by line.
+#[derive(Drop)]
+pub struct Auditor {
+    record: Record,
+    /// The board after the entries so far.
+    board: Board,
+}
+
+impl Model for Auditor {
+    ghost use Rattle.std.specs.Prelude.{◌≡◌};
+    ghost use Rattle.std.specs.Coded.{codes};
+    ghost use Rattle.policy_book.specs.Shapes.{policy_code};
+    ghost use Rattle.refutation_tree.specs.Codes.{kids_code};
+    ghost use Rattle.wf_board.specs.Boards.{state_on};
+    ghost use Rattle.transcript_audit.specs.Audits.{AuditShape, state_now};
+
+    ghost Value = { AuditShape };
+
+    ghost coded = { Prim.hlevel (codes, policy_code, kids_code) };
+
+    ghost view = { λ a. a.record.audit };
+
+    ghost invariant = { λ a. state_on a.board ≡ state_now a.record.audit };
+}
+
+impl Auditor {
+    /// An audit before the first line: of a session that begins with this policy, has these jobs
+    /// with the ends of their batches, and answers a job again after so many lost rounds.
+    pub fn new(
+        alloc: Global,
+        policy: Policy,
+        jobs: Jobs,
+        ends: Ends,
+        rounds: u8,
+    ) -> Result<Auditor, AllocError>
+        requires order { AreInOrder LANE_LIMIT jobs ends }
+        ensures { IfOk result (λ a. a ≡ audit_of policy rounds jobs ends) }
+    {
+        let opening = Arc::new(alloc, policy)?;
+        let board = Board::of(alloc, Arc::try_clone(&opening)?)?;
+        Ok(Auditor {
+            record: Record::new(alloc, opening, rounds, jobs, ends),
+            board,
+        })
+    }
+
+    /// Takes one line, with its LF if it has one. After a line that is wrong each line is refused
+    /// with the fault of that one. For want of memory nothing is changed.
+    pub fn line<V: Decider>(
+        &mut self,
+        alloc: Global,
+        decider: &V,
+        line: &[u8],
+    ) -> Result<(), AuditFault>
+        requires ready { V.ready decider.now }
+        ensures { HasTaken self.old self.new line.now result }
+    {
+        if let Some(kind) = self.record.fault() {
+            return Err(AuditFault::At(self.record.number(), kind));
+        }
+        match self.take(alloc, decider, line) {
+            Ok(()) => Ok(()),
+            Err(Flaw::Kind(kind)) => {
+                self.record.keep_fault(kind);
+                Err(AuditFault::At(self.record.number(), kind))
+            }
+            Err(Flaw::NoMemory) => Err(AuditFault::NoMemory),
+        }
+    }
+
+    /// Whether the transcript ends well: no line was wrong, and each job has its entry.
+    pub fn end(&self) -> Result<(), AuditFault>
+        ensures { HasEnded self.now result }
+    {
+        match self.record.fault() {
+            Some(kind) => Err(AuditFault::At(self.record.number(), kind)),
+            None => {
+                if self.record.is_done() {
+                    Ok(())
+                } else {
+                    Err(AuditFault::At(self.record.number(), AuditKind::Missing))
+                }
+            }
+        }
+    }
+
+    // Takes one line, where none before was wrong.
+    fn take<V: Decider>(&mut self, alloc: Global, decider: &V, line: &[u8]) -> Result<(), Flaw>
+        requires ready { V.ready decider.now }
+        ensures { HasTried self.old self.new line.now result }
+    {
+        let (job, reply) = self.read(alloc, line)?;
+        self.enter(alloc, decider, &job, reply)
+    }
+
+    // The job that a line answers, and the reply.
+    fn read(&self, alloc: Global, line: &[u8]) -> Result<(Job, Reply), Flaw>
+        ensures { IsReading self.now line.now result }
+    {
+        let place = told_place(alloc, line)?;
+        if place.at != self.record.number() {
+            return Err(Flaw::Kind(AuditKind::At));
+        }
+        let Some(job) = self.due(&place) else {
+            return Err(Flaw::Kind(AuditKind::Job));
+        };
+        let reply = self.reply(alloc, &job.ask, line)?;
+        Ok((job, reply))
+    }
+
+    // The job at a place, if it is its lane's next one.
+    fn due(&self, place: &Place) -> Option<Job>
+        ensures { IsDueIf self.now place.now result }
+    {
+        match self.record.next(place.lane) {
+            Some(job) if job.line == place.line => Some(job),
+            _ => None,
+        }
+    }
+
+    // The reply that a line tells.
+    fn reply(&self, alloc: Global, ask: &Ask, line: &[u8]) -> Result<Reply, TextFault>
+        ensures reply { IfOk result (HasReply (state_now self.now).book.policy (flows_now self.now) ask.now line.now) }
+        ensures none { IsErrOf result NotText → HasNoReply (state_now self.now).book.policy (flows_now self.now) ask.now line.now }
+    {
+        let flows = Flows {
+            cases: self.board.cases(),
+        };
+        read_reply(alloc, self.board.policy(), &flows, ask, line)
+    }
+
+    // Takes a reply to a lane's next job.
+    fn enter<V: Decider>(
+        &mut self,
+        alloc: Global,
+        decider: &V,
+        job: &Job,
+        reply: Reply,
+    ) -> Result<(), Flaw>
+        requires ready { V.ready decider.now }
+        requires next { next_job self.old job.now.lane ≡ Some job.now }
+        ensures { HasEntered self.old self.new job.now reply result }
+    {
+        match again_in(&reply) {
+            Some((rounds, at)) => self.enter_again(job, rounds, at),
+            None => self.enter_step(alloc, decider, job, reply),
+        }
+    }
+
+    // Takes a reply that is `again`.
+    fn enter_again(&mut self, job: &Job, rounds: u8, at: u32) -> Result<(), Flaw>
+        requires next { next_job self.old job.now.lane ≡ Some job.now }
+        ensures { HasEntered self.old self.new job.now (reply.Again rounds at) result }
+    {
+        if !self.may_retry(job, rounds, at) {
+            return Err(Flaw::Kind(AuditKind::Reply));
+        }
+        self.record.reserve()?;
+        self.record.add(job, Reply::Again { rounds, at });
+        Ok(())
+    }
+
+    // Whether a lane's next job may be answered again so.
+    fn may_retry(&self, job: &Job, rounds: u8, at: u32) -> bool
+        requires next { next_job self.now job.now.lane ≡ Some job.now }
+        ensures { result ≡ true ↔ ComesNext self.now (entry_next self.now job.now (reply.Again rounds at)) }
+    {
+        rounds == self.record.rounds()
+            && 1 <= rounds
+            && self.board.needs(&job.ask)
+            && self.record.rests(job.lane, &job.ask, rounds, at)
+    }
+
+    // Takes a reply that is a step, if it is one.
+    fn enter_step<V: Decider>(
+        &mut self,
+        alloc: Global,
+        decider: &V,
+        job: &Job,
+        reply: Reply,
+    ) -> Result<(), Flaw>
+        requires ready { V.ready decider.now }
+        requires next { next_job self.old job.now.lane ≡ Some job.now }
+        requires once { again_in reply ≡ None }
+        ensures { HasEntered self.old self.new job.now reply result }
+    {
+        let verdict = verdict_for(&self.board, alloc, decider, &job.ask, &reply);
+        if matches!(verdict, Verdict::NoMemory) {
+            return Err(Flaw::NoMemory);
+        }
+        self.record.reserve()?;
+        self.board.admit(alloc, &job.ask, &reply, verdict)?;
+        self.record.add(job, reply);
+        Ok(())
+    }
+}
+
+// The place that a line tells, where it ends with LF.
+fn told_place(alloc: Global, line: &[u8]) -> Result<Place, TextFault>
+    ensures place { IfOk result (λ place. place_told line.now ≡ Some place) }
+    ensures none { IsErrOf result NotText → place_told line.now ≡ None }
+{
+    if line.last() == Some(&b'\n') {
+        read_place(alloc, line)
+    } else {
+        Err(TextFault::NotText)
+    }
+}
