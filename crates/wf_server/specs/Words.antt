@@ -1,5 +1,5 @@
 -- The words of the program's command line.
-use Rattle.std.specs.Prelude.{ℕ, ◌+◌, ◌-◌, ◌<◌, ◌≤◌, zero, suc, Bool, true, false, ◌&&◌, List, [], ◌∷◌, Option, None, Some, option_map, codes, nat_eq, if◌then◌else◌}
+use Rattle.std.specs.Prelude.{ℕ, ◌+◌, ◌-◌, ◌<◌, ◌≤◌, zero, suc, Bool, true, false, ◌&&◌, List, [], ◌∷◌, Option, None, Some, option_map, codes, nat_eq, nat_lt, if◌then◌else◌}
 use Rattle.std.specs.Fmt.{decimal}
 use Rattle.std.specs.Cmp.Lexicographic.{pointwise}
 use Rattle.wf_names.specs.declared.limits.TheConstants.{LANE_LIMIT, DEFAULT_LANES, ROUND_LIMIT, DEFAULT_ROUNDS}
@@ -77,3 +77,11 @@ reads_input (Some (plan policy flow)) = true
 reads_input (Some (show policy)) = false
 reads_input (Some (solve policy)) = false
 reads_input (Some (serve policy options)) = true
+
+-- whether a request may be answered again for these words: there are several lanes, and some rounds
+abbrev pub may_repeat : Option Command → Bool
+may_repeat None = false
+may_repeat (Some (plan policy flow)) = false
+may_repeat (Some (show policy)) = false
+may_repeat (Some (solve policy)) = false
+may_repeat (Some (serve policy options)) = nat_lt 1 options.lanes && nat_lt 0 options.rounds

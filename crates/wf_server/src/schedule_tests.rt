@@ -9,11 +9,11 @@ use crate::schedule_parts::{
     claims, empty_over, finishes, goes_at, has_kinds, job, opens, returns, shows,
 };
 use crate::tests::PAY;
-use crate::turns::serve_by_turns;
 use std::alloc::{AllocError, Global};
 use std::test::Fail;
 use wf_board::Verdict;
 use wf_desk::{Desk, Event, Mark, Outcome};
+use wf_lanes::serve_by_turns;
 
 // Nothing has changed since the task was taken; its lane has no task any more.
 #[test]
@@ -190,7 +190,7 @@ fn misses_earlier_ones(alloc: Global, desk: &mut Desk) -> Result<bool, Fail>
     requires done { IsDone desk.old }
 {
     load_first(alloc, desk)?;
-    serve_by_turns(alloc, desk);
+    serve_by_turns(alloc, &PlainDecider, desk);
     load_second(alloc, desk)?;
     let kinds = [
         "opened", "shown", "granted", "shown", "finished", "granted", "returned", "stranded",

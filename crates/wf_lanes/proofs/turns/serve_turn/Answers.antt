@@ -1,12 +1,15 @@
-use Rattle.std.proofs.Common.{◌≡◌, ◌≤◌, ◌+◌, Bool, true, false, sym, subst, arith}
+use Rattle.std.proofs.Common.{◌≤◌, ◌+◌, sym, subst, arith}
 use Rattle.std.proofs.lemmas.Grind.{common_steps}
 use Rattle.wf_desk.specs.Commits.{HasServed}
-use Rattle.wf_server.proofs.TurnLaws.{HasTurned, turned_served, turned_passed, turned_done, turned_less}
-use Rattle.wf_server.proofs.turns.serve_turn.Goals.{then-serve_next, else-serve_next}
-use Rattle.wf_server.proofs.turns.serve_turn.Goals as goal
+use Rattle.wf_lanes.proofs.TurnLaws.{HasTurned, turned_none, turned_served, turned_passed, turned_done, turned_less}
+use Rattle.wf_lanes.proofs.turns.serve_turn.Goals.{then-serve_next, else-serve_next}
+use Rattle.wf_lanes.proofs.turns.serve_turn.Goals as goal
+
+pub turn-init : goal.turn-init
+turn-init g c = record { turned = turned_none c.args.desk.now }
 
 pub turn-preserved : goal.turn-preserved
-turn-preserved c =
+turn-preserved g c =
     let a = c.args.desk.now in
     let b = c.turn.desk in
     let d = c.serve_next.new.self in
@@ -25,10 +28,10 @@ turn-preserved c =
     ]
 
 pub returns-clause-done : goal.returns-clause-done
-returns-clause-done c none =
+returns-clause-done g c none =
     let all : c.args.desk.now.lanes ≤ c.turn.lane = grind (arith, common_steps, c.turn-test.false, c.turn.auto.lane-end, c.lanes-lane-end.ensures.count) in
     turned_done c.args.desk.now c.turn.desk c.turn.lane (subst (λ had. HasTurned c.args.desk.now c.turn.desk c.turn.lane had) none c.turn.invariant.turned) all c.requires.lanes
 
 pub returns-clause-less : goal.returns-clause-less
-returns-clause-less c some =
+returns-clause-less g c some =
     turned_less c.args.desk.now c.turn.desk c.turn.lane (subst (λ had. HasTurned c.args.desk.now c.turn.desk c.turn.lane had) some c.turn.invariant.turned) c.journal-kept.ensures.sound

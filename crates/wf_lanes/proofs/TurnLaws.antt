@@ -1,46 +1,45 @@
 -- How a batch is served by turns.
-use Rattle.std.proofs.Common.{◌≡◌, ℕ, ◌+◌, ◌-◌, ◌<◌, ◌≤◌, Bool, true, false, nat_lt, nat_eq, List, [], ◌∷◌, ◌++◌, length, Option, None, Some, inl, inr, refl, sym, ◌∙◌, ap, subst, arith, append_assoc, append-nil, length-append}
+use Rattle.std.proofs.Common.{◌≡◌, ℕ, ◌+◌, ◌<◌, ◌≤◌, Bool, true, false, nat_lt, nat_eq, List, [], ◌∷◌, ◌++◌, length, None, inl, inr, refl, sym, ◌∙◌, ap, subst, arith, append_assoc, append-nil, length-append}
 use Rattle.std.proofs.lemmas.Grind.{common_steps}
 use Rattle.std.proofs.lemmas.Bool.Decides.{nat_tests}
 use Rattle.basics.proofs.Booleans.{bool_cases}
-use Rattle.wf_talk.specs.declared.entry.Entry.{Entry}
 use Rattle.wf_talk.specs.declared.job.Job.{Job}
 use Rattle.wf_board.specs.Boards.{state_on}
-use Rattle.wf_board.specs.Histories.{AreAnsweredOnce, lane_jobs}
+use Rattle.wf_board.specs.Histories.{lane_jobs}
 use Rattle.wf_board.specs.HistoryLaws.{once_all, step_once}
 use Rattle.wf_desk.specs.Desks.{AreOfLanes, DeskShape, IsDone, IsSoundDesk, next_job}
 use Rattle.wf_desk.specs.Commits.{HasServed}
 use Rattle.wf_desk.specs.DocketLaws.{batch_within}
-use Rattle.wf_server.specs.Sessions.{Setting}
-use Rattle.wf_server.specs.Turns.{HasServedOn, left_at, setting_of}
+use Rattle.wf_desk.specs.Schedules.{HasGrown}
+use Rattle.wf_lanes.specs.Turns.{HasServedOn, left_at}
 
 -- no job was served
 pub on_none : (d : DeskShape) → HasServedOn d d
-on_none d = record { new = []; entries = sym (append-nil d.entries); once = tt; setting = refl; jobs = refl; start = refl }
+on_none d = record {
+  grown = record { more = []; extends = sym (append-nil d.entries); opening = refl; lanes = refl; rounds = refl; jobs = refl; start = refl };
+  once = tt;
+}
 
 -- more jobs were served
 pub on_more : (a b c : DeskShape) → HasServedOn a b → HasServedOn b c → HasServedOn a c
 on_more a b c first second = record {
-  new = first.new ++ second.new;
-  entries = second.entries ∙ ap (λ es. es ++ second.new) first.entries ∙ append_assoc a.entries first.new second.new;
-  once = once_all first.new second.new first.once second.once;
-  setting = second.setting ∙ first.setting;
-  jobs = second.jobs ∙ first.jobs;
-  start = second.start ∙ first.start;
+  grown = record {
+    more = first.grown.more ++ second.grown.more;
+    extends = second.grown.extends ∙ ap (λ es. es ++ second.grown.more) first.grown.extends ∙ append_assoc a.entries first.grown.more second.grown.more;
+    opening = second.grown.opening ∙ first.grown.opening;
+    lanes = second.grown.lanes ∙ first.grown.lanes;
+    rounds = second.grown.rounds ∙ first.grown.rounds;
+    jobs = second.grown.jobs ∙ first.grown.jobs;
+    start = second.grown.start ∙ first.grown.start;
+  };
+  once = once_all first.grown.more second.grown.more first.once second.once;
 }
-
-setting_same : (b c : DeskShape) → c.opening ≡ b.opening → c.lanes ≡ b.lanes → c.rounds ≡ b.rounds → setting_of c ≡ setting_of b
-setting_same b c opening lanes rounds = rw (opening, lanes, rounds) refl
 
 -- a lane's next job was served, if it had one
 pub on_next : (b c : DeskShape) (lane : ℕ) (had : Bool) → HasServed b c lane had → HasServedOn b c
 on_next b c lane true (job, (next, more)) = record {
-  new = more.entry ∷ [];
-  entries = more.added;
+  grown = record { more = more.entry ∷ []; extends = more.added; opening = more.opening; lanes = more.lanes; rounds = more.rounds; jobs = more.jobs; start = more.start };
   once = (λ n place. step_once (state_on b.board) job.ask more.entry.reply more.reply.step n place, tt);
-  setting = setting_same b c more.opening more.lanes more.rounds;
-  jobs = more.jobs;
-  start = more.start;
 }
 on_next b c lane false (none, same) = rw same (on_none b)
 
@@ -57,12 +56,12 @@ turned_none d = record { on = on_none d; none = λ e. (refl, λ k below. absurd 
 pub turned_served : (a b c : DeskShape) (lane lanes : ℕ) (had : Bool) → HasTurned a b lane had → HasServed b c lane true → HasTurned a c lanes true
 turned_served a b c lane lanes had turned served =
     let next = on_next b c lane true served in
-    let before = turned.on.entries in
+    let before = turned.on.grown.extends in
     let more = served.1.1.added in
     record {
       on = on_more a b c turned.on next;
       none = λ e. cc;
-      some = λ e. let one = ap length more in let old = ap length before in omega (arith, one, old, length-append b.entries (served.1.1.entry ∷ []), length-append a.entries turned.on.new);
+      some = λ e. let one = ap length more in let old = ap length before in omega (arith, one, old, length-append b.entries (served.1.1.entry ∷ []), length-append a.entries turned.on.grown.more);
     }
 
 -- or had none
@@ -102,12 +101,11 @@ turned_done a c lanes turned all of_lanes lane =
 pub turned_less : (a c : DeskShape) (lanes : ℕ) → HasTurned a c lanes true → IsSoundDesk c → left_at c < left_at a
 turned_less a c lanes turned sound =
     let more = turned.some refl in
-    let jobs = ap length turned.on.jobs in
-    let start = turned.on.start in
+    let jobs = ap length turned.on.grown.jobs in
+    let start = turned.on.grown.start in
     let within = batch_within c sound in
     omega (arith, more, jobs, start, within)
 
 -- the jobs stay those of the lanes
-pub of_lanes_on : (b c : DeskShape) → HasServedOn b c → AreOfLanes b.lanes b.jobs → AreOfLanes c.lanes c.jobs
-of_lanes_on b c on of_lanes =
-    subst (λ n. AreOfLanes n c.jobs) (sym (ap (λ (s : Setting). s.lanes) on.setting)) (subst (AreOfLanes b.lanes) (sym on.jobs) of_lanes)
+pub of_lanes_on : (b c : DeskShape) → HasGrown b c → AreOfLanes b.lanes b.jobs → AreOfLanes c.lanes c.jobs
+of_lanes_on b c grown of_lanes = subst (λ n. AreOfLanes n c.jobs) (sym grown.lanes) (subst (AreOfLanes b.lanes) (sym grown.jobs) of_lanes)

@@ -1,0 +1,168 @@
+//! Serving the jobs of a batch, each lane's on a thread of its own.
+ghost use Rattle.std.specs.Prelude.{◌≡◌, ◌<◌, ◌≤◌, ◌+◌, ◌-◌};
+ghost use Rattle.std.specs.Thread.{IsSync};
+ghost use Rattle.wf_desk.specs.Desks.{AreOfLanes, IsDone};
+ghost use Rattle.wf_desk.specs.Schedules.{HasGrown};
+ghost use Rattle.wf_lanes.specs.Workers.{HasEnded, HasJoined, HasRoom, IsFirst, IsIdle};
+
+use crate::gate::Gate;
+use crate::table_turns::TableTurns;
+use crate::turns::serve_by_turns;
+use crate::worker::work;
+use std::alloc::Global;
+use std::sync::Wait;
+use std::thread::{Threads, join};
+use turn_table::{Lane, Refused, TurnTable};
+use wf_board::Decider;
+use wf_desk::Desk;
+
+/// Serves the jobs of a batch, each lane's on a thread of its own: searches run outside the turns,
+/// on numbered snapshots, while other lanes go on; decisions are taken in turns, one at a time. It
+/// may wait.
+pub fn serve_by_lanes<R: Threads + Wait + Sync, V: Decider + Sync, G: Gate + Sync>(
+    rt: &R,
+    alloc: Global,
+    decider: &V,
+    gate: &G,
+    desk: Desk,
+) -> Desk
+    requires ready { V.ready decider.now }
+    requires some { 0 < desk.lanes }
+    requires lanes { AreOfLanes desk.lanes desk.jobs }
+    ensures on { HasGrown desk result }
+    ensures done { IsDone result }
+{
+    let mut desk = serve_on_lanes(rt, alloc, decider, gate, desk);
+    serve_by_turns(alloc, decider, &mut desk);
+    desk
+}
+
+// Serves the jobs that lanes find at a table, if there is memory for one.
+fn serve_on_lanes<R: Threads + Wait + Sync, V: Decider + Sync, G: Gate + Sync>(
+    rt: &R,
+    alloc: Global,
+    decider: &V,
+    gate: &G,
+    desk: Desk,
+) -> Desk
+    requires ready { V.ready decider.now }
+    requires some { 0 < desk.lanes }
+    ensures on { HasGrown desk result }
+{
+    let lanes = desk.lanes();
+    let tells = 1 <= desk.rounds();
+    match TurnTable::new(alloc, desk, lanes) {
+        Ok((table, first)) => {
+            let first = run_lanes(rt, alloc, decider, gate, tells, &table, first, 0, lanes);
+            table.close(first)
+        }
+        Err(Refused { value }) => value,
+    }
+}
+
+// Makes so many lanes, from the next number on, serves each on a thread of its own, and joins them
+// into the first lane.
+fn run_lanes<R: Threads + Wait + Sync, V: Decider + Sync, G: Gate + Sync>(
+    rt: &R,
+    alloc: Global,
+    decider: &V,
+    gate: &G,
+    tells: bool,
+    table: &TurnTable<Desk>,
+    first: Lane<Desk>,
+    next: u8,
+    count: u8,
+) -> Lane<Desk>
+    requires ready { V.ready decider.now }
+    requires first { IsFirst table.now first }
+    requires room { HasRoom first next count }
+    requires few { next + count ≤ 8 }
+    ensures first { IsFirst table.now result }
+    ensures joined { HasJoined first result next count }
+{
+    let mut first = first;
+    if count == 0 {
+        return first;
+    }
+    let lane = make_lane(table, &mut first, next, count);
+    let (lane, mut first) = join(
+        rt,
+        move || -> Lane<Desk>
+            requires ready { V.ready decider.now }
+            requires idle { IsIdle table.now lane next }
+            ensures idle { IsIdle table.entry.now result next }
+        { serve_lane(rt, alloc, decider, gate, tells, table, lane, next) },
+        move || -> Lane<Desk>
+            requires sync { IsSync R.row × (IsSync V.row × IsSync G.row) }
+            requires ready { V.ready decider.now }
+            requires first { IsFirst table.now first }
+            requires room { HasRoom first (next + 1) (count - 1) }
+            requires few { (0 < count) × (next + count ≤ 8) }
+            ensures first { IsFirst table.entry.now result }
+            ensures joined { HasJoined first result (next + 1) (count - 1) }
+        {
+            run_lanes(
+                rt,
+                alloc,
+                decider,
+                gate,
+                tells,
+                table,
+                first,
+                next + 1,
+                count - 1,
+            )
+        },
+    );
+    table.join(&mut first, lane);
+    first
+}
+
+// The next lane of a table.
+fn make_lane(table: &TurnTable<Desk>, first: &mut Lane<Desk>, next: u8, count: u8) -> Lane<Desk>
+    requires some { 0 < count }
+    requires first { IsFirst table.now first.old }
+    requires room { HasRoom first.old next count }
+    ensures idle { IsIdle table.now result next }
+    ensures first { IsFirst table.now first.new }
+    ensures room { HasRoom first.new (next + 1) (count - 1) }
+    ensures made { first.new ≡ record first.old { made = first.old.made + 1 } }
+{
+    table.lane(first)
+}
+
+// Serves the jobs of one lane.
+fn serve_lane<R: Wait, V: Decider, G: Gate>(
+    rt: &R,
+    alloc: Global,
+    decider: &V,
+    gate: &G,
+    tells: bool,
+    table: &TurnTable<Desk>,
+    lane: Lane<Desk>,
+    number: u8,
+) -> Lane<Desk>
+    requires ready { V.ready decider.now }
+    requires idle { IsIdle table.now lane number }
+    ensures idle { IsIdle table.now result number }
+    ensures ended { HasEnded result number }
+{
+    let mut turns = TableTurns {
+        rt,
+        alloc,
+        decider,
+        table,
+        lane,
+        number,
+    };
+    work(rt, alloc, decider, gate, tells, &mut turns);
+    let TableTurns {
+        rt: _,
+        alloc: _,
+        decider: _,
+        table: _,
+        lane,
+        number: _,
+    } = turns;
+    lane
+}

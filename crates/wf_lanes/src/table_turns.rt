@@ -1,0 +1,81 @@
+//! A lane's turns at a desk that stands at a turn table.
+ghost use Rattle.std.specs.Prelude.{◌≡◌, ◌<◌, ℕ};
+ghost use Rattle.turn_table.specs.Lanes.{LaneShape};
+ghost use Rattle.wf_board.specs.Boards.{book_on};
+ghost use Rattle.wf_board.specs.Verdicts.{Decides};
+ghost use Rattle.wf_talk.specs.declared.entry.Entry.{Entry};
+ghost use Rattle.wf_desk.specs.declared.tabled.Fixed.{Fixed};
+ghost use Rattle.wf_desk.specs.Commits.{HasCommitted, IsRightFor};
+ghost use Rattle.wf_lanes.specs.Workers.{HasBegun, HasBegunAt, HasCommittedTask, IsBegun, IsIdle};
+
+use crate::worker::{Begun, Turns};
+use std::alloc::Global;
+use std::sync::Wait;
+use turn_table::{Lane, TurnTable};
+use wf_board::{Decider, Verdict};
+use wf_desk::{Desk, Outcome, Task};
+
+/// A lane with its table. What is decided inside its turns the decider decides.
+pub(crate) struct TableTurns<'a, R, V> {
+    pub(crate) rt: &'a R,
+    pub(crate) alloc: Global,
+    pub(crate) decider: &'a V,
+    pub(crate) table: &'a TurnTable<Desk>,
+    pub(crate) lane: Lane<Desk>,
+    pub(crate) number: u8,
+}
+
+impl<R: Wait, V: Decider> Turns for TableTurns<'_, R, V> {
+    ghost lane = { λ s. s.number };
+
+    ghost known = { λ s. s.lane };
+
+    ghost fits = { λ s. V.ready s.decider.now × IsIdle s.table.now s.lane s.number };
+
+    fn begin(&mut self) -> Begun {
+        let mut desk = self.table.take(self.rt, &mut self.lane);
+        let begun = begin_at(self.alloc, self.decider, &mut desk, self.number);
+        self.table.give(&mut self.lane, desk);
+        begun
+    }
+
+    fn commit(&mut self, task: &Task, verdict: Verdict) -> Outcome {
+        let mut later = self.table.take(self.rt, &mut self.lane);
+        let outcome = commit_at(self.alloc, self.decider, &mut later, task, verdict);
+        self.table.give(&mut self.lane, later);
+        outcome
+    }
+}
+
+// Begins a lane's next job at a desk. Without memory for its task the job is decided at once.
+fn begin_at<V: Decider>(alloc: Global, decider: &V, desk: &mut Desk, lane: u8) -> Begun
+    requires ready { V.ready decider.now }
+    requires lane { lane < desk.old.lanes }
+    ensures { HasBegunAt desk.old desk.new lane result }
+{
+    let _sound = desk.journal();
+    match desk.begin(alloc, lane) {
+        Ok(Some(task)) => Begun::Task(task),
+        Ok(None) => Begun::Ended,
+        Err(_) => {
+            desk.serve_next(alloc, decider, lane);
+            Begun::Served
+        }
+    }
+}
+
+// Commits a task at a desk, with its verdict.
+fn commit_at<V: Decider>(
+    alloc: Global,
+    decider: &V,
+    desk: &mut Desk,
+    task: &Task,
+    verdict: Verdict,
+) -> Outcome
+    requires ready { V.ready decider.now }
+    requires lane { task.now.lane < desk.old.lanes }
+    requires right { IsRightFor desk.old task.now verdict }
+    ensures { HasCommitted desk.old desk.new task.now verdict result }
+{
+    desk.commit(alloc, decider, task, verdict)
+}
