@@ -1,0 +1,4 @@
+pub mod Auditing
+pub mod Running
+pub mod Loading
+pub mod Steps
