@@ -71,7 +71,7 @@ pub record MayAgain (a : AuditShape) (what : Ask) (lane n place : ℕ) : Type 0 
   pub rounds : n ≡ a.rounds
   pub positive : 1 ≤ n
   pub undecided : needs_verdict (decision_of (state_now a).book what) ≡ true
-  pub rests : rests_on a (present_start a) lane what n place ≡ true
+  pub rests : rests_on a.entries (present_start a) lane what n place ≡ true
 
 pub again_next : (a : AuditShape) (j : Job) (n place : ℕ) → next_job a j.lane ≡ Some j → MayAgain a j.ask j.lane n place → ComesNext a (entry_next a j (reply.Again n place))
 again_next a j n place next may =
@@ -131,6 +131,11 @@ may_next a j n place next = by_right next.right.1
           rests = and_from _ _ (grind (arith, common_steps, enough)) (eq_is (place + 1) (counted_end j.ask a.entries) (omega (arith, p_same, last)));
         }
 
+-- it comes next exactly where it may
+pub again_exactly : (a : AuditShape) (j : Job) (n place : ℕ) (b : Bool) → next_job a j.lane ≡ Some j → (b ≡ true → MayAgain a j.ask j.lane n place) → (MayAgain a j.ask j.lane n place → b ≡ true) →
+    (b ≡ true) ↔ ComesNext a (entry_next a j (reply.Again n place))
+again_exactly a j n place b next to from = (λ yes. again_next a j n place next (to yes), λ comes. from (may_next a j n place comes))
+
 -- ---- what is read by
 
 -- the policy and the cases of a board are those after the entries
@@ -150,21 +155,21 @@ edits_few b a same few =
 
 -- ---- whether entries count
 
-pub rests_then : (a : AuditShape) (start lane : ℕ) (what : Ask) (n place found last : ℕ) → found ≡ counted what (drop (max (lane_end lane a.entries) start) a.entries) → n ≤ found →
-    last + 1 ≡ counted_end what a.entries → nat_eq place last ≡ rests_on a start lane what n place
-rests_then a start lane what n place found last is enough end =
-    let some : nat_le n (counted what (drop (max (lane_end lane a.entries) start) a.entries)) ≡ true = let h : n ≤ counted what (drop (max (lane_end lane a.entries) start) a.entries) = omega (arith, is, enough) in grind (arith, common_steps) in
-    let same : nat_eq place last ≡ nat_eq (place + 1) (counted_end what a.entries) =
-    same_by (nat_eq place last) (nat_eq (place + 1) (counted_end what a.entries))
-    (λ yes. let here = eq_back place last yes in eq_is (place + 1) (counted_end what a.entries) (omega (arith, here, end)))
-    (λ yes. let here = eq_back (place + 1) (counted_end what a.entries) yes in eq_is place last (omega (arith, here, end))) in
-    same ∙ sym (ap (λ b. b && nat_eq (place + 1) (counted_end what a.entries)) some)
+pub rests_then : (entries : List Entry) (start lane : ℕ) (what : Ask) (n place found last : ℕ) → found ≡ counted what (drop (max (lane_end lane entries) start) entries) → n ≤ found →
+    last + 1 ≡ counted_end what entries → nat_eq place last ≡ rests_on entries start lane what n place
+rests_then entries start lane what n place found last is enough end =
+    let some : nat_le n (counted what (drop (max (lane_end lane entries) start) entries)) ≡ true = let h : n ≤ counted what (drop (max (lane_end lane entries) start) entries) = omega (arith, is, enough) in grind (arith, common_steps) in
+    let same : nat_eq place last ≡ nat_eq (place + 1) (counted_end what entries) =
+    same_by (nat_eq place last) (nat_eq (place + 1) (counted_end what entries))
+    (λ yes. let here = eq_back place last yes in eq_is (place + 1) (counted_end what entries) (omega (arith, here, end)))
+    (λ yes. let here = eq_back (place + 1) (counted_end what entries) yes in eq_is place last (omega (arith, here, end))) in
+    same ∙ sym (ap (λ b. b && nat_eq (place + 1) (counted_end what entries)) some)
 
-pub rests_else : (a : AuditShape) (start lane : ℕ) (what : Ask) (n place found : ℕ) → found ≡ counted what (drop (max (lane_end lane a.entries) start) a.entries) → found < n →
-    false ≡ rests_on a start lane what n place
-rests_else a start lane what n place found is short =
-    let none : nat_le n (counted what (drop (max (lane_end lane a.entries) start) a.entries)) ≡ false = let h : counted what (drop (max (lane_end lane a.entries) start) a.entries) < n = omega (arith, is, short) in grind (arith, common_steps) in
-    sym (ap (λ b. b && nat_eq (place + 1) (counted_end what a.entries)) none)
+pub rests_else : (entries : List Entry) (start lane : ℕ) (what : Ask) (n place found : ℕ) → found ≡ counted what (drop (max (lane_end lane entries) start) entries) → found < n →
+    false ≡ rests_on entries start lane what n place
+rests_else entries start lane what n place found is short =
+    let none : nat_le n (counted what (drop (max (lane_end lane entries) start) entries)) ≡ false = let h : counted what (drop (max (lane_end lane entries) start) entries) < n = omega (arith, is, short) in grind (arith, common_steps) in
+    sym (ap (λ b. b && nat_eq (place + 1) (counted_end what entries)) none)
 
 -- where some count behind a place, some do
 pub some_count : (what : Ask) (entries : List Entry) (n found rounds : ℕ) → found ≡ counted what (drop n entries) → rounds ≤ found → 1 ≤ rounds → 1 ≤ counted what entries

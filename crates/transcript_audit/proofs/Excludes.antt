@@ -17,6 +17,7 @@ use Rattle.wf_board.specs.Histories.{IsLegal, IsRightAfter, batch_start, job_of_
 use Rattle.wf_board.specs.HistoryLaws.{each_more}
 use Rattle.wf_board.specs.States.{opening_state}
 use Rattle.line_cutter.specs.Laws.{AreNamedJobs}
+use Rattle.wf_desk.specs.Desks.{served_jobs}
 use Rattle.line_cutter.specs.Laws as cut
 use Rattle.entry_reader.specs.declared.place.Place.{Place}
 use Rattle.entry_reader.specs.Named.{HasNames}
@@ -96,7 +97,7 @@ lane_known a k lane j sound next = elim (bool_cases (nat_lt lane LANE_LIMIT)) [
   | inl known ↦ grind (arith, common_steps)
   | inr past ↦
       let none = part_none LANE_LIMIT lane (present_start a) (end_at (length a.entries) a.batch_ends) a.jobs sound.order.of_lanes (grind (arith, common_steps)) in
-      let nothing : next_job a lane ≡ None = ap (λ js. slice_get js _) none in
+      let nothing : next_job a lane ≡ None = ap (λ js. slice_get js (length (served_jobs (present_start a) a.entries lane))) none in
       absurd (let no : None ≡ Some j = sym nothing ∙ next in cc)
 ]
 

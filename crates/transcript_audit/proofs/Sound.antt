@@ -175,7 +175,7 @@ all_answered a k e sound next full lane =
     let begun : d.start ≤ length d.entries = let begun = sound.here.begun in omega (arith, begun, size_more a.entries e) in
     elim ((slice_get_cases jobs count).1) [
       | inl found ↦
-          let short = batch_short d lane found.0 begun (λ l. front_next a k e l sound next) found.1.1.0 in
+          let short = batch_short d lane found.0 begun (λ l. front_next a k e l sound next) found.2 in
           let size = batch_size a k sound in
           absurd (omega (arith, short, size, full))
       | inr none ↦ none.1

@@ -96,9 +96,9 @@ pub record HasGoneOn (jobs : List Job) (ends : List ℕ) (lane n : ℕ) (before 
   pub past : n ≡ before.end → IsAtFirst jobs ends (before.batch + 1) before.end after
 
 -- a count of entries rests on those of the batch, and the place is that of the last that counts
-abbrev pub rests_on : AuditShape → ℕ → ℕ → Ask → ℕ → ℕ → Bool
-rests_on a start lane what n place =
-    nat_le n (counted what (drop (max (lane_end lane a.entries) start) a.entries)) && nat_eq (place + 1) (counted_end what a.entries)
+abbrev pub rests_on : List Entry → ℕ → ℕ → Ask → ℕ → ℕ → Bool
+rests_on entries start lane what n place =
+    nat_le n (counted what (drop (max (lane_end lane entries) start) entries)) && nat_eq (place + 1) (counted_end what entries)
 
 -- an edit of the policy
 abbrev pub is_change : Ask → Bool

@@ -244,10 +244,16 @@ impl Auditor {
         requires next { next_job self.now job.now.lane ≡ Some job.now }
         ensures { result ≡ true ↔ ComesNext self.now (entry_next self.now job.now (reply.Again rounds at)) }
     {
-        rounds == self.record.rounds()
-            && 1 <= rounds
-            && self.board.needs(&job.ask)
-            && self.record.rests(job.lane, &job.ask, rounds, at)
+        if rounds != self.record.rounds() {
+            return false;
+        }
+        if rounds == 0 {
+            return false;
+        }
+        if !self.board.needs(&job.ask) {
+            return false;
+        }
+        self.record.rests(job.lane, &job.ask, rounds, at)
     }
 
     // Takes a reply that is a step, if it is one.

@@ -126,7 +126,8 @@ impl Record {
     /// the last of all that count stands at a place.
     pub fn rests(&self, lane: u8, ask: &Ask, rounds: u8, place: u32) -> bool
         requires { 1 ≤ rounds }
-        ensures { result ≡ rests_on self.now.audit (present_start self.now.audit) lane ask.now rounds place }
+        ensures { result ≡ rests_on self.now.audit.entries (present_start self.now.audit)
+            lane ask.now rounds place }
     {
         let entries = self.journal.as_slice();
         let from = own_start(entries, self.cursor.start as usize, lane);
