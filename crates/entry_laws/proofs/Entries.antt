@@ -112,7 +112,7 @@ text_same p q e same =
     (member (codes "reply") d no_members))))) ++ 10 ∷ []) same
 
 -- the text of an entry is the same with the names of the policy after it
-text_stays : (start : State) (entries : List Entry) (e : Entry)
+pub text_stays : (start : State) (entries : List Entry) (e : Entry)
     → entry_text (state_after start (entries ++ e ∷ [])).book.policy e ≡ entry_text (state_after start entries).book.policy e
 text_stays start entries e =
     let s = state_after start entries in

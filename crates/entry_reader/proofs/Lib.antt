@@ -8,5 +8,6 @@ pub mod PlainReplies
 pub mod RepliesBack
 pub mod RepliesWithin
 pub mod LinesBack
+pub mod PlainLines
 pub mod Small
 pub mod FlowsBack

@@ -45,6 +45,12 @@ unfolding entry_text
 value_back p flows text e k h =
     ap value_of (sym h.written) ∙ line_back (entry_data p e) (plain_entry p flows e k (fits p flows e h.entry)) h.entry.nests
 
+-- a line of an entry names the entry's place
+pub line_placed : (p : PolicyShape) (flows : ℕ → Option ℕ) (text : List ℕ) (e : Entry) → HasNames p → IsLineOf p flows text e →
+    place_of_line text ≡ Some (record { at = e.at; lane = e.lane; line = e.line })
+unfolding place_of_line
+line_placed p flows text e k h = ap (option_and_then place_in) (value_back p flows text e k h) ∙ place_back p flows e h.entry
+
 line_told : (p : PolicyShape) (flows : ℕ → Option ℕ) (text : List ℕ) (e : Entry) → HasNames p → IsLineOf p flows text e → entry_of_line p flows e.ask text ≡ Some e
 unfolding entry_of_line
 line_told p flows text e k h =
@@ -131,6 +137,20 @@ with_parts p flows a text e k read same t =
 
 pub has_reply : (p : PolicyShape) (flows : ℕ → Option ℕ) (a : Ask) (text : List ℕ) (e : Entry) → HasNames p → entry_of_line p flows a text ≡ Some e → entry_text p e ≡ text → HasReply p flows a text e.reply
 has_reply p flows a text e k read same = with_parts p flows a text e k read same (told_parts p flows a text e read)
+
+-- the place and the reply of a line that is the text of an entry
+pub line_place : (p : PolicyShape) (flows : ℕ → Option ℕ) (a : Ask) (text : List ℕ) (place : Place) (r : Reply) → HasNames p → IsLineOf p flows text (entry_at place a r) → place_of_line text ≡ Some place
+unfolding place_of_line
+line_place p flows a text place r k h =
+    ap (option_and_then place_in) (value_back p flows text (entry_at place a r) k h) ∙ place_back p flows (entry_at place a r) h.entry
+
+pub line_reply : (p : PolicyShape) (flows : ℕ → Option ℕ) (a : Ask) (text : List ℕ) (place : Place) (r : Reply) → HasNames p → IsLineOf p flows text (entry_at place a r) → HasReply p flows a text r
+line_reply p flows a text place r k h = record {
+  place = place;
+  named = line_place p flows a text place r k h;
+  line = h;
+  alone = λ d asks other. some_same d (entry_at place a r) (sym (told_for p flows a text d k asks other) ∙ line_told p flows text (entry_at place a r) k h);
+}
 
 pub not_told : (p : PolicyShape) (flows : ℕ → Option ℕ) (a : Ask) (text : List ℕ) → HasNames p → entry_of_line p flows a text ≡ None → HasNoReply p flows a text
 not_told p flows a text k none e asks h = none_some e (sym none ∙ told_for p flows a text e k asks h)

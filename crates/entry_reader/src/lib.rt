@@ -8,6 +8,7 @@ mod list;
 mod names;
 mod parts;
 mod place;
+mod plain;
 mod reply;
 #[cfg(test)]
 mod tests;
@@ -15,5 +16,6 @@ mod tree;
 
 pub use fault::TextFault;
 pub use place::{Place, read_place};
+pub use plain::{guess_place, read_plain};
 pub use reply::read_reply;
 pub use tree::tree_of;

@@ -1,9 +1,9 @@
 //! The reply that a line tells.
-ghost use Rattle.std.specs.Prelude.{◌≡◌, ◌≢◌, IfOk, IfErr, IsErrOf, MatchBool, option_and_then};
+ghost use Rattle.std.specs.Prelude.{◌≡◌, ◌≢◌, IfOk, IsErrOf, MatchBool, option_and_then};
 ghost use Rattle.serde_json.specs.View.{view};
 ghost use Rattle.serde_json.specs.Find.{as_str};
 ghost use Rattle.wire_json.specs.Replies.{entry_text};
-ghost use Rattle.entry_reader.specs.declared.fault.TextFault.TheVariants.{NotText, NoMemory};
+ghost use Rattle.entry_reader.specs.declared.fault.TextFault.TheVariants.{NotText};
 ghost use Rattle.entry_reader.specs.Lines.{HasReply, HasNoReply, concerned};
 ghost use Rattle.entry_reader.specs.Reads.{Reads};
 ghost use Rattle.entry_reader.specs.Values as read;
@@ -18,7 +18,7 @@ use crate::parts::{case_of, name_of, number_below, numbered, only};
 use crate::place::place_in;
 use policy_book::Policy;
 use serde_json::Value;
-use std::alloc::Global;
+use std::alloc::{AllocError, Global};
 use wf_names::{FlowId, Name, Phase};
 use wf_talk::{Ask, Bad, Entry, Face, FlowOf, Reply, Request};
 use wire_json::{read_value, write_entry};
@@ -46,10 +46,14 @@ pub fn read_reply<F: FlowOf>(
     }
 }
 
-// Whether a text is that of an entry.
-fn is_written(alloc: Global, p: &Policy, entry: &Entry, text: &[u8]) -> Result<bool, TextFault>
-    ensures written { IfOk result (λ b. MatchBool b (entry_text p.now entry.now ≡ text.now) (entry_text p.now entry.now ≢ text.now)) }
-    ensures memory { IfErr result (λ e. e ≡ NoMemory) }
+/// Whether a text is that of an entry.
+pub(crate) fn is_written(
+    alloc: Global,
+    p: &Policy,
+    entry: &Entry,
+    text: &[u8],
+) -> Result<bool, AllocError>
+    ensures { IfOk result (λ b. MatchBool b (entry_text p.now entry.now ≡ text.now) (entry_text p.now entry.now ≢ text.now)) }
 {
     let line = write_entry(alloc, p, entry)?;
     Ok(line.as_bytes() == text)

@@ -2,7 +2,7 @@
 ghost use Rattle.std.specs.Prelude.{◌≡◌, ◌≤◌, ℕ, Some, length, IfOk};
 ghost use Rattle.std.specs.FinSet as set;
 
-use crate::{Place, TextFault, read_place, read_reply, tree_of};
+use crate::{Place, TextFault, guess_place, read_place, read_plain, read_reply, tree_of};
 use policy_book::{Flow, Policy, Relations, Roster, Rules};
 use refutation_tree::Tree;
 use serde_json::Value;
@@ -59,6 +59,31 @@ fn denials_are_read(rt: HostRuntime) -> Result<(), Fail> {
         assert!(rt; is_denied(rt.alloc(), &p, denial)?, "{denial}");
     }
     Ok(())
+}
+
+// A line at place 4 of lane 1, for line 7.
+const GRANTED: &str =
+    "{\"at\":4,\"lane\":1,\"line\":7,\"reply\":{\"granted\":{\"plan\":[\"ann\",\"cyd\",\"bob\"]}}}\n";
+
+#[test]
+fn plain_lines_are_guessed(rt: HostRuntime) -> Result<(), Fail> {
+    let p = policy(rt.alloc())?;
+    let place = Place {
+        at: 4,
+        lane: 1,
+        line: 7,
+    };
+    assert!(rt; guess_place(GRANTED.as_bytes()) == Some(place));
+    assert!(rt; is_guessed(rt.alloc(), &p, place, GRANTED)?);
+    assert!(rt; !is_guessed(rt.alloc(), &p, place, &GRANTED[..GRANTED.len() - 1])?);
+    assert!(rt; !is_guessed(rt.alloc(), &p, Place { at: 5, ..place }, GRANTED)?);
+    Ok(())
+}
+
+fn is_guessed(alloc: Global, p: &Policy, place: Place, line: &str) -> Result<bool, AllocError> {
+    let ask = Ask::Request(Request::Show { case: CaseId(0) });
+    let read = read_plain(alloc, p, &OneFlow, &ask, place, line.as_bytes())?;
+    Ok(matches!(read, Some(Reply::Granted(_))))
 }
 
 fn denials() -> [&'static str; 9] {

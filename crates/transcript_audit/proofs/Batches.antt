@@ -52,29 +52,29 @@ end_below before ends total k lead known = start_total before ends total (suc k)
 
 start_here : (before : ℕ) (ends : List ℕ) (total n k : ℕ) → LeadTo before ends total → k ≤ length ends → from_start before ends k ≤ n →
     (k < length ends → n < slice_index_or ends k 0) → start_at before n ends ≡ from_start before ends k
-start_here before [] total n zero lead known begun open = refl
-start_here before [] total n (suc k) lead known begun open = absurd (omega (arith, known))
-start_here before (x ∷ xs) total n zero lead known begun open =
-    let above = open (omega arith) in
+start_here before [] total n zero lead known begun ahead = refl
+start_here before [] total n (suc k) lead known begun ahead = absurd (omega (arith, known))
+start_here before (x ∷ xs) total n zero lead known begun ahead =
+    let above = ahead (omega arith) in
     let past : nat_le x n ≡ false = grind (arith, common_steps) in
     rw past refl
-start_here before (x ∷ xs) total n (suc k) lead known begun open =
+start_here before (x ∷ xs) total n (suc k) lead known begun ahead =
     let behind = start_behind x xs total k lead.2 (omega (arith, known)) in
     let past : nat_le x n ≡ true = let le : x ≤ n = omega (arith, behind, begun) in grind (arith, common_steps) in
-    rw past (start_here x xs total n k lead.2 (omega (arith, known)) begun (λ more. open (omega (arith, more))))
+    rw past (start_here x xs total n k lead.2 (omega (arith, known)) begun (λ more. ahead (omega (arith, more))))
 
 end_here : (before : ℕ) (ends : List ℕ) (total n k : ℕ) → LeadTo before ends total → k ≤ length ends → from_start before ends k ≤ n →
     (k < length ends → n < slice_index_or ends k 0) → end_at n ends ≡ slice_index_or ends k n
-end_here before [] total n zero lead known begun open = refl
-end_here before [] total n (suc k) lead known begun open = absurd (omega (arith, known))
-end_here before (x ∷ xs) total n zero lead known begun open =
-    let above = open (omega arith) in
+end_here before [] total n zero lead known begun ahead = refl
+end_here before [] total n (suc k) lead known begun ahead = absurd (omega (arith, known))
+end_here before (x ∷ xs) total n zero lead known begun ahead =
+    let above = ahead (omega arith) in
     let past : nat_le x n ≡ false = grind (arith, common_steps) in
     rw past refl
-end_here before (x ∷ xs) total n (suc k) lead known begun open =
+end_here before (x ∷ xs) total n (suc k) lead known begun ahead =
     let behind = start_behind x xs total k lead.2 (omega (arith, known)) in
     let past : nat_le x n ≡ true = let le : x ≤ n = omega (arith, behind, begun) in grind (arith, common_steps) in
-    rw past (end_here x xs total n k lead.2 (omega (arith, known)) begun (λ more. open (omega (arith, more))))
+    rw past (end_here x xs total n k lead.2 (omega (arith, known)) begun (λ more. ahead (omega (arith, more))))
 
 pub start_is : (ends : List ℕ) (total n k : ℕ) → LeadTo 0 ends total → IsBatchOf ends n k → start_at 0 n ends ≡ batch_start ends k
 start_is ends total n k lead here = start_here 0 ends total n k lead here.known here.begun here.before
@@ -90,18 +90,47 @@ read_behind (x ∷ xs) d = read_behind xs d
 
 pub end_is : (ends : List ℕ) (total n k : ℕ) → LeadTo 0 ends total → IsBatchOf ends n k → end_at n ends ≡ end_of ends k
 end_is ends total n k lead here = end_here 0 ends total n k lead here.known here.begun here.before ∙ elim (bool_cases (nat_lt k (length ends))) [
-  | inl open ↦ read_within ends k n (batch_start ends k) (grind (arith, common_steps))
+  | inl ahead ↦ read_within ends k n (batch_start ends k) (grind (arith, common_steps))
   | inr shut ↦
       let known = here.known in
       let last : k ≡ length ends = grind (arith, common_steps) in
       ap (λ d. slice_index_or ends k d) (here.behind last)
 ]
 
+-- there is a batch in which a place stands
+there_from : (before : ℕ) (ends : List ℕ) (total n : ℕ) → LeadTo before ends total → before ≤ n → n < total →
+    (k : ℕ) × ((k < length ends) × ((from_start before ends k ≤ n) × (n < slice_index_or ends k 0)))
+there_from before [] total n lead begun short = absurd (omega (arith, lead, begun, short))
+there_from before (x ∷ xs) total n lead begun short = elim (bool_cases (nat_lt n x)) [
+  | inl first ↦ (0, (omega arith, (omega (arith, begun), grind (arith, common_steps))))
+  | inr later ↦
+      let past : x ≤ n = grind (arith, common_steps) in
+      let rest = there_from x xs total n lead.2 past short in
+      let known = rest.1.0 in
+      (suc rest.0, (omega (arith, known), (rest.1.1.0, rest.1.1.1)))
+]
+
+pub batch_there : (ends : List ℕ) (total n : ℕ) → LeadTo 0 ends total → n < total → (k : ℕ) × (IsBatchOf ends n k × (k < length ends))
+batch_there ends total n lead short =
+    let found = there_from 0 ends total n lead (omega arith) short in
+    let known = found.1.0 in (
+      found.0,
+      (
+        record {
+          known = omega (arith, known);
+          begun = found.1.1.0;
+          before = λ _. found.1.1.1;
+          behind = λ last. absurd (omega (arith, known, last));
+        },
+        known,
+      ),
+    )
+
 -- ---- where a batch begins and ends
 
 pub ends_within : (ends : List ℕ) (total k : ℕ) → LeadTo 0 ends total → k ≤ length ends → end_of ends k ≤ total
 ends_within ends total k lead known = elim (bool_cases (nat_lt k (length ends))) [
-  | inl open ↦
+  | inl ahead ↦
       let below : k < length ends = grind (arith, common_steps) in
       let is = read_within ends k (batch_start ends k) 0 below in
       let within = end_below 0 ends total k lead below in
@@ -115,7 +144,7 @@ ends_within ends total k lead known = elim (bool_cases (nat_lt k (length ends)))
 
 pub start_before_end : (ends : List ℕ) (total k : ℕ) → LeadTo 0 ends total → k ≤ length ends → batch_start ends k ≤ end_of ends k
 start_before_end ends total k lead known = elim (bool_cases (nat_lt k (length ends))) [
-  | inl open ↦
+  | inl ahead ↦
       let below : k < length ends = grind (arith, common_steps) in
       let is = read_within ends k (batch_start ends k) 0 below in
       let within = end_behind 0 ends total k lead below in
@@ -153,7 +182,13 @@ part_length from end jobs begins within =
     let rest = length-drop from (take end jobs) in
     omega (arith, first, rest, begins)
 
--- the first batches among the ends
+-- a slice of the jobs is a part
+pub slice_part : (from end : ℕ) (jobs : List Job) → from ≤ end → take (end - from) (drop from jobs) ≡ part from end jobs
+slice_part from end jobs begins =
+    let whole : from + (end - from) ≡ end = omega (arith, begins) in
+    sym (drop-take from (end - from) jobs) ∙ ap (λ n. drop from (take n jobs)) whole
+
+-- ---- the first batches among the ends
 
 start_first : (before : ℕ) (ends : List ℕ) (k i : ℕ) → i ≤ k → k ≤ length ends → from_start before (take k ends) i ≡ from_start before ends i
 start_first before ends k zero within known = refl

@@ -163,7 +163,7 @@ first_places : (jobs : List Job) (ends : List ℕ) (k start : ℕ) (entries : Li
     IsAtFirst jobs ends k start c → (lane : ℕ) → lane < LANE_LIMIT → IsPlaceIn (jobs_in jobs ends k) c.start entries lane (slice_index_or c.places lane 0)
 first_places jobs ends k start entries c begins past first lane known =
     let same : part start (slice_index_or ends k start) jobs ≡ jobs_in jobs ends k = ap (λ s. part s (slice_index_or ends k s) jobs) begins in
-    let own = first.start in
+    let own = first.begins in
     first_place (jobs_in jobs ends k) c.start entries lane (slice_index_or c.places lane 0) (omega (arith, past, own))
     (subst (λ js. IsNextPlace js lane 0 (slice_index_or c.places lane 0)) same (first.placed lane known))
 
@@ -173,8 +173,8 @@ record_first a k start c sound begins past first =
     let batch = first.batch in
     record {
       sound = subst (IsSoundAudit a) (sym batch) sound;
-      start = first.start ∙ begins ∙ ap (λ n. batch_start a.batch_ends n) (sym batch);
-      ends = first.ends ∙ ap (λ s. slice_index_or a.batch_ends k s) begins ∙ ap (λ n. end_of a.batch_ends n) (sym batch);
+      start = first.begins ∙ begins ∙ ap (λ n. batch_start a.batch_ends n) (sym batch);
+      ends = first.stops ∙ ap (λ s. slice_index_or a.batch_ends k s) begins ∙ ap (λ n. end_of a.batch_ends n) (sym batch);
       placed = λ lane known.
           subst (λ n. IsPlaceIn (jobs_in a.jobs a.batch_ends n) c.start a.entries lane (slice_index_or c.places lane 0)) (sym batch)
           (first_places a.jobs a.batch_ends k start a.entries c begins past first lane known);
@@ -195,8 +195,8 @@ record_more a c e n d is next count gone = elim (bool_cases (nat_eq n c.end)) [
       let stops = is.ends in
       let size = length-append a.entries (e ∷ []) in
       let whole : length (a.entries ++ e ∷ []) ≡ end_of a.batch_ends k = omega (arith, stop, stops, size, count) in
-      let open = next_open a k e.lane (job_of_entry e) is.sound next.answers in
-      let begins : c.end ≡ batch_start a.batch_ends (k + 1) = is.ends ∙ sym (next_start a.batch_ends k open) in
+      let ahead = next_open a k e.lane (job_of_entry e) is.sound next.answers in
+      let begins : c.end ≡ batch_start a.batch_ends (k + 1) = is.ends ∙ sym (next_start a.batch_ends k ahead) in
       record_first (with_entry a e) (k + 1) c.end d (sound_past a k e is.sound next whole) begins (omega (arith, whole, stops)) (gone.past stop)
   | inr short ↦
       let within = next_short a c.batch e.lane (job_of_entry e) is.sound next.answers in
@@ -211,16 +211,23 @@ record_more a c e n d is next count gone = elim (bool_cases (nat_eq n c.end)) [
 -- the next batch stands among the jobs
 pub next_begins : (a : AuditShape) (c : Cursor) (lane : ℕ) (j : Job) → IsRecord a c → next_job a lane ≡ Some j → c.end ≤ slice_index_or a.batch_ends (c.batch + 1) c.end
 next_begins a c lane j is next =
-    let open = next_open a c.batch lane j is.sound next in
-    let begins : c.end ≡ batch_start a.batch_ends (c.batch + 1) = is.ends ∙ sym (next_start a.batch_ends c.batch open) in
-    let within = start_before_end a.batch_ends (length a.jobs) (c.batch + 1) is.sound.order.ends (omega (arith, open)) in
+    let ahead = next_open a c.batch lane j is.sound next in
+    let begins : c.end ≡ batch_start a.batch_ends (c.batch + 1) = is.ends ∙ sym (next_start a.batch_ends c.batch ahead) in
+    let within = start_before_end a.batch_ends (length a.jobs) (c.batch + 1) is.sound.order.ends (omega (arith, ahead)) in
     let same = ap (λ s. slice_index_or a.batch_ends (c.batch + 1) s) begins in
     omega (arith, begins, within, same)
 
 pub next_ends : (a : AuditShape) (c : Cursor) (lane : ℕ) (j : Job) → IsRecord a c → next_job a lane ≡ Some j → slice_index_or a.batch_ends (c.batch + 1) c.end ≤ length a.jobs
 next_ends a c lane j is next =
-    let open = next_open a c.batch lane j is.sound next in
-    let begins : c.end ≡ batch_start a.batch_ends (c.batch + 1) = is.ends ∙ sym (next_start a.batch_ends c.batch open) in
-    let within = ends_within a.batch_ends (length a.jobs) (c.batch + 1) is.sound.order.ends (omega (arith, open)) in
+    let ahead = next_open a c.batch lane j is.sound next in
+    let begins : c.end ≡ batch_start a.batch_ends (c.batch + 1) = is.ends ∙ sym (next_start a.batch_ends c.batch ahead) in
+    let within = ends_within a.batch_ends (length a.jobs) (c.batch + 1) is.sound.order.ends (omega (arith, ahead)) in
     let same = ap (λ s. slice_index_or a.batch_ends (c.batch + 1) s) begins in
     omega (arith, within, same)
+
+-- the record once its entry is added
+pub added_record : (a : AuditShape) (c d : Cursor) (e : Entry) (entries : List Entry) (n : ℕ) → IsRecord a c → ComesNext a e → entries ≡ a.entries ++ e ∷ [] → n ≡ length entries →
+    HasGoneOn a.jobs a.batch_ends e.lane n c d → IsRecord (record a { entries = entries }) d
+added_record a c d e entries n is next added count gone =
+    let size : n ≡ length a.entries + 1 = count ∙ ap length added ∙ length-append a.entries (e ∷ []) in
+    subst (λ es. IsRecord (record a { entries = es }) d) (sym added) (record_more a c e n d is next size gone)

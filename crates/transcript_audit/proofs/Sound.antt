@@ -72,7 +72,7 @@ next_few a k lane j sound next =
 -- and there is a batch
 pub next_open : (a : AuditShape) (k lane : ℕ) (j : Job) → IsSoundAudit a k → next_job a lane ≡ Some j → k < length a.batch_ends
 next_open a k lane j sound next = elim (bool_cases (nat_lt k (length a.batch_ends))) [
-  | inl open ↦ grind (arith, common_steps)
+  | inl ahead ↦ grind (arith, common_steps)
   | inr shut ↦
       let known = sound.here.known in
       let last : k ≡ length a.batch_ends = grind (arith, common_steps) in
@@ -148,15 +148,15 @@ size_more entries e = length-append entries (e ∷ [])
 pub sound_within : (a : AuditShape) (k : ℕ) (e : Entry) → IsSoundAudit a k → ComesNext a e → length (a.entries ++ e ∷ []) < end_of a.batch_ends k →
     IsSoundAudit (with_entry a e) k
 sound_within a k e sound next short =
-    let open = next_open a k e.lane (job_of_entry e) sound next.answers in
+    let ahead = next_open a k e.lane (job_of_entry e) sound next.answers in
     record {
       order = sound.order;
       legal = legal_more a k e sound next;
       here = record {
         known = sound.here.known;
         begun = let begun = sound.here.begun in omega (arith, begun, size_more a.entries e);
-        before = λ _. let read = end_read a.batch_ends k open in omega (arith, read, short);
-        behind = λ last. absurd (omega (arith, open, last));
+        before = λ _. let read = end_read a.batch_ends k ahead in omega (arith, read, short);
+        behind = λ last. absurd (omega (arith, ahead, last));
       };
       front = λ lane. front_next a k e lane sound next;
       rests = rests_next a k e sound next;
@@ -175,7 +175,7 @@ all_answered a k e sound next full lane =
     let begun : d.start ≤ length d.entries = let begun = sound.here.begun in omega (arith, begun, size_more a.entries e) in
     elim ((slice_get_cases jobs count).1) [
       | inl found ↦
-          let short = batch_short d lane found.0 begun (λ l. front_next a k e l sound next) found.1.1.0 in
+          let short = batch_short d lane found.0 begun (λ l. front_next a k e l sound next) found.2 in
           let size = batch_size a k sound in
           absurd (omega (arith, short, size, full))
       | inr none ↦ none.1
@@ -187,7 +187,7 @@ take_both s e jobs within = ap (λ js. js ++ drop s (take e jobs)) (sym (take-ta
 -- with it one more batch is filled
 filled_more : (a : AuditShape) (k : ℕ) (e : Entry) → IsSoundAudit a k → ComesNext a e → length (a.entries ++ e ∷ []) ≡ end_of a.batch_ends k → k < length a.batch_ends →
     FillsJobs (a.entries ++ e ∷ []) (take (end_of a.batch_ends k) a.jobs) (take (k + 1) a.batch_ends)
-filled_more a k e sound next full open =
+filled_more a k e sound next full ahead =
     let ends = a.batch_ends in
     let start = batch_start ends k in
     let end = end_of ends k in
@@ -201,10 +201,10 @@ filled_more a k e sound next full open =
     let at : EndAt (take k ends) (length (take start a.jobs)) = subst (EndAt (take k ends)) (sym long) (first_ends ends total k sound.order.ends known) in
     let fills = batch_fills (take start new) (drop start new) (take start a.jobs) jobs (take k ends) (filled_next a k e sound) at answers in
     let size = batch_size a k sound in
-    let sum : length (take start a.jobs) + length jobs ≡ get_or ends k 0 = let read = end_read ends k open in omega (arith, long, size, read) in
+    let sum : length (take start a.jobs) + length jobs ≡ get_or ends k 0 = let read = end_read ends k ahead in omega (arith, long, size, read) in
     subst (λ es. FillsJobs es (take end a.jobs) (take (k + 1) ends)) (take-append-drop start new)
     (subst (λ js. FillsJobs (take start new ++ drop start new) js (take (k + 1) ends)) (take_both start end a.jobs (start_before_end ends total k sound.order.ends known))
-    (subst (λ ns. FillsJobs (take start new ++ drop start new) (take start a.jobs ++ jobs) ns) (ap (λ n. take k ends ++ n ∷ []) sum ∙ sym (take_more ends k 0 open)) fills))
+    (subst (λ ns. FillsJobs (take start new ++ drop start new) (take start a.jobs ++ jobs) ns) (ap (λ n. take k ends ++ n ∷ []) sum ∙ sym (take_more ends k 0 ahead)) fills))
 
 pub none_served : (start : ℕ) (entries : List Entry) (lane : ℕ) → length entries ≤ start → served_jobs start entries lane ≡ []
 none_served start entries lane past = ap (λ es. lane_jobs lane (map job_of_entry es)) (drop_all start entries past)
@@ -216,16 +216,16 @@ sound_past a k e sound next full =
     let ends = a.batch_ends in
     let new = a.entries ++ e ∷ [] in
     let total = length a.jobs in
-    let open = next_open a k e.lane (job_of_entry e) sound next.answers in
+    let ahead = next_open a k e.lane (job_of_entry e) sound next.answers in
     let start = batch_start ends (k + 1) in
-    let here : start ≡ length new = next_start ends k open ∙ sym full in
+    let here : start ≡ length new = next_start ends k ahead ∙ sym full in
     let past : length new ≤ start = omega (arith, here) in
     let done : take start new ≡ new = take_all start new past in
     record {
       order = sound.order;
       legal = legal_more a k e sound next;
       here = record {
-        known = omega (arith, open);
+        known = omega (arith, ahead);
         begun = omega (arith, here);
         before = λ more. let below = start_ahead ends total (k + 1) sound.order.ends more in omega (arith, below, here);
         behind = λ last. sym here;
@@ -234,7 +234,7 @@ sound_past a k e sound next full =
           subst (λ js. js ≡ take (length js) (lane_jobs lane (jobs_in a.jobs ends (k + 1)))) (sym (none_served start new lane past)) refl;
       rests = subst (EachAfter (RestsFrom start) (take start new)) (sym (drop_all start new past)) tt;
       filled = subst (λ es. FillsJobs es (take start a.jobs) (take (k + 1) ends)) (sym done)
-          (subst (λ n. FillsJobs new (take n a.jobs) (take (k + 1) ends)) (sym (next_start ends k open)) (filled_more a k e sound next full open));
+          (subst (λ n. FillsJobs new (take n a.jobs) (take (k + 1) ends)) (sym (next_start ends k ahead)) (filled_more a k e sound next full ahead));
     }
 
 -- ---- the first line, and the last
@@ -268,7 +268,7 @@ whole_at_end a k sound full =
     let total = length a.jobs in
     let known = sound.here.known in
     elim (bool_cases (nat_lt k (length ends))) [
-      | inl open ↦
+      | inl ahead ↦
           let below : k < length ends = grind (arith, common_steps) in
           let before = sound.here.before below in
           let read = end_read ends k below in

@@ -78,8 +78,8 @@ pub record IsRecord (a : AuditShape) (c : Cursor) : Type 0 where
 -- a cursor stands at the first job of each lane in a batch
 pub record IsAtFirst (jobs : List Job) (ends : List ℕ) (k start : ℕ) (c : Cursor) : Type 0 where
   pub batch : c.batch ≡ k
-  pub start : c.start ≡ start
-  pub ends : c.end ≡ slice_index_or ends k start
+  pub begins : c.start ≡ start
+  pub stops : c.end ≡ slice_index_or ends k start
   pub placed : (lane : ℕ) → lane < LANE_LIMIT →
       IsNextPlace (part start (slice_index_or ends k start) jobs) lane 0 (slice_index_or c.places lane 0)
 
@@ -96,9 +96,9 @@ pub record HasGoneOn (jobs : List Job) (ends : List ℕ) (lane n : ℕ) (before 
   pub past : n ≡ before.end → IsAtFirst jobs ends (before.batch + 1) before.end after
 
 -- a count of entries rests on those of the batch, and the place is that of the last that counts
-abbrev pub rests_on : AuditShape → ℕ → ℕ → Ask → ℕ → ℕ → Bool
-rests_on a start lane what n place =
-    nat_le n (counted what (drop (max (lane_end lane a.entries) start) a.entries)) && nat_eq (place + 1) (counted_end what a.entries)
+abbrev pub rests_on : List Entry → ℕ → ℕ → Ask → ℕ → ℕ → Bool
+rests_on entries start lane what n place =
+    nat_le n (counted what (drop (max (lane_end lane entries) start) entries)) && nat_eq (place + 1) (counted_end what entries)
 
 -- an edit of the policy
 abbrev pub is_change : Ask → Bool

@@ -6,6 +6,9 @@ use Rattle.policy_book.specs.Facts.{IsSoundPolicy}
 use Rattle.wf_talk.specs.declared.entry.Entry.{Entry}
 use Rattle.wf_talk.specs.declared.job.Job.{Job}
 use Rattle.line_cutter.specs.Laws.{AreInOrder, AreNamedJobs}
+use Rattle.wf_board.specs.States.{opening_state}
+use Rattle.wf_board.specs.Histories.{state_after}
+use Rattle.entry_reader.specs.Named.{HasNames}
 use Rattle.entry_laws.specs.Laws.{HasFewSteps}
 use Rattle.transcript_audit.specs.declared.fault.AuditKind.{AuditKind}
 use Rattle.transcript_audit.specs.Audits.{AreNext, AuditShape, HasFault, IsNext, IsTranscript, audit_of}
@@ -19,16 +22,18 @@ HaveSmallLines (j ∷ js) = (j.line < 2 ^ 32) × HaveSmallLines js
 pub record AreOfSession (p : PolicyShape) (rounds : ℕ) (jobs : List Job) (batch_ends : List ℕ) : Type 0 where
   pub policy : IsSoundPolicy p
   pub steps : HasFewSteps p
-  pub rounds : rounds ≤ ROUND_LIMIT
+  pub few_rounds : rounds ≤ ROUND_LIMIT
   pub order : AreInOrder LANE_LIMIT jobs batch_ends
   pub named : AreNamedJobs jobs
   pub small : HaveSmallLines jobs
 
--- a line that has a fault is the text of no entry that comes next, where all lines before it are such texts
+-- a line that has a fault is the text of no entry that comes next, where all lines before it are such texts, and the
+-- names of the policy after them have a name's form
 abbrev pub FaultsExclude : Type 0
 FaultsExclude =
     (p : PolicyShape) (rounds : ℕ) (jobs : List Job) (batch_ends : List ℕ) (lines : List (List ℕ)) (es : List Entry) →
     AreOfSession p rounds jobs batch_ends → AreNext (audit_of p rounds jobs batch_ends) lines es →
+    HasNames (state_after (opening_state p) es).book.policy →
     (line : List ℕ) (kind : AuditKind) (e : Entry) →
     HasFault (record (audit_of p rounds jobs batch_ends) { entries = es }) line kind →
     ¬ IsNext (record (audit_of p rounds jobs batch_ends) { entries = es }) line e

@@ -1,13 +1,14 @@
 //! The auditor, with its calls.
-ghost use Rattle.std.specs.Prelude.{◌≡◌, ◌↔◌, true, IfOk, IsErrOf, None, Some};
+ghost use Rattle.std.specs.Prelude.{◌≡◌, ◌↔◌, ◌≤◌, ◌-◌, true, length, nat_eq, slice_index_or, IfOk, IfSome, IsErrOf, None, OnOk, Some};
 ghost use Rattle.wf_names.specs.declared.limits.TheConstants.{LANE_LIMIT};
 ghost use Rattle.line_cutter.specs.Laws.{AreInOrder};
 ghost use Rattle.entry_reader.specs.declared.fault.TextFault.TheVariants.{NotText};
 ghost use Rattle.entry_reader.specs.Lines.{HasNoReply, HasReply};
+ghost use Rattle.entry_reader.specs.Places.{place_of_line};
 ghost use Rattle.wf_talk.specs.declared.reply.Reply.TheVariants as reply;
 ghost use Rattle.transcript_audit.specs.Audits.{ComesNext, audit_of, flows_now, next_job, place_told, state_now};
 ghost use Rattle.transcript_audit.specs.Outcomes.{HasEnded, HasTaken};
-ghost use Rattle.transcript_audit.specs.Keeping.{HasEntered, HasTried, IsDueIf, IsReading, again_in, entry_next};
+ghost use Rattle.transcript_audit.specs.Keeping.{HasEntered, HasRead, HasTried, IsDueIf, IsReading, again_in, entry_next};
 
 use crate::again::again_in;
 use crate::flaw::Flaw;
@@ -15,7 +16,7 @@ use crate::flows::Flows;
 use crate::record::Record;
 use crate::verdict::verdict_for;
 use crate::{AuditFault, AuditKind};
-use entry_reader::{Place, TextFault, read_place, read_reply};
+use entry_reader::{Place, TextFault, guess_place, read_place, read_plain, read_reply};
 use policy_book::Policy;
 use std::alloc::{AllocError, Global};
 use std::marker::Model;
@@ -78,13 +79,17 @@ impl Auditor {
         line: &[u8],
     ) -> Result<(), AuditFault>
         requires ready { V.ready decider.now }
-        ensures { HasTaken self.old self.new line.now result }
+        ensures taken { HasTaken self.old self.new line.now result }
+        ensures few { OnOk result (length self.new.entries ≤ length self.new.jobs) }
     {
         if let Some(kind) = self.record.fault() {
             return Err(AuditFault::At(self.record.number(), kind));
         }
         match self.take(alloc, decider, line) {
-            Ok(()) => Ok(()),
+            Ok(()) => {
+                let _within = self.record.is_done();
+                Ok(())
+            }
             Err(Flaw::Kind(kind)) => {
                 self.record.keep_fault(kind);
                 Err(AuditFault::At(self.record.number(), kind))
@@ -122,6 +127,35 @@ impl Auditor {
     fn read(&self, alloc: Global, line: &[u8]) -> Result<(Job, Reply), Flaw>
         ensures { IsReading self.now line.now result }
     {
+        match self.read_quickly(alloc, line)? {
+            Some(found) => Ok(found),
+            None => self.read_fully(alloc, line),
+        }
+    }
+
+    // The same of a line as most are; None says nothing.
+    fn read_quickly(&self, alloc: Global, line: &[u8]) -> Result<Option<(Job, Reply)>, AllocError>
+        ensures { IfOk result (λ o. IfSome o (λ found. HasRead self.now line.now found.0 found.1)) }
+    {
+        let Some(place) = guess_place(line) else {
+            return Ok(None);
+        };
+        if !is_ended(line) || place.at != self.record.number() {
+            return Ok(None);
+        }
+        let Some(job) = self.due(&place) else {
+            return Ok(None);
+        };
+        match self.reply_quickly(alloc, &job.ask, place, line)? {
+            Some(reply) => Ok(Some((job, reply))),
+            None => Ok(None),
+        }
+    }
+
+    // The same of any line.
+    fn read_fully(&self, alloc: Global, line: &[u8]) -> Result<(Job, Reply), Flaw>
+        ensures { IsReading self.now line.now result }
+    {
         let place = told_place(alloc, line)?;
         if place.at != self.record.number() {
             return Err(Flaw::Kind(AuditKind::At));
@@ -145,13 +179,33 @@ impl Auditor {
 
     // The reply that a line tells.
     fn reply(&self, alloc: Global, ask: &Ask, line: &[u8]) -> Result<Reply, TextFault>
-        ensures reply { IfOk result (HasReply (state_now self.now).book.policy (flows_now self.now) ask.now line.now) }
-        ensures none { IsErrOf result NotText → HasNoReply (state_now self.now).book.policy (flows_now self.now) ask.now line.now }
+        ensures reply { IfOk result (HasReply (state_now self.now).book.policy
+            (flows_now self.now) ask.now line.now) }
+        ensures none { IsErrOf result NotText → HasNoReply (state_now self.now).book.policy
+            (flows_now self.now) ask.now line.now }
     {
         let flows = Flows {
             cases: self.board.cases(),
         };
         read_reply(alloc, self.board.policy(), &flows, ask, line)
+    }
+
+    // The reply that a line tells at a place, of a line as most are; None says nothing.
+    fn reply_quickly(
+        &self,
+        alloc: Global,
+        ask: &Ask,
+        place: Place,
+        line: &[u8],
+    ) -> Result<Option<Reply>, AllocError>
+        ensures place { IfOk result (λ o. IfSome o (λ r. place_of_line line.now ≡ Some place)) }
+        ensures reply { IfOk result (λ o. IfSome o (HasReply (state_now self.now).book.policy
+            (flows_now self.now) ask.now line.now)) }
+    {
+        let flows = Flows {
+            cases: self.board.cases(),
+        };
+        read_plain(alloc, self.board.policy(), &flows, ask, place, line)
     }
 
     // Takes a reply to a lane's next job.
@@ -190,10 +244,16 @@ impl Auditor {
         requires next { next_job self.now job.now.lane ≡ Some job.now }
         ensures { result ≡ true ↔ ComesNext self.now (entry_next self.now job.now (reply.Again rounds at)) }
     {
-        rounds == self.record.rounds()
-            && 1 <= rounds
-            && self.board.needs(&job.ask)
-            && self.record.rests(job.lane, &job.ask, rounds, at)
+        if rounds != self.record.rounds() {
+            return false;
+        }
+        if rounds == 0 {
+            return false;
+        }
+        if !self.board.needs(&job.ask) {
+            return false;
+        }
+        self.record.rests(job.lane, &job.ask, rounds, at)
     }
 
     // Takes a reply that is a step, if it is one.
@@ -209,6 +269,7 @@ impl Auditor {
         requires once { again_in reply ≡ None }
         ensures { HasEntered self.old self.new job.now reply result }
     {
+        let _few = self.record.number();
         let verdict = verdict_for(&self.board, alloc, decider, &job.ask, &reply);
         if matches!(verdict, Verdict::NoMemory) {
             return Err(Flaw::NoMemory);
@@ -225,9 +286,17 @@ fn told_place(alloc: Global, line: &[u8]) -> Result<Place, TextFault>
     ensures place { IfOk result (λ place. place_told line.now ≡ Some place) }
     ensures none { IsErrOf result NotText → place_told line.now ≡ None }
 {
-    if line.last() == Some(&b'\n') {
+    if is_ended(line) {
         read_place(alloc, line)
     } else {
         Err(TextFault::NotText)
     }
+}
+
+// Whether a line ends with LF.
+fn is_ended(line: &[u8]) -> bool
+    ensures { result ≡ nat_eq (slice_index_or line.now (length line.now - 1) 0) 10 }
+{
+    let len = line.len();
+    0 < len && line[len - 1] == b'\n'
 }

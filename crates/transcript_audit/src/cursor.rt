@@ -26,17 +26,34 @@ pub(crate) fn first(jobs: &[Job], ends: &[u32], batch: usize, start: u32) -> Cur
     requires within { slice_index_or ends.now batch start ≤ length jobs.now }
     ensures { IsAtFirst jobs.now ends.now batch start result }
 {
-    let end = if batch < ends.len() {
-        ends[batch]
-    } else {
-        start
-    };
+    let end = end_of(ends, batch, start);
     Cursor {
         batch,
         start,
         end,
         places: first_places(&jobs[start as usize..end as usize]),
     }
+}
+
+// Where a batch ends that begins at a place; behind the last, where it begins.
+fn end_of(ends: &[u32], batch: usize, start: u32) -> u32
+    ensures { result ≡ slice_index_or ends.now batch start }
+{
+    if batch < ends.len() {
+        ends[batch]
+    } else {
+        start
+    }
+}
+
+/// The jobs between two places.
+#[tactic(auto, using(crate::proofs::Batches::slice_part))]
+pub(crate) fn jobs_between(jobs: &[Job], start: u32, end: u32) -> &[Job]
+    requires order { start ≤ end }
+    requires within { end ≤ length jobs.now }
+    ensures { result.now ≡ part start end jobs.now }
+{
+    &jobs[start as usize..end as usize]
 }
 
 /// Goes on to a lane's next job, or to the next batch where there are as many entries as jobs up to

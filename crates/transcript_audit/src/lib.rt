@@ -13,7 +13,10 @@ mod cursor;
 mod fault;
 mod flaw;
 mod flows;
+pub mod laws;
 mod record;
+#[cfg(test)]
+mod tests;
 mod verdict;
 
 pub use auditor::Auditor;

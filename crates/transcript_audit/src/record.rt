@@ -1,7 +1,7 @@
 //! The record of an audit: the entries that were taken, and where the next one stands.
 ghost use Rattle.std.specs.Prelude.{◌≡◌, ◌≤◌, nat_eq, true, length, OnOk, Some};
 ghost use Rattle.std.specs.Arc.{arc_value};
-ghost use Rattle.wf_names.specs.declared.limits.TheConstants.{LANE_LIMIT};
+ghost use Rattle.wf_names.specs.declared.limits.TheConstants.{LANE_LIMIT, SESSION_LINE_LIMIT};
 ghost use Rattle.line_cutter.specs.Laws.{AreInOrder};
 ghost use Rattle.transcript_audit.specs.Audits.{ComesNext, audit_of, next_job, present_jobs, present_start, with_entry};
 ghost use Rattle.transcript_audit.specs.Keeping.{entry_next, rests_on};
@@ -9,7 +9,7 @@ ghost use Rattle.transcript_audit.specs.Outcomes.{IsWhole};
 
 use crate::AuditKind;
 use crate::again::{count, own_start};
-use crate::cursor::{Cursor, advance, first};
+use crate::cursor::{Cursor, advance, first, jobs_between};
 use policy_book::Policy;
 use std::alloc::{AllocError, Global};
 use std::marker::Model;
@@ -68,7 +68,8 @@ impl Record {
 
     /// How many entries there are.
     pub fn number(&self) -> u32
-        ensures { result ≡ length self.now.audit.entries }
+        ensures count { result ≡ length self.now.audit.entries }
+        ensures few { length self.now.audit.entries ≤ SESSION_LINE_LIMIT }
     {
         self.journal.len() as u32
     }
@@ -109,7 +110,7 @@ impl Record {
     fn batch(&self) -> &[Job]
         ensures { result.now ≡ present_jobs self.now.audit }
     {
-        &self.jobs.as_slice()[self.cursor.start as usize..self.cursor.end as usize]
+        jobs_between(self.jobs.as_slice(), self.cursor.start, self.cursor.end)
     }
 
     /// Whether each job has its entry.
@@ -125,7 +126,8 @@ impl Record {
     /// the last of all that count stands at a place.
     pub fn rests(&self, lane: u8, ask: &Ask, rounds: u8, place: u32) -> bool
         requires { 1 ≤ rounds }
-        ensures { result ≡ rests_on self.now.audit (present_start self.now.audit) lane ask.now rounds place }
+        ensures { result ≡ rests_on self.now.audit.entries (present_start self.now.audit)
+            lane ask.now rounds place }
     {
         let entries = self.journal.as_slice();
         let from = own_start(entries, self.cursor.start as usize, lane);

@@ -24,7 +24,7 @@ use Rattle.wf_board.specs.declared.deed.Deed.TheVariants as deed
 use Rattle.wf_board.specs.States.{Book, Numbered, case_at, open_cases}
 use Rattle.wf_board.specs.Boards.{EditionShape, numbered, state_on}
 use Rattle.wf_board.specs.Decisions.{cause_full, decision_aside, decision_of, unless_denied}
-use Rattle.wf_board.specs.Edited.{ArePlansOf, CanAllBeCompleted, CanBeCompleted, IsFirstStranded}
+use Rattle.wf_board.specs.Edited.{ArePlansOf, CanAllBeCompleted, CanBeCompleted, IsFirstStranded, IsTreeOf}
 use Rattle.wf_board.specs.Kept.{EachRow, IsOfPolicy, IsPlanned}
 use Rattle.wf_board.specs.Steps.{with_edited}
 use Rattle.wf_board.specs.Taking.{board_of, IsKept}
@@ -169,33 +169,43 @@ stranding_change b r n tree is = absurd is
 pub change_decided : (b : Book) (what : Ask) (a : Amendment) → decision_aside b what ≡ Ok (deed.Change a) → decision_of b what ≡ Ok (deed.Change a)
 change_decided b what a is = ap (λ r. r >>= (λ given. unless_denied given (cause_full b given))) is
 
--- a case is found by its number
-pub record IsFoundCase (n f : ℕ) (rows : List Row) : Type 0 where
+-- the first stranded case is found by its number, and any tree that shows it will do
+pub record IsFoundCase (p : PolicyShape) (n f : ℕ) (tree : Tree) (rows : List Row) (cases : List Numbered) : Type 0 where
   pub case : CaseShape
   pub there : case_in n rows ≡ Some case
   pub flow : case.flow ≡ f
+  pub shown : IsTreeOf p case tree
+  pub others : (t : Tree) → IsTreeOf p case t → IsFirstStranded p cases n f t
 
-found_later : (n f : ℕ) (r : Row) (rs : List Row) → r.number < n → IsFoundCase n f rs → IsFoundCase n f (r ∷ rs)
-found_later n f r rs above is =
+found_later : (p : PolicyShape) (n f : ℕ) (tree : Tree) (r : Row) (rs : List Row) (few more : List Numbered) → r.number < n → ((t : Tree) → IsFirstStranded p few n f t → IsFirstStranded p more n f t) →
+    IsFoundCase p n f tree rs few → IsFoundCase p n f tree (r ∷ rs) more
+found_later p n f tree r rs few more above on is =
     let apart : nat_eq r.number n ≡ false = grind (arith, nat_tests) in
-    record { case = is.case; there = rw apart is.there; flow = is.flow }
+    record { case = is.case; there = rw apart is.there; flow = is.flow; shown = is.shown; others = λ t shows. on t (is.others t shows) }
+
+-- the cases of rows that are open, if the first is
+abbrev open_onto : Bool → Row → List Row → List Numbered
+open_onto b r rs = if b then numbered r ∷ open_cases (map numbered rs) else open_cases (map numbered rs)
 
 -- the number of a stranded case is not below that of the first row
 stranded_from : (p : PolicyShape) (low : ℕ) (rows : List Row) (n f : ℕ) (tree : Tree) → AscendFrom low rows → IsFirstStranded p (open_cases (map numbered rows)) n f tree →
-    (low ≤ n) × IsFoundCase n f rows
+    (low ≤ n) × IsFoundCase p n f tree rows (open_cases (map numbered rows))
 stranded_from p low [] n f tree order is = absurd is
 stranded_from p low (r ∷ rs) n f tree order is = at_first (is_open r.case) is (λ rest. stranded_from p (r.number + 1) rs n f tree order.1 rest)
   where
-    later : (r.number + 1 ≤ n) × IsFoundCase n f rs → (low ≤ n) × IsFoundCase n f (r ∷ rs)
-    later found = (omega (arith, order.0, found.0), found_later n f r rs (omega (arith, found.0)) found.1)
+    later : (more : List Numbered) → ((t : Tree) → IsFirstStranded p (open_cases (map numbered rs)) n f t → IsFirstStranded p more n f t) →
+        (r.number + 1 ≤ n) × IsFoundCase p n f tree rs (open_cases (map numbered rs)) → (low ≤ n) × IsFoundCase p n f tree (r ∷ rs) more
+    later more on found = (omega (arith, order.0, found.0), found_later p n f tree r rs (open_cases (map numbered rs)) more (omega (arith, found.0)) on found.1)
 
-    at_first : (b : Bool) → IsFirstStranded p (if b then numbered r ∷ open_cases (map numbered rs) else open_cases (map numbered rs)) n f tree →
-        (IsFirstStranded p (open_cases (map numbered rs)) n f tree → (r.number + 1 ≤ n) × IsFoundCase n f rs) → (low ≤ n) × IsFoundCase n f (r ∷ rs)
+    at_first : (b : Bool) → IsFirstStranded p (open_onto b r rs) n f tree →
+        (IsFirstStranded p (open_cases (map numbered rs)) n f tree → (r.number + 1 ≤ n) × IsFoundCase p n f tree rs (open_cases (map numbered rs))) →
+        (low ≤ n) × IsFoundCase p n f tree (r ∷ rs) (open_onto b r rs)
     at_first true (inl here) rest =
         let same : nat_eq r.number n ≡ true = eq_is r.number n here.0 in
-        (omega (arith, order.0, here.0), record { case = r.case; there = rw same refl; flow = here.1.0 })
-    at_first true (inr there) rest = later (rest there.1)
-    at_first false there rest = later (rest there)
+        (omega (arith, order.0, here.0), record { case = r.case; there = rw same refl; flow = here.1.0; shown = here.1.1; others = λ t shows. inl (here.0, (here.1.0, shows)) })
+    at_first true (inr there) rest = later (numbered r ∷ open_cases (map numbered rs)) (λ t is. inr (there.0, is)) (rest there.1)
+    at_first false there rest = later (open_cases (map numbered rs)) (λ t is. is) (rest there)
 
-pub stranded_case : (p : PolicyShape) (rows : List Row) (n f : ℕ) (tree : Tree) → AscendFrom 0 rows → IsFirstStranded p (open_cases (map numbered rows)) n f tree → IsFoundCase n f rows
+pub stranded_case : (p : PolicyShape) (rows : List Row) (n f : ℕ) (tree : Tree) → AscendFrom 0 rows → IsFirstStranded p (open_cases (map numbered rows)) n f tree →
+    IsFoundCase p n f tree rows (open_cases (map numbered rows))
 stranded_case p rows n f tree order is = (stranded_from p 0 rows n f tree order is).1

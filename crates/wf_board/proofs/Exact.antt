@@ -58,7 +58,7 @@ well_formed_any p f sound = at_number (leb_tells (length p.flows) f)
     at_number (inr known) = well_formed p f sound known.1
 
 -- the case of a refuted claim cannot be completed
-refuted_claim : (s : State) (n : ℕ) (c : CaseShape) (t u : ℕ) (tree : Tree) → IsSoundState s → IsTold s.book (deed.Claim n c t u) →
+pub refuted_claim : (s : State) (n : ℕ) (c : CaseShape) (t u : ℕ) (tree : Tree) → IsSoundState s → IsTold s.book (deed.Claim n c t u) →
     IsReplyTo s (deed.Claim n c t u) (reply.Denied (denial.Stranded c.flow tree)) → ¬ IsCompletable (problem_of s.book.policy c.flow) (assigned_with c t u) (finished_of c)
 refuted_claim s n c t u tree sound known is =
     refutes_soundly (problem_of s.book.policy c.flow) (assigned_with c t u) (finished_of c) (shape_of tree)

@@ -15,3 +15,5 @@ pub mod Rows
 pub mod Planned
 pub mod Answering
 pub mod Unhurt
+pub mod Fixed
+pub mod Admission

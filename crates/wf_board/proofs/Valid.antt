@@ -15,7 +15,7 @@ blank_at zero k d = refl
 blank_at (suc n) zero d = refl
 blank_at (suc n) (suc k) d = blank_at n k d
 
-none_member : (s : ℕ) → is_member no_steps s ≡ false
+pub none_member : (s : ℕ) → is_member no_steps s ≡ false
 unfolding no_steps
 none_member s = blank_at STEP_LIMIT s false
 

@@ -13,4 +13,5 @@ pub mod Verdicts
 pub mod Admitting
 pub mod Laws
 pub mod Taking
+pub mod Admission
 pub mod HistoryLaws

@@ -1,7 +1,29 @@
-//! Replies that somebody else gave.
-ghost use Rattle.std.specs.Prelude.{◌≡◌};
+//! Takes replies that somebody else gave, over a policy and its table of cases.
+ghost use Rattle.std.specs.Prelude.{◌≡◌, ◌≢◌, ◌↔◌, None, Ok, true};
+ghost use Rattle.wf_names.specs.States.{is_done, is_held};
+ghost use Rattle.case_record.specs.Cases.{finished_case, state_at, CaseShape};
+ghost use Rattle.wf_talk.specs.declared.reply.Reply.TheVariants as replies;
+ghost use Rattle.wf_board.specs.declared.deed.Deed.TheVariants as deeds;
+ghost use Rattle.wf_board.specs.Admission.{when, HasAdmitted, IsVerdictFor};
+ghost use Rattle.wf_board.specs.Admitting.{HasVerdict};
+ghost use Rattle.wf_board.specs.Boards.{book_of, state_on};
+ghost use Rattle.wf_board.specs.Decisions.{cause_aside, decision_of};
+ghost use Rattle.wf_board.specs.Found.{IsFound, IsOpenAt};
+ghost use Rattle.wf_board.specs.Taking.{board_of, full_or, keeps_policy, IsKept};
+ghost use Rattle.wf_board.specs.Verdicts.{IsRight};
 
-use std::alloc::AllocError;
+use crate::alike::{is_denied, is_face};
+use crate::decision::{Refused, decision_of};
+use crate::granted::{admit_claim, admit_opening};
+use crate::strands::admit_change;
+use crate::taking::{finish, give_back, withdraw};
+use crate::{Deed, Verdict};
+use case_record::Case;
+use grant_table::Cases;
+use policy_book::Policy;
+use std::alloc::{AllocError, Global};
+use wf_names::{CaseId, StepId, UserId};
+use wf_talk::{Ask, Bad, Reply};
 
 /// Why a reply is not taken.
 #[derive(Clone, Copy, Debug, PartialEq, Eq)]
@@ -19,5 +41,254 @@ impl From<AllocError> for AdmitFault {
 
     fn from(_: AllocError) -> AdmitFault {
         AdmitFault::NoMemory
+    }
+}
+
+/// Takes the step of a reply, if it is one, under the same policy.
+pub(crate) fn admit(
+    alloc: Global,
+    p: &Policy,
+    cases: &mut Cases,
+    ask: &Ask,
+    reply: &Reply,
+    verdict: &Verdict,
+) -> Result<(), AdmitFault>
+    requires kept { IsKept p.now cases.old }
+    requires right { IsRight (book_of p.now cases.old) ask.now verdict.now }
+    requires same { keeps_policy verdict.now ≡ true }
+    requires verdict { HasVerdict (state_on (board_of p.now cases.old 0)) ask.now reply.now verdict.now }
+    ensures { HasAdmitted p.now cases.old cases.new (decision_of (book_of p.now cases.old) ask.now) reply.now result }
+{
+    if is_want(reply) {
+        return Ok(());
+    }
+    match decision_of(alloc, p, cases, ask) {
+        Ok(deed) => perform(p, cases, deed, reply, verdict),
+        Err(Refused::Denied(cause)) => when(is_denied(reply, &cause)),
+        Err(Refused::NoMemory) => Err(AdmitFault::NoMemory),
+    }
+}
+
+/// Whether a reply is want of memory, which stands in place of any.
+fn is_want(reply: &Reply) -> bool
+    ensures { result ≡ true ↔ reply.now ≡ replies.NoMemory }
+{
+    matches!(reply, Reply::NoMemory)
+}
+
+/// The fault where the test fails.
+pub(crate) fn when(passes: bool) -> Result<(), AdmitFault>
+    ensures { result ≡ when passes }
+{
+    if passes {
+        Ok(())
+    } else {
+        Err(AdmitFault::NotStep)
+    }
+}
+
+/// Does a deed as a reply says, if the reply is one to it.
+fn perform(
+    p: &Policy,
+    cases: &mut Cases,
+    deed: Deed,
+    reply: &Reply,
+    verdict: &Verdict,
+) -> Result<(), AdmitFault>
+    requires kept { IsKept p.now cases.old }
+    requires found { IsFound p.now cases.old.rows deed }
+    requires cause { cause_aside (book_of p.now cases.old) deed ≡ None }
+    requires room { full_or (book_of p.now cases.old) deed ≡ Ok deed }
+    requires given { reply.now ≢ replies.NoMemory }
+    requires verdict { IsVerdictFor (book_of p.now cases.old) deed verdict.now }
+    ensures { HasAdmitted p.now cases.old cases.new (Ok deed) reply.now result }
+{
+    match deed {
+        Deed::Open { flow } => admit_opening(p, cases, flow, reply),
+        Deed::Claim {
+            number,
+            case,
+            step,
+            user,
+        } => admit_claim(p, cases, number, &case, step, user, reply),
+        Deed::Finish {
+            number,
+            case,
+            step,
+            user,
+        } => admit_finish(p, cases, number, &case, step, user, reply),
+        Deed::GiveBack {
+            number,
+            case,
+            step,
+            user,
+        } => admit_return(p, cases, number, &case, step, user, reply),
+        Deed::Release { number, case, step } => {
+            admit_release(p, cases, number, &case, step, reply)
+        }
+        Deed::Withdraw { number } => admit_withdrawal(p, cases, number, reply),
+        Deed::Change { amendment } => admit_change(p, cases, amendment, reply, verdict),
+        Deed::Show { case } => admit_showing(p, cases, &case, reply),
+        Deed::TurnAway { bad } => admit_bad(p, cases, bad, reply),
+    }
+}
+
+/// Finishes a held step as a reply says, if the reply is one to it.
+fn admit_finish(
+    p: &Policy,
+    cases: &mut Cases,
+    n: CaseId,
+    case: &Case,
+    s: StepId,
+    u: UserId,
+    reply: &Reply,
+) -> Result<(), AdmitFault>
+    requires kept { IsKept p.now cases.old }
+    requires found { IsOpenAt p.now cases.old.rows n case.now }
+    requires held { is_held (state_at case.now s) ≡ true }
+    requires given { reply.now ≢ replies.NoMemory }
+    ensures { HasAdmitted p.now cases.old cases.new (Ok (deeds.Finish n case.now s u)) reply.now result }
+{
+    match reply {
+        Reply::Finished { done } => finish_as(p, cases, n, case, s, u, *done),
+        _ => Err(AdmitFault::NotStep),
+    }
+}
+
+/// Finishes a held step, if it is then told rightly whether it was the last.
+fn finish_as(
+    p: &Policy,
+    cases: &mut Cases,
+    n: CaseId,
+    case: &Case,
+    s: StepId,
+    u: UserId,
+    done: bool,
+) -> Result<(), AdmitFault>
+    requires kept { IsKept p.now cases.old }
+    requires found { IsOpenAt p.now cases.old.rows n case.now }
+    requires held { is_held (state_at case.now s) ≡ true }
+    ensures { HasAdmitted p.now cases.old cases.new (Ok (deeds.Finish n case.now s u)) (replies.Finished done) result }
+{
+    if !is_told(case, s, done) {
+        return Err(AdmitFault::NotStep);
+    }
+    finish(p, cases, n, case, s, u);
+    Ok(())
+}
+
+/// Whether it is told rightly if a case is done once a held step is finished.
+fn is_told(case: &Case, s: StepId, done: bool) -> bool
+    requires { is_held (state_at case.now s) ≡ true }
+    ensures { result ≡ true ↔ done ≡ is_done (finished_case case.now s).phase }
+{
+    done == is_last(case, s)
+}
+
+/// Whether a case is done once a held step is finished.
+fn is_last(case: &Case, s: StepId) -> bool
+    requires { is_held (state_at case.now s) ≡ true }
+    ensures { result ≡ is_done (finished_case case.now s).phase }
+{
+    let mut finished = *case;
+    finished.finish(s)
+}
+
+/// Lets go of a held step, if a reply says so.
+fn admit_return(
+    p: &Policy,
+    cases: &mut Cases,
+    n: CaseId,
+    case: &Case,
+    s: StepId,
+    u: UserId,
+    reply: &Reply,
+) -> Result<(), AdmitFault>
+    requires kept { IsKept p.now cases.old }
+    requires found { IsOpenAt p.now cases.old.rows n case.now }
+    requires held { is_held (state_at case.now s) ≡ true }
+    requires given { reply.now ≢ replies.NoMemory }
+    ensures { HasAdmitted p.now cases.old cases.new (Ok (deeds.GiveBack n case.now s u)) reply.now result }
+{
+    let _ = u;
+    match reply {
+        Reply::Returned => {
+            give_back(p, cases, n, case, s);
+            Ok(())
+        }
+        _ => Err(AdmitFault::NotStep),
+    }
+}
+
+/// Takes a step from its holder, if a reply says so.
+fn admit_release(
+    p: &Policy,
+    cases: &mut Cases,
+    n: CaseId,
+    case: &Case,
+    s: StepId,
+    reply: &Reply,
+) -> Result<(), AdmitFault>
+    requires kept { IsKept p.now cases.old }
+    requires found { IsOpenAt p.now cases.old.rows n case.now }
+    requires held { is_held (state_at case.now s) ≡ true }
+    requires given { reply.now ≢ replies.NoMemory }
+    ensures { HasAdmitted p.now cases.old cases.new (Ok (deeds.Release n case.now s)) reply.now result }
+{
+    match reply {
+        Reply::Released => {
+            give_back(p, cases, n, case, s);
+            Ok(())
+        }
+        _ => Err(AdmitFault::NotStep),
+    }
+}
+
+/// Ends an open case, if a reply says so.
+fn admit_withdrawal(
+    p: &Policy,
+    cases: &mut Cases,
+    n: CaseId,
+    reply: &Reply,
+) -> Result<(), AdmitFault>
+    requires kept { IsKept p.now cases.old }
+    requires found { (c : CaseShape) × IsOpenAt p.now cases.old.rows n c }
+    requires given { reply.now ≢ replies.NoMemory }
+    ensures { HasAdmitted p.now cases.old cases.new (Ok (deeds.Withdraw n)) reply.now result }
+{
+    match reply {
+        Reply::Withdrawn => {
+            withdraw(p, cases, n);
+            Ok(())
+        }
+        _ => Err(AdmitFault::NotStep),
+    }
+}
+
+/// Whether a reply shows a case as it is to be seen.
+fn admit_showing(p: &Policy, cases: &Cases, case: &Case, reply: &Reply) -> Result<(), AdmitFault>
+    requires kept { IsKept p.now cases.now }
+    requires given { reply.now ≢ replies.NoMemory }
+    ensures { HasAdmitted p.now cases.now cases.now (Ok (deeds.Show case.now)) reply.now result }
+{
+    let _ = p;
+    let _ = cases;
+    match reply {
+        Reply::Shown(face) => when(is_face(face, case)),
+        _ => Err(AdmitFault::NotStep),
+    }
+}
+
+/// Whether a reply says why a line is no request.
+fn admit_bad(p: &Policy, cases: &Cases, bad: Bad, reply: &Reply) -> Result<(), AdmitFault>
+    requires kept { IsKept p.now cases.now }
+    requires given { reply.now ≢ replies.NoMemory }
+    ensures { HasAdmitted p.now cases.now cases.now (Ok (deeds.TurnAway bad)) reply.now result }
+{
+    let _ = p;
+    let _ = cases;
+    match reply {
+        Reply::Bad(given) => when(*given == bad),
+        _ => Err(AdmitFault::NotStep),
     }
 }

@@ -1,15 +1,17 @@
 //! The board: a policy and its cases.
 ghost use Rattle.std.specs.Prelude.{◌≡◌, ◌≢◌, ◌<◌, ◌≤◌, ◌+◌, ◌↔◌, true, IfOk, IfSome, IsErrOf, OnErr, OnOk};
 ghost use Rattle.std.specs.Arc.{arc_value};
+ghost use Rattle.wf_board.specs.Admission.{HasAdmittedStep};
 ghost use Rattle.wf_board.specs.Admitting.{HasVerdict};
 ghost use Rattle.wf_board.specs.Boards.{state_on};
 ghost use Rattle.wf_board.specs.Decisions.{decision_aside, decision_of, needs_verdict};
 ghost use Rattle.wf_board.specs.Kept.{AreNumbered, ArePlanned, IsSoundState, KeepsCompletable};
 ghost use Rattle.wf_board.specs.States.{opening_state};
 ghost use Rattle.wf_board.specs.Steps.{state_after_step, IsStep};
-ghost use Rattle.wf_board.specs.Taking.{IsHarmlessChange};
+ghost use Rattle.wf_board.specs.Taking.{keeps_policy, IsHarmlessChange};
 ghost use Rattle.wf_board.specs.Verdicts.{HasAnswered, HasUsed, IsCertified, IsDecided, IsEditionFor, IsMadeOf, IsRight, MayLackMemory, snap_of, snap_rows};
 
+use crate::admit::admit;
 use crate::certified::accepts;
 use crate::decision::needs_verdict;
 use crate::harmless::{changed, harmless_change};
@@ -123,11 +125,56 @@ impl Board {
             → ¬ IsStep (state_on self.old) ask.now reply.now }
         ensures unchanged { OnErr result (self.new ≡ self.old) }
     {
-        let _ = alloc;
-        let _ = ask;
-        let _ = reply;
-        let _ = verdict;
-        Err(AdmitFault::NoMemory)
+        match verdict {
+            Verdict::Edited(edition) => self.admit_edit(ask, reply, edition),
+            other => self.admit_kept(alloc, ask, reply, &other),
+        }
+    }
+
+    /// Takes the step of a reply by which the policy stays.
+    fn admit_kept(
+        &mut self,
+        alloc: Global,
+        ask: &Ask,
+        reply: &Reply,
+        verdict: &Verdict,
+    ) -> Result<(), AdmitFault>
+        requires right { IsRight (state_on self.old).book ask.now verdict.now }
+        requires same { keeps_policy verdict.now ≡ true }
+        requires verdict { HasVerdict (state_on self.old) ask.now reply.now verdict.now }
+        ensures { HasAdmittedStep self.old self.new ask.now reply.now result }
+    {
+        let policy: &Policy = &self.policy;
+        admit(alloc, policy, &mut self.cases, ask, reply, verdict)
+    }
+
+    /// Takes the step of a reply to an edit that leaves each open case a plan.
+    fn admit_edit(&mut self, ask: &Ask, reply: &Reply, edition: Edition) -> Result<(), AdmitFault>
+        requires right { IsEditionFor (state_on self.old).book
+            (decision_aside (state_on self.old).book ask.now) edition }
+        requires few { self.old.edits < 4294967295 }
+        ensures { HasAdmittedStep self.old self.new ask.now reply.now result }
+    {
+        let _sound = self.policy();
+        match reply {
+            Reply::NoMemory => Ok(()),
+            Reply::Edited { number } => self.admit_edited(ask, *number, edition),
+            _ => Err(AdmitFault::NotStep),
+        }
+    }
+
+    /// Takes an accepted edit, if its number is the next.
+    fn admit_edited(&mut self, ask: &Ask, number: u32, edition: Edition) -> Result<(), AdmitFault>
+        requires right { IsEditionFor (state_on self.old).book
+            (decision_aside (state_on self.old).book ask.now) edition }
+        requires few { self.old.edits < 4294967295 }
+        ensures { HasAdmittedStep self.old self.new ask.now (Reply.Edited number) result }
+    {
+        if number != self.edits + 1 {
+            return Err(AdmitFault::NotStep);
+        }
+        self.edit(ask, edition);
+        Ok(())
     }
 
     /// Takes the policy after an edit, and with it the plans that the open cases have under it.
@@ -138,6 +185,7 @@ impl Board {
         ensures answered { HasAnswered self.old self.new ask.now (Verdict.Edited edition)
             (Answered.Done result) }
         ensures made { IsMadeOf (Verdict.Edited edition) result }
+        ensures number { result ≡ Reply.Edited (self.old.edits + 1) }
         ensures memory { result ≢ Reply.NoMemory }
         ensures spare { self.new.cases.spare ≡ self.old.cases.spare }
     {

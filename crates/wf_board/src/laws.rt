@@ -1,5 +1,5 @@
 //! Laws of sessions. Each function changes nothing; its contract is the law.
-ghost use Rattle.wf_board.specs.Laws.{ClaimsAreExact, EditsAreExact, GrantsAreExact, HistoriesKeepCompletable, PlansStayValid, SnapsSuffice, StepsKeepCompletable};
+ghost use Rattle.wf_board.specs.Laws.{ClaimsAreExact, EditsAreExact, GrantsAreExact, HistoriesKeepCompletable, OutcomeIsFixed, PlansStayValid, SnapsSuffice, StepsKeepCompletable};
 
 /// Whatever is asked and answered, each open case can still be completed.
 pub fn steps_keep_completable()
@@ -36,4 +36,10 @@ pub fn plans_stay_valid()
 /// What is right for a snapshot is right for the board of which it was taken.
 pub fn snaps_suffice()
     ensures { SnapsSuffice }
+{}
+
+/// Want of memory aside, a state and what is asked fix the reply but for its plan or tree, and they
+/// fix the state after it.
+pub fn outcome_is_fixed()
+    ensures { OutcomeIsFixed }
 {}

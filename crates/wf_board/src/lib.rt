@@ -3,6 +3,7 @@
 #![tactic(auto)]
 
 mod admit;
+mod alike;
 mod board;
 mod certified;
 mod counting;
@@ -10,10 +11,12 @@ mod decider;
 mod decision;
 mod deed;
 mod edition;
+mod granted;
 mod harmless;
 pub mod laws;
 mod resolve;
 mod snap;
+mod strands;
 mod taking;
 mod verdict;
 

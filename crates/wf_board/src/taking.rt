@@ -223,7 +223,7 @@ fn perform(p: &Policy, cases: &mut Cases, deed: Deed) -> Reply
 }
 
 /// Opens a case with a plan.
-fn open(p: &Policy, cases: &mut Cases, flow: FlowId, plan: Plan) -> Reply
+pub(crate) fn open(p: &Policy, cases: &mut Cases, flow: FlowId, plan: Plan) -> Reply
     requires kept { IsKept p.now cases.old }
     requires flow { flow < length p.now.flows }
     requires valid { IsValidPlan (problem_of p.now flow) no_users no_steps plan }
@@ -231,6 +231,7 @@ fn open(p: &Policy, cases: &mut Cases, flow: FlowId, plan: Plan) -> Reply
     ensures made { is_full (book_of p.now cases.old) ≡ false → IsMadeOf (verdicts.Plan plan) result }
     ensures memory { result ≡ replies.NoMemory
         → (is_full (book_of p.now cases.old) ≡ false) × (cases.old.spare ≡ 0) }
+    ensures unchanged { result ≡ replies.NoMemory → cases.new ≡ cases.old }
 {
     if is_full(p, cases) {
         return Reply::Denied(Denial::Full);
@@ -257,7 +258,7 @@ fn make_room(cases: &mut Cases) -> Result<(), AllocError>
 }
 
 /// Gives a free step to a user, with a plan for the rest of the case.
-fn claim(
+pub(crate) fn claim(
     p: &Policy,
     cases: &mut Cases,
     n: CaseId,
@@ -279,7 +280,14 @@ fn claim(
 }
 
 /// Finishes a step that a user holds.
-fn finish(p: &Policy, cases: &mut Cases, n: CaseId, case: &Case, s: StepId, u: UserId) -> Reply
+pub(crate) fn finish(
+    p: &Policy,
+    cases: &mut Cases,
+    n: CaseId,
+    case: &Case,
+    s: StepId,
+    u: UserId,
+) -> Reply
     requires kept { IsKept p.now cases.old }
     requires found { IsOpenAt p.now cases.old.rows n case.now }
     requires held { is_held (state_at case.now s) ≡ true }
@@ -294,7 +302,7 @@ fn finish(p: &Policy, cases: &mut Cases, n: CaseId, case: &Case, s: StepId, u: U
 }
 
 /// Takes a held step from its holder.
-fn give_back(p: &Policy, cases: &mut Cases, n: CaseId, case: &Case, s: StepId)
+pub(crate) fn give_back(p: &Policy, cases: &mut Cases, n: CaseId, case: &Case, s: StepId)
     requires kept { IsKept p.now cases.old }
     requires found { IsOpenAt p.now cases.old.rows n case.now }
     requires held { is_held (state_at case.now s) ≡ true }
@@ -306,7 +314,7 @@ fn give_back(p: &Policy, cases: &mut Cases, n: CaseId, case: &Case, s: StepId)
 }
 
 /// Ends an open case.
-fn withdraw(p: &Policy, cases: &mut Cases, n: CaseId)
+pub(crate) fn withdraw(p: &Policy, cases: &mut Cases, n: CaseId)
     requires kept { IsKept p.now cases.old }
     requires found { (c : CaseShape) × IsOpenAt p.now cases.old.rows n c }
     ensures { HasChanged p.now cases.old cases.new n (λ c. with_phase c WithdrawnCase) }

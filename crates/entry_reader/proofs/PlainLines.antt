@@ -1,0 +1,67 @@
+-- A line that is the text of an entry of a plain reply.
+use Rattle.std.proofs.Common.{◌≡◌, ℕ, zero, suc, ◌+◌, ◌<◌, ◌≤◌, ◌^◌, List, [], ◌∷◌, length, map, max, refl, sym, ap, ◌∙◌, arith, true, ltb-true}
+use Rattle.std.specs.Prelude.{codes, nat_lt, Option, Some, None}
+use Rattle.std.specs.List.{All, list_all}
+use Rattle.serde_json.specs.Data.{Data, depth, items_depth}
+use Rattle.serde_json.specs.Read.{max_depth}
+use Rattle.serde_json.specs.View.{items_of}
+use Rattle.basics.proofs.Booleans.{and_both}
+use Rattle.wf_talk.specs.declared.entry.Entry.{Entry}
+use Rattle.wf_talk.specs.declared.request.Ask.{Ask}
+use Rattle.wf_talk.specs.declared.reply.Reply.{Reply}
+use Rattle.wf_talk.specs.declared.reply.Reply.TheVariants as reply
+use Rattle.policy_book.specs.Shapes.{PolicyShape}
+use Rattle.wire_json.specs.Entries.{named}
+use Rattle.wire_json.specs.Replies.{entry_data, entry_text}
+use Rattle.entry_reader.specs.declared.place.Place.{Place}
+use Rattle.entry_reader.specs.Named.{HasNames}
+use Rattle.entry_reader.specs.Places.{place_in, place_of_line}
+use Rattle.entry_reader.specs.Lines.{HasReply, IsEntry, IsLineOf, concerned, entry_at}
+use Rattle.entry_reader.specs.Plain.{IsPlainReply}
+use Rattle.entry_reader.specs.Within.{IsReply}
+use Rattle.entry_reader.proofs.LinesBack.{line_reply, line_place}
+
+-- where a test passes for each item, it holds of each place
+pub all_within : (n : ℕ) (xs : List ℕ) → list_all (λ x. nat_lt x n) xs ≡ true → All (λ x. x < n) xs
+all_within n [] e k d lt = absurd (omega (arith, lt))
+all_within n (x ∷ xs) e zero d lt = ltb-true x n (and_both (nat_lt x n) (list_all (λ y. nat_lt y n) xs) e).0
+all_within n (x ∷ xs) e (suc k) d lt = all_within n xs (and_both (nat_lt x n) (list_all (λ y. nat_lt y n) xs) e).1 k d (omega (arith, lt))
+
+-- names nest in nothing
+names_flat : (names : List (List ℕ)) (ns : List ℕ) → items_depth (items_of (map (named names) ns)) ≡ 0
+names_flat names [] = refl
+names_flat names (n ∷ ns) = ap (max 0) (names_flat names ns)
+
+plain_nests : (p : PolicyShape) (place : Place) (a : Ask) (r : Reply) → IsPlainReply p r → depth (entry_data p (entry_at place a r)) ≤ max_depth
+plain_nests p place a (reply.Granted plan) h = rw (names_flat p.roster.users plan) (omega arith)
+plain_nests p place a (reply.Finished done) h = omega arith
+plain_nests p place a reply.Returned h = omega arith
+plain_nests p place a reply.Released h = omega arith
+plain_nests p place a (reply.Opened c plan) h = rw (names_flat p.roster.users plan) (omega arith)
+plain_nests p place a reply.Withdrawn h = omega arith
+plain_nests p place a given h = absurd h
+
+plain_within : (p : PolicyShape) (flows : ℕ → Option ℕ) (f : Option ℕ) (r : Reply) → IsPlainReply p r → IsReply p flows f r
+plain_within p flows f (reply.Granted plan) h = h
+plain_within p flows f (reply.Finished done) h = tt
+plain_within p flows f reply.Returned h = tt
+plain_within p flows f reply.Released h = tt
+plain_within p flows f (reply.Opened c plan) h = h
+plain_within p flows f reply.Withdrawn h = tt
+plain_within p flows f given h = absurd h
+
+plain_line : (p : PolicyShape) (flows : ℕ → Option ℕ) (text : List ℕ) (place : Place) (a : Ask) (r : Reply) → IsPlainReply p r
+    → place.at < 2 ^ 32 → place.lane < 2 ^ 8 → place.line < 2 ^ 32 → entry_text p (entry_at place a r) ≡ text → IsLineOf p flows text (entry_at place a r)
+plain_line p flows text place a r h first lane line same = record {
+  entry = record { place = first; lane = lane; line = line; reply = plain_within p flows (concerned p flows a) r h; nests = plain_nests p place a r h };
+  written = same;
+}
+
+pub plain_reply : (p : PolicyShape) (flows : ℕ → Option ℕ) (text : List ℕ) (place : Place) (a : Ask) (r : Reply) → HasNames p → IsPlainReply p r
+    → place.at < 2 ^ 32 → place.lane < 2 ^ 8 → place.line < 2 ^ 32 → entry_text p (entry_at place a r) ≡ text → HasReply p flows a text r
+plain_reply p flows text place a r k h first lane line same = line_reply p flows a text place r k (plain_line p flows text place a r h first lane line same)
+
+pub plain_place : (p : PolicyShape) (text : List ℕ) (place : Place) (a : Ask) (r : Reply) → HasNames p → IsPlainReply p r
+    → place.at < 2 ^ 32 → place.lane < 2 ^ 8 → place.line < 2 ^ 32 → entry_text p (entry_at place a r) ≡ text → place_of_line text ≡ Some place
+plain_place p text place a r k h first lane line same =
+    line_place p (λ n. None) a text place r k (plain_line p (λ n. None) text place a r h first lane line same)

@@ -1,0 +1,192 @@
+-- The lines are the texts of entries that come next, one for each job, exactly where they are those of a legal history that
+-- fills the jobs.
+use Rattle.std.proofs.Common.{◌≡◌, ◌≢◌, ◌↔◌, ℕ, zero, suc, ◌+◌, ◌-◌, ◌<◌, ◌≤◌, inl, inr, Bool, true, false, nat_eq, nat_lt, nat_le, List, [], ◌∷◌, ◌++◌, length, take, drop, get_or, map, slice_get, slice_index_or, Option, None, Some, append_assoc, append-nil, refl, sym, ap, subst, ◌∙◌, arith}
+use Rattle.std.proofs.lemmas.Grind.{common_steps}
+use Rattle.std.proofs.lemmas.List.{length-append, length-map, map-append, take-append-drop, take-append-le}
+use Rattle.basics.proofs.Booleans.{bool_cases, eq_is}
+use Rattle.wf_names.specs.declared.limits.TheConstants.{LANE_LIMIT}
+use Rattle.policy_book.specs.Shapes.{PolicyShape}
+use Rattle.wf_talk.specs.declared.entry.Entry.{Entry}
+use Rattle.wf_talk.specs.declared.job.Job.{Job}
+use Rattle.wf_board.specs.Histories.{BatchRests, EachAfter, FillsJobs, IsLegal, IsRightAfter, RestsFrom, batch_end, batch_jobs, batch_start, job_of_entry, lane_jobs, state_after}
+use Rattle.wf_board.specs.HistoryLaws.{after_all, each_later}
+use Rattle.wf_board.specs.States.{State, opening_state}
+use Rattle.wire_json.specs.Replies.{entry_text}
+use Rattle.line_cutter.specs.Laws.{AreInOrder, LeadTo}
+use Rattle.wf_desk.specs.DocketLaws.{lane_both, lane_own}
+use Rattle.transcript_audit.specs.Audits.{AreNext, AuditShape, ComesNext, IsNext, IsTranscript, audit_of, end_at, next_job, next_text, present_start, start_at, state_now, texts_of, with_entry}
+use Rattle.transcript_audit.specs.Laws.{AreOfSession, AuditIsExact}
+use Rattle.transcript_audit.specs.Keeping.{IsBatchOf, IsSoundAudit, end_of}
+use Rattle.transcript_audit.proofs.Batches.{batch_there, end_is, end_read, start_is}
+use Rattle.transcript_audit.proofs.Sound.{sound_more, sound_start, whole_at_end}
+
+-- with several more entries
+abbrev pub with_all : AuditShape → List Entry → AuditShape
+with_all a es = record a { entries = a.entries ++ es }
+
+pub all_sound : (a : AuditShape) (k : ℕ) (lines : List (List ℕ)) (es : List Entry) → IsSoundAudit a k → AreNext a lines es → (n : ℕ) × IsSoundAudit (with_all a es) n
+all_sound a k [] [] sound next = (k, subst (λ es. IsSoundAudit (record a { entries = es }) k) (sym (append-nil a.entries)) sound)
+all_sound a k (line ∷ lines) (e ∷ es) sound next =
+    let more = sound_more a k e sound next.0.next in
+    let rest = all_sound (with_entry a e) more.0 lines es more.1 next.1 in
+    (rest.0, subst (λ xs. IsSoundAudit (record a { entries = xs }) rest.0) (append_assoc a.entries (e ∷ []) es) rest.1)
+all_sound a k [] (e ∷ es) sound next = absurd next
+all_sound a k (line ∷ lines) [] sound next = absurd next
+
+-- the state after one more entry
+state_more : (a : AuditShape) (e : Entry) → state_now (with_entry a e) ≡ state_after (state_now a) (e ∷ [])
+state_more a e = after_all (opening_state a.opening) a.entries (e ∷ [])
+
+all_written : (a : AuditShape) (lines : List (List ℕ)) (es : List Entry) → AreNext a lines es → lines ≡ texts_of (state_now a) es
+all_written a [] [] next = refl
+all_written a (line ∷ lines) (e ∷ es) next =
+    let more = state_more a e in
+    let first = next.0.written ∙ ap (λ (s : State). entry_text s.book.policy e) more in
+    let rest = all_written (with_entry a e) lines es next.1 ∙ ap (λ s. texts_of s es) more in
+    (λ i. first i ∷ rest i)
+all_written a [] (e ∷ es) next = absurd next
+all_written a (line ∷ lines) [] next = absurd next
+
+transcript_of : (p : PolicyShape) (rounds : ℕ) (jobs : List Job) (ends : List ℕ) (lines : List (List ℕ)) → AreInOrder LANE_LIMIT jobs ends →
+    ((es : List Entry) × (AreNext (audit_of p rounds jobs ends) lines es × (length es ≡ length jobs))) → IsTranscript p rounds jobs ends lines
+transcript_of p rounds jobs ends lines order found =
+    let sound = all_sound (audit_of p rounds jobs ends) 0 lines found.0 (sound_start p rounds jobs ends order) found.1.0 in
+    let whole = whole_at_end (with_all (audit_of p rounds jobs ends) found.0) sound.0 sound.1 found.1.1 in
+    record {
+      entries = found.0;
+      legal = whole.legal;
+      fills = whole.fills;
+      written = all_written (audit_of p rounds jobs ends) lines found.0 found.1.0;
+    }
+
+-- ---- from a history that fills the jobs
+
+-- a part of a list around one that stands in it
+part_at : {A : Type 0} (s e : ℕ) (xs : List A) (y : A) (ys : List A) → s ≤ length xs → length xs < e → (rest : List A) × (drop s (take e (xs ++ y ∷ ys)) ≡ drop s xs ++ y ∷ rest)
+part_at s zero xs y ys begun short = absurd (omega (arith, short))
+part_at zero (suc e) [] y ys begun short = (take e ys, refl)
+part_at (suc s) (suc e) [] y ys begun short = absurd (omega (arith, begun))
+part_at zero (suc e) (x ∷ xs) y ys begun short =
+    let rest = part_at zero e xs y ys (omega arith) (omega (arith, short)) in
+    (rest.0, ap (λ zs. x ∷ zs) rest.1)
+part_at (suc s) (suc e) (x ∷ xs) y ys begun short = part_at s e xs y ys (omega (arith, begun)) (omega (arith, short))
+
+get_behind : {A : Type 0} (xs ys : List A) (y : A) → slice_get (xs ++ y ∷ ys) (length xs) ≡ Some y
+get_behind [] ys y = refl
+get_behind (x ∷ xs) ys y = get_behind xs ys y
+
+map_rest : {A B : Type 0} (f : A → B) (n : ℕ) (xs : List A) → map f (drop n xs) ≡ drop n (map f xs)
+map_rest f zero xs = refl
+map_rest f (suc n) [] = refl
+map_rest f (suc n) (x ∷ xs) = map_rest f n xs
+
+-- what is known where an entry stands in a history that fills the jobs
+record IsAmong (a : AuditShape) (e : Entry) (post : List Entry) : Type 0 where
+  pub order : AreInOrder LANE_LIMIT a.jobs a.batch_ends
+  pub legal : IsLegal (opening_state a.opening) a.rounds (a.entries ++ e ∷ post)
+  pub fills : FillsJobs (a.entries ++ e ∷ post) a.jobs a.batch_ends
+
+record StandsIn (a : AuditShape) : Type 0 where
+  pub batch : ℕ
+  pub known : batch < length a.batch_ends
+  pub begun : batch_start a.batch_ends batch ≤ length a.entries
+  pub short : length a.entries < batch_end a.batch_ends batch
+  pub start : present_start a ≡ batch_start a.batch_ends batch
+  pub end : end_at (length a.entries) a.batch_ends ≡ batch_end a.batch_ends batch
+
+stands_in : (a : AuditShape) (e : Entry) (post : List Entry) → IsAmong a e post → StandsIn a
+stands_in a e post is =
+    let size = length-append a.entries (e ∷ post) in
+    let whole = is.fills.whole in
+    let found = batch_there a.batch_ends (length a.jobs) (length a.entries) is.order.ends (omega (arith, size, whole)) in
+    let here : IsBatchOf a.batch_ends (length a.entries) found.0 = found.1.0 in
+    record {
+      batch = found.0;
+      known = found.1.1;
+      begun = here.begun;
+      short = here.before found.1.1;
+      start = start_is a.batch_ends (length a.jobs) (length a.entries) found.0 is.order.ends here;
+      end = end_is a.batch_ends (length a.jobs) (length a.entries) found.0 is.order.ends here ∙ end_read a.batch_ends found.0 found.1.1;
+    }
+
+-- the entry answers its lane's next job
+among_answers : (a : AuditShape) (e : Entry) (post : List Entry) → IsAmong a e post → StandsIn a → next_job a e.lane ≡ Some (job_of_entry e)
+among_answers a e post is at =
+    let start = batch_start a.batch_ends at.batch in
+    let end = batch_end a.batch_ends at.batch in
+    let lane = e.lane in
+    let job = job_of_entry e in
+    let done = map job_of_entry a.entries in
+    let size = length-map a.entries job_of_entry in
+    let begun = at.begun in
+    let short = at.short in
+    let part = part_at start end done job (map job_of_entry post) (omega (arith, begun, size)) (omega (arith, short, size)) in
+    let served = lane_jobs lane (drop start done) in
+    let jobs : lane_jobs lane (batch_jobs a.batch_ends at.batch a.jobs) ≡ served ++ job ∷ lane_jobs lane part.0 =
+    sym (is.fills.batches at.batch at.known lane)
+    ∙ ap (λ js. lane_jobs lane (drop start (take end js))) (map-append job_of_entry a.entries (e ∷ post))
+    ∙ ap (lane_jobs lane) part.1
+    ∙ lane_both lane (drop start done) (job ∷ part.0)
+    ∙ ap (λ js. served ++ js) (lane_both lane (job ∷ []) part.0 ∙ ap (λ js. js ++ lane_jobs lane part.0) (lane_own lane job refl)) in
+    let count : length (lane_jobs lane (map job_of_entry (drop start a.entries))) ≡ length served = ap (λ js. length (lane_jobs lane js)) (map_rest job_of_entry start a.entries) in
+    ap (λ s. slice_get (lane_jobs lane (drop s (take (end_at (length a.entries) a.batch_ends) a.jobs))) (length (lane_jobs lane (map job_of_entry (drop s a.entries))))) at.start
+    ∙ ap (λ n. slice_get (lane_jobs lane (drop start (take n a.jobs))) (length (lane_jobs lane (map job_of_entry (drop start a.entries))))) at.end
+    ∙ ap (λ n. slice_get (lane_jobs lane (batch_jobs a.batch_ends at.batch a.jobs)) n) count
+    ∙ ap (λ js. slice_get js (length served)) jobs
+    ∙ get_behind served (lane_jobs lane part.0) job
+
+-- it is right after those before it
+among_right : (a : AuditShape) (e : Entry) (post : List Entry) → IsAmong a e post → IsRightAfter (opening_state a.opening) a.rounds a.entries e
+among_right a e post is = (each_later (IsRightAfter (opening_state a.opening) a.rounds) [] a.entries (e ∷ post) is.legal).0
+
+-- and rests on those of its batch
+among_rests : (a : AuditShape) (e : Entry) (post : List Entry) → IsAmong a e post → StandsIn a → RestsFrom (present_start a) a.entries e
+among_rests a e post is at =
+    let start = batch_start a.batch_ends at.batch in
+    let end = batch_end a.batch_ends at.batch in
+    let all = a.entries ++ e ∷ post in
+    let part = part_at start end a.entries e post at.begun at.short in
+    let rests = is.fills.rests at.batch at.known in
+    let first = subst (λ es. EachAfter (RestsFrom start) es (drop start (take end all))) (take-append-le start a.entries (e ∷ post) at.begun) rests in
+    let batch = subst (EachAfter (RestsFrom start) (take start a.entries)) part.1 first in
+    let here = (each_later (RestsFrom start) (take start a.entries) (drop start a.entries) (e ∷ part.0) batch).0 in
+    subst (λ s. RestsFrom s a.entries e) (sym at.start) (subst (λ es. RestsFrom start es e) (take-append-drop start a.entries) here)
+
+among_next : (a : AuditShape) (e : Entry) (post : List Entry) → IsAmong a e post → ComesNext a e
+among_next a e post is =
+    let at = stands_in a e post is in
+    record {
+      answers = among_answers a e post is at;
+      right = among_right a e post is;
+      rests = among_rests a e post is at;
+    }
+
+among_later : (a : AuditShape) (e : Entry) (post : List Entry) → IsLegal (opening_state a.opening) a.rounds (a.entries ++ e ∷ post) →
+    IsLegal (opening_state a.opening) a.rounds ((a.entries ++ e ∷ []) ++ post)
+among_later a e post legal = subst (IsLegal (opening_state a.opening) a.rounds) (sym (append_assoc a.entries (e ∷ []) post)) legal
+
+all_next : (a : AuditShape) (post : List Entry) → AreInOrder LANE_LIMIT a.jobs a.batch_ends → IsLegal (opening_state a.opening) a.rounds (a.entries ++ post) →
+    FillsJobs (a.entries ++ post) a.jobs a.batch_ends → AreNext a (texts_of (state_now a) post) post
+all_next a [] order legal fills = tt
+all_next a (e ∷ post) order legal fills =
+    let is : IsAmong a e post = record { order = order; legal = legal; fills = fills } in
+    let more = state_more a e in
+    let later = all_next (with_entry a e) post order (among_later a e post legal)
+    (subst (λ es. FillsJobs es a.jobs a.batch_ends) (sym (append_assoc a.entries (e ∷ []) post)) fills) in
+    (
+      record { next = among_next a e post is; written = sym (ap (λ (s : State). entry_text s.book.policy e) more) },
+      subst (λ s. AreNext (with_entry a e) (texts_of s post) post) more later,
+    )
+
+entries_of : (p : PolicyShape) (rounds : ℕ) (jobs : List Job) (ends : List ℕ) (lines : List (List ℕ)) → AreInOrder LANE_LIMIT jobs ends → IsTranscript p rounds jobs ends lines →
+    ((es : List Entry) × (AreNext (audit_of p rounds jobs ends) lines es × (length es ≡ length jobs)))
+entries_of p rounds jobs ends lines order is = (
+  is.entries,
+  (
+    subst (λ ls. AreNext (audit_of p rounds jobs ends) ls is.entries) (sym is.written) (all_next (audit_of p rounds jobs ends) is.entries order is.legal is.fills),
+    is.fills.whole,
+  ),
+)
+
+pub audit_is_exact : AuditIsExact
+audit_is_exact p rounds jobs ends lines session = (transcript_of p rounds jobs ends lines session.order, entries_of p rounds jobs ends lines session.order)

@@ -1,0 +1,18 @@
+//! Laws of audits. Each function changes nothing; its contract is the law.
+ghost use Rattle.transcript_audit.specs.Laws.{AuditIsExact, FaultsExclude};
+
+use entry_laws::{entries_are_lines, texts_are_lines};
+
+/// A line that has a fault is the text of no entry that comes next.
+pub fn faults_exclude()
+    ensures { FaultsExclude }
+{
+    entries_are_lines();
+    texts_are_lines();
+}
+
+/// All lines are the texts of entries that come next, one for each job, exactly where they are
+/// those of a legal history that fills the jobs.
+pub fn audit_is_exact()
+    ensures { AuditIsExact }
+{}

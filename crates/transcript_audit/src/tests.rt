@@ -1,0 +1,147 @@
+//! What no clause shows: that transcripts are taken while there is memory.
+
+use crate::{AuditFault, AuditKind, Auditor};
+use line_cutter::jobs_of;
+use std::alloc::Global;
+use std::test::Fail;
+use wf_board::{Decider, Deed, Snap, Verdict, decision_aside};
+use wf_talk::Ask;
+
+// Finds no verdict for want of memory.
+struct Idle;
+
+impl Decider for Idle {
+    fn decide(&self, alloc: Global, snap: &Snap, ask: &Ask) -> Verdict {
+        match decision_aside(alloc, snap.policy(), snap.cases(), ask) {
+            Ok(Deed::Open { .. } | Deed::Claim { .. } | Deed::Change { .. }) => Verdict::NoMemory,
+            _ => Verdict::Nothing,
+        }
+    }
+}
+
+const PAY: &str = r#"
+format = 1
+admin = "chief"
+roles = ["boss", "chief", "clerk"]
+
+[users]
+ann = ["clerk"]
+bob = ["clerk", "boss"]
+cyd = ["boss"]
+eve = ["chief"]
+
+[flows.pay]
+steps = ["prepare", "approve", "pay"]
+order = [["prepare", "approve"], ["approve", "pay"]]
+permit = { prepare = ["clerk"], approve = ["boss"], pay = ["clerk"] }
+rules = [
+  { form = "pair", relation = "other", first = "prepare", second = "approve" },
+  { form = "pair", relation = "other", first = "approve", second = "pay" },
+  { form = "pair", relation = "other", first = "prepare", second = "pay" },
+]
+"#;
+
+const REQUESTS: &str = r#"{"do":"open","flow":"pay"}
+{"do":"claim","case":0,"step":"prepare","user":"ann"}
+{"do":"finish","case":0,"step":"prepare","user":"ann"}
+{"do":"claim","case":0,"step":"approve","user":"bob"}
+"#;
+
+const OPENED: &str =
+    r#"{"at":0,"lane":0,"line":0,"reply":{"opened":{"case":0,"plan":["bob","cyd","ann"]}}}"#;
+const GRANTED: &str =
+    r#"{"at":1,"lane":0,"line":1,"reply":{"granted":{"plan":["ann","cyd","bob"]}}}"#;
+const FINISHED: &str = r#"{"at":2,"lane":0,"line":2,"reply":{"finished":{"done":false}}}"#;
+const STRANDED: &str = r#"{"at":3,"lane":0,"line":3,"reply":{"denied":{"stranded":{"step":"pay","users":[["ann",{"rule":2}],["bob",{"rule":1}]]}}}}"#;
+
+type Ended = Result<(), AuditFault>;
+
+fn at(line: u32, kind: AuditKind) -> Ended {
+    Err(AuditFault::At(line, kind))
+}
+
+#[test]
+fn a_transcript_is_legal(rt: HostRuntime) -> Result<(), Fail> {
+    let lines = [OPENED, GRANTED, FINISHED, STRANDED];
+    assert!(rt; ended(rt.alloc(), &lines)? == Ok(()));
+    assert!(rt; ended(rt.alloc(), &[OPENED, FINISHED, GRANTED, STRANDED])? == at(1, AuditKind::At));
+    assert!(rt; ended(rt.alloc(), &[OPENED, GRANTED, FINISHED])? == at(3, AuditKind::Missing));
+    Ok(())
+}
+
+// Other replies to the last claim, with the kind of fault that each has.
+fn other_denials() -> [(&'static str, AuditKind); 5] {
+    [
+        (
+            r#"{"at":3,"lane":0,"line":3,"reply":{"denied":{"stranded":{"step":"pay","users":[["ann",{"rule":2}]]}}}}"#,
+            AuditKind::Reply,
+        ),
+        (
+            r#"{"at":3,"lane":0,"line":3,"reply":{"denied":{"stranded":{"step":"pay","users":[["ann",{"rule":9}],["bob",{"rule":1}]]}}}}"#,
+            AuditKind::Reply,
+        ),
+        (
+            r#"{"at":3,"lane":0,"line":3,"reply":{"denied":{"stranded":{"step":"pay","users":[["ann",{"rule":300}],["bob",{"rule":1}]]}}}}"#,
+            AuditKind::Text,
+        ),
+        (
+            r#"{"at":3,"lane":1,"line":3,"reply":"returned"}"#,
+            AuditKind::Job,
+        ),
+        (
+            r#"{"at":3,"lane":0,"line":3,"reply":{"again":{"at":1,"rounds":1}}}"#,
+            AuditKind::Reply,
+        ),
+    ]
+}
+
+#[test]
+fn other_denials_are_faults(rt: HostRuntime) -> Result<(), Fail> {
+    for (line, kind) in other_denials() {
+        let lines = [OPENED, GRANTED, FINISHED, line];
+        assert!(rt; ended(rt.alloc(), &lines)? == at(3, kind), "{line}");
+    }
+    Ok(())
+}
+
+#[test]
+fn the_first_fault_stays(rt: HostRuntime) -> Result<(), Fail> {
+    let mut audit = begun(rt.alloc())?;
+    let invalid = r#"{"at":1,"lane":0,"line":1,"reply":{"granted":{"plan":["ann","cyd"]}}}"#;
+    assert!(rt; taken(rt.alloc(), &mut audit, OPENED)? == Ok(()));
+    assert!(rt; taken(rt.alloc(), &mut audit, invalid)? == at(1, AuditKind::Reply));
+    assert!(rt; taken(rt.alloc(), &mut audit, GRANTED)? == at(1, AuditKind::Reply));
+    assert!(rt; audit.end() == at(1, AuditKind::Reply));
+    Ok(())
+}
+
+#[test]
+fn a_line_ends_with_a_line_end(rt: HostRuntime) -> Result<(), Fail> {
+    let mut audit = begun(rt.alloc())?;
+    let end = audit.line(rt.alloc(), &Idle, OPENED.as_bytes());
+    assert!(rt; end == at(0, AuditKind::Text));
+    Ok(())
+}
+
+// What an audit of lines comes to.
+fn ended(alloc: Global, lines: &[&str]) -> Result<Ended, Fail> {
+    let mut audit = begun(alloc)?;
+    for line in lines {
+        let end = taken(alloc, &mut audit, line)?;
+        if end != Ok(()) {
+            return Ok(end);
+        }
+    }
+    Ok(audit.end())
+}
+
+fn begun(alloc: Global) -> Result<Auditor, Fail> {
+    let policy = policy_reader::read(alloc, PAY.as_bytes())?;
+    let batch = jobs_of(alloc, REQUESTS.as_bytes(), 2)?;
+    Ok(Auditor::new(alloc, policy, batch.jobs, batch.ends, 1)?)
+}
+
+fn taken(alloc: Global, audit: &mut Auditor, line: &str) -> Result<Ended, Fail> {
+    let text = format!(in alloc; "{line}\n")?;
+    Ok(audit.line(alloc, &Idle, text.as_bytes()))
+}

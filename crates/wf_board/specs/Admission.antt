@@ -1,0 +1,55 @@
+-- Inside: how a board takes a reply over its policy and its table of cases.
+use Rattle.std.specs.Prelude.{◌≡◌, ℕ, Bool, false, true, Result, Ok, Err}
+use Rattle.policy_book.specs.Shapes.{PolicyShape}
+use Rattle.grant_table.specs.Tables.{CasesShape}
+use Rattle.wf_talk.specs.declared.request.Ask.{Ask}
+use Rattle.wf_talk.specs.declared.reply.Reply.{Reply}
+use Rattle.wf_talk.specs.declared.reply.Denial.{Denial}
+use Rattle.wf_talk.specs.declared.reply.Denial.TheVariants as denial
+use Rattle.wf_board.specs.declared.admit.AdmitFault.{AdmitFault}
+use Rattle.wf_board.specs.declared.admit.AdmitFault.TheVariants.{NotStep, NoMemory}
+use Rattle.wf_board.specs.declared.deed.Deed.{Deed}
+use Rattle.wf_board.specs.declared.deed.Deed.TheVariants as deed
+use Rattle.wf_board.specs.declared.verdict.Verdict.{Verdict}
+use Rattle.wf_board.specs.declared.verdict.Verdict.TheVariants as verdict
+use Rattle.wf_board.specs.States.{Book}
+use Rattle.wf_board.specs.Boards.{BoardShape, state_on}
+use Rattle.wf_board.specs.Steps.{Answers, IsStep, state_after_step}
+use Rattle.wf_board.specs.Taking.{board_of, HasTaken}
+use Rattle.wf_board.specs.Verdicts.{IsStrandingFor}
+
+-- a denial that shows no tree
+abbrev pub has_no_tree : Denial → Bool
+has_no_tree (denial.Unsatisfiable f tree) = false
+has_no_tree (denial.Stranded f tree) = false
+has_no_tree (denial.Strands n f tree) = false
+has_no_tree d = true
+
+-- the fault where the test fails
+abbrev pub when : Bool → Result (Unit {0}) AdmitFault
+when true = Ok tt
+when false = Err NotStep
+
+-- a reply is none where the deed or the cause against it is this
+abbrev pub IsNoAnswer : PolicyShape → CasesShape → Result Deed Denial → Reply → Type 0
+IsNoAnswer p t decision given = (edits : ℕ) → ¬ Answers (state_on (board_of p t edits)) decision given
+
+-- a reply was taken, where the deed or the cause against it is this; or it is no step, or there was no memory, and nothing
+-- has changed
+abbrev pub HasAdmitted : PolicyShape → CasesShape → CasesShape → Result Deed Denial → Reply → Result (Unit {0}) AdmitFault → Type 0
+HasAdmitted p before after decision given (Ok done) = HasTaken p before after decision given
+HasAdmitted p before after decision given (Err NotStep) = (after ≡ before) × IsNoAnswer p before decision given
+HasAdmitted p before after decision given (Err NoMemory) = after ≡ before
+
+-- a change of the policy comes with the case that it strands; no other deed needs a verdict to take a reply
+abbrev pub IsVerdictFor : Book → Deed → Verdict → Type 0
+IsVerdictFor b (deed.Change a) (verdict.Strands n tree) = IsStrandingFor b (Ok (deed.Change a)) n tree
+IsVerdictFor b (deed.Change a) v = ⊥
+IsVerdictFor b given v = Unit {0}
+
+-- a board has taken a reply, or has not changed
+abbrev pub HasAdmittedStep : BoardShape → BoardShape → Ask → Reply → Result (Unit {0}) AdmitFault → Type 0
+HasAdmittedStep before after what given (Ok done) =
+    IsStep (state_on before) what given × (state_on after ≡ state_after_step (state_on before) what given)
+HasAdmittedStep before after what given (Err NotStep) = (after ≡ before) × (¬ IsStep (state_on before) what given)
+HasAdmittedStep before after what given (Err NoMemory) = after ≡ before
