@@ -2,3 +2,4 @@ pub mod Auditing
 pub mod Running
 pub mod Loading
 pub mod Steps
+pub mod Laws

@@ -2,8 +2,10 @@
 #![tactic(auto)]
 
 mod finding;
+mod laws;
 mod lines;
 mod load;
 mod run;
 
+pub use laws::legal_is_next;
 pub use run::run_audit;

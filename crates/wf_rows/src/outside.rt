@@ -8,10 +8,11 @@ use wf_outside::{MemFile, MemShelf, MemSink, MemSource};
 /// How many bytes go at once where a row does not say.
 const PIECE: usize = 1_000_000;
 
-/// The policies of all rows, and the row's own.
+/// The policies of all rows, and the row's own with its requests.
 pub fn shelf_of(alloc: Global, rows: &Rows, row: &Row) -> Result<MemShelf, AllocError> {
     let mut files = Vec::new(alloc);
     files.push(file_of(alloc, "here", own_text(alloc, rows, row)?.as_str())?)?;
+    files.push(file_of(alloc, "requests", row.requests.as_str())?)?;
     for policy in &rows.policy {
         files.push(file_of(alloc, policy.name.as_str(), policy.text.as_str())?)?;
     }

@@ -16,7 +16,8 @@ pub struct File {
 }
 
 /// A command with its input, and what must come of it. The row's own policy stands under the name
-/// `here`: the texts that `after` names, and then its own.
+/// `here`: the texts that `after` names, and then its own. Its requests file stands under the name
+/// `requests`.
 #[derive(Drop, Deserialize)]
 pub struct Row {
     pub name: String,
@@ -25,6 +26,8 @@ pub struct Row {
     pub after: Vec<String>,
     #[serde(default)]
     pub here: String,
+    #[serde(default)]
+    pub requests: String,
     #[serde(default)]
     pub input: String,
     pub status: u8,

@@ -12,6 +12,7 @@ ghost use Rattle.wf_server.specs.Run.{Does};
 use crate::decider::PlainDecider;
 use crate::serve::run_serve;
 use crate::words::{Command, read_words};
+use audit_command::run_audit;
 use run_record::{Report, RunFault, bare_report};
 use std::alloc::Global;
 use std::sync::Wait;
@@ -123,6 +124,25 @@ pub fn run_alone<F: Shelf, S: Source, K: Sink>(
                 ensures { HasServedOn desk result × IsDone result }
             { turned(alloc, desk) };
             run_serve(alloc, &by_turns, policy, options, shelf, source, sink)
+        }
+        Some(
+            Command::Audit {
+                policy,
+                requests,
+                options,
+            },
+        ) => {
+            run_audit(
+                alloc,
+                &PlainDecider,
+                policy,
+                requests,
+                options.lanes,
+                options.rounds,
+                shelf,
+                source,
+                sink,
+            )
         }
         None => bare_report(alloc, RunFault::Usage),
     }
