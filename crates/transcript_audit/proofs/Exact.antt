@@ -172,8 +172,7 @@ all_next a (e ∷ post) order legal fills =
     let is : IsAmong a e post = record { order = order; legal = legal; fills = fills } in
     let more = state_more a e in
     let later = all_next (with_entry a e) post order (among_later a e post legal)
-    (subst (λ es. FillsJobs es a.jobs a.batch_ends) (sym (append_assoc a.entries (e ∷ []) post)) fills) in
-    (
+    (subst (λ es. FillsJobs es a.jobs a.batch_ends) (sym (append_assoc a.entries (e ∷ []) post)) fills) in (
       record { next = among_next a e post is; written = sym (ap (λ (s : State). entry_text s.book.policy e) more) },
       subst (λ s. AreNext (with_entry a e) (texts_of s post) post) more later,
     )

@@ -98,7 +98,7 @@ abbrev pub HasFault : AuditShape → List ℕ → AuditKind → Type 0
 HasFault a line Text =
     (place_told line ≡ None)
     ⊎ ((place : Place) × ((j : Job) × (StandsAt a line place
-      × (IsDue a place j × HasNoReply (state_now a).book.policy (flows_now a) j.ask line))))
+    × (IsDue a place j × HasNoReply (state_now a).book.policy (flows_now a) j.ask line))))
 HasFault a line At = (place : Place) × ((place_told line ≡ Some place) × (place.at ≢ length a.entries))
 HasFault a line WrongJob = (place : Place) × (StandsAt a line place × ((j : Job) → ¬ IsDue a place j))
 HasFault a line WrongReply =

@@ -50,7 +50,13 @@ impl Model for Record {
 
 impl Record {
     /// The record before the first line.
-    pub fn new(alloc: Global, opening: Arc<Policy, Global>, rounds: u8, jobs: Jobs, ends: Ends) -> Record
+    pub fn new(
+        alloc: Global,
+        opening: Arc<Policy, Global>,
+        rounds: u8,
+        jobs: Jobs,
+        ends: Ends,
+    ) -> Record
         requires order { AreInOrder LANE_LIMIT jobs ends }
         ensures { result.audit ≡ audit_of (arc_value opening) rounds jobs ends }
     {

@@ -5,6 +5,7 @@ use line_cutter::jobs_of;
 use std::alloc::Global;
 use std::test::Fail;
 use wf_board::{Decider, Deed, Snap, Verdict, decision_aside};
+use wf_names::LANE_LIMIT;
 use wf_talk::Ask;
 
 // Finds no verdict for want of memory.
@@ -49,10 +50,14 @@ const REQUESTS: &str = r#"{"do":"open","flow":"pay"}
 
 const OPENED: &str =
     r#"{"at":0,"lane":0,"line":0,"reply":{"opened":{"case":0,"plan":["bob","cyd","ann"]}}}"#;
+
 const GRANTED: &str =
     r#"{"at":1,"lane":0,"line":1,"reply":{"granted":{"plan":["ann","cyd","bob"]}}}"#;
+
 const FINISHED: &str = r#"{"at":2,"lane":0,"line":2,"reply":{"finished":{"done":false}}}"#;
-const STRANDED: &str = r#"{"at":3,"lane":0,"line":3,"reply":{"denied":{"stranded":{"step":"pay","users":[["ann",{"rule":2}],["bob",{"rule":1}]]}}}}"#;
+
+const STRANDED: &str =
+    r#"{"at":3,"lane":0,"line":3,"reply":{"denied":{"stranded":{"step":"pay","users":[["ann",{"rule":2}],["bob",{"rule":1}]]}}}}"#;
 
 type Ended = Result<(), AuditFault>;
 
@@ -137,7 +142,7 @@ fn ended(alloc: Global, lines: &[&str]) -> Result<Ended, Fail> {
 
 fn begun(alloc: Global) -> Result<Auditor, Fail> {
     let policy = policy_reader::read(alloc, PAY.as_bytes())?;
-    let batch = jobs_of(alloc, REQUESTS.as_bytes(), 2)?;
+    let batch = jobs_of(alloc, REQUESTS.as_bytes(), LANE_LIMIT)?;
     Ok(Auditor::new(alloc, policy, batch.jobs, batch.ends, 1)?)
 }
 
