@@ -2,8 +2,9 @@
 use Rattle.std.proofs.Common.{refl, ap, sym, ◌∙◌, arith}
 use Rattle.std.specs.Prelude.{◌≡◌, ◌≢◌, ℕ, suc, zero, ◌+◌, ◌==◌, ◌<◌, ◌≤◌, Bool, true, false, List, [], ◌∷◌, ◌++◌, length, take, drop, slice_index, Option, None, Some, if◌then◌else◌}
 use Rattle.std.proofs.lemmas.Grind.{common_steps}
+use Rattle.std.proofs.lemmas.List.{length-append}
 use Rattle.memchr.specs.Find.{IsFirstByte, Nowhere, NoneBefore, Passes, is_byte}
-use Rattle.line_reader.specs.Lines.{first_line, behind_line, has_end, line_length}
+use Rattle.line_reader.specs.Lines.{first_line, behind_line, has_end, line_length, lines_of, before_lines}
 use Rattle.line_reader.specs.Steps.{HasEndAt, FindsEnd}
 
 -- the first LF stands where no LF stands before it
@@ -71,3 +72,123 @@ goes_step b front bytes false is none rest =
 pub goes_on : (front bytes : List ℕ) → has_end front ≡ false → GoesOn front bytes
 goes_on [] bytes none = record { line = refl; behind = refl; ended = refl; counted = omega arith }
 goes_on (b ∷ front) bytes none = goes_step b front bytes (b == 10) refl none (goes_on front bytes)
+
+-- ---- the lines of a text
+
+-- the first line, and the lines behind it
+first_now : (b : ℕ) (bs : List ℕ) → (b == 10) ≡ true → lines_of (b ∷ bs) ≡ first_line (b ∷ bs) ∷ lines_of (behind_line (b ∷ bs))
+first_now b bs is = rw is refl
+
+first_later : (b : ℕ) (bs : List ℕ) → (b == 10) ≡ false → lines_of bs ≡ first_line bs ∷ lines_of (behind_line bs) → lines_of (b ∷ bs) ≡ first_line (b ∷ bs) ∷ lines_of (behind_line (b ∷ bs))
+first_later b bs is h = rw is (ap (before_lines b) h)
+
+first_alone : (b : ℕ) → (b == 10) ≡ false → lines_of (b ∷ []) ≡ first_line (b ∷ []) ∷ lines_of (behind_line (b ∷ []))
+first_alone b is = rw is refl
+
+first_step : (b : ℕ) (bs : List ℕ) (x : Bool) → (b == 10) ≡ x → (0 < length bs → lines_of bs ≡ first_line bs ∷ lines_of (behind_line bs))
+    → lines_of (b ∷ bs) ≡ first_line (b ∷ bs) ∷ lines_of (behind_line (b ∷ bs))
+first_step b bs true is rest = first_now b bs is
+first_step b [] false is rest = first_alone b is
+first_step b (d ∷ bs) false is rest = first_later b (d ∷ bs) is (rest (omega arith))
+
+pub lines_first : (bytes : List ℕ) → 0 < length bytes → lines_of bytes ≡ first_line bytes ∷ lines_of (behind_line bytes)
+lines_first [] some = absurd (omega arith)
+lines_first (b ∷ bs) some = first_step b bs (b == 10) refl (lines_first bs)
+
+-- the first line and what stands behind it are the text
+split_step : (b : ℕ) (bs : List ℕ) (x : Bool) → (b == 10) ≡ x → first_line bs ++ behind_line bs ≡ bs → first_line (b ∷ bs) ++ behind_line (b ∷ bs) ≡ b ∷ bs
+split_step b bs true is h = rw is refl
+split_step b bs false is h = rw is (ap (λ xs. b ∷ xs) h)
+
+pub split_line : (bytes : List ℕ) → first_line bytes ++ behind_line bytes ≡ bytes
+split_line [] = refl
+split_line (b ∷ bs) = split_step b bs (b == 10) refl (split_line bs)
+
+-- where a line has ended, more bytes stand behind it
+pub record HasBehind (bytes more : List ℕ) : Type 0 where
+  pub line : first_line (bytes ++ more) ≡ first_line bytes
+  pub behind : behind_line (bytes ++ more) ≡ behind_line bytes ++ more
+
+behind_step : (b : ℕ) (bs more : List ℕ) (x : Bool) → (b == 10) ≡ x → has_end (b ∷ bs) ≡ true → (has_end bs ≡ true → HasBehind bs more) → HasBehind (b ∷ bs) more
+behind_step b bs more true is ended rest = record { line = rw is refl; behind = rw is refl }
+behind_step b bs more false is ended rest =
+    let left : has_end bs ≡ true = rw is at ended in
+    let h = rest left in
+    record { line = rw is (ap (λ xs. b ∷ xs) h.line); behind = rw is h.behind }
+
+pub more_behind : (bytes more : List ℕ) → has_end bytes ≡ true → HasBehind bytes more
+more_behind [] more ended = cc
+more_behind (b ∷ bs) more ended = behind_step b bs more (b == 10) refl ended (more_behind bs more)
+
+-- a line by itself
+pub record IsAlone (bytes : List ℕ) : Type 0 where
+  pub line : first_line (first_line bytes) ≡ first_line bytes
+  pub behind : behind_line (first_line bytes) ≡ []
+  pub ended : has_end (first_line bytes) ≡ has_end bytes
+  pub counted : line_length (first_line bytes) ≡ line_length bytes
+  pub within : line_length bytes ≤ length (first_line bytes)
+
+alone_step : (b : ℕ) (bs : List ℕ) (x : Bool) → (b == 10) ≡ x → IsAlone bs → IsAlone (b ∷ bs)
+alone_step b bs true is h = record { line = rw (is, is) refl; behind = rw (is, is) refl; ended = rw (is, is) refl; counted = rw (is, is) refl; within = rw is (omega arith) }
+alone_step b bs false is h = record {
+  line = rw (is, is) (ap (λ xs. b ∷ xs) h.line);
+  behind = rw (is, is) h.behind;
+  ended = rw (is, is) h.ended;
+  counted = rw (is, is) (ap suc h.counted);
+  within = rw is (let w = h.within in omega (arith, w));
+}
+
+pub line_alone : (bytes : List ℕ) → IsAlone bytes
+line_alone [] = record { line = refl; behind = refl; ended = refl; counted = refl; within = omega arith }
+line_alone (b ∷ bs) = alone_step b bs (b == 10) refl (line_alone bs)
+
+-- more bytes make the first line no shorter
+longer_step : (b : ℕ) (bs more : List ℕ) (x : Bool) → (b == 10) ≡ x → line_length bs ≤ line_length (bs ++ more) → line_length (b ∷ bs) ≤ line_length (b ∷ (bs ++ more))
+longer_step b bs more true is h = rw is (omega arith)
+longer_step b bs more false is h = rw is (omega (arith, h))
+
+pub line_longer : (bytes more : List ℕ) → line_length bytes ≤ line_length (bytes ++ more)
+line_longer [] more = omega arith
+line_longer (b ∷ bs) more = longer_step b bs more (b == 10) refl (line_longer bs more)
+
+-- bytes with an LF at their end have one
+end_step : (b : ℕ) (bs : List ℕ) (x : Bool) → (b == 10) ≡ x → has_end bs ≡ true → has_end (b ∷ bs) ≡ true
+end_step b bs true is h = rw is refl
+end_step b bs false is h = rw is h
+
+pub ends_with_lf : (bytes : List ℕ) → has_end (bytes ++ 10 ∷ []) ≡ true
+ends_with_lf [] = refl
+ends_with_lf (b ∷ bs) = end_step b (bs ++ 10 ∷ []) (b == 10) refl (ends_with_lf bs)
+
+some_step : (b : ℕ) (bs : List ℕ) (x : Bool) → (b == 10) ≡ x → 0 < length (first_line (b ∷ bs))
+some_step b bs true is = rw is (omega arith)
+some_step b bs false is = rw is (omega arith)
+
+pub first_some : (bytes : List ℕ) → 0 < length bytes → 0 < length (first_line bytes)
+first_some [] some = some
+first_some (b ∷ bs) some = some_step b bs (b == 10) refl
+
+ended_some : (bytes : List ℕ) → has_end bytes ≡ true → 0 < length bytes
+ended_some [] ended = cc
+ended_some (b ∷ bs) ended = omega arith
+
+line_some : (bytes more : List ℕ) → has_end bytes ≡ true → 0 < length (first_line bytes ++ more)
+line_some bytes more ended =
+    let some = first_some bytes (ended_some bytes ended) in
+    omega (arith, some, length-append (first_line bytes) more)
+
+-- a line in front of more
+pub line_before : (bytes more : List ℕ) → has_end bytes ≡ true → lines_of (first_line bytes ++ more) ≡ first_line bytes ∷ lines_of more
+line_before bytes more ended =
+    let alone = line_alone bytes in
+    let on = more_behind (first_line bytes) more (alone.ended ∙ ended) in
+    let some : 0 < length (first_line bytes ++ more) = line_some bytes more ended in
+    lines_first (first_line bytes ++ more) some ∙ ap (λ l. l ∷ lines_of (behind_line (first_line bytes ++ more))) (on.line ∙ alone.line)
+    ∙ ap (λ xs. first_line bytes ∷ lines_of xs) (on.behind ∙ ap (λ xs. xs ++ more) alone.behind)
+
+-- a line by itself is one
+pub line_one : (bytes : List ℕ) → 0 < length bytes → lines_of (first_line bytes) ≡ first_line bytes ∷ []
+line_one bytes some =
+    let alone = line_alone bytes in
+    lines_first (first_line bytes) (first_some bytes some) ∙ ap (λ l. l ∷ lines_of (behind_line (first_line bytes))) alone.line
+    ∙ ap (λ xs. first_line bytes ∷ lines_of xs) alone.behind

@@ -78,12 +78,15 @@ line_ends left r s n kept going short less h fits is =
 pub line_grows : (left : Option (List ℕ)) (r s : ReaderShape) → r.handed ≡ false → 0 < length r.ahead → length r.line + length r.ahead ≤ r.limit
     → s ≡ record r { line = r.line ++ r.ahead; ahead = [] } → HasGoneOn left left r s × (steps_left s < steps_left r)
 line_grows left r s kept some fits is =
-    rw is (record {
-      seen = seen_here left r _ (rw kept (append-nil (r.line ++ r.ahead)));
-      kept = kept;
-      limit = refl;
-      room = refl;
-    }, omega (arith, length-append r.line r.ahead))
+    rw is (
+      record {
+        seen = seen_here left r _ (rw kept (append-nil (r.line ++ r.ahead)));
+        kept = kept;
+        limit = refl;
+        room = refl;
+      },
+      omega (arith, length-append r.line r.ahead),
+    )
 
 -- the line is too long
 pub line_passes : (left : Option (List ℕ)) (r : ReaderShape) → r.handed ≡ false → has_end r.line ≡ false → length r.line ≤ r.limit → length r.ahead ≤ r.room
@@ -142,17 +145,19 @@ piece_taken before after r s kept none is taken some =
     let open_s : s.handed ≡ false = ap (λ (x : ReaderShape). x.handed) is ∙ kept in
     let line_s : s.line ≡ r.line = ap (λ (x : ReaderShape). x.line) is in
     let limit_s : s.limit ≡ r.limit = ap (λ (x : ReaderShape). x.limit) is in
-    let room_s : s.room ≡ r.room = ap (λ (x : ReaderShape). x.room) is in
-    (record {
-      seen = record {
-        more = s.ahead;
-        taken = taken;
-        whole = open_pending s open_s ∙ ap (λ xs. xs ++ s.ahead) (line_s ∙ sym (append-nil r.line) ∙ ap (λ xs. r.line ++ xs) (sym none) ∙ sym (open_pending r kept));
-      };
-      kept = open_s;
-      limit = limit_s;
-      room = room_s;
-    }, omega (arith, some, limit_s, ap length line_s, ap length none))
+    let room_s : s.room ≡ r.room = ap (λ (x : ReaderShape). x.room) is in (
+      record {
+        seen = record {
+          more = s.ahead;
+          taken = taken;
+          whole = open_pending s open_s ∙ ap (λ xs. xs ++ s.ahead) (line_s ∙ sym (append-nil r.line) ∙ ap (λ xs. r.line ++ xs) (sym none) ∙ sym (open_pending r kept));
+        };
+        kept = open_s;
+        limit = limit_s;
+        room = room_s;
+      },
+      omega (arith, some, limit_s, ap length line_s, ap length none),
+    )
 
 -- no piece was taken
 pub piece_failed : (before after : Option (List ℕ)) (r s : ReaderShape) → r.handed ≡ false → has_end r.line ≡ false → length r.line ≤ r.limit → r.ahead ≡ []
@@ -213,7 +218,7 @@ pub read_front : (r : ReaderShape) (line after : List ℕ) (handed : Bool) (at f
     → record { line = line; handed = handed; ahead = drop at (take filled piece); limit = limit; room = length piece } ≡ r → at ≤ filled → count ≤ length r.ahead
     → after ≡ line ++ take ((at + count) - at) (drop at piece)
     → record { line = after; handed = true; ahead = drop (at + count) (take filled piece); limit = limit; room = length piece }
-        ≡ record r { line = r.line ++ take count r.ahead; handed = true; ahead = drop count r.ahead }
+    ≡ record r { line = r.line ++ take count r.ahead; handed = true; ahead = drop count r.ahead }
 read_front r line after handed at filled limit count piece is begun within grown =
     let few : count ≤ length (drop at (take filled piece)) = omega (arith, within, ap (λ (s : ReaderShape). length s.ahead) is) in
     let all : after ≡ line ++ take count (drop at (take filled piece)) = grown ∙ ap (λ xs. line ++ xs) (front_between piece at filled count begun few) in
@@ -223,9 +228,12 @@ read_front r line after handed at filled limit count piece is begun within grown
 pub sizes : (r : ReaderShape) (line : List ℕ) (handed : Bool) (at filled limit : ℕ) (piece : List ℕ)
     → record { line = line; handed = handed; ahead = drop at (take filled piece); limit = limit; room = length piece } ≡ r
     → (length line ≡ length r.line) × (limit ≡ r.limit) × (at ≤ filled → filled ≤ length piece → filled - at ≡ length r.ahead)
-sizes r line handed at filled limit piece is =
-    (ap (λ (s : ReaderShape). length s.line) is, ap (λ (s : ReaderShape). s.limit) is, λ begun within.
-    omega (arith, begun, within, ap (λ (s : ReaderShape). length s.ahead) is, length-drop at (take filled piece), length-take filled piece))
+sizes r line handed at filled limit piece is = (
+  ap (λ (s : ReaderShape). length s.line) is,
+  ap (λ (s : ReaderShape). s.limit) is,
+  λ begun within.
+      omega (arith, begun, within, ap (λ (s : ReaderShape). length s.ahead) is, length-drop at (take filled piece), length-take filled piece),
+)
 
 -- nothing of the piece is left
 pub none_ahead : (r : ReaderShape) (line : List ℕ) (handed : Bool) (at filled limit : ℕ) (piece : List ℕ)

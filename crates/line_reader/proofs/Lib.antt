@@ -1,2 +1,2 @@
-mod FirstLines
+pub mod FirstLines
 mod Going

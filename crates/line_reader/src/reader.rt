@@ -146,8 +146,7 @@ impl LineReader {
         ensures read { OnOk result (self.new ≡ record self.old { line = self.old.line ++ take count self.old.ahead; handed = true; ahead = drop count self.old.ahead }) }
         ensures unchanged { OnErr result (self.new ≡ self.old) }
     {
-        self.line
-            .push_all(&self.piece[self.at..self.at + count])?;
+        self.line.push_all(&self.piece[self.at..self.at + count])?;
         self.at += count;
         self.handed = true;
         Ok(())

@@ -12,8 +12,10 @@ use Rattle.wf_board.specs.declared.deed.Deed.{Deed}
 use Rattle.wf_board.specs.declared.deed.Deed.TheVariants as deed
 use Rattle.wf_board.specs.declared.verdict.Verdict.{Verdict}
 use Rattle.wf_board.specs.declared.verdict.Verdict.TheVariants as verdict
+use Rattle.wf_board.specs.Admitting.{MayLackMemoryFor}
 use Rattle.wf_board.specs.States.{Book}
 use Rattle.wf_board.specs.Boards.{BoardShape, state_on}
+use Rattle.wf_board.specs.Decisions.{decision_of}
 use Rattle.wf_board.specs.Steps.{Answers, IsStep, state_after_step}
 use Rattle.wf_board.specs.Taking.{board_of, HasTaken}
 use Rattle.wf_board.specs.Verdicts.{IsStrandingFor}
@@ -39,7 +41,7 @@ IsNoAnswer p t decision given = (edits : ℕ) → ¬ Answers (state_on (board_of
 abbrev pub HasAdmitted : PolicyShape → CasesShape → CasesShape → Result Deed Denial → Reply → Result (Unit {0}) AdmitFault → Type 0
 HasAdmitted p before after decision given (Ok done) = HasTaken p before after decision given
 HasAdmitted p before after decision given (Err NotStep) = (after ≡ before) × IsNoAnswer p before decision given
-HasAdmitted p before after decision given (Err NoMemory) = after ≡ before
+HasAdmitted p before after decision given (Err NoMemory) = (after ≡ before) × MayLackMemoryFor before.spare decision
 
 -- a change of the policy comes with the case that it strands; no other deed needs a verdict to take a reply
 abbrev pub IsVerdictFor : Book → Deed → Verdict → Type 0
@@ -52,4 +54,5 @@ abbrev pub HasAdmittedStep : BoardShape → BoardShape → Ask → Reply → Res
 HasAdmittedStep before after what given (Ok done) =
     IsStep (state_on before) what given × (state_on after ≡ state_after_step (state_on before) what given)
 HasAdmittedStep before after what given (Err NotStep) = (after ≡ before) × (¬ IsStep (state_on before) what given)
-HasAdmittedStep before after what given (Err NoMemory) = after ≡ before
+HasAdmittedStep before after what given (Err NoMemory) =
+    (after ≡ before) × MayLackMemoryFor before.cases.spare (decision_of (state_on before).book what)

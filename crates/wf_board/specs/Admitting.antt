@@ -1,5 +1,6 @@
 -- Taking the step of a reply that somebody else gave.
-use Rattle.std.specs.Prelude.{◌≡◌, ◌≢◌, Bool, true, false, Result, Ok, Err}
+use Rattle.std.specs.Prelude.{◌≡◌, ◌≢◌, ℕ, Bool, true, false, Result, Ok}
+use Rattle.std.proofs.Common.{◌⊎◌}
 use Rattle.wf_talk.specs.declared.request.Ask.{Ask}
 use Rattle.wf_talk.specs.declared.reply.Reply.{Reply}
 use Rattle.wf_talk.specs.declared.reply.Reply.TheVariants as reply
@@ -9,7 +10,8 @@ use Rattle.wf_board.specs.declared.deed.Deed.TheVariants as deed
 use Rattle.wf_board.specs.declared.verdict.Verdict.{Verdict}
 use Rattle.wf_board.specs.declared.verdict.Verdict.TheVariants as verdict
 use Rattle.wf_board.specs.States.{State}
-use Rattle.wf_board.specs.Decisions.{decision_of}
+use Rattle.wf_board.specs.Decisions.{decision_of, takes_memory}
+use Rattle.wf_board.specs.Verdicts.{is_opening}
 
 -- an edit against which there is no cause
 abbrev pub is_edit_left : Result Deed Denial → Bool
@@ -20,3 +22,9 @@ is_edit_left given = false
 abbrev pub HasVerdict : State → Ask → Reply → Verdict → Type 0
 HasVerdict s what given v =
     is_edit_left (decision_of s.book what) ≡ true → given ≢ reply.NoMemory → (v ≢ verdict.Nothing) × (v ≢ verdict.NoMemory)
+
+-- where there may be no memory to take a reply, with room for so many more cases: for the list of roles of a denial, for
+-- an opening without room, or for the policy after an edit
+abbrev pub MayLackMemoryFor : ℕ → Result Deed Denial → Type 0
+MayLackMemoryFor spare r =
+    (takes_memory r ≡ true) ⊎ (((is_opening r ≡ true) × (spare ≡ 0)) ⊎ (is_edit_left r ≡ true))

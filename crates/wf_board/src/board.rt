@@ -2,7 +2,7 @@
 ghost use Rattle.std.specs.Prelude.{◌≡◌, ◌≢◌, ◌<◌, ◌≤◌, ◌+◌, ◌↔◌, true, IfOk, IfSome, IsErrOf, OnErr, OnOk};
 ghost use Rattle.std.specs.Arc.{arc_value};
 ghost use Rattle.wf_board.specs.Admission.{HasAdmittedStep};
-ghost use Rattle.wf_board.specs.Admitting.{HasVerdict};
+ghost use Rattle.wf_board.specs.Admitting.{HasVerdict, MayLackMemoryFor};
 ghost use Rattle.wf_board.specs.Boards.{state_on};
 ghost use Rattle.wf_board.specs.Decisions.{decision_aside, decision_of, needs_verdict};
 ghost use Rattle.wf_board.specs.Kept.{AreNumbered, ArePlanned, IsSoundState, KeepsCompletable};
@@ -123,6 +123,8 @@ impl Board {
             (state_on self.new ≡ state_after_step (state_on self.old) ask.now reply.now) }
         ensures none { IsErrOf result AdmitFault.NotStep
             → ¬ IsStep (state_on self.old) ask.now reply.now }
+        ensures memory { IsErrOf result AdmitFault.NoMemory
+            → MayLackMemoryFor self.old.cases.spare (decision_of (state_on self.old).book ask.now) }
         ensures unchanged { OnErr result (self.new ≡ self.old) }
     {
         match verdict {

@@ -1,5 +1,5 @@
 //! Loading the policy.
-ghost use Rattle.std.specs.Prelude.{◌≡◌, IfErr, IfOk};
+ghost use Rattle.std.specs.Prelude.{◌≡◌, ℕ, List, IfErr, IfOk};
 ghost use Rattle.policy_reader.specs.Printable.{IsPrintable};
 ghost use Rattle.run_record.specs.Fault.{fault_in, CountsLoads};
 ghost use Rattle.wf_commands.specs.Load.{GivesBytes, GivesPolicy, IsFileEnding, IsLoadEnding};
@@ -16,6 +16,7 @@ pub fn load_policy<F: Shelf>(alloc: Global, shelf: &mut F, name: &str) -> Result
     ensures printable { IfOk result IsPrintable }
     ensures ending { IfErr result IsLoadEnding }
     ensures loads { CountsLoads (fault_in result) (F.faults shelf.old) (F.faults shelf.new) }
+    ensures kept { (n : List ℕ) → F.file shelf.new n ≡ F.file shelf.old n }
 {
     let file = load_file(alloc, shelf, name)?;
     Ok(policy_reader::read(alloc, file.as_bytes())?)
@@ -26,6 +27,7 @@ fn load_file<F: Shelf>(alloc: Global, shelf: &mut F, name: &str) -> Result<Loade
     ensures bytes { GivesBytes (F.file shelf.old name.now) result }
     ensures ending { IfErr result IsFileEnding }
     ensures loads { CountsLoads (fault_in result) (F.faults shelf.old) (F.faults shelf.new) }
+    ensures kept { (n : List ℕ) → F.file shelf.new n ≡ F.file shelf.old n }
 {
     match shelf.load(alloc, name, POLICY_FILE_LIMIT) {
         Ok(file) => Ok(file),

@@ -1,35 +1,44 @@
 -- How a batch is served by turns.
-use Rattle.std.proofs.Common.{◌≡◌, ℕ, ◌+◌, ◌-◌, ◌<◌, ◌≤◌, Bool, true, false, nat_lt, nat_eq, List, [], ◌∷◌, ◌++◌, length, Option, None, Some, inl, inr, refl, sym, ◌∙◌, ap, subst, arith, append_assoc, append-nil, length-append}
+use Rattle.std.proofs.Common.{◌≡◌, ℕ, ◌+◌, ◌<◌, ◌≤◌, Bool, true, false, nat_lt, nat_eq, List, [], ◌∷◌, ◌++◌, length, None, inl, inr, refl, sym, ◌∙◌, ap, subst, arith, append_assoc, append-nil, length-append}
 use Rattle.std.proofs.lemmas.Grind.{common_steps}
 use Rattle.std.proofs.lemmas.Bool.Decides.{nat_tests}
 use Rattle.basics.proofs.Booleans.{bool_cases}
-use Rattle.wf_talk.specs.declared.entry.Entry.{Entry}
 use Rattle.wf_talk.specs.declared.job.Job.{Job}
 use Rattle.wf_board.specs.Boards.{state_on}
-use Rattle.wf_board.specs.Histories.{AreAnsweredOnce, lane_jobs}
+use Rattle.wf_board.specs.Histories.{lane_jobs}
 use Rattle.wf_board.specs.HistoryLaws.{once_all, step_once}
 use Rattle.wf_desk.specs.Desks.{AreOfLanes, DeskShape, IsDone, IsSoundDesk, next_job}
 use Rattle.wf_desk.specs.Commits.{HasServed}
 use Rattle.wf_desk.specs.DocketLaws.{batch_within}
 use Rattle.wf_desk.specs.Schedules.{HasGrown}
-use Rattle.wf_desk.proofs.Scheduling.{grown_none, grown_served, grown_then}
 use Rattle.wf_lanes.specs.Turns.{HasServedOn, left_at}
 
 -- no job was served
 pub on_none : (d : DeskShape) → HasServedOn d d
-on_none d = record { grown = grown_none d d refl; once = tt }
+on_none d = record {
+  grown = record { more = []; extends = sym (append-nil d.entries); opening = refl; lanes = refl; rounds = refl; jobs = refl; start = refl };
+  once = tt;
+}
 
 -- more jobs were served
 pub on_more : (a b c : DeskShape) → HasServedOn a b → HasServedOn b c → HasServedOn a c
 on_more a b c first second = record {
-  grown = grown_then a b c first.grown second.grown;
+  grown = record {
+    more = first.grown.more ++ second.grown.more;
+    extends = second.grown.extends ∙ ap (λ es. es ++ second.grown.more) first.grown.extends ∙ append_assoc a.entries first.grown.more second.grown.more;
+    opening = second.grown.opening ∙ first.grown.opening;
+    lanes = second.grown.lanes ∙ first.grown.lanes;
+    rounds = second.grown.rounds ∙ first.grown.rounds;
+    jobs = second.grown.jobs ∙ first.grown.jobs;
+    start = second.grown.start ∙ first.grown.start;
+  };
   once = once_all first.grown.more second.grown.more first.once second.once;
 }
 
 -- a lane's next job was served, if it had one
 pub on_next : (b c : DeskShape) (lane : ℕ) (had : Bool) → HasServed b c lane had → HasServedOn b c
 on_next b c lane true (job, (next, more)) = record {
-  grown = grown_served b c lane true (job, (next, more));
+  grown = record { more = more.entry ∷ []; extends = more.added; opening = more.opening; lanes = more.lanes; rounds = more.rounds; jobs = more.jobs; start = more.start };
   once = (λ n place. step_once (state_on b.board) job.ask more.entry.reply more.reply.step n place, tt);
 }
 on_next b c lane false (none, same) = rw same (on_none b)

@@ -1,5 +1,5 @@
 -- What turns at a table come to at the desk.
-use Rattle.std.proofs.Common.{◌≡◌, ℕ, ◌+◌, ◌-◌, ◌<◌, ◌≤◌, ◌≢◌, ◌⊎◌, inl, inr, Bool, true, false, List, [], ◌∷◌, ◌++◌, length, drop, map, Option, None, Some, IfSome, refl, sym, ap, subst, ◌∙◌, arith, append-nil, append_assoc}
+use Rattle.std.proofs.Common.{◌≡◌, ℕ, ◌+◌, ◌-◌, ◌<◌, ◌⊎◌, inl, inr, true, false, List, [], ◌∷◌, ◌++◌, length, map, None, Some, IfSome, refl, sym, ap, subst, ◌∙◌, arith, append-nil, append_assoc}
 use Rattle.std.specs.List.{Contains}
 use Rattle.std.proofs.lemmas.List.{map-append}
 use mathlib.Core.Logic.{dite}
@@ -11,21 +11,20 @@ use Rattle.wf_talk.specs.declared.job.Job.{Job}
 use Rattle.wf_talk.specs.declared.reply.Reply.{Reply}
 use Rattle.wf_board.specs.declared.verdict.Verdict.{Verdict}
 use Rattle.wf_board.specs.Boards.{book_on}
-use Rattle.wf_board.specs.Histories.{lane_jobs}
 use Rattle.wf_board.specs.Verdicts.{Decides}
 use Rattle.wf_desk.specs.declared.outcome.Outcome.{Outcome}
 use Rattle.wf_desk.specs.declared.outcome.Outcome.TheVariants as outcome
 use Rattle.wf_desk.specs.declared.tabled.Fixed.{Fixed}
 use Rattle.wf_desk.specs.declared.task.Task.{Task}
-use Rattle.wf_desk.specs.Desks.{DeskShape, HasAdded, IsSoundDesk, next_job, served}
+use Rattle.wf_desk.specs.Desks.{DeskShape, HasAdded, next_job, served}
 use Rattle.wf_desk.specs.Commits.{HasCommitted, HasServed, IsRightFor, IsTask, job_of_task}
 use Rattle.wf_desk.specs.DocketLaws as docket
 use Rattle.wf_desk.specs.Schedules.{HasGrown}
 use Rattle.wf_desk.specs.Tabling.{fixed_of, tagged, tagged_of}
-use Rattle.wf_desk.proofs.Scheduling.{begun_held, grown_committed, grown_none, grown_served, held_on}
+use Rattle.wf_desk.proofs.Scheduling.{begun_held, grown_committed, grown_served, held_on}
 use Rattle.wf_lanes.specs.declared.worker.Begun.{Begun}
 use Rattle.wf_lanes.specs.declared.worker.Begun.TheVariants as begun
-use Rattle.wf_lanes.specs.Workers.{HasBegun, HasBegunAt, HasJoined, HasLanes, HasRoom, HasSeen, HasTurned, IsBegun, IsFirst, IsIdle, IsSameLane}
+use Rattle.wf_lanes.specs.Workers.{HasBegun, HasBegunAt, HasEnded, HasJoined, HasLanes, HasRoom, HasSeen, HasTurned, IsBegun, IsFirst, IsIdle, IsSameLane}
 
 -- ---- entries without their lanes
 
@@ -68,7 +67,7 @@ begun_right s lane t v e (d, (seen, (task, sound))) decides fixed later =
     (begun_held d lane (record { task = t; verdict = v }) sound task decides)).right
 
 pub quiet_starts : {I : Type 0} (P : ℕ → Type 0) (xs ys : List (ℕ × I)) → Quiet P xs ys → StartsWith xs ys
-quiet_starts P xs ys quiet = (quiet.0, quiet.1.0)
+quiet_starts P xs ys quiet = (quiet.0, quiet.1)
 
 -- the lane of the task
 pub begun_lane : (s : LaneShape Fixed Entry) (lane : ℕ) (t : Task) → IsBegun s lane t → t.lane ≡ lane
@@ -181,6 +180,13 @@ same_then s t u first later = record {
   fixed = later.fixed ∙ first.fixed;
 }
 
+pub begun_task : (s u : LaneShape Fixed Entry) (m n : ℕ) (t : Task) → HasBegun s u n (begun.Task t) → m ≡ n → IsBegun u m t
+begun_task s u m n t (d, (e, (turned, (task, (sound, same))))) is =
+    (d, (subst (HasSeen u) same turned.seen, (subst (λ k. IsTask d k t) (sym is) task, sound)))
+
+pub begun_ended : (s u : LaneShape Fixed Entry) (m n : ℕ) → HasBegun s u n begun.Ended → m ≡ n → HasEnded u m
+begun_ended s u m n (d, (e, (turned, (none, same)))) is = (d, (subst (HasSeen u) same turned.seen, subst (λ k. next_job d k ≡ None) (sym is) none))
+
 -- ---- lanes made and joined
 
 -- a first lane makes a lane
@@ -223,6 +229,9 @@ none_joined s next count room none = record {
   seen = ([], sym (append-nil s.seen));
 }
 
+starts_then : (xs ys zs : List (ℕ × Entry)) → StartsWith ys xs → StartsWith zs ys → StartsWith zs xs
+starts_then xs ys zs first second = (first.0 ++ second.0, second.1 ∙ ap (λ l. l ++ second.0) first.1 ∙ append_assoc xs first.0 second.0)
+
 pub one_joined : (table : TableId) (s t u v from : LaneShape Fixed Entry) (next count : ℕ) → 0 < count → t ≡ record s { made = s.made + 1 } →
     HasJoined t u (next + 1) (count - 1) → IsIdle table from next → v ≡ joined_lane u from → StartsWith v.seen u.seen →
     ((n : ℕ) → (from.number ≡ Some n) ⊎ Contains from.joined n → Contains v.joined n) → ((n : ℕ) → Contains u.joined n → Contains v.joined n) →
@@ -234,11 +243,8 @@ one_joined table s t u v from next count some made later idle is begins counted 
       (λ e. counted n (inl (idle.number ∙ ap Some (sym e))))
       (λ ne. kept n (later.those n (omega (arith, low, ne)) (omega (arith, high, some))));
   earlier = λ n has. kept n (later.earlier n (subst (λ xs. Contains xs n) (sym (ap (λ (x : LaneShape Fixed Entry). x.joined) made)) has));
-  seen = starts_then (subst (StartsWith u.seen) (ap (λ (x : LaneShape Fixed Entry). x.seen) made) later.seen) begins;
+  seen = starts_then s.seen u.seen v.seen (subst (StartsWith u.seen) (ap (λ (x : LaneShape Fixed Entry). x.seen) made) later.seen) begins;
 }
-  where
-    starts_then : {xs ys zs : List (ℕ × Entry)} → StartsWith ys xs → StartsWith zs ys → StartsWith zs xs
-    starts_then {xs} {ys} {zs} first second = (first.0 ++ second.0, second.1 ∙ ap (λ l. l ++ second.0) first.1 ∙ append_assoc xs first.0 second.0)
 
 pub first_joined : (table : TableId) (u v from : LaneShape Fixed Entry) → IsFirst table u → v ≡ joined_lane u from → IsFirst table v
 first_joined table u v from first is = record {

@@ -1,4 +1,4 @@
--- Inside: how the jobs of a batch are served by turns.
+-- What became of a desk whose jobs were served by turns.
 use Rattle.std.specs.Prelude.{ℕ, ◌+◌, ◌-◌, length}
 use Rattle.wf_board.specs.Histories.{AreAnsweredOnce}
 use Rattle.wf_desk.specs.Desks.{DeskShape}

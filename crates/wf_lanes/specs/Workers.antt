@@ -1,5 +1,5 @@
 -- Inside: what the turns of a lane's thread do.
-use Rattle.std.specs.Prelude.{◌≡◌, ℕ, ◌+◌, ◌<◌, ◌≤◌, true, false, Option, Some, None}
+use Rattle.std.specs.Prelude.{◌≡◌, ℕ, ◌+◌, ◌<◌, ◌≤◌, true, false, Some, None}
 use Rattle.std.specs.List.{Contains}
 use Rattle.turn_table.specs.Lists.{StartsWith}
 use Rattle.turn_table.specs.Lanes.{LaneShape, TableId}
@@ -61,15 +61,15 @@ abbrev pub HasLanes : LaneShape Fixed Entry → ℕ → Type 0
 HasLanes s n = (f : Fixed) × ((s.fixed ≡ Some f) × (n ≤ f.lanes))
 
 -- a lane of a table, with its number, which does not have the desk
-pub record IsIdle (table : TableId) (s : LaneShape Fixed Entry) (n : ℕ) : Type 0 where
-  pub table : s.table ≡ table
+pub record IsIdle (at : TableId) (s : LaneShape Fixed Entry) (n : ℕ) : Type 0 where
+  pub table : s.table ≡ at
   pub number : s.number ≡ Some n
   pub out : s.out ≡ false
   pub known : HasLanes s (n + 1)
 
 -- the first lane of a table, which takes no turns
-pub record IsFirst (table : TableId) (s : LaneShape Fixed Entry) : Type 0 where
-  pub table : s.table ≡ table
+pub record IsFirst (at : TableId) (s : LaneShape Fixed Entry) : Type 0 where
+  pub table : s.table ≡ at
   pub number : s.number ≡ None
   pub out : s.out ≡ false
 

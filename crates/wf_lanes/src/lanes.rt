@@ -1,5 +1,5 @@
 //! Serving the jobs of a batch, each lane's on a thread of its own.
-ghost use Rattle.std.specs.Prelude.{◌≡◌, ◌<◌, ◌≤◌, ◌+◌};
+ghost use Rattle.std.specs.Prelude.{◌≡◌, ◌<◌, ◌≤◌, ◌+◌, ◌-◌};
 ghost use Rattle.std.specs.Thread.{IsSync};
 ghost use Rattle.wf_desk.specs.Desks.{AreOfLanes, IsDone};
 ghost use Rattle.wf_desk.specs.Schedules.{HasGrown};
@@ -84,7 +84,7 @@ fn run_lanes<R: Threads + Wait + Sync, V: Decider + Sync, G: Gate + Sync>(
     if count == 0 {
         return first;
     }
-    let lane = table.lane(&mut first);
+    let lane = make_lane(table, &mut first, next, count);
     let (lane, mut first) = join(
         rt,
         move || -> Lane<Desk>
@@ -116,6 +116,19 @@ fn run_lanes<R: Threads + Wait + Sync, V: Decider + Sync, G: Gate + Sync>(
     );
     table.join(&mut first, lane);
     first
+}
+
+// The next lane of a table.
+fn make_lane(table: &TurnTable<Desk>, first: &mut Lane<Desk>, next: u8, count: u8) -> Lane<Desk>
+    requires some { 0 < count }
+    requires first { IsFirst table.now first.old }
+    requires room { HasRoom first.old next count }
+    ensures idle { IsIdle table.now result next }
+    ensures first { IsFirst table.now first.new }
+    ensures room { HasRoom first.new (next + 1) (count - 1) }
+    ensures made { first.new ≡ record first.old { made = first.old.made + 1 } }
+{
+    table.lane(first)
 }
 
 // Serves the jobs of one lane.

@@ -14,14 +14,16 @@ use crate::streams::{StdinSource, StdoutSink};
 use crate::words::{after_name, all_words};
 use std::process::ExitCode;
 use std::{env, io};
-use wf_server::run_alone;
+use wf_server::{OpenGate, run};
 
 fn main(rt: HostRuntime) -> ExitCode {
     let fault = match all_words(rt.alloc(), env::args(&rt)) {
         Ok(words) => {
-            let report = run_alone(
+            let report = run(
+                &rt,
                 rt.alloc(),
                 after_name(&words),
+                &OpenGate,
                 &mut DiskShelf::new(&rt),
                 &mut StdinSource::new(rt.reader()),
                 &mut StdoutSink::new(io::writer(&rt)),

@@ -1,28 +1,33 @@
-//! Runs each row of a file over a source, a sink and a shelf in memory, and says which do not hold.
+//! Runs each row of its files over a source, a sink and a shelf in memory, and says which do not hold.
 #![tactic(auto)]
 
 mod outside;
 mod row;
 
-use crate::outside::{shelf_of, sink_of, source_of};
+use crate::outside::{shelf_of, sink_of, source_of, with_pieces};
 use crate::row::{Row, Rows};
 use std::alloc::{AllocError, Global};
 use std::fs;
 use wf_outside::{MemShelf, MemSink, MemSource};
 use wf_server::{Report, run_alone};
 
+// The files: commands with what comes of them, and devices that fail with texts made to break it.
+const FILES: [&str; 2] = ["rows.toml", "hostile.toml"];
+
 fn main(rt: HostRuntime) -> anyhow::Result<()> {
-    let text = fs::read_to_string(&rt, "rows.toml")?;
-    let rows = toml::from_str::<Rows>(rt.alloc(), text.as_str())?;
-    let mut holding = 0u32;
-    for row in &rows.row {
-        if holds(rt.alloc(), &rows, row)? {
-            holding = holding.saturating_add(1);
-        } else {
-            println!(rt; "does not hold: {}", row.name.as_str())?;
+    for file in FILES {
+        let text = fs::read_to_string(&rt, file)?;
+        let rows = toml::from_str::<Rows>(rt.alloc(), text.as_str())?;
+        let mut holding = 0u32;
+        for row in &rows.row {
+            if holds(rt.alloc(), &rows, row)? {
+                holding = holding.saturating_add(1);
+            } else {
+                println!(rt; "does not hold: {}", row.name.as_str())?;
+            }
         }
+        println!(rt; "{file}: {holding} rows hold")?;
     }
-    println!(rt; "{holding} rows hold")?;
     Ok(())
 }
 
@@ -41,7 +46,8 @@ fn holds_over(
 ) -> Result<bool, AllocError> {
     let mut sink = sink_of(alloc, row)?;
     let ended = ends_rightly(alloc, row, shelf, source, &mut sink)?;
-    Ok(ended && sink.bytes() == row.output.as_bytes())
+    let wanted = with_pieces(alloc, row.output.as_str(), &row.more_output)?;
+    Ok(ended && sink.bytes() == wanted.as_slice())
 }
 
 // Whether the status is the row's, and the text of the fault where the row has one.

@@ -16,7 +16,8 @@ pub struct File {
 }
 
 /// A command with its input, and what must come of it. The row's own policy stands under the name
-/// `here`: the texts that `after` names, and then its own.
+/// `here`: the texts that `after` names, and then its own. Its requests file stands under the name
+/// `requests`. Pieces stand behind the text that they are more of.
 #[derive(Drop, Deserialize)]
 pub struct Row {
     pub name: String,
@@ -26,14 +27,38 @@ pub struct Row {
     #[serde(default)]
     pub here: String,
     #[serde(default)]
+    pub requests: String,
+    #[serde(default)]
+    pub more_here: Vec<Piece>,
+    #[serde(default)]
     pub input: String,
+    #[serde(default)]
+    pub more_input: Vec<Piece>,
     pub status: u8,
     #[serde(default)]
     pub output: String,
     #[serde(default)]
+    pub more_output: Vec<Piece>,
+    #[serde(default)]
     pub fault: String,
     #[serde(default)]
     pub outside: Option<Outside>,
+}
+
+/// So many copies of a text with bytes behind it. Each `@` of the text stands for the number of the
+/// copy, from 0.
+#[derive(Drop, Deserialize)]
+pub struct Piece {
+    #[serde(default)]
+    pub text: String,
+    #[serde(default)]
+    pub bytes: Vec<u8>,
+    #[serde(default = "once")]
+    pub times: u32,
+}
+
+fn once() -> u32 {
+    1
 }
 
 /// How many bytes the source gives and the sink takes at once, how many the sink takes in all, and
@@ -45,4 +70,6 @@ pub struct Outside {
     pub most: usize,
     pub room: usize,
     pub failing_puts: Vec<u64>,
+    #[serde(default)]
+    pub failing_loads: Vec<u64>,
 }

@@ -2,17 +2,14 @@
 use Rattle.std.proofs.Common.{◌≡◌, ℕ, zero, suc, ◌+◌, ◌-◌, ◌<◌, ◌≤◌, List, [], ◌∷◌, ◌++◌, length, take, drop, get_or, Option, Result, Ok, Err, OnOk, OnErr, IfErr, inl, inr, refl, sym, ◌∙◌, ap, subst, arith, append_assoc}
 use Rattle.std.proofs.lemmas.Grind.{common_steps}
 use Rattle.std.proofs.lemmas.List.{take_rest, take-append-drop, append-nil, drop_more, take_more, length-append, get_or_append_left}
-use Rattle.std.specs.Prelude.{nat_lt, if◌then◌else◌}
 use Rattle.std.proofs.Math.Seq.{drop-append_seam, take-append_seam, get_or-append_seam}
 use Rattle.wf_outside.specs.Outside.{with_bytes, HasPart}
 use Rattle.wf_outside.proofs.OutsideLaws.{more_put, part_first, part_second, part_all}
 use Rattle.policy_book.specs.Shapes.{PolicyShape}
 use Rattle.wf_talk.specs.declared.entry.Entry.{Entry}
 use Rattle.wf_talk.specs.declared.job.Job.{Job}
-use Rattle.wf_board.specs.Boards.{BoardShape, state_on}
 use Rattle.wf_board.specs.States.{State, opening_state}
-use Rattle.wf_board.specs.Histories.{AreAnsweredOnce, FillsJobs, IsLegal, batch_end, batch_start, state_after}
-use Rattle.wf_board.specs.HistoryLaws.{once_all}
+use Rattle.wf_board.specs.Histories.{FillsJobs, IsLegal, batch_end, batch_start, state_after}
 use Rattle.wf_desk.specs.Desks.{DeskShape, IsDone, IsSoundDesk}
 use Rattle.wf_desk.specs.BatchLaws.{AnswersBatch, EndAt, batch_fills}
 use Rattle.wf_desk.specs.DocketLaws.{batch_done}
@@ -25,7 +22,7 @@ use Rattle.run_record.specs.Report.{Told}
 use Rattle.wf_server.specs.Sessions.{Setting, WritesPart, last_start}
 use Rattle.wf_server.specs.Transcripts.{transcript_text}
 use Rattle.wf_server.specs.Names.{KeepsTexts}
-use Rattle.wf_server.specs.Turns.{setting_of}
+use Rattle.wf_server.specs.Ways.{setting_of}
 use Rattle.wf_server.specs.declared.batch.Answered.{Answered}
 use Rattle.wf_server.proofs.Names.{transcript_more}
 use Rattle.wf_server.specs.Batches.{entries_text, told_of, HasAnswered, HasAnsweredPart, IsAdded, AnswersTo, IsWriteEnding}
@@ -134,7 +131,6 @@ pub record HasAnsweredBatch (held mid : Option (List ℕ)) (old d : DeskShape) (
   pub new : List Entry
   pub entries : after.entries ≡ before.entries ++ new
   pub same : d.entries ≡ after.entries
-  pub once : AreAnsweredOnce new
   pub added : IsAdded before batch after
 
 the_batch : (held mid : Option (List ℕ)) (old d : DeskShape) (before : Told) (batch : List Job) (after : Told) → (h : HasAnsweredBatch held mid old d before batch after)
@@ -150,10 +146,6 @@ batch_filled : (held mid : Option (List ℕ)) (old d : DeskShape) (before : Told
 batch_filled held mid old d before batch after h =
     rw (h.added.jobs, h.added.ends, h.entries)
     (fills_more before.entries h.new before.jobs batch before.batch_ends h.answered.fills h.answered.ends (the_batch held mid old d before batch after h))
-
-batch_once : (held mid : Option (List ℕ)) (old d : DeskShape) (before : Told) (batch : List Job) (after : Told) → HasAnsweredBatch held mid old d before batch after
-    → AreAnsweredOnce after.entries
-batch_once held mid old d before batch after h = rw h.entries (once_all before.entries h.new h.answered.once h.once)
 
 -- what is written of the entries of the batch
 abbrev batch_text : DeskShape → Told → List Entry → List ℕ
@@ -178,7 +170,6 @@ part_last held mid aft old d before batch after h part some =
 part_answered : (held mid aft : Option (List ℕ)) (old d : DeskShape) (before : Told) (batch : List Job) (after : Told) → (h : HasAnsweredBatch held mid old d before batch after)
     → HasPart mid aft (batch_text old before h.new) → 0 < length h.new → HasAnsweredPart d.opening held aft after
 part_answered held mid aft old d before batch after h part some = record {
-  once = batch_once held mid old d before batch after h;
   fills = batch_filled held mid old d before batch after h;
   written = subst (λ p. WritesPart p held aft (last_start after.batch_ends) after.entries) (sym (ap (λ (s : Setting). s.policy) h.setting)) (part_last held mid aft old d before batch after h part some);
 }
@@ -193,7 +184,6 @@ answers_to held mid aft old d before batch after text es (Ok done) h is new all 
       h.added,
       record {
         done = h.done;
-        once = batch_once held mid old d before batch after h;
         fills = batch_filled held mid old d before batch after h;
         ends = rw (h.added.jobs, h.added.ends) (ends_more before.jobs batch before.batch_ends h.answered.ends);
         written =
@@ -207,10 +197,6 @@ answers_to held mid aft old d before batch after text es (Err fault.Write) h is 
     (h.added, part_answered held mid aft old d before batch after h (subst (HasPart mid aft) is part) (subst (λ xs. 0 < length xs) new some))
 answers_to held mid aft old d before batch after text es (Err other) h is new all part some ending = absurd ending
 
--- a desk goes on to serve as it did
-pub same_setting : (d e : DeskShape) → HasGrown d e → setting_of e ≡ setting_of d
-same_setting d e grown = rw (grown.opening, grown.lanes, grown.rounds) refl
-
 -- the same is told
 pub same_told : (old d : DeskShape) (before after : Answered) → d.entries ≡ old.entries → after.jobs ≡ before.jobs → after.batch_ends ≡ before.batch_ends → told_of d after ≡ told_of old before
 same_told old d before after entries jobs ends = rw (entries, jobs, ends) refl
@@ -223,7 +209,6 @@ answers_none held aft old d before batch after result answered setting same memo
     rw (memory, same) (
       inl refl,
       record {
-        once = answered.once;
         fills = answered.fills;
         written = subst (λ p. WritesPart p held aft (last_start before.batch_ends) before.entries) (sym policy) (writes_whole old.opening held aft before answered.written);
       },
@@ -239,3 +224,45 @@ text_on old d q new texts sound setting entries found =
     found ∙ ap (λ (x : State). x.book.policy) sound.state ∙ ap (λ es. (state_after (opening_state d.opening) es).book.policy) entries
     ∙ ap (λ (s : Setting). (state_after (opening_state s.policy) (old.entries ++ new)).book.policy) setting in
     ap (λ x. entries_text x new) after ∙ sym (texts new legal)
+
+setting_grown : (b c : DeskShape) → HasGrown b c → setting_of c ≡ setting_of b
+setting_grown b c grown = rw (grown.opening, grown.lanes, grown.rounds) refl
+
+-- a batch was taken to a desk, and each of its jobs is answered
+pub record HasServedBatch (old loaded d : DeskShape) (a b : Answered) (batch : List Job) : Type 0 where
+  pub setting : setting_of loaded ≡ setting_of old
+  pub entries : loaded.entries ≡ old.entries
+  pub loads : loaded.jobs ≡ batch
+  pub start : loaded.start ≡ length old.entries
+  pub grown : HasGrown loaded d
+  pub sound : IsSoundDesk d
+  pub done : IsDone d
+  pub jobs : b.jobs ≡ a.jobs ++ batch
+  pub ends : b.batch_ends ≡ ends_after a.batch_ends (length a.jobs) batch
+
+abbrev served_batch : (held mid : Option (List ℕ)) (old loaded d : DeskShape) (a b : Answered) (batch : List Job) → HasServedBatch old loaded d a b batch
+    → HasAnswered held mid old (told_of old a) → HasAnsweredBatch held mid old d (told_of old a) batch (told_of d b)
+served_batch held mid old loaded d a b batch h answered = record {
+  answered = answered;
+  sound = h.sound;
+  done = h.done;
+  setting = setting_grown loaded d h.grown ∙ h.setting;
+  jobs = h.grown.jobs ∙ h.loads;
+  start = h.grown.start ∙ h.start;
+  new = h.grown.more;
+  entries = h.grown.extends ∙ ap (λ es. es ++ h.grown.more) h.entries;
+  same = refl;
+  added = record { jobs = h.jobs; ends = h.ends };
+}
+
+-- and its entries were written
+pub batch_answers : (held mid aft : Option (List ℕ)) (old loaded d : DeskShape) (q : PolicyShape) (a b : Answered) (batch : List Job) (n : ℕ) (es : List Entry) (result : Result (Unit {0}) RunFault)
+    → HasServedBatch old loaded d a b batch → HasAnswered held mid old (told_of old a) → KeepsTexts old → n ≡ length old.entries → es ≡ drop n d.entries → q ≡ d.board.policy
+    → OnOk result (aft ≡ with_bytes mid (entries_text q es)) → HasPart mid aft (entries_text q es) → OnErr result (0 < length es) → IfErr result IsWriteEnding
+    → AnswersTo held aft (told_of old a) batch d (told_of d b) result
+batch_answers held mid aft old loaded d q a b batch n es result h answered texts count behind found all part some ending =
+    let served = served_batch held mid old loaded d a b batch h answered in
+    let new : es ≡ h.grown.more =
+    behind ∙ ap (λ k. drop k d.entries) count ∙ ap (drop (length old.entries)) served.entries ∙ drop-append_seam old.entries h.grown.more in
+    let text = ap (entries_text q) new ∙ text_on old d q h.grown.more texts h.sound served.setting served.entries found in
+    answers_to held mid aft old d (told_of old a) batch (told_of d b) _ es result served text new all part some ending

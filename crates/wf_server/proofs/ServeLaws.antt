@@ -9,7 +9,6 @@ use Rattle.run_record.specs.Run.{Run, IsUntouched, OverFile}
 use Rattle.wf_commands.specs.Load.{GivesPolicy, IsLoadEnding, PolicyOf}
 use Rattle.wf_server.specs.declared.serve.TheConstants.{PIECE}
 use Rattle.wf_server.specs.Sessions.{Served}
-use Rattle.wf_board.specs.Histories.{AreAnsweredOnce}
 use Rattle.wf_board.specs.Histories.{AreWantsRightful}
 use Rattle.wf_server.specs.Words.{Options}
 use Rattle.wf_server.specs.Serving.{setting, EndsBefore, ServesFile}
@@ -37,11 +36,11 @@ not_served (told file) options r gives ending nothing = inl (ends_before file r.
 
 -- the policy was there, and was served
 pub is_served : (f : Filed) (p : PolicyShape) (options : Options) (r : Run) → GivesPolicy f (Ok p)
-    → Served (setting p options) PIECE r.before r.after r.told r.fault → AreAnsweredOnce r.told.entries → AreWantsRightful r.told.entries → OverFile f r.fault (λ file. ServesFile file options r)
-is_served untold p options r gives served once wants = tt
-is_served missing p options r gives served once wants = cc
-is_served (told file) p options r gives served once wants =
-    inr (record { policy = p; within = gives.0; read = gives.1; served = served; once = once; wants = wants })
+    → Served (setting p options) PIECE r.before r.after r.told r.fault → AreWantsRightful r.told.entries → OverFile f r.fault (λ file. ServesFile file options r)
+is_served untold p options r gives served wants = tt
+is_served missing p options r gives served wants = cc
+is_served (told file) p options r gives served wants =
+    inr (record { policy = p; within = gives.0; read = gives.1; served = served; wants = wants })
 
 -- a session does not end with a load fault
 pub loads_late : (fault : RunFault) (before after : ℕ) → is_before_input fault ≡ false → after ≡ before → CountsLoads fault before after

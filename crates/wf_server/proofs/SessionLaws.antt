@@ -1,9 +1,9 @@
 -- How the batches of a session follow one another.
-use Rattle.std.proofs.Common.{◌≡◌, ℕ, zero, suc, ◌+◌, ◌<◌, ◌≤◌, true, false, List, [], ◌∷◌, ◌++◌, length, take, drop, Option, Some, None, Err, inl, inr, refl, sym, ◌∙◌, ap, subst, arith, append_assoc}
+use Rattle.std.proofs.Common.{◌≡◌, ℕ, zero, suc, ◌+◌, ◌<◌, ◌≤◌, false, List, [], ◌∷◌, ◌++◌, length, take, drop, Option, Err, inl, inr, refl, sym, ◌∙◌, ap, subst, arith, append_assoc}
 use Rattle.std.specs.Prelude.{◌≢◌}
 use Rattle.std.proofs.lemmas.List.{length-append, length-take, take-append-drop}
-use Rattle.wf_names.specs.declared.limits.TheConstants.{BATCH_LINE_LIMIT, SESSION_LINE_LIMIT}
-use Rattle.wf_outside.specs.Outside.{HasPart, HasTaken, with_bytes}
+use Rattle.wf_names.specs.declared.limits.TheConstants.{BATCH_LINE_LIMIT}
+use Rattle.wf_outside.specs.Outside.{HasTaken, with_bytes}
 use Rattle.wf_outside.proofs.OutsideLaws.{nothing_taken, nothing_put}
 use Rattle.wf_talk.specs.declared.job.Job.{Job}
 use Rattle.line_cutter.specs.declared.stop.Stop.TheVariants as stop
@@ -16,16 +16,16 @@ use Rattle.batch_reader.specs.declared.reader.Paused.TheVariants as paused
 use Rattle.batch_reader.specs.Reading.{ReaderShape, Handed, handed_more, HasRead, IsReadUp, ReadsTo, CountsAs}
 use Rattle.wf_board.specs.States.{opening_state}
 use Rattle.wf_board.specs.Histories.{FillsJobs, IsLegal}
-use Rattle.wf_desk.specs.Desks.{AreOfLanes, DeskShape, IsSoundDesk}
+use Rattle.wf_desk.specs.Desks.{AreOfLanes, DeskShape}
 use Rattle.policy_book.specs.Facts.{IsSoundPolicy}
 use Rattle.wf_board.specs.Laws.{HistoriesKeepCompletable}
 use Rattle.run_record.specs.declared.fault.RunFault.{RunFault}
 use Rattle.run_record.specs.declared.fault.RunFault.TheVariants as fault
-use Rattle.run_record.specs.Fault.{is_before_input, CountsReads, CountsWrites}
+use Rattle.run_record.specs.Fault.{is_before_input, CountsWrites}
 use Rattle.run_record.specs.Report.{Told, nothing_told}
 use Rattle.run_record.specs.Run.{Streams}
 use Rattle.wf_server.specs.Sessions.{ReadsFor, Served, Setting, handed_in}
-use Rattle.wf_server.specs.Turns.{setting_of}
+use Rattle.wf_server.specs.Ways.{setting_of}
 use Rattle.wf_server.specs.Batches.{Serves, HasAnswered, IsAdded, IsBatch, AnswersTo, IsServing, BatchEnds, IsWriteEnding, ending_of}
 use Rattle.wf_server.proofs.BatchLaws.{ends_some, writes_whole}
 
@@ -99,7 +99,6 @@ pub memory_serves : (room : ℕ) (before mid aft : Streams) (r : ReaderShape) (d
     → aft.write_faults ≡ mid.write_faults → Serves (setting_of d) room before aft told fault.NoMemory
 memory_serves room before mid aft r d told how serving up output reads writes = record {
   reads = up;
-  once = serving.answered.once;
   fills = serving.answered.fills;
   writes = writes_whole d.opening before.output aft.output told (output ∙ serving.answered.written);
   read_faults = let le = counts_le how mid.read_faults aft.read_faults reads in let same = serving.read_faults in omega arith;
@@ -120,7 +119,6 @@ done_ends before mid aft r t d e told after batch paused.Batch serving same read
 }
 done_ends before mid aft r t d e told after batch paused.End serving same reads goes_on added answered counts writes = record {
   reads = subst (λ (h : Handed). ReadsTo before.input aft.input t.room h paused.End) (handed_next d e told batch after same added) reads;
-  once = answered.once;
   fills = answered.fills;
   writes = answered.written;
   read_faults = counts ∙ serving.read_faults;
@@ -128,7 +126,6 @@ done_ends before mid aft r t d e told after batch paused.End serving same reads 
 }
 done_ends before mid aft r t d e told after batch paused.Failed serving same reads goes_on added answered counts writes = record {
   reads = subst (λ (h : Handed). ReadsTo before.input aft.input t.room h paused.Failed) (handed_next d e told batch after same added) reads;
-  once = answered.once;
   fills = answered.fills;
   writes = answered.written;
   read_faults = λ small. let rose = counts.1 small in let same_count = serving.read_faults in omega arith;
@@ -136,7 +133,6 @@ done_ends before mid aft r t d e told after batch paused.Failed serving same rea
 }
 done_ends before mid aft r t d e told after batch (paused.Stopped (stop.LineTooLong line)) serving same reads goes_on added answered counts writes = record {
   reads = subst (λ (h : Handed). ReadsTo before.input aft.input t.room h (paused.Stopped (stop.LineTooLong line))) (handed_next d e told batch after same added) reads;
-  once = answered.once;
   fills = answered.fills;
   writes = answered.written;
   read_faults = counts ∙ serving.read_faults;
@@ -144,7 +140,6 @@ done_ends before mid aft r t d e told after batch (paused.Stopped (stop.LineTooL
 }
 done_ends before mid aft r t d e told after batch (paused.Stopped stop.TooManyLines) serving same reads goes_on added answered counts writes = record {
   reads = subst (λ (h : Handed). ReadsTo before.input aft.input t.room h (paused.Stopped stop.TooManyLines)) (handed_next d e told batch after same added) reads;
-  once = answered.once;
   fills = answered.fills;
   writes = answered.written;
   read_faults = counts ∙ serving.read_faults;
@@ -152,7 +147,6 @@ done_ends before mid aft r t d e told after batch (paused.Stopped stop.TooManyLi
 }
 done_ends before mid aft r t d e told after batch paused.NoMemory serving same reads goes_on added answered counts writes = record {
   reads = subst (λ (h : Handed). IsReadUp before.input aft.input h) (handed_next d e told batch after same added) reads;
-  once = answered.once;
   fills = answered.fills;
   writes = writes_whole e.opening before.output aft.output after answered.written;
   read_faults = let le = counts_le paused.NoMemory mid.read_faults aft.read_faults counts in let same_count = serving.read_faults in omega arith;
@@ -167,7 +161,6 @@ pub fault_ends : (room : ℕ) (before mid aft : Streams) (r : ReaderShape) (d e 
     → CountsWrites ending mid.write_faults aft.write_faults → Serves (setting_of e) room before aft after ending
 fault_ends room before mid aft r d e told after batch how fault.Write serving same reads memory up up_before answers end counts writes = record {
   reads = (how, memory, subst (λ (h : Handed). ReadsTo before.input aft.input room h how) (handed_next d e told batch after same answers.0) reads);
-  once = answers.1.once;
   fills = answers.1.fills;
   writes = answers.1.written;
   read_faults = let le = counts_le how mid.read_faults aft.read_faults counts in let same_count = serving.read_faults in omega arith;
@@ -178,7 +171,6 @@ fault_ends room before mid aft r d e told after batch how fault.NoMemory serving
     | inl stays ↦ subst (λ n. IsReadUp before.input aft.input (handed_in n after)) (sym (lanes_of d e same)) (subst (λ (t : Told). IsReadUp before.input aft.input (handed_in d.lanes t)) (sym stays) up_before)
     | inr added ↦ subst (λ (h : Handed). IsReadUp before.input aft.input h) (handed_next d e told batch after same added) up
   ];
-  once = answers.1.once;
   fills = answers.1.fills;
   writes = answers.1.written;
   read_faults = let le = counts_le how mid.read_faults aft.read_faults counts in let same_count = serving.read_faults in omega arith;
@@ -204,7 +196,6 @@ opening_serves streams r d told jobs entries none begun empty = rw none (record 
   };
   answered = record {
     done = λ lane. rw jobs refl;
-    once = tt;
     fills = none_filled;
     ends = record { within = λ k lt. absurd (none_ends k lt); closed = refl };
     written = sym (nothing_put streams.output);
@@ -223,7 +214,6 @@ bare_serves set room streams told ending nothing memory = rw (nothing, memory) (
     at_end = λ e. cc;
     up = record { ends = (0, refl); within = refl };
   };
-  once = tt;
   fills = none_filled;
   writes = record { count = 0; within = omega arith; held = sym (nothing_put (with_bytes streams.output []) ∙ nothing_put streams.output) };
   read_faults = omega arith;

@@ -1,5 +1,5 @@
 -- Inside: where a session stands between its batches.
-use Rattle.std.specs.Prelude.{◌≡◌, ℕ, ◌+◌, ◌-◌, ◌≤◌, List, [], ◌∷◌, ◌++◌, length, take, drop, Option, None, Some, Result, Ok, Err}
+use Rattle.std.specs.Prelude.{◌≡◌, ℕ, ◌+◌, ◌≤◌, List, [], ◌∷◌, ◌++◌, length, Option, None, Some, Result, Ok, Err}
 use Rattle.std.proofs.Common.{◌⊎◌}
 use Rattle.wf_names.specs.declared.limits.TheConstants.{BATCH_LINE_LIMIT, SESSION_LINE_LIMIT}
 use Rattle.wf_outside.specs.Outside.{with_bytes}
@@ -13,7 +13,7 @@ use Rattle.batch_reader.specs.Reading.{ReaderShape, HasRead}
 use Rattle.wire_json.specs.Replies.{entry_text}
 use Rattle.policy_book.specs.Shapes.{PolicyShape}
 use Rattle.wf_board.specs.States.{opening_state}
-use Rattle.wf_board.specs.Histories.{AreAnsweredOnce, FillsJobs}
+use Rattle.wf_board.specs.Histories.{FillsJobs}
 use Rattle.wf_desk.specs.BatchLaws.{EndAt}
 use Rattle.wf_desk.specs.Desks.{AreOfLanes, DeskShape, IsDone}
 use Rattle.run_record.specs.declared.fault.RunFault.{RunFault}
@@ -24,7 +24,7 @@ use Rattle.run_record.specs.Run.{Streams}
 use Rattle.wf_server.specs.declared.batch.Answered.{Answered}
 use Rattle.wf_server.specs.Sessions.{Setting, handed_in, last_start, ReadsFor, WritesFor, WritesPart}
 use Rattle.wf_server.specs.Transcripts.{transcript_text}
-use Rattle.wf_server.specs.Turns.{setting_of}
+use Rattle.wf_server.specs.Ways.{setting_of}
 
 -- the texts of entries, in order, with the names of one policy
 abbrev pub entries_text : PolicyShape → List Entry → List ℕ
@@ -34,7 +34,6 @@ entries_text p (e ∷ es) = entry_text p e ++ entries_text p es
 -- a session, but that its history is legal
 pub record Serves (set : Setting) (room : ℕ) (before after : Streams) (told : Told) (fault : RunFault) : Type 0 where
   pub reads : ReadsFor before.input after.input room (handed_in set.lanes told) fault
-  pub once : AreAnsweredOnce told.entries
   pub fills : FillsJobs told.entries told.jobs told.batch_ends
   pub writes : WritesFor set.policy before.output after.output told fault
   pub read_faults : CountsReads fault before.read_faults after.read_faults
@@ -53,14 +52,12 @@ pub record IsBatch (lanes before : ℕ) (batch : List Job) : Type 0 where
 -- the jobs so far are answered, and the entries written
 pub record HasAnswered (held held-after : Option (List ℕ)) (d : DeskShape) (told : Told) : Type 0 where
   pub done : IsDone d
-  pub once : AreAnsweredOnce told.entries
   pub fills : FillsJobs told.entries told.jobs told.batch_ends
   pub ends : EndAt told.batch_ends (length told.jobs)
   pub written : held-after ≡ with_bytes held (transcript_text (opening_state d.opening) told.entries)
 
 -- the jobs so far are answered, and the entries of the last batch written in part
 pub record HasAnsweredPart (p : PolicyShape) (held held-after : Option (List ℕ)) (told : Told) : Type 0 where
-  pub once : AreAnsweredOnce told.entries
   pub fills : FillsJobs told.entries told.jobs told.batch_ends
   pub written : WritesPart p held held-after (last_start told.batch_ends) told.entries
 

@@ -3,7 +3,7 @@ pub mod Asked
 pub mod Deciding
 pub mod Transcripts
 pub mod Sessions
-pub mod Turns
+pub mod Ways
 pub mod Batches
 pub mod Names
 pub mod Serving

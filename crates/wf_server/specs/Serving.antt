@@ -8,7 +8,6 @@ use Rattle.run_record.specs.declared.fault.RunFault.{RunFault}
 use Rattle.run_record.specs.declared.fault.RunFault.TheVariants.{Policy, Load, NoMemory, FileTooLong}
 use Rattle.run_record.specs.Run.{Run, IsUntouched, IsOrderly, OverFile}
 use Rattle.wf_server.specs.declared.serve.TheConstants.{PIECE}
-use Rattle.wf_board.specs.Histories.{AreAnsweredOnce}
 use Rattle.wf_board.specs.Histories.{AreWantsRightful}
 use Rattle.wf_server.specs.Sessions.{Served, Setting}
 use Rattle.wf_server.specs.Words.{Options}
@@ -25,14 +24,12 @@ EndsBefore file fault = ⊥
 abbrev pub setting : PolicyShape → Options → Setting
 setting p options = record { policy = p; lanes = options.lanes; rounds = options.rounds }
 
--- the policy of a file is served; no request is answered again, and only an opening, a claim or an edit with want of
--- memory
+-- the policy of a file is served; only an opening, a claim or an edit is answered with want of memory
 pub record ServesPolicy (file : List ℕ) (options : Options) (r : Run) : Type 0 where
   pub policy : PolicyShape
   pub within : length file ≤ POLICY_FILE_LIMIT
   pub read : policy_of_file file ≡ Ok policy
   pub served : Served (setting policy options) PIECE r.before r.after r.told r.fault
-  pub once : AreAnsweredOnce r.told.entries
   pub wants : AreWantsRightful r.told.entries
 
 -- a run over a policy file ends before its session, or serves the policy

@@ -1,5 +1,5 @@
 -- The words of the program's command line.
-use Rattle.std.specs.Prelude.{ℕ, ◌+◌, ◌-◌, ◌<◌, ◌≤◌, zero, suc, Bool, true, false, ◌&&◌, List, [], ◌∷◌, Option, None, Some, option_map, codes, nat_eq, if◌then◌else◌}
+use Rattle.std.specs.Prelude.{ℕ, ◌+◌, ◌-◌, ◌<◌, ◌≤◌, zero, suc, Bool, true, false, ◌&&◌, List, [], ◌∷◌, Option, None, Some, option_map, codes, nat_eq, nat_lt, if◌then◌else◌}
 use Rattle.std.specs.Fmt.{decimal}
 use Rattle.std.specs.Cmp.Lexicographic.{pointwise}
 use Rattle.wf_names.specs.declared.limits.TheConstants.{LANE_LIMIT, DEFAULT_LANES, ROUND_LIMIT, DEFAULT_ROUNDS}
@@ -21,6 +21,7 @@ pub data Command : Type 0 where
   show : List ℕ → Command
   solve : List ℕ → Command
   serve : List ℕ → Options → Command
+  audit : List ℕ → List ℕ → Options → Command
 
 -- two words are the same
 abbrev pub is_word : List ℕ → List ℕ → Bool
@@ -56,6 +57,11 @@ abbrev pub plan_of : List ℕ → List (List ℕ) → Option Command
 plan_of policy (flow ∷ []) = Some (plan policy flow)
 plan_of policy _ = None
 
+-- `audit` with the words behind its policy file: the requests file, and options
+abbrev pub audit_with : List ℕ → List (List ℕ) → Option Command
+audit_with policy (requests ∷ more) = option_map (audit policy requests) (options_of more)
+audit_with policy [] = None
+
 -- a command behind whose policy file no words stand
 abbrev pub whole : Command → List (List ℕ) → Option Command
 whole command [] = Some command
@@ -67,7 +73,8 @@ command_of (word ∷ policy ∷ more) =
     if is_word word (codes "plan") then plan_of policy more else
     if is_word word (codes "show") then whole (show policy) more else
     if is_word word (codes "solve") then whole (solve policy) more else
-    if is_word word (codes "serve") then option_map (serve policy) (options_of more) else None
+    if is_word word (codes "serve") then option_map (serve policy) (options_of more) else
+    if is_word word (codes "audit") then audit_with policy more else None
 command_of _ = None
 
 -- whether the input is read for these words
@@ -77,3 +84,13 @@ reads_input (Some (plan policy flow)) = true
 reads_input (Some (show policy)) = false
 reads_input (Some (solve policy)) = false
 reads_input (Some (serve policy options)) = true
+reads_input (Some (audit policy requests options)) = true
+
+-- whether a request may be answered again for these words: there are several lanes, and some rounds
+abbrev pub may_repeat : Option Command → Bool
+may_repeat None = false
+may_repeat (Some (plan policy flow)) = false
+may_repeat (Some (show policy)) = false
+may_repeat (Some (solve policy)) = false
+may_repeat (Some (audit policy requests options)) = false
+may_repeat (Some (serve policy options)) = nat_lt 1 options.lanes && nat_lt 0 options.rounds

@@ -3,19 +3,19 @@ ghost use Rattle.std.specs.Prelude.{◌≡◌, ◌≤◌, ◌<◌, ◌+◌, ℕ,
 ghost use Rattle.wf_outside.specs.Outside.{HasPart, with_bytes};
 ghost use Rattle.wf_names.specs.declared.limits.TheConstants.{SESSION_LINE_LIMIT};
 ghost use Rattle.line_cutter.specs.Cutter.{ends_after};
-ghost use Rattle.wf_desk.specs.Desks.{IsDone};
+ghost use Rattle.wf_board.specs.Histories.{AreAnsweredOnce};
+ghost use Rattle.wf_desk.specs.Desks.{AreOfLanes, IsDone, IsSoundDesk};
+ghost use Rattle.wf_desk.specs.Schedules.{HasGrown};
 ghost use Rattle.wire_json.specs.Replies.{entry_text};
 ghost use Rattle.run_record.specs.Fault.{fault_in, CountsWrites};
 ghost use Rattle.wf_server.specs.Batches.{entries_text, told_of, HasAnswered, IsBatch, AnswersTo, IsWriteEnding};
-ghost use Rattle.wf_server.specs.Turns.{setting_of};
+ghost use Rattle.wf_server.specs.Ways.{IsWay, ServesOnce, setting_of};
 
-use crate::decider::PlainDecider;
 use crate::texts::texts_stay;
 use policy_book::Policy;
 use run_record::RunFault;
 use std::alloc::{AllocError, Global};
 use wf_desk::Desk;
-use wf_lanes::serve_by_turns;
 use wf_outside::{Sink, put_all};
 use wf_talk::{Ends, Entry, Job, Jobs, Journal};
 use wire_json::write_entry;
@@ -41,35 +41,81 @@ impl Answered {
     }
 }
 
-/// Answers the jobs of a batch, and writes their entries.
-pub(crate) fn answer_batch<K: Sink>(
+/// Answers the jobs of a batch in a way of serving, and writes their entries. The desk comes back.
+pub(crate) fn answer_batch<K: Sink, W: Fn(Desk) -> Desk>(
+    alloc: Global,
+    way: &W,
+    mut desk: Desk,
+    told: &mut Answered,
+    batch: &[Job],
+    sink: &mut K,
+) -> (Desk, Result<(), RunFault>)
+    requires way { IsWay (W.pre way.now) (W.post way.now) }
+    requires lanes { 0 < desk.lanes }
+    requires done { IsDone desk }
+    requires whole { length desk.entries ≡ length told.old.jobs }
+    requires batch { IsBatch desk.lanes (length told.old.jobs) batch.now }
+    ensures setting { setting_of result.0 ≡ setting_of desk }
+    ensures answers { (held : Option (List ℕ)) →
+        HasAnswered held (K.held sink.old) desk (told_of desk told.old) →
+        AnswersTo held (K.held sink.new) (told_of desk told.old) batch.now result.0 (told_of result.0 told.new) result.1 }
+    ensures once { ServesOnce (W.post way.now) → AreAnsweredOnce desk.entries → AreAnsweredOnce result.0.entries }
+    ensures ending { IfErr result.1 IsWriteEnding }
+    ensures counts { CountsWrites (fault_in result.1) (K.faults sink.old) (K.faults sink.new) }
+{
+    let done = desk.journal().len();
+    texts_stay(&desk);
+    match take_batch(alloc, &mut desk, told, batch) {
+        Ok(()) => {
+            let served = serve_jobs(way, desk);
+            let written = write_entries(
+                alloc,
+                served.board().policy(),
+                entries_after(served.journal(), done),
+                sink,
+            );
+            (served, written)
+        }
+        Err(refused) => (desk, Err(RunFault::from(refused))),
+    }
+}
+
+// Takes the jobs of a batch to the desk, and tells them.
+fn take_batch(
     alloc: Global,
     desk: &mut Desk,
     told: &mut Answered,
     batch: &[Job],
-    sink: &mut K,
-) -> Result<(), RunFault>
+) -> Result<(), AllocError>
     requires done { IsDone desk.old }
     requires whole { length desk.old.entries ≡ length told.old.jobs }
     requires batch { IsBatch desk.old.lanes (length told.old.jobs) batch.now }
     ensures setting { setting_of desk.new ≡ setting_of desk.old }
-    ensures answers { (held : Option (List ℕ)) →
-        HasAnswered held (K.held sink.old) desk.old (told_of desk.old told.old) →
-        AnswersTo held (K.held sink.new) (told_of desk.old told.old) batch.now desk.new (told_of desk.new told.new) result }
-    ensures ending { IfErr result IsWriteEnding }
-    ensures counts { CountsWrites (fault_in result) (K.faults sink.old) (K.faults sink.new) }
+    ensures entries { desk.new.entries ≡ desk.old.entries }
+    ensures loaded { OnOk result (desk.new.jobs ≡ batch.now) }
+    ensures start { OnOk result (desk.new.start ≡ length desk.old.entries) }
+    ensures jobs { OnOk result (told.new.jobs ≡ told.old.jobs ++ batch.now) }
+    ensures ends { OnOk result (told.new.batch_ends ≡ ends_after told.old.batch_ends (length told.old.jobs) batch.now) }
+    ensures jobs_stay { OnErr result (told.new.jobs ≡ told.old.jobs) }
+    ensures ends_stay { OnErr result (told.new.batch_ends ≡ told.old.batch_ends) }
 {
-    let done = desk.journal().len();
-    texts_stay(desk);
     desk.load_batch(alloc, batch)?;
-    add_batch(told, batch)?;
-    serve_by_turns(alloc, &PlainDecider, desk);
-    write_entries(
-        alloc,
-        desk.board().policy(),
-        entries_after(desk.journal(), done),
-        sink,
-    )
+    add_batch(told, batch)
+}
+
+// Has the jobs of a batch served.
+fn serve_jobs<W: Fn(Desk) -> Desk>(way: &W, desk: Desk) -> Desk
+    requires way { IsWay (W.pre way.now) (W.post way.now) }
+    requires some { 0 < desk.lanes }
+    requires lanes { AreOfLanes desk.lanes desk.jobs }
+    ensures grown { HasGrown desk result }
+    ensures done { IsDone result }
+    ensures sound { IsSoundDesk result }
+    ensures once { ServesOnce (W.post way.now) → AreAnsweredOnce desk.entries → AreAnsweredOnce result.entries }
+{
+    let served = way(desk);
+    let _kept = served.journal();
+    served
 }
 
 // Adds the jobs of a batch and its end.

@@ -10,7 +10,9 @@ mod decider;
 mod edit_decider;
 #[cfg(test)]
 mod edit_tests;
-mod run;
+#[cfg(test)]
+mod lane_tests;
+mod runs;
 #[cfg(test)]
 mod schedule_parts;
 #[cfg(test)]
@@ -28,5 +30,6 @@ mod texts;
 mod trim_tests;
 mod words;
 
-pub use run::run_alone;
 pub use run_record::{InputFault, Report, RunFault};
+pub use runs::{run, run_alone};
+pub use wf_lanes::{Gate, OpenGate};

@@ -2,12 +2,12 @@
 ghost use Rattle.std.specs.Prelude.{◌≡◌, false};
 ghost use Rattle.run_record.specs.Fault.{status_of, is_before_input};
 ghost use Rattle.run_record.specs.Report.{told_by};
-ghost use Rattle.wf_board.specs.Histories.{AreAnsweredOnce};
-ghost use Rattle.wf_board.specs.Histories.{AreWantsRightful};
+ghost use Rattle.wf_board.specs.Histories.{AreAnsweredOnce, AreWantsRightful};
 ghost use Rattle.wf_server.specs.Sessions.{Served};
 ghost use Rattle.wf_server.specs.Words.{AreOptions};
 ghost use Rattle.wf_server.specs.Asked.{options_in};
 ghost use Rattle.wf_server.specs.Serving.{setting, ServesRun};
+ghost use Rattle.wf_server.specs.Ways.{IsWay, ServesOnce};
 
 use crate::session::run_session;
 use crate::words::Options;
@@ -16,21 +16,24 @@ use run_record::{Report, RunFault, bare_report};
 use std::alloc::Global;
 use wf_board::laws::histories_keep_completable;
 use wf_commands::load_policy;
+use wf_desk::Desk;
 use wf_outside::{Shelf, Sink, Source};
 
 /// How many bytes of the input are taken at once.
 const PIECE: usize = 65_536;
 
-/// Answers the requests in the input under the policy in a file.
-pub(crate) fn run_serve<F: Shelf, S: Source, K: Sink>(
+/// Answers the requests in the input under the policy in a file, in a way of serving.
+pub(crate) fn run_serve<F: Shelf, S: Source, K: Sink, W: Fn(Desk) -> Desk>(
     alloc: Global,
+    way: &W,
     policy: &str,
     options: Options,
     shelf: &mut F,
     source: &mut S,
     sink: &mut K,
 ) -> Report
-    requires { AreOptions (options_in options) }
+    requires way { IsWay (W.pre way.now) (W.post way.now) }
+    requires options { AreOptions (options_in options) }
     ensures status { result.status ≡ status_of result.fault }
     ensures usage { result.fault ≡ RunFault.Usage → ⊥ }
     ensures serves { ServesRun policy.now (options_in options) (record {
@@ -52,22 +55,26 @@ pub(crate) fn run_serve<F: Shelf, S: Source, K: Sink>(
       told = told_by result;
       fault = result.fault;
     }) }
+    ensures once { ServesOnce (W.post way.now) → AreAnsweredOnce (told_by result).entries }
+    ensures no_rounds { options.rounds ≡ 0 → AreAnsweredOnce (told_by result).entries }
 {
     match load_policy(alloc, shelf, policy) {
-        Ok(p) => serve_policy(alloc, p, options, source, sink),
+        Ok(p) => serve_policy(alloc, way, p, options, source, sink),
         Err(fault) => bare_report(alloc, fault),
     }
 }
 
 // The session of a policy.
-fn serve_policy<S: Source, K: Sink>(
+fn serve_policy<S: Source, K: Sink, W: Fn(Desk) -> Desk>(
     alloc: Global,
+    way: &W,
     policy: Policy,
     options: Options,
     source: &mut S,
     sink: &mut K,
 ) -> Report
-    requires { AreOptions (options_in options) }
+    requires way { IsWay (W.pre way.now) (W.post way.now) }
+    requires options { AreOptions (options_in options) }
     ensures served { Served (setting policy (options_in options)) PIECE
         (record {
           input = S.left source.old;
@@ -82,12 +89,12 @@ fn serve_policy<S: Source, K: Sink>(
           write_faults = K.faults sink.new;
         })
         (told_by result) result.fault }
-    ensures once { AreAnsweredOnce (told_by result).entries }
+    ensures once { ServesOnce (W.post way.now) → AreAnsweredOnce (told_by result).entries }
     ensures wants { AreWantsRightful (told_by result).entries }
     ensures late { is_before_input result.fault ≡ false }
     ensures status { result.status ≡ status_of result.fault }
 {
     let _ = policy.admin();
     histories_keep_completable();
-    run_session(alloc, policy, options, PIECE, source, sink)
+    run_session(alloc, way, policy, options, PIECE, source, sink)
 }

@@ -1,8 +1,7 @@
 //! The session: batch after batch is read, answered and written.
 ghost use Rattle.std.specs.Prelude.{◌≡◌, ◌<◌, [], None};
 ghost use Rattle.wf_board.specs.States.{opening_state};
-ghost use Rattle.wf_board.specs.Histories.{IsLegal};
-ghost use Rattle.wf_board.specs.Histories.{AreWantsRightful};
+ghost use Rattle.wf_board.specs.Histories.{AreAnsweredOnce, AreWantsRightful, IsLegal};
 ghost use Rattle.wf_desk.specs.Desks.{IsSoundDesk};
 ghost use Rattle.line_cutter.specs.Jobs.{start};
 ghost use Rattle.batch_reader.specs.Reading.{IsReady, left_to_read};
@@ -13,7 +12,7 @@ ghost use Rattle.wf_server.specs.Words.{AreOptions};
 ghost use Rattle.wf_server.specs.Asked.{options_in};
 ghost use Rattle.wf_server.specs.Serving.{setting};
 ghost use Rattle.wf_server.specs.Batches.{told_of, ending_of, IsServing, BatchEnds, Serves};
-ghost use Rattle.wf_server.specs.Turns.{setting_of};
+ghost use Rattle.wf_server.specs.Ways.{IsWay, ServesOnce, setting_of};
 
 use crate::batch::{Answered, answer_batch};
 use crate::words::Options;
@@ -25,16 +24,18 @@ use std::alloc::Global;
 use wf_desk::Desk;
 use wf_outside::{Sink, Source};
 
-/// Answers the lines of the source under a policy, batch by batch, and writes the entries to the
-/// sink. At most `room` bytes are taken at once.
-pub(crate) fn run_session<S: Source, K: Sink>(
+/// Answers the lines of the source under a policy, batch by batch, in a way of serving, and writes
+/// the entries to the sink. At most `room` bytes are taken at once.
+pub(crate) fn run_session<S: Source, K: Sink, W: Fn(Desk) -> Desk>(
     alloc: Global,
+    way: &W,
     policy: Policy,
     options: Options,
     room: usize,
     source: &mut S,
     sink: &mut K,
 ) -> Report
+    requires way { IsWay (W.pre way.now) (W.post way.now) }
     requires room { 0 < room }
     requires options { AreOptions (options_in options) }
     ensures serves { Serves (setting policy (options_in options)) room
@@ -42,6 +43,7 @@ pub(crate) fn run_session<S: Source, K: Sink>(
         (record { input = S.left source.new; output = K.held sink.new; read_faults = S.faults source.new; write_faults = K.faults sink.new })
         (told_by result) result.fault }
     ensures legal { IsLegal (opening_state policy) options.rounds (told_by result).entries }
+    ensures once { ServesOnce (W.post way.now) → AreAnsweredOnce (told_by result).entries }
     ensures wants { AreWantsRightful (told_by result).entries }
     ensures status { result.status ≡ status_of result.fault }
 {
@@ -51,17 +53,19 @@ pub(crate) fn run_session<S: Source, K: Sink>(
     let Ok(mut reader) = Reader::new(alloc, options.lanes, room) else {
         return bare_report(alloc, RunFault::NoMemory);
     };
-    serve_batches(alloc, &mut reader, desk, source, sink)
+    serve_batches(alloc, way, &mut reader, desk, source, sink)
 }
 
 // Serves batch after batch.
-fn serve_batches<S: Source, K: Sink>(
+fn serve_batches<S: Source, K: Sink, W: Fn(Desk) -> Desk>(
     alloc: Global,
+    way: &W,
     reader: &mut Reader,
     mut desk: Desk,
     source: &mut S,
     sink: &mut K,
 ) -> Report
+    requires way { IsWay (W.pre way.now) (W.post way.now) }
     requires start { reader.old.cut ≡ start desk.lanes }
     requires nothing { reader.old.pending ≡ [] }
     requires lanes { 0 < desk.lanes }
@@ -72,51 +76,57 @@ fn serve_batches<S: Source, K: Sink>(
         (record { input = S.left source.new; output = K.held sink.new; read_faults = S.faults source.new; write_faults = K.faults sink.new })
         (told_by result) result.fault }
     ensures legal { IsLegal (opening_state desk.opening) desk.rounds (told_by result).entries }
+    ensures once { ServesOnce (W.post way.now) → AreAnsweredOnce (told_by result).entries }
     ensures wants { AreWantsRightful (told_by result).entries }
     ensures status { result.status ≡ status_of result.fault }
 {
     let mut told = Answered::new(alloc);
     'serving: loop {
-        match serve_batch(alloc, reader, &mut desk, &mut told, source, sink) {
-            None => {}
-            Some(fault) => return report_of(fault, desk, told),
+        let (next, ending) = serve_batch(alloc, way, reader, desk, &mut told, source, sink);
+        match ending {
+            None => desk = next,
+            Some(fault) => return report_of(fault, next, told),
         }
     }
 }
 
-// Reads a batch, answers it and writes its entries; how the session ends, if it does.
-fn serve_batch<S: Source, K: Sink>(
+// Reads a batch, answers it and writes its entries; the desk, and how the session ends, if it does.
+fn serve_batch<S: Source, K: Sink, W: Fn(Desk) -> Desk>(
     alloc: Global,
+    way: &W,
     reader: &mut Reader,
-    desk: &mut Desk,
+    desk: Desk,
     told: &mut Answered,
     source: &mut S,
     sink: &mut K,
-) -> Option<RunFault>
+) -> (Desk, Option<RunFault>)
+    requires way { IsWay (W.pre way.now) (W.post way.now) }
     requires ready { IsReady reader.old }
-    requires lanes { 0 < desk.old.lanes }
+    requires lanes { 0 < desk.lanes }
     requires serving { (before : Streams) × IsServing before
         (record { input = S.left source.old; output = K.held sink.old; read_faults = S.faults source.old; write_faults = K.faults sink.old })
-        reader.old desk.old (told_of desk.old told.old) }
+        reader.old desk (told_of desk told.old) }
     ensures batch { (before : Streams) → IsServing before
         (record { input = S.left source.old; output = K.held sink.old; read_faults = S.faults source.old; write_faults = K.faults sink.old })
-        reader.old desk.old (told_of desk.old told.old) →
+        reader.old desk (told_of desk told.old) →
         BatchEnds before
         (record { input = S.left source.new; output = K.held sink.new; read_faults = S.faults source.new; write_faults = K.faults sink.new })
-        reader.new desk.new (told_of desk.new told.new) result }
-    ensures setting { setting_of desk.new ≡ setting_of desk.old }
-    ensures ready { result ≡ None → IsReady reader.new }
-    ensures less { result ≡ None → left_to_read reader.new < left_to_read reader.old }
+        reader.new result.0 (told_of result.0 told.new) result.1 }
+    ensures once { ServesOnce (W.post way.now) → AreAnsweredOnce desk.entries → AreAnsweredOnce result.0.entries }
+    ensures setting { setting_of result.0 ≡ setting_of desk }
+    ensures ready { result.1 ≡ None → IsReady reader.new }
+    ensures less { result.1 ≡ None → left_to_read reader.new < left_to_read reader.old }
     ensures room { reader.new.room ≡ reader.old.room }
 {
     jobs_are_in_order(desk.lanes());
     let Reading { jobs, paused } = reader.next_batch(source);
     if let Paused::NoMemory = paused {
-        return Some(RunFault::NoMemory);
+        return (desk, Some(RunFault::NoMemory));
     }
-    match answer_batch(alloc, desk, told, jobs.as_slice(), sink) {
-        Ok(()) => ending_of(paused),
-        Err(fault) => Some(fault),
+    let (served, answered) = answer_batch(alloc, way, desk, told, jobs.as_slice(), sink);
+    match answered {
+        Ok(()) => (served, ending_of(paused)),
+        Err(fault) => (served, Some(fault)),
     }
 }
 

@@ -12,8 +12,8 @@ use std::test::Fail;
 use wf_desk::{Desk, Event, Mark, Outcome, solve_task};
 use wire_json::write_entry;
 
-// As for payments, but that dan is a clerk too.
-const STAFFED: &str = r#"
+/// As for payments, but that dan is a clerk too.
+pub(crate) const STAFFED: &str = r#"
 format = 1
 admin = "chief"
 roles = ["boss", "chief", "clerk"]

@@ -328,7 +328,7 @@ fn answers(entries: &[Entry], told: &Told<'_>) -> bool {
     opened == told.opened && last == told.last && full == told.full
 }
 
-fn words_of(alloc: Global, given: &[&str]) -> Result<Vec<String>, AllocError> {
+pub(crate) fn words_of(alloc: Global, given: &[&str]) -> Result<Vec<String>, AllocError> {
     let mut words = Vec::new(alloc);
     for word in given {
         words.push(String::from_str(alloc, word)?)?;
@@ -343,7 +343,7 @@ fn shelf_of(alloc: Global, outside: Outside) -> Result<MemShelf, AllocError> {
     Ok(MemShelf::new(files, [outside.failing_load].to_vec(alloc)?))
 }
 
-fn file_of(alloc: Global, name: &str, text: &str) -> Result<MemFile, AllocError> {
+pub(crate) fn file_of(alloc: Global, name: &str, text: &str) -> Result<MemFile, AllocError> {
     Ok(MemFile {
         name: String::from_str(alloc, name)?,
         bytes: text.as_bytes().to_vec(alloc)?,

@@ -1,7 +1,7 @@
 //! The words of the command line.
 ghost use Rattle.std.specs.Prelude.{◌≡◌, ◌<◌, ◌≤◌, [], ◌∷◌, map, option_map, string_bytes, IfSome};
 ghost use Rattle.wf_names.specs.declared.limits.TheConstants.{LANE_LIMIT, ROUND_LIMIT};
-ghost use Rattle.wf_server.specs.Words.{AreOptions, command_of, number_of, options_of, plan_of};
+ghost use Rattle.wf_server.specs.Words.{AreOptions, audit_with, command_of, number_of, options_of, plan_of};
 ghost use Rattle.wf_server.specs.Asked.{CanServe, asked, options_in};
 
 use wf_names::{DEFAULT_LANES, DEFAULT_ROUNDS, LANE_LIMIT, ROUND_LIMIT};
@@ -19,13 +19,29 @@ pub(crate) struct Options {
 #[derive(Clone, Copy)]
 pub(crate) enum Command<'a> {
     /// Judges the plan in the input for a workflow.
-    Plan { policy: &'a str, flow: &'a str },
+    Plan {
+        policy: &'a str,
+        flow: &'a str,
+    },
     /// Writes the policy.
-    Show { policy: &'a str },
+    Show {
+        policy: &'a str,
+    },
     /// Finds a plan for each workflow, or shows that there is none.
-    Solve { policy: &'a str },
+    Solve {
+        policy: &'a str,
+    },
     /// Answers the requests in the input.
-    Serve { policy: &'a str, options: Options },
+    Serve {
+        policy: &'a str,
+        options: Options,
+    },
+    /// Audits the transcript in the input, for a requests file.
+    Audit {
+        policy: &'a str,
+        requests: &'a str,
+        options: Options,
+    },
 }
 
 /// The command that the words are, where they are one.
@@ -58,6 +74,7 @@ fn read_command<'a>(word: &str, policy: &'a str, more: &'a [String]) -> Option<C
             let options = read_options(more)?;
             Some(Command::Serve { policy, options })
         }
+        "audit" => read_audit(policy, more),
         _ => None,
     }
 }
@@ -72,6 +89,24 @@ fn read_plan<'a>(policy: &'a str, more: &'a [String]) -> Option<Command<'a>>
             policy,
             flow: flow.as_str(),
         }),
+        _ => None,
+    }
+}
+
+// `audit`, where the words behind the policy file are a requests file and options.
+fn read_audit<'a>(policy: &'a str, more: &'a [String]) -> Option<Command<'a>>
+    ensures command { option_map asked result ≡ audit_with policy.now (map string_bytes more.now) }
+    ensures served { IfSome result CanServe }
+{
+    match more {
+        [requests, more @ ..] => {
+            let options = read_options(more)?;
+            Some(Command::Audit {
+                policy,
+                requests: requests.as_str(),
+                options,
+            })
+        }
         _ => None,
     }
 }

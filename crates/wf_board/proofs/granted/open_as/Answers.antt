@@ -1,4 +1,4 @@
-use Rattle.std.proofs.Common.{Ok, sym, subst}
+use Rattle.std.proofs.Common.{inl, inr, Ok, refl, sym, subst}
 use Rattle.wf_talk.specs.declared.reply.Reply.TheVariants as replies
 use Rattle.wf_board.specs.declared.deed.Deed.TheVariants as deeds
 use Rattle.wf_board.specs.Admission.{HasAdmitted}
@@ -15,7 +15,8 @@ returns c =
     let f = c.args.flow in
     let given = replies.Opened c.args.number c.args.plan.now in
     elim c.match-open.branch [
-      | in-NoMemory w ↦ subst (HasAdmitted p t c.open.new.cases (Ok (deeds.Open f)) given) (sym w.result-is) (c.open.ensures.unchanged w.in-NoMemory.is)
+      | in-NoMemory w ↦ subst (HasAdmitted p t c.open.new.cases (Ok (deeds.Open f)) given) (sym w.result-is)
+          (c.open.ensures.unchanged w.in-NoMemory.is, inr (inl (refl, (c.open.ensures.memory w.in-NoMemory.is).1)))
       | in_default w ↦ subst (HasAdmitted p t c.open.new.cases (Ok (deeds.Open f)) given) (sym w.result-is)
           (opened_same p t c.open.new.cases f c.args.number c.args.plan.now c.open.result
           (subst (λ d. HasTaken p t c.open.new.cases d c.open.result) c.requires.room c.open.ensures.taken)

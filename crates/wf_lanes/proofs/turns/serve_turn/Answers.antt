@@ -1,9 +1,12 @@
-use Rattle.std.proofs.Common.{◌≡◌, ◌≤◌, ◌+◌, Bool, true, false, sym, subst, arith}
+use Rattle.std.proofs.Common.{◌≤◌, ◌+◌, sym, subst, arith}
 use Rattle.std.proofs.lemmas.Grind.{common_steps}
 use Rattle.wf_desk.specs.Commits.{HasServed}
-use Rattle.wf_lanes.proofs.TurnLaws.{HasTurned, turned_served, turned_passed, turned_done, turned_less}
+use Rattle.wf_lanes.proofs.TurnLaws.{HasTurned, turned_none, turned_served, turned_passed, turned_done, turned_less}
 use Rattle.wf_lanes.proofs.turns.serve_turn.Goals.{then-serve_next, else-serve_next}
 use Rattle.wf_lanes.proofs.turns.serve_turn.Goals as goal
+
+pub turn-init : goal.turn-init
+turn-init g c = record { turned = turned_none c.args.desk.now }
 
 pub turn-preserved : goal.turn-preserved
 turn-preserved g c =

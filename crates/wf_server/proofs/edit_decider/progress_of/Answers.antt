@@ -1,4 +1,3 @@
-use Rattle.std.proofs.Common.{sym}
 use Rattle.wf_board.proofs.Exact.{finished_assigned}
 use Rattle.wf_server.proofs.edit_decider.progress_of.Goals as goal
 

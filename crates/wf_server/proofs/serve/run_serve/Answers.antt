@@ -1,10 +1,15 @@
-use Rattle.wf_server.proofs.ServeLaws.{is_served, loads_late, not_served, unread_counts}
+use Rattle.std.proofs.Common.{sym, subst}
+use Rattle.run_record.specs.Report.{Told}
+use Rattle.wf_board.specs.Histories.{AreAnsweredOnce}
+use Rattle.wf_board.specs.States.{opening_state}
+use Rattle.wf_server.proofs.WayLaws.{once_legal}
+use Rattle.wf_server.proofs.ServeLaws.{is_served, loads_late}
 use Rattle.wf_server.specs.Asked.{options_in}
 use Rattle.wf_server.proofs.serve.run_serve.Goals as goal
 
 pub returns-in-Ok-clause-serves : goal.returns-in-Ok-clause-serves
 returns-in-Ok-clause-serves g c = record {
-  serves = is_served (g.F.Shelf.file c.args.shelf.now c.args.policy.now) c.in-Ok.p (options_in c.args.options) _ c.in-Ok.ensures.policy c.serve_policy.ensures.served c.serve_policy.ensures.once c.serve_policy.ensures.wants;
+  serves = is_served (g.F.Shelf.file c.args.shelf.now c.args.policy.now) c.in-Ok.p (options_in c.args.options) _ c.in-Ok.ensures.policy c.serve_policy.ensures.served c.serve_policy.ensures.wants;
   orderly = record {
     early = λ e. let late = c.serve_policy.ensures.late in cc;
     loads = loads_late _ _ _ c.serve_policy.ensures.late c.in-Ok.ensures.loads;
@@ -12,3 +17,12 @@ returns-in-Ok-clause-serves g c = record {
     writes = c.serve_policy.ensures.served.write_faults;
   };
 }
+
+pub returns-in-Err-clause-once : goal.returns-in-Err-clause-once
+returns-in-Err-clause-once g c serves = subst (λ (t : Told). AreAnsweredOnce t.entries) (sym c.bare_report.ensures.told) tt
+
+pub returns-in-Ok-clause-no_rounds : goal.returns-in-Ok-clause-no_rounds
+returns-in-Ok-clause-no_rounds g c none = once_legal (opening_state c.in-Ok.p) c.args.options.rounds _ c.serve_policy.ensures.served.legal none
+
+pub returns-in-Err-clause-no_rounds : goal.returns-in-Err-clause-no_rounds
+returns-in-Err-clause-no_rounds g c none = subst (λ (t : Told). AreAnsweredOnce t.entries) (sym c.bare_report.ensures.told) tt

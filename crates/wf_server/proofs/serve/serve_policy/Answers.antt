@@ -8,6 +8,3 @@ returns-clause-served g c = serves_kept (setting c.args.policy (options_in c.arg
 
 pub returns-clause-late : goal.returns-clause-late
 returns-clause-late g c = serves_late (setting c.args.policy (options_in c.args.options)) _ _ _ _ _ c.run_session.ensures.serves
-
-pub returns-clause-once : goal.returns-clause-once
-returns-clause-once g c = c.run_session.ensures.serves.once

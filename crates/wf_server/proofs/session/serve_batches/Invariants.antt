@@ -1,7 +1,8 @@
 use Rattle.std.proofs.Common.{◌≡◌}
 use Rattle.batch_reader.specs.Reading.{IsReady, left_to_read}
+use Rattle.wf_board.specs.Histories.{AreAnsweredOnce}
 use Rattle.wf_server.specs.Batches.{told_of, IsServing}
-use Rattle.wf_server.specs.Turns.{setting_of}
+use Rattle.wf_server.specs.Ways.{ServesOnce, setting_of}
 use Rattle.wf_server.proofs.session.serve_batches.Given as goal
 
 abbrev pub invariant-serving : goal.invariant-serving
@@ -10,6 +11,7 @@ invariant-serving g l =
       ready : IsReady l.reader;
       room : l.reader.room ≡ l.fn.reader.room;
       setting : setting_of l.desk ≡ setting_of l.fn.desk;
+      once : ServesOnce (λ d e. goal.W-post g l.way d e) → AreAnsweredOnce l.desk.entries;
       serving : IsServing
           (record { input = g.S.Source.left l.fn.source; output = g.K.Sink.held l.fn.sink; read_faults = g.S.Source.faults l.fn.source; write_faults = g.K.Sink.faults l.fn.sink })
           (record { input = g.S.Source.left l.source; output = g.K.Sink.held l.sink; read_faults = g.S.Source.faults l.source; write_faults = g.K.Sink.faults l.sink })

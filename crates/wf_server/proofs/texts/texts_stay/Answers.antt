@@ -1,5 +1,5 @@
-use Rattle.std.proofs.Common.{ap, sym, subst, ◌∙◌}
-use Rattle.rbac_state.specs.Rosters.{IsSoundRoster, RosterShape}
+use Rattle.std.proofs.Common.{ap, subst, ◌∙◌}
+use Rattle.rbac_state.specs.Rosters.{IsSoundRoster}
 use Rattle.policy_book.specs.Shapes.{PolicyShape}
 use Rattle.wf_board.specs.Boards.{BoardShape, state_on}
 use Rattle.wf_server.specs.Names.{IsKeptState}

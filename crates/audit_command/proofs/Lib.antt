@@ -1,0 +1,3 @@
+pub mod Passing
+pub mod Loaded
+pub mod Runs

@@ -1,0 +1,205 @@
+-- How the steps of a run compose.
+use Rattle.std.proofs.Common.{◌≡◌, ℕ, true, false, List, [], Option, Result, Ok, Err, refl, sym, subst, ◌∙◌, arith}
+use Rattle.wf_outside.specs.Outside.{Filed, told, missing, untold, HasTaken, with_bytes}
+use Rattle.wf_outside.proofs.OutsideLaws.{nothing_put, nothing_taken}
+use Rattle.policy_book.specs.Shapes.{PolicyShape}
+use Rattle.run_record.specs.declared.fault.RunFault.{RunFault}
+use Rattle.run_record.specs.declared.fault.RunFault.TheVariants.{Nothing, Found, Usage, Policy, Read, Write, Load, NoMemory, FileTooLong, LineTooLong, TooManyLines, BadInput}
+use Rattle.run_record.specs.Fault.{fault_in, is_before_input, CountsLoads, CountsReads, CountsReadsAlone, CountsWrites}
+use Rattle.run_record.specs.Report.{nothing_told}
+use Rattle.run_record.specs.Run.{Run, IsOrderly, IsUntouched, OverFile}
+use Rattle.wf_commands.specs.Once.{AnswersOnce, Ends, IsQuiet, OverPolicy}
+use Rattle.wf_commands.specs.Load.{IsLoadEnding, IsFileEnding}
+use Rattle.wf_commands.proofs.Runs.{own_reads}
+use Rattle.audit_command.specs.declared.finding.Finding.{Finding}
+use Rattle.audit_command.specs.declared.finding.Finding.TheVariants.{Legal, Fault, TooLong}
+use Rattle.audit_command.specs.Auditing.{ending_of, text_of}
+use Rattle.audit_command.specs.Running.{AuditOf, Input, AuditsPolicy, AuditsRun, EndsWithout, ReadsAsAudit}
+use Rattle.audit_command.specs.Steps.{FindsAs, FindsFile, HasTakenSome, IsRefusal}
+
+-- ---- by the ending
+
+-- where nothing was read
+pub unread : (fault : RunFault) (left : Option (List ℕ)) → IsLoadEnding fault → ReadsAsAudit fault left left
+unread Load left ending = refl
+unread FileTooLong left ending = refl
+unread (Policy e) left ending = refl
+unread NoMemory left ending = ([], nothing_taken left)
+unread Nothing left ending = absurd ending
+unread Found left ending = absurd ending
+unread Usage left ending = absurd ending
+unread Read left ending = absurd ending
+unread Write left ending = absurd ending
+unread (LineTooLong line) left ending = absurd ending
+unread TooManyLines left ending = absurd ending
+unread (BadInput e) left ending = absurd ending
+
+pub file_ending : (fault : RunFault) → IsFileEnding fault → IsLoadEnding fault
+file_ending Load ending = tt
+file_ending FileTooLong ending = tt
+file_ending NoMemory ending = tt
+file_ending (Policy e) ending = absurd ending
+file_ending Nothing ending = absurd ending
+file_ending Found ending = absurd ending
+file_ending Usage ending = absurd ending
+file_ending Read ending = absurd ending
+file_ending Write ending = absurd ending
+file_ending (LineTooLong line) ending = absurd ending
+file_ending TooManyLines ending = absurd ending
+file_ending (BadInput e) ending = absurd ending
+
+-- ---- the run
+
+-- how a run ends that has found something
+finding_late : (f : Finding) → is_before_input (ending_of f) ≡ true → ⊥
+finding_late Legal h = cc
+finding_late (Fault n kind) h = cc
+finding_late (TooLong n) h = cc
+
+finding_loads : (f : Finding) (before after : ℕ) → after ≡ before → CountsLoads (ending_of f) before after
+finding_loads Legal before after same = same
+finding_loads (Fault n kind) before after same = same
+finding_loads (TooLong n) before after same = same
+
+finding_reads : (f : Finding) (before after : ℕ) → after ≡ before → CountsReadsAlone (ending_of f) before after
+finding_reads Legal before after same = same
+finding_reads (Fault n kind) before after same = same
+finding_reads (TooLong n) before after same = same
+
+finding_writes : (f : Finding) (before after : ℕ) → after ≡ before → CountsWrites (ending_of f) before after
+finding_writes Legal before after same = same
+finding_writes (Fault n kind) before after same = same
+finding_writes (TooLong n) before after same = same
+
+finding_input : (f : Finding) (before after : Option (List ℕ)) → HasTakenSome before after → ReadsAsAudit (ending_of f) before after
+finding_input Legal before after taken = taken
+finding_input (Fault n kind) before after taken = taken
+finding_input (TooLong n) before after taken = taken
+
+finding_quiet : (f : Finding) (before after : Option (List ℕ)) → after ≡ with_bytes before (text_of f) → IsQuiet (ending_of f) before after
+finding_quiet Legal before after wrote = tt
+finding_quiet (Fault n kind) before after wrote = tt
+finding_quiet (TooLong n) before after wrote = wrote ∙ nothing_put before
+
+finding_ends : (A : RunFault → List ℕ → Type 0) (f : Finding) (before after : Option (List ℕ)) → A (ending_of f) (text_of f) → after ≡ with_bytes before (text_of f) → Ends A before after (ending_of f)
+finding_ends A Legal before after h wrote = (text_of Legal, h, wrote)
+finding_ends A (Fault n kind) before after h wrote = (text_of (Fault n kind), h, wrote)
+finding_ends A (TooLong n) before after h wrote = (text_of (TooLong n), h, wrote)
+
+finding_over : (A : PolicyShape → RunFault → List ℕ → Type 0) (f : Finding) (filed : Filed) (before after : Option (List ℕ)) → FindsFile A filed (Ok f)
+    → after ≡ with_bytes before (text_of f) → OverFile filed (ending_of f) (λ file. Ends (OverPolicy A file) before after (ending_of f))
+finding_over A f untold before after h wrote = tt
+finding_over A f missing before after h wrote = cc
+finding_over A f (told file) before after h is = finding_ends (OverPolicy A file) f before after h is
+
+finding_without : (f : Finding) (filed : Filed) → EndsWithout filed Nothing → EndsWithout filed (ending_of f)
+finding_without f untold h = tt
+finding_without f missing h = absurd h
+finding_without f (told file) h = tt
+
+-- what is found is told
+pub told_run : (policy requests : List ℕ) (lanes rounds : ℕ) (r : Run) (f : Finding) → r.fault ≡ ending_of f
+    → FindsFile (AuditsPolicy (record { requests = r.files requests; lanes = lanes; rounds = rounds }) (record { before = r.before.input; after = r.after.input })) (r.files policy) (Ok f)
+    → EndsWithout (r.files requests) Nothing → r.load_faults_after ≡ r.load_faults → r.after.read_faults ≡ r.before.read_faults → r.after.write_faults ≡ r.before.write_faults
+    → HasTakenSome r.before.input r.after.input → r.after.output ≡ with_bytes r.before.output (text_of f) → r.told ≡ nothing_told → AuditsRun policy requests lanes rounds r
+told_run policy requests lanes rounds r f is finds without loads reads writes input wrote nothing = record {
+  orderly = record {
+    early = λ early. absurd (finding_late f (subst (λ (x : RunFault). is_before_input x ≡ true) is early));
+    loads = rw is (finding_loads f r.load_faults r.load_faults_after loads);
+    reads = rw is (own_reads (ending_of f) r.before.read_faults r.after.read_faults (finding_reads f r.before.read_faults r.after.read_faults reads));
+    writes = rw is (finding_writes f r.before.write_faults r.after.write_faults writes);
+  };
+  once = record {
+    answer = rw is (finding_over (AuditsPolicy (record { requests = r.files requests; lanes = lanes; rounds = rounds }) (record { before = r.before.input; after = r.after.input })) f (r.files policy) r.before.output r.after.output finds wrote);
+    quiet = rw is (finding_quiet f r.before.output r.after.output wrote);
+    untold = nothing;
+    reads = rw is (finding_reads f r.before.read_faults r.after.read_faults reads);
+  };
+  without = rw is (finding_without f (r.files requests) without);
+  reads = rw is (finding_input f r.before.input r.after.input input);
+}
+
+-- nothing was found
+refused_quiet : (fault : RunFault) (before after : Option (List ℕ)) → IsRefusal fault → after ≡ before → IsQuiet fault before after
+refused_quiet Load before after ending same = same
+refused_quiet FileTooLong before after ending same = same
+refused_quiet (Policy e) before after ending same = same
+refused_quiet Read before after ending same = same
+refused_quiet NoMemory before after ending same = same
+refused_quiet Nothing before after ending same = absurd ending
+refused_quiet Found before after ending same = absurd ending
+refused_quiet Usage before after ending same = absurd ending
+refused_quiet Write before after ending same = absurd ending
+refused_quiet (LineTooLong n) before after ending same = absurd ending
+refused_quiet TooManyLines before after ending same = absurd ending
+refused_quiet (BadInput e) before after ending same = absurd ending
+
+refused_writes : (fault : RunFault) (before after : ℕ) → IsRefusal fault → after ≡ before → CountsWrites fault before after
+refused_writes Load before after ending same = same
+refused_writes FileTooLong before after ending same = same
+refused_writes (Policy e) before after ending same = same
+refused_writes Read before after ending same = same
+refused_writes NoMemory before after ending same = same
+refused_writes Nothing before after ending same = absurd ending
+refused_writes Found before after ending same = absurd ending
+refused_writes Usage before after ending same = absurd ending
+refused_writes Write before after ending same = absurd ending
+refused_writes (LineTooLong n) before after ending same = absurd ending
+refused_writes TooManyLines before after ending same = absurd ending
+refused_writes (BadInput e) before after ending same = absurd ending
+
+refused_early : (fault : RunFault) (before after : Option (List ℕ)) → IsRefusal fault → is_before_input fault ≡ true → ReadsAsAudit fault before after → after ≡ before
+refused_early Load before after ending early reads = reads
+refused_early FileTooLong before after ending early reads = reads
+refused_early (Policy e) before after ending early reads = reads
+refused_early Read before after ending early reads = cc
+refused_early NoMemory before after ending early reads = cc
+refused_early Nothing before after ending early reads = absurd ending
+refused_early Found before after ending early reads = absurd ending
+refused_early Usage before after ending early reads = absurd ending
+refused_early Write before after ending early reads = absurd ending
+refused_early (LineTooLong n) before after ending early reads = absurd ending
+refused_early TooManyLines before after ending early reads = absurd ending
+refused_early (BadInput e) before after ending early reads = absurd ending
+
+refused_ends : (A : RunFault → List ℕ → Type 0) (before after : Option (List ℕ)) (fault : RunFault) → IsRefusal fault → FindsAs A (Err fault) → after ≡ before → Ends A before after fault
+refused_ends A before after Load ending h same = same
+refused_ends A before after Read ending h same = same
+refused_ends A before after NoMemory ending h same = same
+refused_ends A before after FileTooLong ending h same = ([], h, same ∙ sym (nothing_put before))
+refused_ends A before after (Policy e) ending h same = ([], h, same ∙ sym (nothing_put before))
+refused_ends A before after Nothing ending h same = absurd ending
+refused_ends A before after Found ending h same = absurd ending
+refused_ends A before after Usage ending h same = absurd ending
+refused_ends A before after Write ending h same = absurd ending
+refused_ends A before after (LineTooLong n) ending h same = absurd ending
+refused_ends A before after TooManyLines ending h same = absurd ending
+refused_ends A before after (BadInput e) ending h same = absurd ending
+
+refused_file : (A : PolicyShape → RunFault → List ℕ → Type 0) (filed : Filed) (fault : RunFault) (before after : Option (List ℕ)) → IsRefusal fault → FindsFile A filed (Err fault)
+    → after ≡ before → OverFile filed fault (λ file. Ends (OverPolicy A file) before after fault)
+refused_file A untold fault before after ending h same = tt
+refused_file A missing fault before after ending h same = cc
+refused_file A (told file) fault before after ending h same = refused_ends (OverPolicy A file) before after fault ending h same
+
+pub refused_run : (policy requests : List ℕ) (lanes rounds : ℕ) (r : Run) → IsRefusal r.fault
+    → FindsFile (AuditsPolicy (record { requests = r.files requests; lanes = lanes; rounds = rounds }) (record { before = r.before.input; after = r.after.input })) (r.files policy) (Err r.fault)
+    → EndsWithout (r.files requests) r.fault → CountsLoads r.fault r.load_faults r.load_faults_after → CountsReadsAlone r.fault r.before.read_faults r.after.read_faults
+    → r.after.write_faults ≡ r.before.write_faults → ReadsAsAudit r.fault r.before.input r.after.input → r.after.output ≡ r.before.output → r.told ≡ nothing_told
+    → AuditsRun policy requests lanes rounds r
+refused_run policy requests lanes rounds r ending finds without loads reads writes input output nothing = record {
+  orderly = record {
+    early = λ early. record { unread = refused_early r.fault r.before.input r.after.input ending early input; unwritten = output; untold = nothing };
+    loads = loads;
+    reads = own_reads r.fault r.before.read_faults r.after.read_faults reads;
+    writes = refused_writes r.fault r.before.write_faults r.after.write_faults ending writes;
+  };
+  once = record {
+    answer = refused_file (AuditsPolicy (record { requests = r.files requests; lanes = lanes; rounds = rounds }) (record { before = r.before.input; after = r.after.input })) (r.files policy) r.fault r.before.output r.after.output ending finds output;
+    quiet = refused_quiet r.fault r.before.output r.after.output ending output;
+    untold = nothing;
+    reads = reads;
+  };
+  without = without;
+  reads = input;
+}

@@ -1,0 +1,31 @@
+use Rattle.std.proofs.Common.{◌≡◌, length, refl, sym, ap, arith}
+use Rattle.line_reader.specs.Lines.{pending}
+use Rattle.audit_command.proofs.Passing.{audit_begins, steps_found, taken_on}
+use Rattle.audit_command.proofs.lines.audit_lines.Goals as goal
+
+pub auditing-init : goal.auditing-init
+auditing-init g c = record {
+  audited = audit_begins c.args.auditor (g.S.Source.left c.args.source.now) (pending c.args.reader.now) c.requires.first c.requires.nothing;
+  going = c.requires.going;
+  number = sym (ap length c.requires.first);
+  few = c.requires.few;
+  within = omega (arith, ap length c.requires.first);
+  limit = c.requires.limit;
+  room = c.requires.room;
+  faults = refl;
+}
+
+pub returns-in-Ok-Some-clause-found : goal.returns-in-Ok-Some-clause-found
+returns-in-Ok-Some-clause-found g c =
+    steps_found c.args.auditor c.audit_line.new.auditor (g.S.Source.left c.args.source.now) (g.S.Source.left c.audit_line.new.source) (pending c.audit_line.new.reader) c.audit_line.result c.in-Ok-Some.finding
+    (c.audit_line.ensures.steps c.args.auditor (g.S.Source.left c.args.source.now) c.auditing.invariant.audited) (cc)
+
+pub returns-in-Ok-Some-clause-taken : goal.returns-in-Ok-Some-clause-taken
+returns-in-Ok-Some-clause-taken g c =
+    taken_on c.args.auditor c.auditing.auditor (g.S.Source.left c.args.source.now) (g.S.Source.left c.auditing.source) (g.S.Source.left c.audit_line.new.source) (pending c.auditing.reader)
+    c.auditing.invariant.audited c.audit_line.ensures.taken
+
+pub returns-in-Err-clause-taken : goal.returns-in-Err-clause-taken
+returns-in-Err-clause-taken g c =
+    taken_on c.args.auditor c.auditing.auditor (g.S.Source.left c.args.source.now) (g.S.Source.left c.auditing.source) (g.S.Source.left c.audit_line.new.source) (pending c.auditing.reader)
+    c.auditing.invariant.audited c.audit_line.ensures.taken

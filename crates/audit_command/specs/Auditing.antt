@@ -1,0 +1,75 @@
+-- What an audit finds in a transcript, line after line.
+use Rattle.std.specs.Prelude.{◌≡◌, ℕ, ◌+◌, ◌<◌, ◌≤◌, true, List, [], ◌∷◌, ◌++◌, length, Option, IfSome, codes, decimal}
+use Rattle.std.proofs.Common.{◌⊎◌}
+use Rattle.wf_names.specs.declared.limits.TheConstants.{TRANSCRIPT_LINE_LIMIT}
+use Rattle.wf_outside.specs.Outside.{HasTaken, IsAtEnd}
+use Rattle.policy_book.specs.Shapes.{PolicyShape}
+use Rattle.wf_talk.specs.declared.entry.Entry.{Entry}
+use Rattle.line_cutter.specs.Jobs.{jobs_of_input}
+use Rattle.line_reader.specs.Lines.{first_line, line_length, lines_of}
+use Rattle.transcript_audit.specs.declared.fault.AuditKind.{AuditKind}
+use Rattle.transcript_audit.specs.declared.fault.AuditKind.TheVariants.{Text, At, Job, Reply, Missing}
+use Rattle.transcript_audit.specs.Audits.{AuditShape, HasFault, IsNext, audit_of, with_entry}
+use Rattle.run_record.specs.declared.fault.RunFault.{RunFault}
+use Rattle.run_record.specs.declared.fault.RunFault.TheVariants.{Nothing, Found, LineTooLong}
+use Rattle.audit_command.specs.declared.finding.Finding.{Finding}
+use Rattle.audit_command.specs.declared.finding.Finding.TheVariants.{Legal, Fault, TooLong}
+use Rattle.audit_command.specs.declared.lines.TheConstants.{PIECE}
+
+-- where no line is left: each job has its entry, or one is missing
+abbrev pub EndsAs : AuditShape → Finding → Type 0
+EndsAs a Legal = length a.entries ≡ length a.jobs
+EndsAs a (Fault n kind) = (kind ≡ Missing) × ((n ≡ length a.entries) × (length a.entries < length a.jobs))
+EndsAs a (TooLong n) = ⊥
+
+-- at a line: it has a fault, or is too long
+abbrev pub StopsAt : AuditShape → List ℕ → Finding → Type 0
+StopsAt a line Legal = ⊥
+StopsAt a line (Fault n kind) = (n ≡ length a.entries) × ((line_length line ≤ TRANSCRIPT_LINE_LIMIT) × HasFault a line kind)
+StopsAt a line (TooLong n) = (n ≡ length a.entries) × (TRANSCRIPT_LINE_LIMIT < line_length line)
+
+-- the line is the text of an entry that comes next, and not too long
+abbrev pub GoesOn : AuditShape → List ℕ → Entry → Type 0
+GoesOn a line e = (line_length line ≤ TRANSCRIPT_LINE_LIMIT) × IsNext a line e
+
+-- what is found in some lines
+abbrev pub IsAudited : AuditShape → List (List ℕ) → Finding → Type 0
+IsAudited a [] f = EndsAs a f
+IsAudited a (line ∷ lines) f = StopsAt a line f ⊎ ((e : Entry) × (GoesOn a line e × IsAudited (with_entry a e) lines f))
+
+-- how a run ends that has found this
+abbrev pub ending_of : Finding → RunFault
+ending_of Legal = Nothing
+ending_of (Fault n kind) = Found
+ending_of (TooLong n) = LineTooLong n
+
+-- the word of each kind
+abbrev pub word_of : AuditKind → List ℕ
+word_of Text = codes "text"
+word_of At = codes "at"
+word_of Job = codes "job"
+word_of Reply = codes "reply"
+word_of Missing = codes "missing"
+
+-- what is written
+abbrev pub text_of : Finding → List ℕ
+text_of Legal = codes "legal\n"
+text_of (Fault n kind) = codes "fault " ++ decimal n ++ codes " " ++ word_of kind ++ codes "\n"
+text_of (TooLong n) = []
+
+-- how far the input was read: to its end where no line has a fault or is too long; else past that line, of which the audit
+-- has seen at most so many bytes more than a line may have, by less than a piece
+abbrev pub IsFar : Finding → List ℕ → List ℕ → Option (List ℕ) → Type 0
+IsFar Legal bytes rest after = (rest ≡ []) × IsAtEnd after
+IsFar (Fault n kind) bytes rest after =
+    ((kind ≡ Missing) × ((rest ≡ []) × IsAtEnd after)) ⊎ ((length (lines_of bytes) ≡ n + 1) × (length rest < PIECE))
+IsFar (TooLong n) bytes rest after = (length (lines_of bytes) ≡ n + 1) × (length rest < PIECE)
+
+-- what was found in the input that a source gave: in the bytes that were looked at, and in all of the input where it tells
+pub record HasFound (a : AuditShape) (f : Finding) (before after : Option (List ℕ)) : Type 0 where
+  pub bytes : List ℕ
+  pub rest : List ℕ
+  pub taken : HasTaken before after (bytes ++ rest)
+  pub found : IsAudited a (lines_of bytes) f
+  pub far : IsFar f bytes rest after
+  pub whole : IfSome before (λ input. IsAudited a (lines_of input) f)

@@ -1,0 +1,5 @@
+pub mod Auditing
+pub mod Running
+pub mod Loading
+pub mod Steps
+pub mod Laws

@@ -1,0 +1,33 @@
+-- Inside: what loading a requests file gives, by what is told of the file.
+use Rattle.std.specs.Prelude.{◌≡◌, ℕ, ◌<◌, ◌≤◌, List, length, true, Result, Ok, Err}
+use Rattle.wf_names.specs.declared.limits.TheConstants.{REQUESTS_FILE_LIMIT}
+use Rattle.wf_outside.specs.Outside.{Filed, told, missing, untold}
+use Rattle.line_cutter.specs.declared.whole.Batch.{Batch}
+use Rattle.line_cutter.specs.Jobs.{jobs_of_input}
+use Rattle.line_cutter.specs.Laws.{AreInOrder}
+use Rattle.run_record.specs.declared.fault.RunFault.{RunFault}
+use Rattle.run_record.specs.declared.fault.RunFault.TheVariants.{Load, FileTooLong}
+
+-- a file gives its bytes, or is too long; else loading or memory failed
+abbrev pub RequestsOf : List ℕ → Result (List ℕ) RunFault → Type 0
+RequestsOf file (Ok bytes) = (length file ≤ REQUESTS_FILE_LIMIT) × (bytes ≡ file)
+RequestsOf file (Err FileTooLong) = REQUESTS_FILE_LIMIT < length file
+RequestsOf file (Err fault) = Unit {0}
+
+-- the same by what is told; a missing file is a load fault
+abbrev pub GivesRequests : Filed → Result (List ℕ) RunFault → Type 0
+GivesRequests untold result = Unit {0}
+GivesRequests missing result = result ≡ Err Load
+GivesRequests (told file) result = RequestsOf file result
+
+-- a file gives its jobs
+abbrev pub JobsOf : List ℕ → ℕ → Result Batch RunFault → Type 0
+JobsOf file lanes (Ok batch) =
+    (length file ≤ REQUESTS_FILE_LIMIT) × ((batch.jobs ≡ (jobs_of_input file true lanes).jobs) × (batch.ends ≡ (jobs_of_input file true lanes).ends))
+JobsOf file lanes (Err FileTooLong) = REQUESTS_FILE_LIMIT < length file
+JobsOf file lanes (Err fault) = Unit {0}
+
+abbrev pub GivesJobs : Filed → ℕ → Result Batch RunFault → Type 0
+GivesJobs untold lanes result = Unit {0}
+GivesJobs missing lanes result = result ≡ Err Load
+GivesJobs (told file) lanes result = JobsOf file lanes result

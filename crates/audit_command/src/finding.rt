@@ -1,0 +1,71 @@
+//! What an audit finds.
+ghost use Rattle.std.specs.Prelude.{◌≡◌, ◌++◌, IfOk, codes, decimal, string_bytes};
+ghost use Rattle.audit_command.specs.Auditing.{ending_of, text_of, word_of};
+
+use run_record::RunFault;
+use std::alloc::{AllocError, Global};
+use transcript_audit::AuditKind;
+
+/// What an audit finds in a transcript.
+#[derive(Clone, Copy, Debug, PartialEq, Eq)]
+pub(crate) enum Finding {
+    /// It is the transcript of a legal session.
+    Legal,
+    /// The line with this number is the first that has a fault, and which one.
+    Fault(u32, AuditKind),
+    /// The line with this number is too long, and none before it has a fault.
+    TooLong(u32),
+}
+
+impl Finding {
+    /// How a run ends that has found this.
+    pub(crate) fn ending(&self) -> RunFault
+        ensures { result ≡ ending_of self.now }
+    {
+        match self {
+            Finding::Legal => RunFault::Nothing,
+            Finding::Fault(_, _) => RunFault::Found,
+            Finding::TooLong(n) => RunFault::LineTooLong(*n),
+        }
+    }
+
+    /// What is written.
+    pub(crate) fn text(&self, alloc: Global) -> Result<String, AllocError>
+        ensures { IfOk result (λ text. string_bytes text ≡ text_of self.now) }
+    {
+        match self {
+            Finding::Legal => String::from_str(alloc, "legal\n"),
+            Finding::Fault(n, kind) => fault_text(alloc, *n, *kind),
+            Finding::TooLong(_) => Ok(String::new(alloc)),
+        }
+    }
+}
+
+// The line that tells a fault.
+fn fault_text(alloc: Global, n: u32, kind: AuditKind) -> Result<String, AllocError>
+    ensures { IfOk result (λ text. string_bytes text ≡ text_of (Finding.Fault n kind)) }
+{
+    let mut text = fault_start(alloc, n)?;
+    text.push_str(word_of(kind))?;
+    text.push_str("\n")?;
+    Ok(text)
+}
+
+// The line up to the kind.
+fn fault_start(alloc: Global, n: u32) -> Result<String, AllocError>
+    ensures { IfOk result (λ text. string_bytes text ≡ codes "fault " ++ decimal n ++ codes " ") }
+{
+    format!(in alloc; "fault {n} ")
+}
+
+fn word_of(kind: AuditKind) -> &'static str
+    ensures { result.now ≡ word_of kind }
+{
+    match kind {
+        AuditKind::Text => "text",
+        AuditKind::At => "at",
+        AuditKind::Job => "job",
+        AuditKind::Reply => "reply",
+        AuditKind::Missing => "missing",
+    }
+}

@@ -1,0 +1,11 @@
+//! The command `audit`: whether a transcript is that of a legal session over a policy and requests.
+#![tactic(auto)]
+
+mod finding;
+mod laws;
+mod lines;
+mod load;
+mod run;
+
+pub use laws::legal_is_next;
+pub use run::run_audit;

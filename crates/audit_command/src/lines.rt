@@ -1,0 +1,146 @@
+//! Auditing the lines of the input.
+ghost use Rattle.std.specs.Prelude.{◌≡◌, ◌<◌, ◌≤◌, ◌+◌, ℕ, List, [], length, Option, None, Some, Ok, Err, IfErr, IfOk};
+ghost use Rattle.wf_names.specs.declared.limits.TheConstants.{SESSION_LINE_LIMIT, TRANSCRIPT_LINE_LIMIT};
+ghost use Rattle.line_reader.specs.Lines.{pending};
+ghost use Rattle.run_record.specs.Fault.{fault_in, CountsReadsAlone};
+ghost use Rattle.transcript_audit.specs.Audits.{AuditShape};
+ghost use Rattle.audit_command.specs.Auditing.{EndsAs, HasFound};
+ghost use Rattle.audit_command.specs.Steps.{HasAudited, HasOneMore, HasTakenSome, IsReadEnding, StepsTo, TakesLine};
+
+use crate::finding::Finding;
+use line_reader::{LineReader, Read};
+use run_record::RunFault;
+use std::alloc::Global;
+use transcript_audit::{AuditFault, Auditor};
+use wf_board::Decider;
+use wf_names::TRANSCRIPT_LINE_LIMIT;
+use wf_outside::Source;
+
+/// How many bytes of the input are taken at once.
+const PIECE: usize = 65_536;
+
+/// Audits the transcript in the input.
+pub(crate) fn audit_input<V: Decider, S: Source>(
+    alloc: Global,
+    decider: &V,
+    auditor: Auditor,
+    source: &mut S,
+) -> Result<Finding, RunFault>
+    requires ready { V.ready decider.now }
+    requires going { auditor.fault ≡ None }
+    requires first { auditor.entries ≡ [] }
+    requires few { length auditor.jobs ≤ SESSION_LINE_LIMIT }
+    ensures found { IfOk result (λ f. HasFound auditor f (S.left source.old) (S.left source.new)) }
+    ensures taken { HasTakenSome (S.left source.old) (S.left source.new) }
+    ensures ending { IfErr result IsReadEnding }
+    ensures counts { CountsReadsAlone (fault_in result) (S.faults source.old) (S.faults source.new) }
+{
+    let Ok(mut reader) = LineReader::new(alloc, PIECE, TRANSCRIPT_LINE_LIMIT) else {
+        return Err(RunFault::NoMemory);
+    };
+    audit_lines(alloc, decider, auditor, &mut reader, source)
+}
+
+// Audits line after line.
+fn audit_lines<V: Decider, S: Source>(
+    alloc: Global,
+    decider: &V,
+    mut auditor: Auditor,
+    reader: &mut LineReader,
+    source: &mut S,
+) -> Result<Finding, RunFault>
+    requires ready { V.ready decider.now }
+    requires going { auditor.fault ≡ None }
+    requires first { auditor.entries ≡ [] }
+    requires few { length auditor.jobs ≤ SESSION_LINE_LIMIT }
+    requires nothing { pending reader.old ≡ [] }
+    requires limit { reader.old.limit ≡ TRANSCRIPT_LINE_LIMIT }
+    requires room { reader.old.room ≡ PIECE }
+    ensures found { IfOk result (λ f. HasFound auditor f (S.left source.old) (S.left source.new)) }
+    ensures taken { HasTakenSome (S.left source.old) (S.left source.new) }
+    ensures ending { IfErr result IsReadEnding }
+    ensures counts { CountsReadsAlone (fault_in result) (S.faults source.old) (S.faults source.new) }
+{
+    let mut number = 0;
+    'auditing: loop {
+        match audit_line(alloc, decider, &mut auditor, number, reader, source) {
+            Ok(None) => number += 1,
+            Ok(Some(finding)) => return Ok(finding),
+            Err(fault) => return Err(fault),
+        }
+    }
+}
+
+// Reads the line with this number and audits it; what is found, if anything is.
+fn audit_line<V: Decider, S: Source>(
+    alloc: Global,
+    decider: &V,
+    auditor: &mut Auditor,
+    number: u32,
+    reader: &mut LineReader,
+    source: &mut S,
+) -> Result<Option<Finding>, RunFault>
+    requires ready { V.ready decider.now }
+    requires going { auditor.old.fault ≡ None }
+    requires number { number ≡ length auditor.old.entries }
+    requires limit { reader.old.limit ≡ TRANSCRIPT_LINE_LIMIT }
+    requires room { reader.old.room ≡ PIECE }
+    ensures steps { (first : AuditShape) (before : Option (List ℕ)) →
+        HasAudited first auditor.old before (S.left source.old) (pending reader.old) →
+        StepsTo first auditor.new before (S.left source.new) (pending reader.new) result }
+    ensures more { result ≡ Ok None → HasOneMore auditor.old auditor.new }
+    ensures taken { HasTakenSome (S.left source.old) (S.left source.new) }
+    ensures ending { IfErr result IsReadEnding }
+    ensures limit { reader.new.limit ≡ reader.old.limit }
+    ensures room { reader.new.room ≡ reader.old.room }
+    ensures counts { CountsReadsAlone (fault_in result) (S.faults source.old) (S.faults source.new) }
+{
+    match reader.next(source) {
+        Read::Line => take_line(alloc, decider, auditor, reader.line()),
+        Read::End => Ok(Some(find_end(auditor))),
+        Read::Failed => Err(RunFault::Read),
+        Read::TooLong => Ok(Some(Finding::TooLong(number))),
+        Read::NoMemory => Err(RunFault::NoMemory),
+    }
+}
+
+// Audits a line; the fault that is found, if it has one.
+fn take_line<V: Decider>(
+    alloc: Global,
+    decider: &V,
+    auditor: &mut Auditor,
+    line: &[u8],
+) -> Result<Option<Finding>, RunFault>
+    requires ready { V.ready decider.now }
+    requires going { auditor.old.fault ≡ None }
+    ensures takes { TakesLine auditor.old auditor.new line.now result }
+    ensures more { result ≡ Ok None → HasOneMore auditor.old auditor.new }
+{
+    match auditor.line(alloc, decider, line) {
+        Ok(()) => {
+            entries_are_few(auditor);
+            Ok(None)
+        }
+        Err(AuditFault::At(n, kind)) => Ok(Some(Finding::Fault(n, kind))),
+        Err(AuditFault::NoMemory) => Err(RunFault::NoMemory),
+    }
+}
+
+// There are no more entries than jobs.
+fn entries_are_few(auditor: &Auditor)
+    requires { auditor.now.fault ≡ None }
+    ensures { length auditor.now.entries ≤ length auditor.now.jobs }
+{
+    let _ = auditor.end();
+}
+
+// What is found where no line is left. This takes no memory.
+fn find_end(auditor: &Auditor) -> Finding
+    requires { auditor.now.fault ≡ None }
+    ensures { EndsAs auditor.now result }
+{
+    match auditor.end() {
+        Err(AuditFault::At(n, kind)) => Finding::Fault(n, kind),
+        _ => Finding::Legal,
+    }
+}

@@ -1,0 +1,149 @@
+//! The run of the command.
+ghost use Rattle.std.specs.Prelude.{◌≡◌, ◌<◌, ◌≤◌, ℕ, List, Ok, IfErr, IfOk, OnOk};
+ghost use Rattle.wf_names.specs.declared.limits.TheConstants.{LANE_LIMIT};
+ghost use Rattle.wf_outside.specs.Outside.{with_bytes};
+ghost use Rattle.run_record.specs.Fault.{fault_in, status_of, CountsLoads, CountsReadsAlone, CountsWrites};
+ghost use Rattle.run_record.specs.Report.{told_by};
+ghost use Rattle.audit_command.specs.Auditing.{text_of};
+ghost use Rattle.audit_command.specs.Running.{AuditsPolicy, AuditsRun, EndsWithout, ReadsAsAudit};
+ghost use Rattle.audit_command.specs.Steps.{FailsAs, FindsAs, FindsFile, IsRefusal};
+
+use crate::finding::Finding;
+use crate::lines::audit_input;
+use crate::load::load_jobs;
+use policy_book::Policy;
+use run_record::{Report, RunFault, bare_report};
+use std::alloc::Global;
+use transcript_audit::Auditor;
+use wf_board::Decider;
+use wf_commands::load_policy;
+use wf_outside::{Shelf, Sink, Source, put_all};
+
+/// Audits the transcript in the input: whether a session with the policy in one file and the
+/// requests in another, served on so many lanes and with so many lost rounds before a request is
+/// answered again, can have written it. Writes what is found.
+pub fn run_audit<V: Decider, F: Shelf, S: Source, K: Sink>(
+    alloc: Global,
+    decider: &V,
+    policy: &str,
+    requests: &str,
+    lanes: u8,
+    rounds: u8,
+    shelf: &mut F,
+    source: &mut S,
+    sink: &mut K,
+) -> Report
+    requires ready { V.ready decider.now }
+    requires some { 0 < lanes }
+    requires lanes { lanes ≤ LANE_LIMIT }
+    ensures status { result.status ≡ status_of result.fault }
+    ensures usage { result.fault ≡ RunFault.Usage → ⊥ }
+    ensures audits { AuditsRun policy.now requests.now lanes rounds (record {
+      files = F.file shelf.old;
+      load_faults = F.faults shelf.old;
+      load_faults_after = F.faults shelf.new;
+      before = record {
+        input = S.left source.old;
+        output = K.held sink.old;
+        read_faults = S.faults source.old;
+        write_faults = K.faults sink.old;
+      };
+      after = record {
+        input = S.left source.new;
+        output = K.held sink.new;
+        read_faults = S.faults source.new;
+        write_faults = K.faults sink.new;
+      };
+      told = told_by result;
+      fault = result.fault;
+    }) }
+{
+    match find(
+        alloc, decider, policy, requests, lanes, rounds, shelf, source,
+    ) {
+        Ok(finding) => match tell(alloc, finding, sink) {
+            Ok(()) => bare_report(alloc, finding.ending()),
+            Err(fault) => bare_report(alloc, fault),
+        },
+        Err(fault) => bare_report(alloc, fault),
+    }
+}
+
+// What the audit finds.
+fn find<V: Decider, F: Shelf, S: Source>(
+    alloc: Global,
+    decider: &V,
+    policy: &str,
+    requests: &str,
+    lanes: u8,
+    rounds: u8,
+    shelf: &mut F,
+    source: &mut S,
+) -> Result<Finding, RunFault>
+    requires ready { V.ready decider.now }
+    requires some { 0 < lanes }
+    requires lanes { lanes ≤ LANE_LIMIT }
+    ensures finds { FindsFile (AuditsPolicy
+        (record { requests = F.file shelf.old requests.now; lanes = lanes; rounds = rounds })
+        (record { before = S.left source.old; after = S.left source.new })) (F.file shelf.old policy.now) result }
+    ensures ending { IfErr result IsRefusal }
+    ensures without { EndsWithout (F.file shelf.old requests.now) (fault_in result) }
+    ensures loads { CountsLoads (fault_in result) (F.faults shelf.old) (F.faults shelf.new) }
+    ensures reads { CountsReadsAlone (fault_in result) (S.faults source.old) (S.faults source.new) }
+    ensures input { ReadsAsAudit (fault_in result) (S.left source.old) (S.left source.new) }
+{
+    match load_policy(alloc, shelf, policy) {
+        Ok(p) => find_under(alloc, decider, p, requests, lanes, rounds, shelf, source),
+        Err(fault) => Err(fault),
+    }
+}
+
+// The same under a policy.
+fn find_under<V: Decider, F: Shelf, S: Source>(
+    alloc: Global,
+    decider: &V,
+    policy: Policy,
+    requests: &str,
+    lanes: u8,
+    rounds: u8,
+    shelf: &mut F,
+    source: &mut S,
+) -> Result<Finding, RunFault>
+    requires ready { V.ready decider.now }
+    requires some { 0 < lanes }
+    requires lanes { lanes ≤ LANE_LIMIT }
+    ensures finds { FindsAs (AuditsPolicy
+        (record { requests = F.file shelf.old requests.now; lanes = lanes; rounds = rounds })
+        (record { before = S.left source.old; after = S.left source.new }) policy) result }
+    ensures ending { IfErr result IsRefusal }
+    ensures without { EndsWithout (F.file shelf.old requests.now) (fault_in result) }
+    ensures loads { CountsLoads (fault_in result) (F.faults shelf.old) (F.faults shelf.new) }
+    ensures reads { CountsReadsAlone (fault_in result) (S.faults source.old) (S.faults source.new) }
+    ensures input { ReadsAsAudit (fault_in result) (S.left source.old) (S.left source.new) }
+{
+    match load_jobs(alloc, shelf, requests, lanes) {
+        Ok(batch) => match Auditor::new(alloc, policy, batch.jobs, batch.ends, rounds) {
+            Ok(auditor) => audit_input(alloc, decider, auditor, source),
+            Err(_) => Err(RunFault::NoMemory),
+        },
+        Err(fault) => Err(fault),
+    }
+}
+
+// Writes what is found, if it is something to write.
+fn tell<K: Sink>(alloc: Global, finding: Finding, sink: &mut K) -> Result<(), RunFault>
+    ensures told { OnOk result (K.held sink.new ≡ with_bytes (K.held sink.old) (text_of finding)) }
+    ensures fails { IfErr result (FailsAs finding (K.held sink.old) (K.held sink.new)) }
+    ensures counts { CountsWrites (fault_in result) (K.faults sink.old) (K.faults sink.new) }
+{
+    if let Finding::TooLong(_) = finding {
+        return Ok(());
+    }
+    let Ok(text) = finding.text(alloc) else {
+        return Err(RunFault::NoMemory);
+    };
+    match put_all(sink, text.as_bytes()) {
+        Ok(()) => Ok(()),
+        Err(_) => Err(RunFault::Write),
+    }
+}

@@ -1,0 +1,26 @@
+-- What comes of a way of serving.
+use Rattle.std.proofs.Common.{◌≡◌, ℕ, List, [], ◌∷◌, ◌++◌, inl, inr, sym, subst, arith}
+use Rattle.wf_talk.specs.declared.entry.Entry.{Entry}
+use Rattle.wf_board.specs.Histories.{AreAnsweredOnce, EachAfter, IsLegal, IsRightAfter, state_after}
+use Rattle.wf_board.specs.HistoryLaws.{once_all, step_once}
+use Rattle.wf_board.specs.States.{State}
+use Rattle.wf_desk.specs.Desks.{DeskShape}
+use Rattle.wf_lanes.specs.Turns.{HasServedOn}
+
+-- where no entry so far is a repetition, none is after serving by turns
+pub once_on : (d e : DeskShape) → HasServedOn d e → AreAnsweredOnce d.entries → AreAnsweredOnce e.entries
+once_on d e on once = subst AreAnsweredOnce (sym on.grown.extends) (once_all d.entries on.grown.more once on.once)
+
+-- without rounds no entry is answered again
+never_again : (s : State) (earlier entries : List Entry) → EachAfter (IsRightAfter s 0) earlier entries → AreAnsweredOnce entries
+never_again s earlier [] right = tt
+never_again s earlier (e ∷ es) right = (
+  elim right.0.1 [
+    | inl step ↦ step_once (state_after s earlier) e.ask e.reply step
+    | inr retry ↦ let positive = retry.1.1.1.positive in absurd (omega (arith, positive))
+  ],
+  never_again s (earlier ++ e ∷ []) es right.1,
+)
+
+pub once_legal : (s : State) (rounds : ℕ) (entries : List Entry) → IsLegal s rounds entries → rounds ≡ 0 → AreAnsweredOnce entries
+once_legal s rounds entries legal none = never_again s [] entries (subst (λ n. IsLegal s n entries) none legal)

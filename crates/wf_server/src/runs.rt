@@ -1,0 +1,159 @@
+//! The top calls: one run of the program over a source, a sink and a shelf, with threads or alone.
+ghost use Rattle.std.specs.Prelude.{◌≡◌, ◌<◌, ◌↔◌, map, string_bytes, None, false};
+ghost use Rattle.run_record.specs.Fault.{status_of};
+ghost use Rattle.run_record.specs.Report.{told_by};
+ghost use Rattle.wf_board.specs.Histories.{AreAnsweredOnce};
+ghost use Rattle.wf_desk.specs.Desks.{AreOfLanes, IsDone};
+ghost use Rattle.wf_desk.specs.Schedules.{HasGrown};
+ghost use Rattle.wf_lanes.specs.Turns.{HasServedOn};
+ghost use Rattle.wf_server.specs.Words.{command_of, may_repeat, reads_input};
+ghost use Rattle.wf_server.specs.Run.{Does};
+
+use crate::decider::PlainDecider;
+use crate::serve::run_serve;
+use crate::words::{Command, read_words};
+use audit_command::run_audit;
+use run_record::{Report, RunFault, bare_report};
+use std::alloc::Global;
+use std::sync::Wait;
+use std::thread::Threads;
+use wf_commands::{Question, answer_once};
+use wf_desk::Desk;
+use wf_lanes::{Gate, serve_by_lanes, serve_by_turns};
+use wf_outside::{Shelf, Sink, Source};
+
+/// Runs the command that the words are, which are those after the program's name. `serve` with two
+/// or more lanes runs each lane on a thread of its own, and tells the gate of each search that is
+/// about to begin; every other command runs as `run_alone` does it. It may wait for its threads.
+pub fn run<R: Threads + Wait + Sync, F: Shelf, S: Source, K: Sink, G: Gate + Sync>(
+    rt: &R,
+    alloc: Global,
+    words: &[String],
+    gate: &G,
+    shelf: &mut F,
+    source: &mut S,
+    sink: &mut K,
+) -> Report
+    ensures status { result.status ≡ status_of result.fault }
+    ensures usage { (result.fault ≡ RunFault.Usage)
+        ↔ (command_of (map string_bytes words.now) ≡ None) }
+    ensures does { Does (command_of (map string_bytes words.now)) (record {
+      files = F.file shelf.old;
+      load_faults = F.faults shelf.old;
+      load_faults_after = F.faults shelf.new;
+      before = record {
+        input = S.left source.old;
+        output = K.held sink.old;
+        read_faults = S.faults source.old;
+        write_faults = K.faults sink.old;
+      };
+      after = record {
+        input = S.left source.new;
+        output = K.held sink.new;
+        read_faults = S.faults source.new;
+        write_faults = K.faults sink.new;
+      };
+      told = told_by result;
+      fault = result.fault;
+    }) }
+    ensures untouched { reads_input (command_of (map string_bytes words.now)) ≡ false
+        → source.new ≡ source.old }
+    ensures once { may_repeat (command_of (map string_bytes words.now)) ≡ false
+        → AreAnsweredOnce (told_by result).entries }
+{
+    match read_words(words) {
+        Some(Command::Serve { policy, options }) if options.lanes > 1 => {
+            let on_lanes = |desk: Desk| -> Desk
+                requires { (0 < desk.lanes) × AreOfLanes desk.lanes desk.jobs }
+                ensures { HasGrown desk result × IsDone result }
+            { serve_by_lanes(rt, alloc, &PlainDecider, gate, desk) };
+            run_serve(alloc, &on_lanes, policy, options, shelf, source, sink)
+        }
+        _ => run_alone(alloc, words, shelf, source, sink),
+    }
+}
+
+/// Runs the command that the words are, which are those after the program's name. It always
+/// returns, starts no thread and waits for nothing: the lanes of `serve` take turns.
+pub fn run_alone<F: Shelf, S: Source, K: Sink>(
+    alloc: Global,
+    words: &[String],
+    shelf: &mut F,
+    source: &mut S,
+    sink: &mut K,
+) -> Report
+    ensures status { result.status ≡ status_of result.fault }
+    ensures usage { (result.fault ≡ RunFault.Usage)
+        ↔ (command_of (map string_bytes words.now) ≡ None) }
+    ensures does { Does (command_of (map string_bytes words.now)) (record {
+      files = F.file shelf.old;
+      load_faults = F.faults shelf.old;
+      load_faults_after = F.faults shelf.new;
+      before = record {
+        input = S.left source.old;
+        output = K.held sink.old;
+        read_faults = S.faults source.old;
+        write_faults = K.faults sink.old;
+      };
+      after = record {
+        input = S.left source.new;
+        output = K.held sink.new;
+        read_faults = S.faults source.new;
+        write_faults = K.faults sink.new;
+      };
+      told = told_by result;
+      fault = result.fault;
+    }) }
+    ensures untouched { reads_input (command_of (map string_bytes words.now)) ≡ false
+        → source.new ≡ source.old }
+    ensures once { AreAnsweredOnce (told_by result).entries }
+{
+    match read_words(words) {
+        Some(Command::Plan { policy, flow }) => {
+            answer_once(alloc, policy, &Question::Plan { flow }, shelf, source, sink)
+        }
+        Some(Command::Show { policy }) => {
+            answer_once(alloc, policy, &Question::Show, shelf, source, sink)
+        }
+        Some(Command::Solve { policy }) => {
+            answer_once(alloc, policy, &Question::Solve, shelf, source, sink)
+        }
+        Some(Command::Serve { policy, options }) => {
+            let by_turns = |desk: Desk| -> Desk
+                requires { (0 < desk.lanes) × AreOfLanes desk.lanes desk.jobs }
+                ensures { HasServedOn desk result × IsDone result }
+            { turned(alloc, desk) };
+            run_serve(alloc, &by_turns, policy, options, shelf, source, sink)
+        }
+        Some(
+            Command::Audit {
+                policy,
+                requests,
+                options,
+            },
+        ) => {
+            run_audit(
+                alloc,
+                &PlainDecider,
+                policy,
+                requests,
+                options.lanes,
+                options.rounds,
+                shelf,
+                source,
+                sink,
+            )
+        }
+        None => bare_report(alloc, RunFault::Usage),
+    }
+}
+
+// The desk after the jobs of its batch are served by turns.
+fn turned(alloc: Global, mut desk: Desk) -> Desk
+    requires lanes { AreOfLanes desk.lanes desk.jobs }
+    ensures on { HasServedOn desk result }
+    ensures done { IsDone result }
+{
+    serve_by_turns(alloc, &PlainDecider, &mut desk);
+    desk
+}
