@@ -56,9 +56,10 @@ impl<T> Log<T> {
     }
 }
 
-impl<T: Drop> Log<T> {
-    /// Makes room for so many more entries.
+impl<T> Log<T> {
+    /// Makes room for so many more entries. Where it is there already, this succeeds.
     pub fn reserve(&mut self, more: u32) -> Result<(), AllocError>
+        ensures succeeds { more ≤ self.old.spare → IsOk result }
         ensures room { OnOk result (more ≤ self.new.spare) }
         ensures kept { self.old.spare ≤ self.new.spare }
         ensures entries { self.new.entries ≡ self.old.entries }
@@ -66,14 +67,17 @@ impl<T: Drop> Log<T> {
     {
         self.items.reserve(more as usize)
     }
+}
 
+impl<T: Drop> Log<T> {
     /// Adds an entry at the end. Where there is room this takes no memory and succeeds.
     pub fn push(&mut self, entry: T) -> Result<(), AllocError>
         ensures pushed { OnOk result (self.new.entries ≡ self.old.entries ++ entry ∷ []) }
-        ensures unchanged { OnErr result (self.new.entries ≡ self.old.entries) }
+        ensures unchanged { OnErr result (self.new ≡ self.old) }
         ensures succeeds { 0 < self.old.spare → IsOk result }
         ensures room { self.old.spare ≤ self.new.spare + 1 }
     {
+        self.reserve(1)?;
         self.items.push(entry)?;
         Ok(())
     }
@@ -96,10 +100,11 @@ impl<T: Copy> Log<T> {
     /// Adds a copy of an entry at the end. Where there is room this takes no memory and succeeds.
     pub fn add(&mut self, entry: &T) -> Result<(), AllocError>
         ensures added { OnOk result (self.new.entries ≡ self.old.entries ++ entry.now ∷ []) }
-        ensures unchanged { OnErr result (self.new.entries ≡ self.old.entries) }
+        ensures unchanged { OnErr result (self.new ≡ self.old) }
         ensures succeeds { 0 < self.old.spare → IsOk result }
         ensures room { self.old.spare ≤ self.new.spare + 1 }
     {
+        self.reserve(1)?;
         self.items.push(*entry)?;
         Ok(())
     }
