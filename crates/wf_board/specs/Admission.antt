@@ -18,7 +18,7 @@ use Rattle.wf_board.specs.Boards.{BoardShape, state_on}
 use Rattle.wf_board.specs.Decisions.{decision_of}
 use Rattle.wf_board.specs.Steps.{Answers, IsStep, state_after_step}
 use Rattle.wf_board.specs.Taking.{board_of, HasTaken}
-use Rattle.wf_board.specs.Verdicts.{IsStrandingFor}
+use Rattle.wf_board.specs.Verdicts.{IsStrandingFor, IsViewFor}
 
 -- a denial that shows no tree
 abbrev pub has_no_tree : Denial → Bool
@@ -43,10 +43,15 @@ HasAdmitted p before after decision given (Ok done) = HasTaken p before after de
 HasAdmitted p before after decision given (Err NotStep) = (after ≡ before) × IsNoAnswer p before decision given
 HasAdmitted p before after decision given (Err NoMemory) = (after ≡ before) × MayLackMemoryFor before.spare decision
 
--- a change of the policy comes with the case that it strands; no other deed needs a verdict to take a reply
+-- a change of the policy comes with the case that it strands, and a view with its lists; no other deed needs a verdict to
+-- take a reply
 abbrev pub IsVerdictFor : Book → Deed → Verdict → Type 0
 IsVerdictFor b (deed.Change a) (verdict.Strands n tree) = IsStrandingFor b (Ok (deed.Change a)) n tree
 IsVerdictFor b (deed.Change a) v = ⊥
+IsVerdictFor b (deed.Work u) (verdict.View v) = IsViewFor b (Ok (deed.Work u)) v
+IsVerdictFor b (deed.Work u) v = ⊥
+IsVerdictFor b (deed.WhatIf a) (verdict.View v) = IsViewFor b (Ok (deed.WhatIf a)) v
+IsVerdictFor b (deed.WhatIf a) v = ⊥
 IsVerdictFor b given v = Unit {0}
 
 -- a board has taken a reply, or has not changed

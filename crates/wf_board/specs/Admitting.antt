@@ -18,10 +18,17 @@ abbrev pub is_edit_left : Result Deed Denial → Bool
 is_edit_left (Ok (deed.Change a)) = true
 is_edit_left given = false
 
--- an edit against which there is no cause has a verdict, unless its reply is want of memory
+-- an edit or a view over the open cases, against which there is no cause
+abbrev pub rests_on_all : Result Deed Denial → Bool
+rests_on_all (Ok (deed.Change a)) = true
+rests_on_all (Ok (deed.Work u)) = true
+rests_on_all (Ok (deed.WhatIf a)) = true
+rests_on_all given = false
+
+-- an edit or a view, against which there is no cause, has a verdict, unless its reply is want of memory
 abbrev pub HasVerdict : State → Ask → Reply → Verdict → Type 0
 HasVerdict s what given v =
-    is_edit_left (decision_of s.book what) ≡ true → given ≢ reply.NoMemory → (v ≢ verdict.Nothing) × (v ≢ verdict.NoMemory)
+    rests_on_all (decision_of s.book what) ≡ true → given ≢ reply.NoMemory → (v ≢ verdict.Nothing) × (v ≢ verdict.NoMemory)
 
 -- where there may be no memory to take a reply, with room for so many more cases: for the list of roles of a denial, for
 -- an opening without room, or for the policy after an edit

@@ -18,6 +18,8 @@ case_of_request (request.Release by n step) = Some n
 case_of_request (request.Withdraw by n) = Some n
 case_of_request (request.Change by edit) = None
 case_of_request (request.Show n) = Some n
+case_of_request (request.Worklist user) = None
+case_of_request (request.WhatIf by edit) = None
 
 -- the case that what was asked names
 abbrev pub case_of_ask : Ask → Option ℕ
@@ -44,12 +46,18 @@ abbrev pub is_edited : Reply → Bool
 is_edited (reply.Edited number) = true
 is_edited given = false
 
+-- an entry changed the policy or any case
+abbrev pub changes_any : Entry → Bool
+changes_any e = is_edited e.reply || is_some (changed_case e.ask e.reply)
+
 -- whether an entry counts for what is asked: where it changed the policy, for a claim where it changed its case too, and
--- for an edit where it changed any case
+-- for an edit, a work list and what an edit would strand where it changed any case
 abbrev pub counts_for : Entry → Ask → Bool
 counts_for e (ask.Request (request.OpenCase flow)) = is_edited e.reply
 counts_for e (ask.Request (request.Claim n step user)) = is_edited e.reply || is_number n (changed_case e.ask e.reply)
-counts_for e (ask.Request (request.Change by edit)) = is_edited e.reply || is_some (changed_case e.ask e.reply)
+counts_for e (ask.Request (request.Change by edit)) = changes_any e
+counts_for e (ask.Request (request.Worklist user)) = changes_any e
+counts_for e (ask.Request (request.WhatIf by edit)) = changes_any e
 counts_for e what = false
 
 -- how many pass

@@ -6,7 +6,9 @@ use Rattle.wf_names.specs.declared.states.StepState.{StepState}
 use Rattle.wf_names.specs.declared.states.StepState.TheVariants.{Free, Held, Finished}
 use Rattle.policy_book.specs.Policies.{flow_at}
 use Rattle.case_record.specs.Cases.{state_at}
+use Rattle.wf_talk.specs.declared.request.Request.TheVariants as request
 use Rattle.wf_talk.specs.declared.request.Ask.{Ask}
+use Rattle.wf_talk.specs.declared.request.Ask.TheVariants as ask
 use Rattle.wf_talk.specs.declared.reply.Denial.{Denial}
 use Rattle.wf_talk.specs.declared.reply.Denial.TheVariants.{Retired, Full, NotHeld, Role}
 use Rattle.denial_reasons.specs.Causes.{first_cause, unless}
@@ -52,17 +54,25 @@ decision_of b what = do
   given ← decision_aside b what
   unless_denied given (cause_full b given)
 
--- a deed that rests on whether its case can be completed, or each open case after an edit
+-- a deed that rests on whether its case can be completed, or on whether the open cases can be
 abbrev pub needs_plan : Deed → Bool
 needs_plan (deed.Open f) = true
 needs_plan (deed.Claim n c s u) = true
 needs_plan (deed.Change a) = true
+needs_plan (deed.Work u) = true
+needs_plan (deed.WhatIf a) = true
 needs_plan given = false
 
 -- no cause, and whether cases can be completed decides
 abbrev pub needs_verdict : Result Deed Denial → Bool
 needs_verdict (Ok given) = needs_plan given
 needs_verdict (Err d) = false
+
+-- a work list, or what an edit would strand: it changes nothing, and is never answered again
+abbrev pub is_view : Ask → Bool
+is_view (ask.Request (request.Worklist user)) = true
+is_view (ask.Request (request.WhatIf by edit)) = true
+is_view what = false
 
 -- a denial that takes memory
 abbrev pub takes_memory : Result Deed Denial → Bool

@@ -8,7 +8,7 @@ use Rattle.admin_edits.specs.declared.amendment.Amendment.{Amendment}
 use Rattle.admin_edits.specs.Edits.{allowed}
 use Rattle.admin_edits.specs.Found as edits
 use Rattle.wf_board.specs.declared.deed.Deed.{Deed}
-use Rattle.wf_board.specs.declared.deed.Deed.TheVariants.{Open, Claim, Finish, GiveBack, Release, Withdraw, Change, Show, TurnAway}
+use Rattle.wf_board.specs.declared.deed.Deed.TheVariants.{Open, Claim, Finish, GiveBack, Release, Withdraw, Change, Show, Work, WhatIf, TurnAway}
 use Rattle.wf_board.specs.Kept.{IsOfPolicy}
 
 -- an open case stands at its number, and is of the policy
@@ -38,4 +38,6 @@ IsFound p rows (Release n c s) = IsOpenAt p rows n c × (s < length c.states)
 IsFound p rows (Withdraw n) = (c : CaseShape) × IsOpenAt p rows n c
 IsFound p rows (Change a) = IsAllowed p a
 IsFound p rows (Show c) = IsOfPolicy p c
+IsFound p rows (Work u) = u < length p.roster.users
+IsFound p rows (WhatIf a) = IsAllowed p a
 IsFound p rows (TurnAway bad) = Unit {0}

@@ -9,7 +9,7 @@ use Rattle.wf_talk.specs.declared.request.Ask.{Ask}
 use Rattle.wf_talk.specs.declared.request.Ask.TheVariants as ask
 use Rattle.wf_talk.specs.declared.reply.Reply.TheVariants.{Again, NoMemory}
 use Rattle.wf_board.specs.States.{State}
-use Rattle.wf_board.specs.Decisions.{decision_of, needs_verdict}
+use Rattle.wf_board.specs.Decisions.{decision_of, is_view, needs_verdict}
 use Rattle.wf_board.specs.Steps.{IsStep, state_after_step}
 use Rattle.wf_board.specs.Counting.{counted, counted_end, lane_end}
 
@@ -23,11 +23,12 @@ abbrev pub EachAfter : (List Entry → Entry → Type 0) → List Entry → List
 EachAfter P earlier [] = Unit {0}
 EachAfter P earlier (e ∷ es) = P earlier e × EachAfter P (earlier ++ e ∷ []) es
 
--- after a history, a lane's request may be answered again, with n rounds of rounds allowed: only whether a case can be
--- completed is left to decide, n entries that count for it stand behind the lane's last one, and the last that counts
--- stands at this place
+-- after a history, a lane's request may be answered again, with n rounds of rounds allowed: it is no view, only whether
+-- cases can be completed is left to decide, n entries that count for it stand behind the lane's last one, and the last
+-- that counts stands at this place
 pub record MayRetry (s : State) (earlier : List Entry) (rounds lane : ℕ) (what : Ask) (n place : ℕ) : Type 0 where
   pub undecided : needs_verdict (decision_of (state_after s earlier).book what) ≡ true
+  pub deed : is_view what ≡ false
   pub positive : 1 ≤ rounds
   pub all : n ≡ rounds
   pub enough : rounds ≤ counted what (drop (lane_end lane earlier) earlier)
@@ -94,11 +95,13 @@ abbrev pub AreAnsweredOnce : List Entry → Type 0
 AreAnsweredOnce [] = Unit {0}
 AreAnsweredOnce (e ∷ es) = IsAnsweredOnce e × AreAnsweredOnce es
 
--- what a board may have no memory for: an opening, a claim or an edit
+-- what a board may have no memory for: an opening, a claim, an edit or a view over the open cases
 abbrev pub may_lack_memory : Ask → Bool
 may_lack_memory (ask.Request (request.OpenCase flow)) = true
 may_lack_memory (ask.Request (request.Claim n step user)) = true
 may_lack_memory (ask.Request (request.Change by edit)) = true
+may_lack_memory (ask.Request (request.Worklist user)) = true
+may_lack_memory (ask.Request (request.WhatIf by edit)) = true
 may_lack_memory what = false
 
 -- an entry is answered with want of memory only where a board may have none

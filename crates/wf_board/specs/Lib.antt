@@ -1,5 +1,6 @@
 pub mod States
 pub mod Edited
+pub mod Views
 pub mod Resolved
 pub mod Decisions
 pub mod Refusals

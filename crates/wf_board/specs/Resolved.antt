@@ -13,7 +13,7 @@ use Rattle.admin_edits.specs.declared.fault.EditFault.{EditFault}
 use Rattle.admin_edits.specs.declared.fault.EditFault.TheVariants as fault
 use Rattle.admin_edits.specs.Edits.{amendment_of, is_admin}
 use Rattle.wf_board.specs.declared.deed.Deed.{Deed}
-use Rattle.wf_board.specs.declared.deed.Deed.TheVariants.{Open, Claim, Finish, GiveBack, Release, Withdraw, Change, Show, TurnAway}
+use Rattle.wf_board.specs.declared.deed.Deed.TheVariants.{Open, Claim, Finish, GiveBack, Release, Withdraw, Change, Show, Work, WhatIf, TurnAway}
 use Rattle.wf_board.specs.States.{Book, case_at, flow_named, step_named, user_named}
 
 -- the open case with a number
@@ -42,10 +42,10 @@ edit_denial fault.Full = denial.Full
 edit_denial fault.LastAdmin = denial.LastAdmin
 edit_denial fault.NoMemory = denial.Full
 
--- the change that an edit is, or its first fault
-abbrev pub changed : Result Amendment EditFault → Result Deed Denial
-changed (Ok a) = Ok (Change a)
-changed (Err fault) = Err (edit_denial fault)
+-- a deed with the change that an edit is, or the edit's first fault
+abbrev pub on_edit : (Amendment → Deed) → Result Amendment EditFault → Result Deed Denial
+on_edit deed (Ok a) = Ok (deed a)
+on_edit deed (Err fault) = Err (edit_denial fault)
 
 -- what a request asks, or the first of its names and numbers that is nothing; of an edit its first fault of any kind
 abbrev pub resolve_request : Book → Request → Result Deed Denial
@@ -64,10 +64,14 @@ resolve_request b (request.Withdraw by n) = do
   _ ← check (is_admin b.policy by) denial.NotAdmin
   c ← open_case_at b n
   Ok (Withdraw n)
-resolve_request b (request.Change by edit) = changed (amendment_of b.policy by edit)
+resolve_request b (request.Change by edit) = on_edit Change (amendment_of b.policy by edit)
 resolve_request b (request.Show n) = do
   c ← or_fault (case_at b.cases n) denial.NoCase
   Ok (Show c)
+resolve_request b (request.Worklist user) = do
+  u ← or_fault (user_named b user) denial.NoUser
+  Ok (Work u)
+resolve_request b (request.WhatIf by edit) = on_edit WhatIf (amendment_of b.policy by edit)
 
 -- what a line asks
 abbrev pub resolve : Book → Ask → Result Deed Denial

@@ -23,6 +23,7 @@ use Rattle.wf_board.specs.declared.deed.Deed.{Deed}
 use Rattle.wf_board.specs.declared.deed.Deed.TheVariants as deed
 use Rattle.wf_board.specs.States.{State, open_cases, with_case_changed}
 use Rattle.wf_board.specs.Edited.{CanAllBeCompleted, IsFirstStranded}
+use Rattle.wf_board.specs.Views.{AreStranded, IsWorkOf}
 use Rattle.wf_board.specs.Decisions.{decision_of}
 
 -- what is to be seen of a case
@@ -48,6 +49,8 @@ IsReplyTo s (deed.Change a) (reply.Edited number) =
 IsReplyTo s (deed.Change a) (reply.Denied (denial.Strands n f tree)) =
     IsFirstStranded (amended s.book.policy a) (open_cases s.book.cases) n f tree
 IsReplyTo s (deed.Show c) (reply.Shown face) = face ≡ face_of c
+IsReplyTo s (deed.Work u) (reply.Work items) = IsWorkOf s.book u items
+IsReplyTo s (deed.WhatIf a) (reply.WhatIf numbers) = AreStranded (amended s.book.policy a) (open_cases s.book.cases) numbers
 IsReplyTo s (deed.TurnAway bad) (reply.Bad b) = b ≡ bad
 IsReplyTo s given answer = ⊥
 

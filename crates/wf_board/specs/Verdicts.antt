@@ -23,11 +23,14 @@ use Rattle.wf_board.specs.declared.deed.Deed.{Deed}
 use Rattle.wf_board.specs.declared.deed.Deed.TheVariants as deed
 use Rattle.wf_board.specs.declared.verdict.Verdict.{Verdict}
 use Rattle.wf_board.specs.declared.verdict.Verdict.TheVariants as verdict
+use Rattle.wf_board.specs.declared.verdict.View.{View}
+use Rattle.wf_board.specs.declared.verdict.View.TheVariants as view
 use Rattle.wf_board.specs.declared.verdict.Answered.{Answered}
 use Rattle.wf_board.specs.declared.verdict.Answered.TheVariants.{Done, Needs}
 use Rattle.wf_board.specs.States.{Book, open_cases}
 use Rattle.wf_board.specs.Boards.{BoardShape, EditionShape, SnapShape, state_on}
 use Rattle.wf_board.specs.Edited.{ArePlansOf, IsFirstStranded}
+use Rattle.wf_board.specs.Views.{AreStranded, IsWorkOf}
 use Rattle.wf_board.specs.Decisions.{decision_aside, decision_of, needs_verdict, takes_memory}
 use Rattle.wf_board.specs.Steps.{IsStep, state_after_step}
 
@@ -56,7 +59,13 @@ IsStrandingFor b (Ok (deed.Change a)) n tree =
     (f : ℕ) × IsFirstStranded (amended b.policy a) (open_cases b.cases) n f tree
 IsStrandingFor b given n tree = ⊥
 
--- a verdict is right: no earlier check denies what is asked, `full` aside, and its plan or tree is one for the deed
+-- a view that is asked for: the user's work, or the open cases that the edit would strand
+abbrev pub IsViewFor : Book → Result Deed Denial → View → Type 0
+IsViewFor b (Ok (deed.Work u)) (view.Work items) = IsWorkOf b u items
+IsViewFor b (Ok (deed.WhatIf a)) (view.WhatIf numbers) = AreStranded (amended b.policy a) (open_cases b.cases) numbers
+IsViewFor b given v = ⊥
+
+-- a verdict is right: no earlier check denies what is asked, `full` aside, and its plan, tree or view is one for the deed
 abbrev pub IsRight : Book → Ask → Verdict → Type 0
 IsRight b what verdict.Nothing = Unit {0}
 IsRight b what verdict.NoMemory = Unit {0}
@@ -64,8 +73,9 @@ IsRight b what (verdict.Plan plan) = IsPlanFor b (decision_aside b what) plan
 IsRight b what (verdict.Refuted tree) = IsTreeFor b (decision_aside b what) tree
 IsRight b what (verdict.Edited edition) = IsEditionFor b (decision_aside b what) edition
 IsRight b what (verdict.Strands n tree) = IsStrandingFor b (decision_aside b what) n tree
+IsRight b what (verdict.View v) = IsViewFor b (decision_aside b what) v
 
--- a plan or a tree decides a deed; an edit is decided by neither
+-- a plan or a tree decides a deed; an edit or a view is decided by neither
 abbrev pub IsCertificate : Book → Result Deed Denial → Verdict → Type 0
 IsCertificate b given (verdict.Plan plan) = IsPlanFor b given plan
 IsCertificate b given (verdict.Refuted tree) = IsTreeFor b given tree
@@ -90,6 +100,8 @@ IsMadeOf (verdict.Refuted tree) (reply.Denied (denial.Stranded f t)) = t ≡ tre
 IsMadeOf (verdict.Refuted tree) (reply.Denied (denial.Unsatisfiable f t)) = t ≡ tree
 IsMadeOf (verdict.Edited edition) (reply.Edited number) = Unit {0}
 IsMadeOf (verdict.Strands n tree) (reply.Denied (denial.Strands m f t)) = (m ≡ n) × (t ≡ tree)
+IsMadeOf (verdict.View (view.Work items)) (reply.Work given) = given ≡ items
+IsMadeOf (verdict.View (view.WhatIf numbers)) (reply.WhatIf given) = given ≡ numbers
 IsMadeOf v given = ⊥
 
 -- what the board answered is made of this very verdict; it needs one only where there is none
@@ -131,10 +143,13 @@ HasAnswered before after what v Needs =
 HasAnswered before after what v (Done given) =
     IsStep (state_on before) what given × (state_on after ≡ state_after_step (state_on before) what given)
 
--- the rows that a snapshot has for what is asked: the one case of a claim, the open cases for an edit, and else none
+-- the rows that a snapshot has for what is asked: the one case of a claim, the open cases for an edit or a view over them,
+-- and else none
 abbrev pub snap_rows : List Row → Ask → List Row
 snap_rows rows (ask.Request (request.Claim n step user)) = only n rows
 snap_rows rows (ask.Request (request.Change by edit)) = open_rows rows
+snap_rows rows (ask.Request (request.Worklist user)) = open_rows rows
+snap_rows rows (ask.Request (request.WhatIf by edit)) = open_rows rows
 snap_rows rows what = []
 
 -- the snapshot of a board for what is asked, with so much room

@@ -94,6 +94,7 @@ impl Board {
             → HasUsed verdict result }
         ensures memory { result ≡ Answered.Done Reply.NoMemory
             → MayLackMemory self.old ask.now verdict }
+        ensures lacking { result ≡ Answered.Done Reply.NoMemory → self.new ≡ self.old }
         ensures room { self.old.cases.spare ≤ self.new.cases.spare + 1 }
     {
         match verdict {
@@ -106,8 +107,9 @@ impl Board {
     }
 
     /// Takes the step of a reply that somebody else gave to what a line asks, if it is one. A plan
-    /// or a tree in the reply is checked by itself; an edit against which there is no cause needs a
-    /// verdict, which has to be right. There may have been fewer than 4,294,967,295 edits.
+    /// or a tree in the reply is checked by itself; an edit or a view over the open cases, against
+    /// which there is no cause, needs a verdict, which has to be right. There may have been fewer
+    /// than 4,294,967,295 edits.
     pub fn admit(
         &mut self,
         alloc: Global,
@@ -221,7 +223,7 @@ impl Board {
     }
 
     /// What has to be known to find a verdict on what is asked: the one case of a claim, and the
-    /// open cases for an edit.
+    /// open cases for an edit or a view over them.
     pub fn snap(&self, alloc: Global, ask: &Ask) -> Result<Snap, AllocError>
         ensures { IfOk result (λ s. s ≡ snap_of self.now ask.now s.cases.spare) }
     {
@@ -243,6 +245,7 @@ impl Board {
         requires few { self.old.edits < 4294967295 }
         ensures decided { IsDecided self.old ask.now verdict result }
         ensures next { state_on self.new ≡ state_after_step (state_on self.old) ask.now result }
+        ensures lacking { result ≡ Reply.NoMemory → self.new ≡ self.old }
         ensures room { self.old.cases.spare ≤ self.new.cases.spare + 1 }
     {
         match self.answer(alloc, ask, verdict) {
@@ -363,13 +366,15 @@ impl Board {
     }
 }
 
-/// The one case of a claim, the open cases for an edit, and else none.
+/// The one case of a claim, the open cases for an edit or a view over them, and else none.
 fn cases_for(alloc: Global, cases: &Cases, ask: &Ask) -> Result<Cases, AllocError>
     ensures { IfOk result (λ t. t ≡ record cases.now { rows = snap_rows cases.now.rows ask.now; spare = t.spare }) }
 {
     match *ask {
         Ask::Request(Request::Claim { case, .. }) => cases.copy_one(alloc, case),
-        Ask::Request(Request::Change { .. }) => cases.copy_open(alloc),
+        Ask::Request(
+            Request::Change { .. } | Request::Worklist { .. } | Request::WhatIf { .. },
+        ) => cases.copy_open(alloc),
         _ => Ok(cases.copy_none(alloc)),
     }
 }

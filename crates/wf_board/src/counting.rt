@@ -1,6 +1,6 @@
 //! Which entries count for a request.
 ghost use Rattle.std.specs.Prelude.{◌≡◌};
-ghost use Rattle.wf_board.specs.Counting.{case_of_ask, case_of_request, changed_case, counts_for, is_edited, is_number};
+ghost use Rattle.wf_board.specs.Counting.{case_of_ask, case_of_request, changed_case, changes_any, counts_for, is_edited, is_number};
 
 use wf_names::CaseId;
 use wf_talk::{Ask, Entry, Reply, Request};
@@ -14,9 +14,9 @@ pub fn counts(entry: &Entry, ask: &Ask) -> bool
         Ask::Request(Request::Claim { case, .. }) => {
             is_edited(&entry.reply) || changes(entry, case)
         }
-        Ask::Request(Request::Change { .. }) => {
-            is_edited(&entry.reply) || changed_case(&entry.ask, &entry.reply).is_some()
-        }
+        Ask::Request(
+            Request::Change { .. } | Request::Worklist { .. } | Request::WhatIf { .. },
+        ) => changes_any(entry),
         _ => false,
     }
 }
@@ -26,6 +26,13 @@ fn is_edited(reply: &Reply) -> bool
     ensures { result ≡ is_edited reply.now }
 {
     matches!(reply, Reply::Edited { .. })
+}
+
+/// Whether an entry changed the policy or any case.
+fn changes_any(entry: &Entry) -> bool
+    ensures { result ≡ changes_any entry.now }
+{
+    is_edited(&entry.reply) || changed_case(&entry.ask, &entry.reply).is_some()
 }
 
 /// Whether an entry changed the case with a number.
@@ -68,7 +75,10 @@ fn case_of_request(request: &Request) -> Option<CaseId>
     ensures { result ≡ case_of_request request.now }
 {
     match *request {
-        Request::OpenCase { .. } | Request::Change { .. } => None,
+        Request::OpenCase { .. }
+        | Request::Change { .. }
+        | Request::Worklist { .. }
+        | Request::WhatIf { .. } => None,
         Request::Claim { case, .. }
         | Request::Finish { case, .. }
         | Request::GiveBack { case, .. }

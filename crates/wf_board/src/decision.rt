@@ -106,7 +106,7 @@ pub(crate) fn is_undecided(p: &Policy, cases: &Cases, deed: &Deed) -> bool
             user,
             ..
         } => !has_cause(p, case, *step, *user),
-        Deed::Change { .. } => true,
+        Deed::Change { .. } | Deed::Work { .. } | Deed::WhatIf { .. } => true,
         _ => false,
     }
 }
@@ -213,6 +213,10 @@ pub(crate) fn needs_plan(deed: &Deed) -> bool
 {
     matches!(
         deed,
-        Deed::Open { .. } | Deed::Claim { .. } | Deed::Change { .. }
+        Deed::Open { .. }
+            | Deed::Claim { .. }
+            | Deed::Change { .. }
+            | Deed::Work { .. }
+            | Deed::WhatIf { .. }
     )
 }

@@ -51,6 +51,14 @@ pub enum Deed {
     Show {
         case: Case,
     },
+    /// To see which steps of the open cases would be granted to a user.
+    Work {
+        user: UserId,
+    },
+    /// To see which open cases a change of the policy would strand.
+    WhatIf {
+        amendment: Amendment,
+    },
     /// Nothing: the line is no request.
     TurnAway {
         bad: Bad,

@@ -19,6 +19,7 @@ mod snap;
 mod strands;
 mod taking;
 mod verdict;
+mod views;
 
 pub use admit::AdmitFault;
 pub use board::Board;
@@ -28,4 +29,4 @@ pub use decision::{Refused, decision_aside};
 pub use deed::Deed;
 pub use edition::{Edition, Plans};
 pub use snap::Snap;
-pub use verdict::{Answered, Verdict};
+pub use verdict::{Answered, Verdict, View};

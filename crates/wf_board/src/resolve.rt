@@ -4,17 +4,18 @@ ghost use Rattle.first_fault.specs.Reading.{check, or_fault};
 ghost use Rattle.policy_book.specs.Policies.{flow_at};
 ghost use Rattle.case_record.specs.Cases.{CaseShape};
 ghost use Rattle.grant_table.specs.Tables.{case_in};
+ghost use Rattle.admin_edits.specs.declared.amendment.Amendment.{Amendment};
 ghost use Rattle.wf_board.specs.declared.deed.Deed.{Deed};
 ghost use Rattle.wf_board.specs.Boards.{book_of};
-ghost use Rattle.wf_board.specs.Found.{AreFound, IsFound, IsOpenAt};
+ghost use Rattle.wf_board.specs.Found.{AreFound, IsAllowed, IsFound, IsOpenAt};
 ghost use Rattle.wf_board.specs.Kept.{ArePlanned, IsOfPolicy};
-ghost use Rattle.wf_board.specs.Resolved.{changed, edit_denial, on_step, open_case_at, resolve, resolve_request};
+ghost use Rattle.wf_board.specs.Resolved.{edit_denial, on_edit, on_step, open_case_at, resolve, resolve_request};
 ghost use Rattle.wf_board.specs.States.{case_at};
 ghost use Rattle.admin_edits.specs.Edits.{amendment_of, is_admin};
 ghost use Rattle.wf_names.specs.Table.{place_of};
 
 use crate::Deed;
-use admin_edits::{EditFault, amendment_of};
+use admin_edits::{Amendment, EditFault, amendment_of};
 use case_record::Case;
 use grant_table::Cases;
 use policy_book::Policy;
@@ -98,10 +99,21 @@ fn resolve_request(p: &Policy, cases: &Cases, request: &Request) -> Result<Deed,
             open_case(p, cases, number)?;
             Ok(Deed::Withdraw { number })
         }
-        Request::Change { by, edit } => change(p, cases, &by, &edit),
+        Request::Change { by, edit } => {
+            let amendment = change(p, &by, &edit)?;
+            Ok(Deed::Change { amendment })
+        }
         Request::Show { case: number } => Ok(Deed::Show {
             case: case_with(p, cases, number)?,
         }),
+        Request::Worklist { user } => {
+            let user = user_named(p, &user)?;
+            Ok(Deed::Work { user })
+        }
+        Request::WhatIf { by, edit } => {
+            let amendment = change(p, &by, &edit)?;
+            Ok(Deed::WhatIf { amendment })
+        }
     }
 }
 
@@ -124,6 +136,17 @@ fn on_step(
     let s = step_named(p, &case, step)?;
     match p.roster().users().find(user) {
         Some(u) => Ok((case, s, UserId(u))),
+        None => Err(Denial::NoUser),
+    }
+}
+
+/// The user with a name.
+fn user_named(p: &Policy, name: &Name) -> Result<UserId, Denial>
+    ensures user { result ≡ or_fault (place_of p.now.roster.users name.now) Denial.NoUser }
+    ensures within { IfOk result (λ u. u < length p.now.roster.users) }
+{
+    match p.roster().users().find(name) {
+        Some(u) => Ok(UserId(u)),
         None => Err(Denial::NoUser),
     }
 }
@@ -169,13 +192,14 @@ fn step_named(p: &Policy, case: &Case, name: &Name) -> Result<StepId, Denial>
 }
 
 /// The change that an edit is, or its first fault.
-fn change(p: &Policy, cases: &Cases, by: &Name, edit: &Edit) -> Result<Deed, Denial>
-    ensures deed { result ≡ changed (amendment_of p.now by.now edit.now) }
-    ensures found { IfOk result (IsFound p.now cases.now.rows) }
+fn change(p: &Policy, by: &Name, edit: &Edit) -> Result<Amendment, Denial>
+    ensures change { IfOk result (λ a. amendment_of p.now by.now edit.now ≡ Ok a) }
+    ensures denied { IfErr result (λ d. (deed : Amendment → Deed)
+        → on_edit deed (amendment_of p.now by.now edit.now) ≡ Err d) }
+    ensures allowed { IfOk result (IsAllowed p.now) }
 {
-    let _ = cases;
     match amendment_of(p, by, edit) {
-        Ok(amendment) => Ok(Deed::Change { amendment }),
+        Ok(amendment) => Ok(amendment),
         Err(fault) => Err(edit_denial(fault)),
     }
 }

@@ -21,6 +21,7 @@ ghost use Rattle.wf_board.specs.Verdicts.{is_opening, IsMadeOf, IsPlanFor, IsRig
 
 use crate::decision::{Refused, decision_of, is_full, needs_plan};
 use crate::resolve::resolve;
+use crate::views::by_view;
 use crate::{Answered, Deed, Verdict};
 use case_record::Case;
 use constraint_forms::Plan;
@@ -50,6 +51,7 @@ pub(crate) fn answer(
         Verdict::Strands(number, tree) => {
             Answered::Done(by_stranding(p, cases, ask, number, tree))
         }
+        Verdict::View(view) => Answered::Done(by_view(p, cases, ask, view)),
         Verdict::Edited(_) => unreachable!(),
         Verdict::Nothing => without_verdict(alloc, p, cases, ask),
         Verdict::NoMemory => match without_verdict(alloc, p, cases, ask) {
@@ -218,7 +220,11 @@ fn perform(p: &Policy, cases: &mut Cases, deed: Deed) -> Reply
         }
         Deed::Show { case } => Reply::Shown(face_of(&case)),
         Deed::TurnAway { bad } => Reply::Bad(bad),
-        Deed::Open { .. } | Deed::Claim { .. } | Deed::Change { .. } => unreachable!(),
+        Deed::Open { .. }
+        | Deed::Claim { .. }
+        | Deed::Change { .. }
+        | Deed::Work { .. }
+        | Deed::WhatIf { .. } => unreachable!(),
     }
 }
 

@@ -4,9 +4,19 @@ use crate::Edition;
 use constraint_forms::Plan;
 use refutation_tree::Tree;
 use wf_names::CaseId;
-use wf_talk::Reply;
+use wf_talk::{CaseList, Reply, WorkList};
 
-/// Whether what is asked leaves its case a valid plan, or each open case where it is an edit.
+/// What a view over the open cases lists.
+#[derive(Drop)]
+pub enum View {
+    /// The steps that would be granted to the user.
+    Work(WorkList),
+    /// The cases that the edit would strand.
+    WhatIf(CaseList),
+}
+
+/// Whether what is asked leaves its case a valid plan, or each open case where it is an edit; or
+/// the view that is asked for.
 #[derive(Drop)]
 pub enum Verdict {
     /// An earlier check decides, or no plan is needed.
@@ -19,6 +29,8 @@ pub enum Verdict {
     Edited(Edition),
     /// The edit leaves this open case, and none before it, without one, as the tree shows.
     Strands(CaseId, Tree),
+    /// What is to be seen of the open cases.
+    View(View),
     /// There was no memory to find out.
     NoMemory,
 }

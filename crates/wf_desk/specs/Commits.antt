@@ -1,5 +1,5 @@
 -- What becomes of a job: decided inside the turn, or with the verdict of a task that was found outside it.
-use Rattle.std.specs.Prelude.{◌≡◌, ℕ, ◌+◌, ◌==◌, ◌&&◌, ◌||◌, nat_le, Bool, true, false, length, drop, max, slice_set, None, Some}
+use Rattle.std.specs.Prelude.{◌≡◌, ℕ, ◌+◌, ◌==◌, ◌&&◌, ◌||◌, nat_le, not, Bool, true, false, length, drop, max, slice_set, None, Some}
 use Rattle.std.proofs.Common.{◌⊎◌}
 use Rattle.wf_talk.specs.declared.job.Job.{Job}
 use Rattle.wf_talk.specs.declared.request.Ask.{Ask}
@@ -11,7 +11,7 @@ use Rattle.wf_board.specs.declared.verdict.Verdict.{Verdict}
 use Rattle.wf_board.specs.declared.verdict.Verdict.TheVariants as verdict
 use Rattle.wf_board.specs.Boards.{state_on}
 use Rattle.wf_board.specs.Counting.{counted, counted_end, lane_end}
-use Rattle.wf_board.specs.Decisions.{decision_of, needs_verdict}
+use Rattle.wf_board.specs.Decisions.{decision_of, is_view, needs_verdict}
 use Rattle.wf_board.specs.Verdicts.{IsCertified, IsDecided, IsRight, snap_of}
 use Rattle.wf_desk.specs.declared.task.Task.{Task}
 use Rattle.wf_desk.specs.declared.outcome.Outcome.{Outcome}
@@ -46,11 +46,12 @@ is_fresh d t = counted t.ask (drop t.number d.entries) == 0
 abbrev pub floor_of : DeskShape → ℕ → ℕ
 floor_of d lane = max (max (lane_end lane d.entries) d.start) (loss_of d.losses lane).end
 
--- a stale task is lost: jobs may be, only whether a case can be completed is left to decide, and all that it missed may
--- make it lost
+-- a stale task is lost: jobs may be, it is no view, only whether cases can be completed is left to decide, and all that it
+-- missed may make it lost
 abbrev pub is_lost : DeskShape → Task → Bool
 is_lost d t =
-    nat_le 1 d.rounds && (needs_verdict (decision_of (state_on d.board).book t.ask) && nat_le (floor_of d t.lane) t.number)
+    nat_le 1 d.rounds && (not (is_view t.ask)
+    && (needs_verdict (decision_of (state_on d.board).book t.ask) && nat_le (floor_of d t.lane) t.number))
 
 -- one more loss of a lane's next job is the last that it may have
 abbrev pub is_last_round : DeskShape → ℕ → Bool
@@ -91,7 +92,7 @@ abbrev pub is_kept : DeskShape → Task → Bool
 is_kept d t = is_fresh d t || is_change t.ask
 
 -- a task was committed with a verdict that was checked once more, whatever was known of it: as above, but that a plan or
--- a tree that is right now decides, and that an edit is always decided anew inside the turn
+-- a tree that is right now decides, and that an edit or a view is always decided anew inside the turn
 abbrev pub HasCommittedChecked : DeskShape → DeskShape → Task → Verdict → Outcome → Type 0
 HasCommittedChecked before after t v outcome.NotNext = ¬ IsNext before t × (after ≡ before)
 HasCommittedChecked before after t v outcome.Lost =

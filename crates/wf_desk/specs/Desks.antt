@@ -5,6 +5,7 @@ use Rattle.policy_book.specs.Shapes.{PolicyShape}
 use Rattle.wf_talk.specs.declared.entry.Entry.{Entry}
 use Rattle.wf_talk.specs.declared.job.Job.{Job}
 use Rattle.wf_talk.specs.declared.reply.Reply.{Reply}
+use Rattle.wf_talk.specs.declared.reply.Reply.TheVariants.{NoMemory}
 use Rattle.wf_board.specs.Boards.{BoardShape, state_on}
 use Rattle.wf_board.specs.States.{State, opening_state}
 use Rattle.wf_board.specs.Histories.{AreWantsRightful, EachAfter, IsLegal, RestsFrom, job_of_entry, lane_jobs, state_after}
@@ -81,13 +82,15 @@ with_room d spare cases = record d { spare = spare; board = record d.board { cas
 abbrev pub with_batch : DeskShape → List Job → DeskShape
 with_batch d jobs = record d { jobs = jobs; start = length d.entries; losses = replicate LANE_LIMIT no_loss }
 
--- there is one more entry, at this place: it answers a job with such a reply, and the job's lane goes on to its next
+-- there is one more entry, at this place: it answers a job with such a reply, and the job's lane goes on to its next;
+-- want of memory leaves the board as it was
 pub record HasAdded (before after : DeskShape) (job : Job) (place : ℕ) (Is : Reply → Type 0) : Type 0 where
   pub entry : Entry
   pub last : place ≡ length before.entries
   pub stands : entry.at ≡ place
   pub answers : job_of_entry entry ≡ job
   pub reply : Is entry.reply
+  pub lacking : entry.reply ≡ NoMemory → after.board ≡ before.board
   pub added : after.entries ≡ before.entries ++ entry ∷ []
   pub opening : after.opening ≡ before.opening
   pub lanes : after.lanes ≡ before.lanes

@@ -2,6 +2,7 @@
 ghost use Rattle.std.specs.Prelude.{◌≡◌, ◌≤◌, ◌<◌, ◌+◌, ◌↔◌, ◌≢◌, nat_le, true, false, [], length, replicate, OnErr, OnOk, IfOk, None, Some, Option};
 ghost use Rattle.wf_names.specs.declared.limits.TheConstants.{BATCH_LINE_LIMIT, LANE_LIMIT, ROUND_LIMIT};
 ghost use Rattle.wf_board.specs.Boards.{book_on, state_on};
+ghost use Rattle.wf_board.specs.Decisions.{is_view};
 ghost use Rattle.wf_board.specs.States.{opening_state};
 ghost use Rattle.wf_board.specs.Verdicts.{Decides, IsDecided, IsRight};
 ghost use Rattle.wf_desk.specs.Desks.{AreOfLanes, HasAdded, IsDone, IsSoundDesk, left_of, next_job, no_loss, with_batch, with_room};
@@ -89,6 +90,8 @@ impl Desk {
         requires small { length self.old.entries + length jobs.now < 4294967296 }
         ensures loaded { OnOk result (self.new ≡ with_room (with_batch self.old jobs.now) self.new.spare self.new.board.cases.spare) }
         ensures unchanged { OnErr result (self.new ≡ with_room self.old self.new.spare self.new.board.cases.spare) }
+        ensures kept { self.old.spare ≤ self.new.spare }
+        ensures room { self.old.board.cases.spare ≤ self.new.board.cases.spare }
     {
         let start = self.number();
         self.journal.reserve(jobs.len() as u32)?;
@@ -145,7 +148,7 @@ impl Desk {
     }
 
     /// Takes a task's verdict, in a turn, whatever is known of it: a plan or a tree is checked
-    /// once more, and decides where it is right now. An edit is always decided anew.
+    /// once more, and decides where it is right now. An edit or a view is always decided anew.
     pub fn commit_checked<V: Decider>(
         &mut self,
         alloc: Global,
@@ -283,7 +286,10 @@ impl Desk {
         requires { task.now.lane < self.now.lanes }
         ensures { result ≡ is_lost self.now task.now }
     {
-        1 <= self.rounds && self.board.needs(&task.ask) && self.is_past_floor(task)
+        1 <= self.rounds
+            && !is_view(&task.ask)
+            && self.board.needs(&task.ask)
+            && self.is_past_floor(task)
     }
 
     // Whether all that a task missed may make it lost.
@@ -397,6 +403,16 @@ fn is_change(ask: &Ask) -> bool
     ensures { result ≡ is_change ask.now }
 {
     matches!(ask, Ask::Request(Request::Change { .. }))
+}
+
+// Whether this is a view over the open cases.
+fn is_view(ask: &Ask) -> bool
+    ensures { result ≡ is_view ask.now }
+{
+    matches!(
+        ask,
+        Ask::Request(Request::Worklist { .. } | Request::WhatIf { .. })
+    )
 }
 
 // The job of a task.

@@ -53,12 +53,19 @@ impl<V, G> Drop for Gated<'_, V, G> {
     }
 }
 
-// Whether this is an opening, a claim or an edit: whatever else is asked needs no search.
+// Whether this is an opening, a claim, an edit or a view over the open cases: whatever else is
+// asked needs no search.
 fn asks_search(ask: &Ask) -> bool
     ensures { result ≡ may_lack_memory ask.now }
 {
     matches!(
         ask,
-        Ask::Request(Request::OpenCase { .. } | Request::Claim { .. } | Request::Change { .. })
+        Ask::Request(
+            Request::OpenCase { .. }
+                | Request::Claim { .. }
+                | Request::Change { .. }
+                | Request::Worklist { .. }
+                | Request::WhatIf { .. }
+        )
     )
 }

@@ -18,6 +18,7 @@ use Rattle.wf_talk.specs.contracts.edit.Missing as Missing
 use Rattle.wf_talk.specs.contracts.reply.Denial as Denial
 use Rattle.wf_talk.specs.contracts.reply.Face as Face
 use Rattle.wf_talk.specs.contracts.reply.Reply as Reply
+use Rattle.wf_talk.specs.contracts.reply.WorkItem as WorkItem
 use Rattle.wf_talk.specs.contracts.request.Ask as Ask
 use Rattle.wf_talk.specs.contracts.request.Bad as Bad
 use Rattle.wf_talk.specs.contracts.entry.Entry as Entry
@@ -32,6 +33,12 @@ flow_send = search sendable depth 20
 
 roles_send : IsSend (as_row (List.the_field RoleId.the_row))
 roles_send = search (sendable, crosses) depth 20
+
+work_send : IsSend (as_row (List.the_field WorkItem.the_row))
+work_send = search (sendable, crosses) depth 20
+
+cases_send : IsSend (as_row (List.the_field CaseId.the_row))
+cases_send = search (sendable, crosses) depth 20
 
 step_send : IsSend (as_row StepId.the_field)
 step_send = search sendable depth 20
@@ -115,7 +122,13 @@ reply_send =
                   (search sendable, tt),
                   (
                     (face_send, tt),
-                    ((search (sendable, denial_send), tt), ((search sendable, (search sendable, tt)), (tt, ((bad_send, tt), tt)))),
+                    (
+                      (work_send, tt),
+                      (
+                        (cases_send, tt),
+                        ((search (sendable, denial_send), tt), ((search sendable, (search sendable, tt)), (tt, ((bad_send, tt), tt)))),
+                      ),
+                    ),
                   ),
                 ),
               ),
@@ -139,6 +152,12 @@ flow_sync = search sendable depth 20
 
 roles_sync : IsSync (as_row (List.the_field RoleId.the_row))
 roles_sync = search (sendable, crosses) depth 20
+
+work_sync : IsSync (as_row (List.the_field WorkItem.the_row))
+work_sync = search (sendable, crosses) depth 20
+
+cases_sync : IsSync (as_row (List.the_field CaseId.the_row))
+cases_sync = search (sendable, crosses) depth 20
 
 step_sync : IsSync (as_row StepId.the_field)
 step_sync = search sendable depth 20
@@ -222,7 +241,13 @@ reply_sync =
                   (search sendable, tt),
                   (
                     (face_sync, tt),
-                    ((search (sendable, denial_sync), tt), ((search sendable, (search sendable, tt)), (tt, ((bad_sync, tt), tt)))),
+                    (
+                      (work_sync, tt),
+                      (
+                        (cases_sync, tt),
+                        ((search (sendable, denial_sync), tt), ((search sendable, (search sendable, tt)), (tt, ((bad_sync, tt), tt)))),
+                      ),
+                    ),
                   ),
                 ),
               ),

@@ -1,6 +1,6 @@
 //! What the server answers.
 
-use crate::{Bad, Missing, RoleList, States};
+use crate::{Bad, CaseList, Missing, RoleList, States, WorkList};
 use constraint_forms::Plan;
 use refutation_tree::Tree;
 use wf_names::{CaseId, FlowId, Phase, StepId, StepState, UserId};
@@ -24,6 +24,10 @@ pub enum Reply {
     Edited { number: u32 },
     /// Where the case and its steps stand.
     Shown(Face),
+    /// The steps that would be granted to the user, by ascending case and step.
+    Work(WorkList),
+    /// The open cases that the change would leave without a valid plan, ascending.
+    WhatIf(CaseList),
     /// The request was denied, and nothing has changed.
     Denied(Denial),
     /// The request could not be decided, since what it rests on changed so many times while it
@@ -41,6 +45,14 @@ pub struct Face {
     pub flow: FlowId,
     pub phase: Phase,
     pub states: States,
+}
+
+/// A step that would be granted, with its case and the workflow of that.
+#[derive(Clone, Copy, PartialEq, Eq)]
+pub struct WorkItem {
+    pub case: CaseId,
+    pub flow: FlowId,
+    pub step: StepId,
 }
 
 /// Why a request was denied.

@@ -48,6 +48,15 @@ pub enum Request {
     Show {
         case: CaseId,
     },
+    /// To see which steps of the open cases would be granted to a user now.
+    Worklist {
+        user: Name,
+    },
+    /// To see which open cases an administrator's change of the policy would strand.
+    WhatIf {
+        by: Name,
+        edit: Edit,
+    },
 }
 
 /// Why a line is no request.

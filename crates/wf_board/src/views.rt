@@ -1,0 +1,103 @@
+//! Answers views over the open cases, and takes the replies to them that somebody else gave.
+ghost use Rattle.std.specs.Prelude.{◌≡◌, ◌≢◌, ◌↔◌, Ok, true};
+ghost use Rattle.wf_talk.specs.declared.reply.Reply.TheVariants as replies;
+ghost use Rattle.wf_board.specs.declared.deed.Deed.TheVariants as deeds;
+ghost use Rattle.wf_board.specs.declared.verdict.Verdict.TheVariants as verdicts;
+ghost use Rattle.wf_board.specs.Admission.{HasAdmitted, IsVerdictFor};
+ghost use Rattle.wf_board.specs.Boards.{book_of};
+ghost use Rattle.wf_board.specs.Decisions.{decision_aside, decision_of};
+ghost use Rattle.wf_board.specs.Found.{IsAllowed};
+ghost use Rattle.wf_board.specs.Taking.{HasTaken, IsKept};
+ghost use Rattle.wf_board.specs.Verdicts.{IsMadeOf, IsViewFor};
+
+use crate::admit::when;
+use crate::{AdmitFault, Verdict, View};
+use admin_edits::Amendment;
+use grant_table::Cases;
+use policy_book::Policy;
+use wf_names::{CaseId, UserId};
+use wf_talk::{Ask, Reply, WorkItem};
+
+/// Answers by a view of what is asked for.
+pub(crate) fn by_view(p: &Policy, cases: &Cases, ask: &Ask, view: View) -> Reply
+    requires kept { IsKept p.now cases.now }
+    requires view { IsViewFor (book_of p.now cases.now)
+        (decision_aside (book_of p.now cases.now) ask.now) view }
+    ensures taken { HasTaken p.now cases.now cases.now
+        (decision_of (book_of p.now cases.now) ask.now) result }
+    ensures made { IsMadeOf (verdicts.View view) result }
+    ensures memory { result ≢ replies.NoMemory }
+{
+    let _ = p;
+    let _ = cases;
+    let _ = ask;
+    match view {
+        View::Work(items) => Reply::Work(items),
+        View::WhatIf(cases) => Reply::WhatIf(cases),
+    }
+}
+
+/// Whether a reply lists the work of a user, as the verdict does.
+pub(crate) fn admit_work(
+    p: &Policy,
+    cases: &Cases,
+    user: UserId,
+    reply: &Reply,
+    verdict: &Verdict,
+) -> Result<(), AdmitFault>
+    requires kept { IsKept p.now cases.now }
+    requires given { reply.now ≢ replies.NoMemory }
+    requires verdict { IsVerdictFor (book_of p.now cases.now) (deeds.Work user) verdict.now }
+    ensures { HasAdmitted p.now cases.now cases.now (Ok (deeds.Work user)) reply.now result }
+{
+    let _ = p;
+    let _ = cases;
+    let _ = user;
+    match verdict {
+        Verdict::View(View::Work(items)) => when(is_work(reply, items.as_slice())),
+        _ => unreachable!(),
+    }
+}
+
+/// Whether a reply lists the cases that a change would strand, as the verdict does.
+pub(crate) fn admit_what_if(
+    p: &Policy,
+    cases: &Cases,
+    a: Amendment,
+    reply: &Reply,
+    verdict: &Verdict,
+) -> Result<(), AdmitFault>
+    requires kept { IsKept p.now cases.now }
+    requires allowed { IsAllowed p.now a }
+    requires given { reply.now ≢ replies.NoMemory }
+    requires verdict { IsVerdictFor (book_of p.now cases.now) (deeds.WhatIf a) verdict.now }
+    ensures { HasAdmitted p.now cases.now cases.now (Ok (deeds.WhatIf a)) reply.now result }
+{
+    let _ = p;
+    let _ = cases;
+    let _ = a;
+    match verdict {
+        Verdict::View(View::WhatIf(stranded)) => when(is_what_if(reply, stranded.as_slice())),
+        _ => unreachable!(),
+    }
+}
+
+/// Whether a reply is this work list.
+fn is_work(reply: &Reply, items: &[WorkItem]) -> bool
+    ensures { result ≡ true ↔ reply.now ≡ replies.Work items.now }
+{
+    match reply {
+        Reply::Work(given) => given.as_slice() == items,
+        _ => false,
+    }
+}
+
+/// Whether a reply is this list of stranded cases.
+fn is_what_if(reply: &Reply, cases: &[CaseId]) -> bool
+    ensures { result ≡ true ↔ reply.now ≡ replies.WhatIf cases.now }
+{
+    match reply {
+        Reply::WhatIf(given) => given.as_slice() == cases,
+        _ => false,
+    }
+}
