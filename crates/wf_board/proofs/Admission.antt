@@ -43,6 +43,8 @@ use Rattle.wf_board.specs.Found.{IsAllowed}
 use Rattle.wf_board.specs.Resolved.{edit_denial, on_edit, on_step, open_case_at, resolve}
 use Rattle.wf_board.specs.States.{Book, State, case_at, flow_named, is_full, open_cases, step_named, user_named}
 use Rattle.wf_board.specs.Kept.{IsSoundState}
+use Rattle.wf_board.specs.Views.{AreStranded, IsWorkOf, steps_of}
+use Rattle.wf_talk.specs.declared.reply.WorkItem.{WorkItem}
 use Rattle.wf_board.specs.Steps.{Answers, IsReplyTo, IsStep, state_after_decision}
 use Rattle.wf_board.specs.Taking.{board_of, full_or, keeps_policy, HasTaken, IsKept}
 use Rattle.wf_board.specs.Verdicts.{IsEditionFor, IsMadeOf, IsPlanFor, IsRight, IsStrandingFor, IsTreeFor, IsViewFor}
@@ -50,6 +52,7 @@ use Rattle.wf_board.proofs.Amended.{IsChange, IsFoundCase, change_decided, editi
 use Rattle.wf_board.proofs.Answering.{same_taken}
 use Rattle.wf_board.proofs.Exact.{stranded_not}
 use Rattle.wf_board.proofs.Fixed.{one_stranded}
+use Rattle.wf_board.proofs.Listed.{one_list}
 use Rattle.wf_board.proofs.Told.{HoldsOf, IsTold, aside_told}
 
 -- ---- causes have no tree
@@ -325,6 +328,43 @@ pub showing_only : (s : State) (c : CaseShape) (given : Reply) → given ≢ rep
 showing_only s c reply.NoMemory memory shown is = memory refl
 showing_only s c (reply.Shown face) memory shown is = shown face refl
 showing_only s c given memory shown is = is
+
+work_only : (s : State) (u : ℕ) (items : List WorkItem) (given : Reply) → given ≢ reply.NoMemory → IsWorkOf s.book u items → given ≢ reply.Work items → ¬ IsReplyTo s (deed.Work u) given
+work_only s u items reply.NoMemory memory work other is = memory refl
+work_only s u items (reply.Work told) memory work other is =
+    other (ap reply.Work (one_list _ _ _ (steps_of (open_cases s.book.cases)) told items (λ x is not. not is) is work))
+work_only s u items given memory work other is = is
+
+-- a list of a user's work is taken where it is the one that is right
+pub work_admitted : (p : PolicyShape) (t : CasesShape) (u : ℕ) (items : List WorkItem) (given : Reply) (b : Bool) (result : Result (Unit {0}) AdmitFault) → IsKept p t → given ≢ reply.NoMemory →
+    IsWorkOf (book_of p t) u items → b ≡ true ↔ given ≡ reply.Work items → result ≡ when b → HasAdmitted p t t (Ok (deed.Work u)) given result
+work_admitted p t u items given b result kept memory work test is =
+    test_admitted p t (Ok (deed.Work u)) given b result kept is
+    (λ passed edits. subst (IsReplyTo (state_on (board_of p t edits)) (deed.Work u)) (sym (test.0 passed)) work)
+    (λ failed edits. work_only (state_on (board_of p t edits)) u items given memory work (not_told failed))
+    (λ s. refl)
+  where
+    not_told : b ≡ false → given ≢ reply.Work items
+    not_told failed told = let apart : true ≡ false = sym (test.1 told) ∙ failed in cc
+
+what_if_only : (s : State) (a : Amendment) (numbers : List ℕ) (given : Reply) → given ≢ reply.NoMemory → AreStranded (amended s.book.policy a) (open_cases s.book.cases) numbers →
+    given ≢ reply.WhatIf numbers → ¬ IsReplyTo s (deed.WhatIf a) given
+what_if_only s a numbers reply.NoMemory memory stranded other is = memory refl
+what_if_only s a numbers (reply.WhatIf told) memory stranded other is =
+    other (ap reply.WhatIf (one_list _ _ _ (open_cases s.book.cases) told numbers (λ e not is. not is) is stranded))
+what_if_only s a numbers given memory stranded other is = is
+
+-- a list of stranded cases is taken where it is the one that is right
+pub what_if_admitted : (p : PolicyShape) (t : CasesShape) (a : Amendment) (numbers : List ℕ) (given : Reply) (b : Bool) (result : Result (Unit {0}) AdmitFault) → IsKept p t → given ≢ reply.NoMemory →
+    AreStranded (amended p a) (open_cases (book_of p t).cases) numbers → b ≡ true ↔ given ≡ reply.WhatIf numbers → result ≡ when b → HasAdmitted p t t (Ok (deed.WhatIf a)) given result
+what_if_admitted p t a numbers given b result kept memory stranded test is =
+    test_admitted p t (Ok (deed.WhatIf a)) given b result kept is
+    (λ passed edits. subst (IsReplyTo (state_on (board_of p t edits)) (deed.WhatIf a)) (sym (test.0 passed)) stranded)
+    (λ failed edits. what_if_only (state_on (board_of p t edits)) a numbers given memory stranded (not_told failed))
+    (λ s. refl)
+  where
+    not_told : b ≡ false → given ≢ reply.WhatIf numbers
+    not_told failed told = let apart : true ≡ false = sym (test.1 told) ∙ failed in cc
 
 pub bad_only : (s : State) (bad : Bad) (given : Reply) → given ≢ reply.NoMemory → ((b : Bad) → given ≢ reply.Bad b) → ¬ IsReplyTo s (deed.TurnAway bad) given
 bad_only s bad reply.NoMemory memory why is = memory refl

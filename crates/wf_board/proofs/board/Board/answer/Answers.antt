@@ -1,4 +1,4 @@
-use Rattle.std.proofs.Common.{◌≡◌, ◌≤◌, ◌+◌, true, subst}
+use Rattle.std.proofs.Common.{◌≡◌, ◌≤◌, ◌+◌, true, subst, ap, ◌∙◌}
 use Rattle.std.specs.Arc.{arc_value}
 use Rattle.wf_talk.specs.declared.reply.Reply.TheVariants as replies
 use Rattle.wf_board.specs.declared.verdict.Verdict.TheVariants as verdicts
