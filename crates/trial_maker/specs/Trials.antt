@@ -59,10 +59,14 @@ with_edit m = record {
   jobs = with_job m.jobs 0 (request.Change (user_name 0) (change.Dismiss (role_name (below 60 m.state % 5)) (user_name (below 60 m.state))));
 }
 
+-- the round v with n cases
+unfoldable pub with_round : ℕ → ℕ → Made → Made
+with_round n v m = turns v n (if is_edited v then with_edit m else m)
+
 -- the first so many rounds with n cases
 unfoldable pub rounds : ℕ → ℕ → Made → Made
 rounds n zero m = m
-rounds n (suc v) m = turns v n (if is_edited v then with_edit (rounds n v m) else rounds n v m)
+rounds n (suc v) m = with_round n v (rounds n v m)
 
 -- the jobs for n cases; the policy's sixty draws are made before
 unfoldable pub trial_jobs : ℕ → ℕ → List Job

@@ -33,6 +33,7 @@ impl Generator {
     }
 
     /// A number below a limit.
+    #[tactic(auto, unfolding(crate::specs::Draws::below))]
     pub(crate) fn below(&mut self, limit: u16) -> u16
         requires { 0 < limit }
         ensures value { result ≡ below limit self.old }
@@ -42,6 +43,7 @@ impl Generator {
         (self.draw() % limit as u64) as u16
     }
 
+    #[tactic(auto, unfolding(crate::specs::Draws::drawn))]
     fn draw(&mut self) -> u64
         ensures value { result ≡ drawn self.old }
         ensures drawn { self.new ≡ next_state self.old }
@@ -52,6 +54,7 @@ impl Generator {
 }
 
 // The state after a state.
+#[tactic(auto, unfolding(crate::specs::Draws::next_state))]
 fn following(state: u64) -> u64
     ensures { result ≡ next_state state }
 {

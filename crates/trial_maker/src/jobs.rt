@@ -1,7 +1,7 @@
 //! The jobs of a trial, and the ends of their batches.
 ghost use Rattle.std.specs.Prelude.{◌≡◌, ◌≤◌, ◌<◌, ◌+◌, ◌*◌, ◌^◌, length, IfOk, OnOk};
 ghost use Rattle.trial_maker.specs.Draws.{next_state};
-ghost use Rattle.trial_maker.specs.Trials.{batch_ends, openings, rounds, step_of, turn, turn_user, turns, with_edit, with_job, with_turn};
+ghost use Rattle.trial_maker.specs.Trials.{batch_ends, openings, rounds, turn, turn_user, turns, with_edit, with_job, with_round, with_turn};
 
 use crate::draws::Generator;
 use crate::named::{named, role_name, step_name, user_name};
@@ -33,6 +33,7 @@ impl Model for Maker {
 }
 
 /// The jobs for so many cases.
+#[tactic(auto, using(crate::proofs::Growing::rounds_none, crate::proofs::Growing::rounds_more, crate::proofs::Growing::rounds_count, crate::proofs::Growing::openings_count))]
 pub(crate) fn jobs_of(alloc: Global, draws: Generator, cases: u16) -> Result<Jobs, AllocError>
     requires { cases ≤ 40 }
     ensures { IfOk result (λ jobs. jobs ≡ (rounds cases 24 (record { state = draws; jobs = openings cases })).jobs) }
@@ -46,13 +47,14 @@ pub(crate) fn jobs_of(alloc: Global, draws: Generator, cases: u16) -> Result<Job
 }
 
 // The openings of so many cases.
+#[tactic(auto, using(crate::proofs::NameForms::buy_form, crate::proofs::Growing::openings_none, crate::proofs::Growing::openings_more, crate::proofs::Growing::openings_count))]
 fn openings(alloc: Global, cases: u16) -> Result<Jobs, AllocError>
     requires { cases ≤ 40 }
     ensures { IfOk result (λ jobs. jobs ≡ openings cases) }
 {
     let flow = named("buy");
     let mut jobs = Jobs::new(alloc);
-    'cases: for _ in 0..cases {
+    'cases: for _case in 0..cases {
         add_job(&mut jobs, 0, Request::OpenCase { flow })?;
     }
     Ok(jobs)
@@ -70,10 +72,11 @@ fn add_job(jobs: &mut Jobs, lane: u8, request: Request) -> Result<(), AllocError
 
 impl Maker {
     // Adds a round's turns of so many cases, and the edit before them if there is one.
+    #[tactic(auto, using(crate::proofs::Growing::turns_none, crate::proofs::Growing::turns_more, crate::proofs::Growing::turns_count, crate::proofs::Growing::edit_count), unfolding(crate::specs::Trials::with_round))]
     fn add_round(&mut self, round: u8, cases: u16) -> Result<(), AllocError>
         requires few { length self.old.jobs + 2 * cases + 1 ≤ 2 ^ 32 }
         requires round { round < 24 }
-        ensures { OnOk result (self.new ≡ rounds cases (round + 1) self.old) }
+        ensures { OnOk result (self.new ≡ with_round cases round self.old) }
     {
         if round > 0 && round % 4 == 0 {
             self.add_edit()?;
@@ -85,6 +88,7 @@ impl Maker {
     }
 
     // Adds an edit: the administrator takes a role from a user.
+    #[tactic(auto, unfolding(crate::specs::Trials::with_edit))]
     fn add_edit(&mut self) -> Result<(), AllocError>
         requires { length self.old.jobs < 2 ^ 32 }
         ensures { OnOk result (self.new ≡ with_edit self.old) }
@@ -99,6 +103,7 @@ impl Maker {
     }
 
     // Adds the turn of a case: the claim of the round's step, and the report that it is done.
+    #[tactic(auto, unfolding(crate::specs::Trials::turn))]
     fn add_turn(&mut self, round: u8, case: CaseId) -> Result<(), AllocError>
         requires few { length self.old.jobs + 2 ≤ 2 ^ 32 }
         requires round { round < 24 }
@@ -109,6 +114,7 @@ impl Maker {
     }
 
     // The user of a turn. Where the round is even it is one with the step's role.
+    #[tactic(auto, unfolding(crate::specs::Trials::turn_user))]
     fn draw_user(&mut self, round: u8) -> UserId
         requires { round < 24 }
         ensures user { result ≡ turn_user round self.old.state }
@@ -143,6 +149,7 @@ fn add_claim_and_finish(
 }
 
 /// The ends of batches, of which the first has so many of the jobs, and the others up to the limit.
+#[tactic(auto, using(crate::proofs::Growing::ends_more), unfolding(crate::specs::Trials::batch_ends))]
 pub(crate) fn batch_ends(alloc: Global, first: u32, count: u32) -> Result<Ends, AllocError>
     requires { first < count }
     ensures { IfOk result (λ ends. ends ≡ batch_ends first count) }

@@ -30,6 +30,7 @@ pub struct Trial {
 }
 
 /// The trial of a seed, for so many cases.
+#[tactic(auto, using(crate::proofs::Growing::made_count, crate::proofs::Growing::jobs_count), unfolding(crate::specs::Trials::trial_jobs))]
 pub fn make(alloc: Global, seed: u64, cases: u16) -> Result<Trial, AllocError>
     requires some { 1 ≤ cases }
     requires few { cases ≤ 40 }

@@ -20,6 +20,7 @@ pub(crate) fn named(text: &str) -> Name
 }
 
 /// The name that bytes are.
+#[tactic(auto, using(crate::proofs::NameForms::name_text))]
 fn of_bytes(bytes: &[u8]) -> Name
     requires { IsTrue (is_name bytes.now) }
     ensures { result ≡ bytes.now }
@@ -31,6 +32,7 @@ fn of_bytes(bytes: &[u8]) -> Name
 }
 
 // A letter and the two digits of a number.
+#[tactic(auto, using(crate::proofs::NameForms::numbered_form))]
 fn with_two_digits(letter: u8, n: u16) -> Name
     requires letter { is_letter letter ≡ true }
     requires small { n < 100 }
@@ -40,6 +42,7 @@ fn with_two_digits(letter: u8, n: u16) -> Name
 }
 
 /// The name of a user.
+#[tactic(auto, unfolding(crate::specs::TrialNames::user_name))]
 pub(crate) fn user_name(u: UserId) -> Name
     requires { u < 100 }
     ensures { result ≡ user_name u }
@@ -48,6 +51,7 @@ pub(crate) fn user_name(u: UserId) -> Name
 }
 
 /// The name of a step.
+#[tactic(auto, unfolding(crate::specs::TrialNames::step_name))]
 pub(crate) fn step_name(s: StepId) -> Name
     requires { s < 100 }
     ensures { result ≡ step_name s }
@@ -56,6 +60,7 @@ pub(crate) fn step_name(s: StepId) -> Name
 }
 
 /// The name of a role other than that of the administrators.
+#[tactic(auto, using(crate::proofs::NameForms::role_form), unfolding(crate::specs::TrialNames::role_name))]
 pub(crate) fn role_name(r: RoleId) -> Name
     requires { r < 10 }
     ensures { result ≡ role_name r }

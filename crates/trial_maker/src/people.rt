@@ -20,6 +20,7 @@ pub(crate) const ROLES: u8 = 5;
 pub(crate) const ADMIN: RoleId = RoleId(ROLES);
 
 /// The roster, whose roles are drawn.
+#[tactic(auto, unfolding(crate::specs::TrialPolicy::trial_roster))]
 pub(crate) fn roster_of(alloc: Global, draws: &mut Generator) -> Result<Roster, AllocError>
     ensures roster { IfOk result (λ r. r ≡ trial_roster draws.old) }
     ensures drawn { OnOk result (draws.new ≡ after 60 draws.old) }
@@ -32,6 +33,7 @@ pub(crate) fn roster_of(alloc: Global, draws: &mut Generator) -> Result<Roster, 
 }
 
 // The names of the roles.
+#[tactic(auto, using(crate::proofs::NameForms::role_fresh, crate::proofs::NameForms::roles_count, crate::proofs::NameForms::roles_more, crate::proofs::NameForms::chief_form, crate::proofs::NameForms::chief_fresh))]
 fn role_table(alloc: Global) -> Result<NameTable, AllocError>
     ensures { IfOk result (λ t. t.names ≡ map role_name (range_with_len 0 5) ++ admin_name ∷ []) }
 {
@@ -55,6 +57,7 @@ fn add_users(roster: &mut Roster) -> Result<(), AllocError>
 }
 
 // Adds the next user.
+#[tactic(auto, using(crate::proofs::NameForms::user_fresh, crate::proofs::NameForms::users_count, crate::proofs::NameForms::users_more))]
 fn add_user(roster: &mut Roster, u: UserId) -> Result<(), AllocError>
     requires few { u < 60 }
     requires earlier { roster.old.users ≡ map user_name (range_with_len 0 u) }
@@ -68,6 +71,7 @@ fn add_user(roster: &mut Roster, u: UserId) -> Result<(), AllocError>
 }
 
 // Gives each user a role by their number, and one that is drawn.
+#[tactic(auto, using(crate::proofs::Growing::after_none, crate::proofs::Growing::after_more, crate::proofs::Growing::members_none, crate::proofs::Growing::members_more))]
 fn draw_roles(roster: &mut Roster, draws: &mut Generator) -> Result<(), AllocError>
     requires users { length roster.old.users ≡ 60 }
     requires roles { length roster.old.roles ≡ 6 }
@@ -84,6 +88,7 @@ fn draw_roles(roster: &mut Roster, draws: &mut Generator) -> Result<(), AllocErr
 }
 
 // Gives a user a role, who may have it already.
+#[tactic(auto, using(crate::proofs::Growing::held_again))]
 fn give(roster: &mut Roster, u: UserId, r: RoleId) -> Result<(), AllocError>
     requires user { u < length roster.old.users }
     requires role { r < length roster.old.roles }

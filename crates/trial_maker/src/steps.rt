@@ -24,14 +24,33 @@ pub(crate) fn flow_of(alloc: Global) -> Result<Flow, AllocError>
     let steps = step_table(alloc)?;
     let order = order(alloc)?;
     let permits = permits(alloc)?;
-    match Flow::build(alloc, steps, &order, &permits) {
+    build(alloc, steps, &order, &permits)
+}
+
+// The workflow of these steps.
+#[tactic(auto, using(crate::proofs::NameForms::steps_count, crate::proofs::FlowFacts::order_once_in, crate::proofs::FlowFacts::permits_once_in))]
+fn build(
+    alloc: Global,
+    steps: NameTable,
+    order: &[(StepId, StepId)],
+    permits: &[(RoleId, StepId)],
+) -> Result<Flow, AllocError>
+    requires steps { steps.names ≡ map step_name (range_with_len 0 12) }
+    requires order { order.now ≡ map (λ k. (k, k + 1)) (range_with_len 0 11) }
+    requires permits { permits.now ≡ map (λ k. (k % 5, k)) (range_with_len 0 12) }
+    ensures { IfOk result (λ f. f ≡ trial_flow) }
+{
+    match Flow::build(alloc, steps, order, permits) {
         Ok(flow) => Ok(flow),
         Err(FlowFault::NoMemory) => Err(AllocError),
-        Err(_) => unreachable!(),
+        Err(FlowFault::TooMany) => unreachable!(),
+        Err(FlowFault::Twice) => unreachable!(),
+        Err(FlowFault::Cycle(_)) => unreachable!(),
     }
 }
 
 // The names of the steps.
+#[tactic(auto, using(crate::proofs::NameForms::step_fresh, crate::proofs::NameForms::steps_count, crate::proofs::NameForms::steps_more))]
 fn step_table(alloc: Global) -> Result<NameTable, AllocError>
     ensures { IfOk result (λ t. t.names ≡ map step_name (range_with_len 0 12)) }
 {
@@ -65,6 +84,7 @@ fn permits(alloc: Global) -> Result<Vec<(RoleId, StepId)>, AllocError>
 }
 
 /// The rules.
+#[tactic(auto, using(crate::proofs::FlowFacts::pairs_more, crate::proofs::FlowFacts::four_more), unfolding(crate::specs::TrialPolicy::trial_rules))]
 pub(crate) fn rules_of(alloc: Global) -> Result<Rules, AllocError>
     ensures { IfOk result (λ r. r ≡ trial_rules) }
 {
