@@ -1,0 +1,13 @@
+//! The words of the command line: the commands of the program, each read by a command of `clap`.
+#![tactic(auto)]
+
+mod arguments;
+mod command;
+mod finding;
+mod forms;
+mod reading;
+#[cfg(test)]
+mod tests;
+
+pub use command::{Command, Options};
+pub use reading::read_words;
