@@ -39,22 +39,22 @@ wanted name = record (new_rule name) { required = true }
 abbrev pub wanted_number : Text → Rule
 wanted_number name = record (wanted name) { parser = Some (Unsigned 0 (2 ^ 64 - 1)) }
 
--- `--name` with a number from the least to the most, and the number where it is left out
-abbrev pub ranged : Text → ℕ → ℕ → ℕ → Rule
+-- `--name` with a number from the least to the most, and what stands for it where it is left out
+abbrev pub ranged : Text → ℕ → ℕ → Text → Rule
 ranged name least most usual = record (new_rule name) {
   long = Some name;
   parser = Some (Signed (pos least) (pos most));
-  defaults = decimal usual ∷ [];
+  defaults = usual ∷ [];
 }
 
 abbrev pub policy_word : Rule
 policy_word = wanted (codes "POLICY")
 
 abbrev pub lanes_option : Rule
-lanes_option = ranged (codes "lanes") 1 LANE_LIMIT DEFAULT_LANES
+lanes_option = ranged (codes "lanes") 1 LANE_LIMIT (decimal DEFAULT_LANES)
 
 abbrev pub rounds_option : Rule
-rounds_option = ranged (codes "rounds") 0 ROUND_LIMIT DEFAULT_ROUNDS
+rounds_option = ranged (codes "rounds") 0 ROUND_LIMIT (decimal DEFAULT_ROUNDS)
 
 -- a command with this name and these arguments
 abbrev pub form : Text → List Rule → App

@@ -1,6 +1,5 @@
 //! The arguments of the commands.
 ghost use Rattle.std.specs.Prelude.{◌≡◌, ◌≤◌, false, pos};
-ghost use Rattle.std.specs.Fmt.{decimal};
 ghost use Rattle.clap.specs.Words.{rule_of};
 ghost use Rattle.clap.specs.declared.builder.value_parser.ValueParser.TheVariants.{Signed};
 ghost use Rattle.command_words.specs.Words.{lanes_option, ranged, rounds_option, wanted, wanted_number};
@@ -31,10 +30,7 @@ pub(crate) fn lanes<'a>(alloc: Global) -> Arg<'a>
     ensures rule { rule_of result ≡ lanes_option }
     ensures own { result.global ≡ false }
 {
-    Arg::new(alloc, "lanes")
-        .long("lanes")
-        .value_parser(numbers(1, LANE_LIMIT))
-        .default_value("1")
+    ranged(alloc, "lanes", 1, LANE_LIMIT, "1")
 }
 
 /// The option for the number of rounds.
@@ -42,10 +38,18 @@ pub(crate) fn rounds<'a>(alloc: Global) -> Arg<'a>
     ensures rule { rule_of result ≡ rounds_option }
     ensures own { result.global ≡ false }
 {
-    Arg::new(alloc, "rounds")
-        .long("rounds")
-        .value_parser(numbers(0, ROUND_LIMIT))
-        .default_value("2")
+    ranged(alloc, "rounds", 0, ROUND_LIMIT, "2")
+}
+
+// An option with a number, which is as `usual` writes it where the option is left out.
+fn ranged<'a>(alloc: Global, name: &'a str, least: u8, most: u8, usual: &'a str) -> Arg<'a>
+    ensures rule { rule_of result ≡ ranged name.entry.now least most usual.entry.now }
+    ensures own { result.global ≡ false }
+{
+    Arg::new(alloc, name)
+        .long(name)
+        .value_parser(numbers(least, most))
+        .default_value(usual)
 }
 
 fn numbers<'a>(least: u8, most: u8) -> ValueParser<'a>
