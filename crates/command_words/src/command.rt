@@ -1,7 +1,7 @@
 //! What the program is asked to do.
 
 /// How a session is served.
-#[derive(Clone, Copy)]
+#[derive(Clone, Copy, Debug, PartialEq, Eq)]
 pub struct Options {
     /// How many lanes there are, at least one.
     pub lanes: u8,
@@ -10,7 +10,7 @@ pub struct Options {
 }
 
 /// A command with its words: the policy file, and what else it names.
-#[derive(Clone, Copy)]
+#[derive(Clone, Copy, Debug, PartialEq, Eq)]
 pub enum Command<'a> {
     /// Judges the plan in the input for a workflow.
     Plan {

@@ -34,12 +34,7 @@ pub(crate) fn word_in<'a>(matches: &ArgMatches<'a>, name: &str) -> Option<&'a st
 }
 
 /// The number that was found under a name, which is within these bounds.
-pub(crate) fn number_in(
-    matches: &ArgMatches<'_>,
-    name: &str,
-    least: u8,
-    most: u8,
-) -> Option<u8>
+pub(crate) fn number_in(matches: &ArgMatches<'_>, name: &str, least: u8, most: u8) -> Option<u8>
     requires within { WritesWithin least most name.now (rows_in matches.now) }
     ensures number { result ≡ number_of name.now (rows_in matches.now) }
     ensures within { IfSome result (λ n. (least ≤ n) × (n ≤ most)) }

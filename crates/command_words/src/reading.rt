@@ -13,10 +13,7 @@ use wf_names::{LANE_LIMIT, ROUND_LIMIT};
 
 /// The command that the words are, where they are one. They are those behind the name of the program.
 /// Only want of memory is an error.
-pub fn read_words<'a>(
-    alloc: Global,
-    words: &'a [String],
-) -> Result<Option<Command<'a>>, AllocError>
+pub fn read_words<'a>(alloc: Global, words: &'a [String]) -> Result<Option<Command<'a>>, AllocError>
     ensures command { IfOk result (λ c. option_map asked c ≡ command_of (map string_bytes words.now)) }
     ensures served { IfOk result (λ c. IfSome c CanServe) }
 {
@@ -46,10 +43,7 @@ fn read_command<'a>(
     }
 }
 
-fn read_plan<'a>(
-    alloc: Global,
-    words: &'a [String],
-) -> Result<Option<Command<'a>>, AllocError>
+fn read_plan<'a>(alloc: Global, words: &'a [String]) -> Result<Option<Command<'a>>, AllocError>
     ensures command { IfOk result (λ c. option_map asked c ≡ option_and_then plan_of (found plan_form (map string_bytes words.now))) }
     ensures served { IfOk result (λ c. IfSome c CanServe) }
 {
@@ -68,10 +62,7 @@ fn plan_in<'a>(matches: &ArgMatches<'a>) -> Option<Command<'a>>
     Some(Command::Plan { policy, flow })
 }
 
-fn read_show<'a>(
-    alloc: Global,
-    words: &'a [String],
-) -> Result<Option<Command<'a>>, AllocError>
+fn read_show<'a>(alloc: Global, words: &'a [String]) -> Result<Option<Command<'a>>, AllocError>
     ensures command { IfOk result (λ c. option_map asked c
         ≡ option_and_then (λ rows. option_map show (policy_in rows)) (found show_form (map string_bytes words.now))) }
     ensures served { IfOk result (λ c. IfSome c CanServe) }
@@ -90,10 +81,7 @@ fn show_in<'a>(matches: &ArgMatches<'a>) -> Option<Command<'a>>
     Some(Command::Show { policy })
 }
 
-fn read_solve<'a>(
-    alloc: Global,
-    words: &'a [String],
-) -> Result<Option<Command<'a>>, AllocError>
+fn read_solve<'a>(alloc: Global, words: &'a [String]) -> Result<Option<Command<'a>>, AllocError>
     ensures command { IfOk result (λ c. option_map asked c
         ≡ option_and_then (λ rows. option_map solve (policy_in rows)) (found solve_form (map string_bytes words.now))) }
     ensures served { IfOk result (λ c. IfSome c CanServe) }
@@ -112,10 +100,7 @@ fn solve_in<'a>(matches: &ArgMatches<'a>) -> Option<Command<'a>>
     Some(Command::Solve { policy })
 }
 
-fn read_serve<'a>(
-    alloc: Global,
-    words: &'a [String],
-) -> Result<Option<Command<'a>>, AllocError>
+fn read_serve<'a>(alloc: Global, words: &'a [String]) -> Result<Option<Command<'a>>, AllocError>
     ensures command { IfOk result (λ c. option_map asked c ≡ option_and_then serve_of (found serve_form (map string_bytes words.now))) }
     ensures served { IfOk result (λ c. IfSome c CanServe) }
 {
@@ -135,10 +120,7 @@ fn serve_in<'a>(matches: &ArgMatches<'a>) -> Option<Command<'a>>
     Some(Command::Serve { policy, options })
 }
 
-fn read_audit<'a>(
-    alloc: Global,
-    words: &'a [String],
-) -> Result<Option<Command<'a>>, AllocError>
+fn read_audit<'a>(alloc: Global, words: &'a [String]) -> Result<Option<Command<'a>>, AllocError>
     ensures command { IfOk result (λ c. option_map asked c ≡ option_and_then audit_of (found audit_form (map string_bytes words.now))) }
     ensures served { IfOk result (λ c. IfSome c CanServe) }
 {
@@ -163,10 +145,7 @@ fn audit_in<'a>(matches: &ArgMatches<'a>) -> Option<Command<'a>>
     })
 }
 
-fn read_trial<'a>(
-    alloc: Global,
-    words: &'a [String],
-) -> Result<Option<Command<'a>>, AllocError>
+fn read_trial<'a>(alloc: Global, words: &'a [String]) -> Result<Option<Command<'a>>, AllocError>
     ensures command { IfOk result (λ c. option_map asked c
         ≡ option_and_then (λ rows. option_map trial (number_of (codes "SEED") rows)) (found trial_form (map string_bytes words.now))) }
     ensures served { IfOk result (λ c. IfSome c CanServe) }
