@@ -123,7 +123,7 @@ without_minus-cond (x ∷ xs) = go (x == 45)
     go true = refl
     go false = refl
 
-no_plus : (ds : Text) → IsNumeral 10 ds → without_leading_plus ds ≡ ds
+pub no_plus : (ds : Text) → IsNumeral 10 ds → without_leading_plus ds ≡ ds
 no_plus [] h = refl
 no_plus (d ∷ ds) h =
     let plus : (d == 43) ≡ false = ne_eqb _ _ (λ e. omega (arith, digit_from_value d h.1.0)) in

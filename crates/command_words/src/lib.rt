@@ -5,9 +5,11 @@ mod arguments;
 mod command;
 mod finding;
 mod forms;
+mod laws;
 mod reading;
 #[cfg(test)]
 mod tests;
 
 pub use command::{Command, Options};
+pub use laws::usage_is_read;
 pub use reading::read_words;
