@@ -10,7 +10,7 @@ use Rattle.wf_commands.specs.Load.{GivesPolicy, IsLoadEnding, PolicyOf}
 use Rattle.wf_server.specs.declared.serve.TheConstants.{PIECE}
 use Rattle.wf_server.specs.Sessions.{Served}
 use Rattle.wf_board.specs.Histories.{AreWantsRightful}
-use Rattle.wf_server.specs.Words.{Options}
+use Rattle.command_words.specs.Words.{Options}
 use Rattle.wf_server.specs.Serving.{setting, EndsBefore, ServesFile}
 
 ends_before : (file : List ℕ) (fault : RunFault) → PolicyOf file (Err fault) → IsLoadEnding fault → EndsBefore file fault

@@ -1,5 +1,3 @@
-pub mod Words
-pub mod Asked
 pub mod Deciding
 pub mod Transcripts
 pub mod Sessions

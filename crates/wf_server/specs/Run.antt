@@ -1,12 +1,15 @@
 -- A run of the program: what its words make it do.
 use Rattle.std.specs.Prelude.{◌≡◌, Option, None, Some}
-use Rattle.run_record.specs.declared.fault.RunFault.TheVariants.{Usage}
-use Rattle.run_record.specs.Run.{Run, IsOrderly}
+use Rattle.std.proofs.Common.{◌⊎◌}
+use Rattle.run_record.specs.declared.fault.RunFault.{RunFault}
+use Rattle.run_record.specs.declared.fault.RunFault.TheVariants.{NoMemory, Usage}
+use Rattle.run_record.specs.Run.{Run, IsOrderly, IsUntouched}
 use Rattle.wf_commands.specs.Plan.{Plans}
 use Rattle.wf_commands.specs.Show.{Shows}
 use Rattle.wf_commands.specs.Solve.{Solves}
 use Rattle.audit_command.specs.Running.{AuditsRun}
-use Rattle.wf_server.specs.Words.{Command, plan, show, solve, serve, audit}
+use Rattle.trial_command.specs.Running.{TrialRun}
+use Rattle.command_words.specs.Words.{Command, plan, show, solve, serve, audit, trial}
 use Rattle.wf_server.specs.Serving.{ServesRun}
 
 -- a run does what its command is; where the words are none it ends before anything
@@ -17,3 +20,18 @@ Does (Some (show policy)) r = Shows policy r
 Does (Some (solve policy)) r = Solves policy r
 Does (Some (serve policy options)) r = ServesRun policy options r
 Does (Some (audit policy requests options)) r = AuditsRun policy requests options.lanes options.rounds r
+Does (Some (trial seed)) r = IsOrderly r × TrialRun seed r
+
+-- there was no memory to read the words, and the run ended before anything
+abbrev pub LacksWords : Run → Type 0
+LacksWords r = IsOrderly r × (IsUntouched r × (r.fault ≡ NoMemory))
+
+-- a run does what its words ask, unless there was no memory to read them
+abbrev pub HasRun : Option Command → Run → Type 0
+HasRun command r = LacksWords r ⊎ Does command r
+
+-- how a run may end at its words
+abbrev pub IsWordsEnding : RunFault → Type 0
+IsWordsEnding Usage = Unit {0}
+IsWordsEnding NoMemory = Unit {0}
+IsWordsEnding fault = ⊥

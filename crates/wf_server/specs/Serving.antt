@@ -10,7 +10,7 @@ use Rattle.run_record.specs.Run.{Run, IsUntouched, IsOrderly, OverFile}
 use Rattle.wf_server.specs.declared.serve.TheConstants.{PIECE}
 use Rattle.wf_board.specs.Histories.{AreWantsRightful}
 use Rattle.wf_server.specs.Sessions.{Served, Setting}
-use Rattle.wf_server.specs.Words.{Options}
+use Rattle.command_words.specs.Words.{Options}
 
 -- how a run may end before its session: the file is too long, or has a fault, or loading or memory failed
 abbrev pub EndsBefore : List ℕ → RunFault → Type 0

@@ -28,7 +28,6 @@ mod tests;
 mod texts;
 #[cfg(test)]
 mod trim_tests;
-mod words;
 
 pub use run_record::{InputFault, Report, RunFault};
 pub use runs::{run, run_alone};

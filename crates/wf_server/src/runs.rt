@@ -1,22 +1,24 @@
 //! The top calls: one run of the program over a source, a sink and a shelf, with threads or alone.
-ghost use Rattle.std.specs.Prelude.{◌≡◌, ◌<◌, ◌↔◌, map, string_bytes, None, false};
+ghost use Rattle.std.specs.Prelude.{◌≡◌, ◌<◌, map, string_bytes, None, Some, IfErr, IfOk, false};
 ghost use Rattle.run_record.specs.Fault.{status_of};
 ghost use Rattle.run_record.specs.Report.{told_by};
 ghost use Rattle.wf_board.specs.Histories.{AreAnsweredOnce};
 ghost use Rattle.wf_desk.specs.Desks.{AreOfLanes, IsDone};
 ghost use Rattle.wf_desk.specs.Schedules.{HasGrown};
 ghost use Rattle.wf_lanes.specs.Turns.{HasServedOn};
-ghost use Rattle.wf_server.specs.Words.{command_of, may_repeat, reads_input};
-ghost use Rattle.wf_server.specs.Run.{Does};
+ghost use Rattle.command_words.specs.Asked.{asked, CanServe};
+ghost use Rattle.command_words.specs.Words.{command_of, may_repeat, reads_input};
+ghost use Rattle.wf_server.specs.Run.{Does, HasRun, IsWordsEnding};
 
-use crate::decider::PlainDecider;
 use crate::serve::run_serve;
-use crate::words::{Command, read_words};
 use audit_command::run_audit;
+use case_views::{PlainDecider, SpreadDecider};
+use command_words::{Command, read_words};
 use run_record::{Report, RunFault, bare_report};
 use std::alloc::Global;
 use std::sync::Wait;
 use std::thread::Threads;
+use trial_command::run_trial;
 use wf_commands::{Question, answer_once};
 use wf_desk::Desk;
 use wf_lanes::{Gate, serve_by_lanes, serve_by_turns};
@@ -35,9 +37,8 @@ pub fn run<R: Threads + Wait + Sync, F: Shelf, S: Source, K: Sink, G: Gate + Syn
     sink: &mut K,
 ) -> Report
     ensures status { result.status ≡ status_of result.fault }
-    ensures usage { (result.fault ≡ RunFault.Usage)
-        ↔ (command_of (map string_bytes words.now) ≡ None) }
-    ensures does { Does (command_of (map string_bytes words.now)) (record {
+    ensures usage { result.fault ≡ RunFault.Usage → command_of (map string_bytes words.now) ≡ None }
+    ensures does { HasRun (command_of (map string_bytes words.now)) (record {
       files = F.file shelf.old;
       load_faults = F.faults shelf.old;
       load_faults_after = F.faults shelf.new;
@@ -61,15 +62,16 @@ pub fn run<R: Threads + Wait + Sync, F: Shelf, S: Source, K: Sink, G: Gate + Syn
     ensures once { may_repeat (command_of (map string_bytes words.now)) ≡ false
         → AreAnsweredOnce (told_by result).entries }
 {
-    match read_words(words) {
-        Some(Command::Serve { policy, options }) if options.lanes > 1 => {
+    match read_command(alloc, words) {
+        Ok(Command::Serve { policy, options }) if options.lanes > 1 => {
             let on_lanes = |desk: Desk| -> Desk
                 requires { (0 < desk.lanes) × AreOfLanes desk.lanes desk.jobs }
                 ensures { HasGrown desk result × IsDone result }
-            { serve_by_lanes(rt, alloc, &PlainDecider, gate, desk) };
+            { serve_by_lanes(rt, alloc, &SpreadDecider::new(rt), gate, desk) };
             run_serve(alloc, &on_lanes, policy, options, shelf, source, sink)
         }
-        _ => run_alone(alloc, words, shelf, source, sink),
+        Ok(other) => run_command(alloc, other, shelf, source, sink),
+        Err(fault) => bare_report(alloc, fault),
     }
 }
 
@@ -83,9 +85,8 @@ pub fn run_alone<F: Shelf, S: Source, K: Sink>(
     sink: &mut K,
 ) -> Report
     ensures status { result.status ≡ status_of result.fault }
-    ensures usage { (result.fault ≡ RunFault.Usage)
-        ↔ (command_of (map string_bytes words.now) ≡ None) }
-    ensures does { Does (command_of (map string_bytes words.now)) (record {
+    ensures usage { result.fault ≡ RunFault.Usage → command_of (map string_bytes words.now) ≡ None }
+    ensures does { HasRun (command_of (map string_bytes words.now)) (record {
       files = F.file shelf.old;
       load_faults = F.faults shelf.old;
       load_faults_after = F.faults shelf.new;
@@ -108,30 +109,81 @@ pub fn run_alone<F: Shelf, S: Source, K: Sink>(
         → source.new ≡ source.old }
     ensures once { AreAnsweredOnce (told_by result).entries }
 {
-    match read_words(words) {
-        Some(Command::Plan { policy, flow }) => {
+    match read_command(alloc, words) {
+        Ok(command) => run_command(alloc, command, shelf, source, sink),
+        Err(fault) => bare_report(alloc, fault),
+    }
+}
+
+// The command that the words are; a usage fault where they are none.
+fn read_command<'a>(alloc: Global, words: &'a [String]) -> Result<Command<'a>, RunFault>
+    ensures command { IfOk result (λ c. command_of (map string_bytes words.now) ≡ Some (asked c)) }
+    ensures served { IfOk result CanServe }
+    ensures none { IfErr result (λ fault. fault ≡ RunFault.Usage
+        → command_of (map string_bytes words.now) ≡ None) }
+    ensures fault { IfErr result IsWordsEnding }
+{
+    match read_words(alloc, words)? {
+        Some(command) => Ok(command),
+        None => Err(RunFault::Usage),
+    }
+}
+
+// Runs a command alone.
+fn run_command<F: Shelf, S: Source, K: Sink>(
+    alloc: Global,
+    command: Command,
+    shelf: &mut F,
+    source: &mut S,
+    sink: &mut K,
+) -> Report
+    requires { CanServe command }
+    ensures status { result.status ≡ status_of result.fault }
+    ensures usage { result.fault ≡ RunFault.Usage → ⊥ }
+    ensures does { Does (Some (asked command)) (record {
+      files = F.file shelf.old;
+      load_faults = F.faults shelf.old;
+      load_faults_after = F.faults shelf.new;
+      before = record {
+        input = S.left source.old;
+        output = K.held sink.old;
+        read_faults = S.faults source.old;
+        write_faults = K.faults sink.old;
+      };
+      after = record {
+        input = S.left source.new;
+        output = K.held sink.new;
+        read_faults = S.faults source.new;
+        write_faults = K.faults sink.new;
+      };
+      told = told_by result;
+      fault = result.fault;
+    }) }
+    ensures untouched { reads_input (Some (asked command)) ≡ false → source.new ≡ source.old }
+    ensures once { AreAnsweredOnce (told_by result).entries }
+{
+    match command {
+        Command::Plan { policy, flow } => {
             answer_once(alloc, policy, &Question::Plan { flow }, shelf, source, sink)
         }
-        Some(Command::Show { policy }) => {
+        Command::Show { policy } => {
             answer_once(alloc, policy, &Question::Show, shelf, source, sink)
         }
-        Some(Command::Solve { policy }) => {
+        Command::Solve { policy } => {
             answer_once(alloc, policy, &Question::Solve, shelf, source, sink)
         }
-        Some(Command::Serve { policy, options }) => {
+        Command::Serve { policy, options } => {
             let by_turns = |desk: Desk| -> Desk
                 requires { (0 < desk.lanes) × AreOfLanes desk.lanes desk.jobs }
                 ensures { HasServedOn desk result × IsDone result }
             { turned(alloc, desk) };
             run_serve(alloc, &by_turns, policy, options, shelf, source, sink)
         }
-        Some(
-            Command::Audit {
-                policy,
-                requests,
-                options,
-            },
-        ) => {
+        Command::Audit {
+            policy,
+            requests,
+            options,
+        } => {
             run_audit(
                 alloc,
                 &PlainDecider,
@@ -144,7 +196,7 @@ pub fn run_alone<F: Shelf, S: Source, K: Sink>(
                 sink,
             )
         }
-        None => bare_report(alloc, RunFault::Usage),
+        Command::Trial { seed } => run_trial(alloc, &PlainDecider, seed, sink),
     }
 }
 

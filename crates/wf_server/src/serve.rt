@@ -4,13 +4,13 @@ ghost use Rattle.run_record.specs.Fault.{status_of, is_before_input};
 ghost use Rattle.run_record.specs.Report.{told_by};
 ghost use Rattle.wf_board.specs.Histories.{AreAnsweredOnce, AreWantsRightful};
 ghost use Rattle.wf_server.specs.Sessions.{Served};
-ghost use Rattle.wf_server.specs.Words.{AreOptions};
-ghost use Rattle.wf_server.specs.Asked.{options_in};
+ghost use Rattle.command_words.specs.Words.{AreOptions};
+ghost use Rattle.command_words.specs.Asked.{options_in};
 ghost use Rattle.wf_server.specs.Serving.{setting, ServesRun};
 ghost use Rattle.wf_server.specs.Ways.{IsWay, ServesOnce};
 
 use crate::session::run_session;
-use crate::words::Options;
+use command_words::Options;
 use policy_book::Policy;
 use run_record::{Report, RunFault, bare_report};
 use std::alloc::Global;

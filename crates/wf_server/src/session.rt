@@ -8,15 +8,15 @@ ghost use Rattle.batch_reader.specs.Reading.{IsReady, left_to_read};
 ghost use Rattle.run_record.specs.Fault.{status_of};
 ghost use Rattle.run_record.specs.Report.{told_by};
 ghost use Rattle.run_record.specs.Run.{Streams};
-ghost use Rattle.wf_server.specs.Words.{AreOptions};
-ghost use Rattle.wf_server.specs.Asked.{options_in};
+ghost use Rattle.command_words.specs.Words.{AreOptions};
+ghost use Rattle.command_words.specs.Asked.{options_in};
 ghost use Rattle.wf_server.specs.Serving.{setting};
 ghost use Rattle.wf_server.specs.Batches.{told_of, ending_of, IsServing, BatchEnds, Serves};
 ghost use Rattle.wf_server.specs.Ways.{IsWay, ServesOnce, setting_of};
 
 use crate::batch::{Answered, answer_batch};
-use crate::words::Options;
 use batch_reader::{Paused, Reader, Reading};
+use command_words::Options;
 use line_cutter::{Stop, jobs_are_in_order};
 use policy_book::Policy;
 use run_record::{Report, RunFault, bare_report};

@@ -4,7 +4,7 @@ use Rattle.wf_board.specs.Histories.{AreAnsweredOnce}
 use Rattle.wf_board.specs.States.{opening_state}
 use Rattle.wf_server.proofs.WayLaws.{once_legal}
 use Rattle.wf_server.proofs.ServeLaws.{is_served, loads_late}
-use Rattle.wf_server.specs.Asked.{options_in}
+use Rattle.command_words.specs.Asked.{options_in}
 use Rattle.wf_server.proofs.serve.run_serve.Goals as goal
 
 pub returns-in-Ok-clause-serves : goal.returns-in-Ok-clause-serves

@@ -1,5 +1,5 @@
 use Rattle.wf_server.proofs.SessionLaws.{serves_kept, serves_late}
-use Rattle.wf_server.specs.Asked.{options_in}
+use Rattle.command_words.specs.Asked.{options_in}
 use Rattle.wf_server.specs.Serving.{setting}
 use Rattle.wf_server.proofs.serve.serve_policy.Goals as goal
 

@@ -1,6 +1,6 @@
 use Rattle.run_record.specs.Report.{told_by}
 use Rattle.run_record.specs.Run.{Streams}
-use Rattle.wf_server.specs.Asked.{options_in}
+use Rattle.command_words.specs.Asked.{options_in}
 use Rattle.wf_server.specs.Serving.{setting}
 use Rattle.wf_server.proofs.SessionLaws.{bare_serves}
 use Rattle.wf_server.proofs.session.run_session.Goals as goal
