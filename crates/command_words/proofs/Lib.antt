@@ -3,3 +3,4 @@ pub mod Numbers
 pub mod Usage
 pub mod Plain
 pub mod Decimals
+pub mod Walking

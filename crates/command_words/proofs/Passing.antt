@@ -1,16 +1,16 @@
 -- What a parse that succeeds finds, by the definitions.
-use Rattle.std.proofs.Common.{◌≡◌, ◌⊎◌, ◌∙◌, ◌<◌, ◌&&◌, ℕ, Bool, true, false, not, refl, sym, ap, rules, subst, arith, inl, inr, length, List, [], ◌∷◌, map, Option, Some, None, true≢false}
-use Rattle.std.specs.List.{All, Any, list_all, slice_index_or}
+use Rattle.std.proofs.Common.{◌≡◌, ◌⊎◌, ◌∙◌, ◌<◌, ◌&&◌, Bool, true, false, not, refl, sym, ap, arith, inl, inr, length, List, [], ◌∷◌, map, Some, None, true≢false}
+use Rattle.std.specs.List.{All, Any}
 use Rattle.std.specs.Borrow.{Bor}
 use Rattle.std.specs.Prelude.{if◌then◌else◌}
 use Rattle.std.proofs.lemmas.Bool.{ne_eqb}
 use Rattle.std.proofs.lemmas.List.{get_or-map, length-map}
 use Rattle.std.proofs.lemmas.List.Elements.{All-map, All-weaker}
-use Rattle.clap.specs.Words.{App, IsParsed, Row, Rule, Shape, Text, app_of, args_of, built, fault_of, found_of, groups_of, has_subcommand, is_simple, is_simple_and_free, matches_of, rows_of, rule_of}
+use Rattle.clap.specs.Words.{App, IsParsed, Rule, Text, app_of, args_of, built, fault_of, found_of, groups_of, has_subcommand, is_simple, is_simple_and_free, matches_of, rows_of, rule_of}
 use Rattle.clap.specs.Words.{BuildsOrBreaks, HasKind, HasMatchesOf, IsAmong, Kinds, is_broken, kind_of}
-use Rattle.clap.specs.Facts.{Entry, EntryPasses, HasReading, PassesArg, ValuesPass}
+use Rattle.clap.specs.Facts.{Entry, EntryPasses, PassesArg, ValuesPass}
 use Rattle.clap.specs.Walk.{is_empty, row_of, rules_of, texts}
-use Rattle.clap.specs.Simple.{has_plain_fields, has_simple_rules, is_buildable, is_ready}
+use Rattle.clap.specs.Simple.{is_buildable}
 use Rattle.clap.specs.declared.builder.arg.Arg.{Arg}
 use Rattle.clap.specs.declared.builder.command.Command.{Command}
 use Rattle.clap.specs.declared.builder.command.Command.TheViews.{out-Command as fields_of}

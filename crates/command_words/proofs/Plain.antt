@@ -1,5 +1,5 @@
 -- A word that begins with no hyphen.
-use Rattle.std.proofs.Common.{◌≡◌, Bool, ap, refl, List, [], ◌∷◌, Option, Some, None}
+use Rattle.std.proofs.Common.{◌≡◌, Bool, ap, refl, [], ◌∷◌, Some, None}
 use Rattle.std.specs.Prelude.{if◌then◌else◌}
 use Rattle.std.proofs.lemmas.Bool.{ne_eqb}
 use Rattle.clap.specs.Lexer.{strip_byte}

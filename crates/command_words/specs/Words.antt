@@ -118,11 +118,11 @@ is_word word other = pointwise nat_eq word other
 abbrev pub command_at : Text → List Text → Option Command
 command_at word words =
     if is_word word (codes "plan") then option_and_then plan_of (found plan_form words) else
-    if is_word word (codes "show") then option_and_then (λ rows. option_map show (policy_in rows)) (found show_form words) else
-    if is_word word (codes "solve") then option_and_then (λ rows. option_map solve (policy_in rows)) (found solve_form words) else
+    if is_word word (codes "show") then option_map show (option_and_then policy_in (found show_form words)) else
+    if is_word word (codes "solve") then option_map solve (option_and_then policy_in (found solve_form words)) else
     if is_word word (codes "serve") then option_and_then serve_of (found serve_form words) else
     if is_word word (codes "audit") then option_and_then audit_of (found audit_form words) else
-    if is_word word (codes "trial") then option_and_then (λ rows. option_map trial (number_of (codes "SEED") rows)) (found trial_form words) else
+    if is_word word (codes "trial") then option_map trial (option_and_then (number_of (codes "SEED")) (found trial_form words)) else
     None
 
 -- the command that the words are, where they are one

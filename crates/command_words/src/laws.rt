@@ -1,10 +1,28 @@
 //! The forms of the usage are read.
 //!
 //! The function does nothing; its contract is the law.
-ghost use Rattle.command_words.specs.Words.{Command};
-ghost use Rattle.command_words.specs.Usage.{UsageIsRead};
+ghost use Rattle.std.specs.Prelude.{◌≡◌, ◌<◌, ◌^◌, ℕ, [], ◌∷◌, Option, Some, codes};
+ghost use Rattle.std.specs.Fmt.{decimal};
+ghost use Rattle.clap.specs.Words.{Text};
+ghost use Rattle.command_words.specs.Words.{AreOptions, audit, command_of, plan, serve, show, solve, trial};
+ghost use Rattle.command_words.specs.Usage.{IsPlain, option_words, options_with};
 
 /// The words of each command, in the form that a usage text shows, are read as that command.
 pub fn usage_is_read()
-    ensures { (command : Command) → UsageIsRead command }
+    ensures plan { (policy flow : Text) → IsPlain policy → IsPlain flow
+        → command_of (codes "plan" ∷ policy ∷ flow ∷ []) ≡ Some (plan policy flow) }
+    ensures show { (policy : Text) → IsPlain policy
+        → command_of (codes "show" ∷ policy ∷ []) ≡ Some (show policy) }
+    ensures solve { (policy : Text) → IsPlain policy
+        → command_of (codes "solve" ∷ policy ∷ []) ≡ Some (solve policy) }
+    ensures serve { (policy : Text) (lanes rounds : Option ℕ) → IsPlain policy
+        → AreOptions (options_with lanes rounds)
+        → command_of (codes "serve" ∷ policy ∷ option_words lanes rounds)
+        ≡ Some (serve policy (options_with lanes rounds)) }
+    ensures audit { (policy requests : Text) (lanes rounds : Option ℕ)
+        → IsPlain policy → IsPlain requests → AreOptions (options_with lanes rounds)
+        → command_of (codes "audit" ∷ policy ∷ requests ∷ option_words lanes rounds)
+        ≡ Some (audit policy requests (options_with lanes rounds)) }
+    ensures trial { (seed : ℕ) → seed < 2 ^ 64
+        → command_of (codes "trial" ∷ decimal seed ∷ []) ≡ Some (trial seed) }
 {}

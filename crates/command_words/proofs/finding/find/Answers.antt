@@ -1,4 +1,4 @@
-use Rattle.std.proofs.Common.{◌≡◌, rules, true, map}
+use Rattle.std.proofs.Common.{rules, map}
 use Rattle.std.specs.Prelude.{string_bytes}
 use Rattle.clap.specs.Words.{app_of}
 use Rattle.command_words.proofs.Passing.{is_found, none_found, passes}

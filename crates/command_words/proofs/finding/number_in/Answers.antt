@@ -1,4 +1,4 @@
-use Rattle.std.proofs.Common.{◌≡◌, ◌∙◌, rules, arith, ◌^◌, sym}
+use Rattle.std.proofs.Common.{◌∙◌, rules}
 use Rattle.std.specs.Str.Parse.{ParsesUnsigned, ExplainsUnsignedError, HasUnsignedDigitsIfOk}
 use Rattle.clap.specs.Words.{found_of, one_of}
 use Rattle.clap.proofs.WalkLemmas.{one_text-rows}

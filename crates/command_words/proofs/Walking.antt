@@ -1,0 +1,118 @@
+-- The walk of `clap` over words that are written out, but for those that begin with no hyphen.
+use Rattle.std.proofs.Common.{◌≡◌, ◌∙◌, ◌<◌, ◌≤◌, ◌^◌, ◌-◌, ℕ, Bool, true, false, refl, ap, ap₂, arith, List, [], ◌∷◌, Option, Some, None}
+use Rattle.std.specs.Prelude.{codes, pos, fold, if◌then◌else◌, is_some, option_and_then, option_map, slice_index}
+use Rattle.std.specs.Option.{option_map_or}
+use Rattle.std.specs.Str.{bytes_eq}
+use Rattle.std.proofs.lemmas.Slice.Eq.{bytes_eq-Decides}
+use Rattle.clap.specs.Lexer.{without_minus, long_of, long_of_rest, short_of, short_of_rest, strip_byte}
+use Rattle.clap.specs.Words.{App, Kinds, Row, Rule, Text, built, fault_of, matches_of}
+use Rattle.clap.specs.Faults.{bundle_fault, check_fault, defaults_fault, entered_fault, flag_word_fault, other_fault, settle_fault, step_fault, turn_fault, walk_fault, word_fault}
+use Rattle.clap.specs.Kinds.{or_else}
+use Rattle.clap.specs.Simple.{Shape, argument_words, entered, names_of}
+use Rattle.clap.specs.Walk.{Held, Names, Step, Waiting, trailing, Walk, after_step, finished, idle, is_empty, long_or_other, nothing_held, option, plain_word, positional, settled, short_or_plain, subcommand_met, subcommand_or_other, walk, walk_from, walked, word_met}
+use Rattle.clap.proofs.OnLiterals.{clap_on_literals}
+use Rattle.command_words.specs.Words.{found}
+use Rattle.command_words.specs.Usage.{IsPlain}
+use Rattle.command_words.proofs.Plain.{no_hyphen}
+
+-- ---- a word that begins with no hyphen
+
+no_long : (word : Text) → IsPlain word → long_of word ≡ None
+no_long word plain = ap (λ (o : Option Text). option_and_then long_of_rest (option_and_then (strip_byte 45) o)) (no_hyphen word plain)
+
+no_short : (word : Text) → IsPlain word → short_of word ≡ None
+no_short word plain = ap (option_and_then short_of_rest) (no_hyphen word plain)
+
+no_dashes : (word : Text) → IsPlain word → bytes_eq word (45 ∷ 45 ∷ []) ≡ false
+no_dashes word plain = elim_bool (bytes_eq word (45 ∷ 45 ∷ [])) refl
+  where
+    elim_bool : (b : Bool) → bytes_eq word (45 ∷ 45 ∷ []) ≡ b → b ≡ false
+    elim_bool false e = refl
+    elim_bool true e =
+        let same : word ≡ 45 ∷ 45 ∷ [] = (bytes_eq-Decides word (45 ∷ 45 ∷ [])).0 e in
+        absurd (plain (ap (λ (w : Text). slice_index w 0) same))
+
+none_met : (waiting : Waiting) (word : Text) → subcommand_met [] waiting word ≡ None
+none_met idle word = refl
+none_met (option id) word = refl
+none_met positional word = refl
+
+plain_met : (c : List Rule) (waiting : Waiting) (position : ℕ) (word : Text) (h : Held) → IsPlain word
+    → word_met c [] false waiting position word h ≡ plain_word c waiting word h
+plain_met c waiting position word h plain =
+    ap (λ (o : Option Text). subcommand_or_other c o waiting position word h) (none_met waiting word)
+    ∙ ap (λ (b : Bool). if b then (h, trailing position) else long_or_other c waiting word (long_of word) h) (no_dashes word plain)
+    ∙ ap (λ (o : Option (Text × Option Text)). long_or_other c waiting word o h) (no_long word plain)
+    ∙ ap (λ (o : Option Text). short_or_plain c waiting word o h) (no_short word plain)
+
+plain_fault : (s : Shape) (waiting : Waiting) (word : Text) (h : Held) → IsPlain word
+    → word_fault s [] false waiting word h ≡ []
+plain_fault s waiting word h plain =
+    ap (λ (o : Option Text). other_fault s o word h) (none_met waiting word)
+    ∙ ap (λ (b : Bool). if b then [] else flag_word_fault s.rules s.args_override_self (long_of word) word h) (no_dashes word plain)
+    ∙ ap (λ (o : Option (Text × Option Text)). flag_word_fault s.rules s.args_override_self o word h) (no_long word plain)
+    ∙ ap (λ (o : Option Text). option_map_or (λ flags. bundle_fault s.rules s.args_override_self flags h) o []) (no_short word plain)
+
+-- ---- the walk, word by word
+
+-- the walk goes over the words to its end, and none of them is at fault
+pub record Goes (s : Shape) (w : Walk) (words : List Text) (end : Walk) : Type 0 where
+  pub fault : walk_fault s [] w words ≡ []
+  pub walk : fold (walked s.rules []) w words ≡ end
+
+pub ends : (s : Shape) (w : Walk) → Goes s w [] w
+unfolding walk_fault
+ends s w = record { fault = refl; walk = refl }
+
+pub goes : (s : Shape) (w next end : Walk) (word : Text) (words : List Text)
+    → turn_fault s [] w word ≡ [] → walked s.rules [] w word ≡ next → Goes s next words end → Goes s w (word ∷ words) end
+unfolding walk_fault
+goes s w next end word words none step rest = record {
+  fault = ap₂ or_else none (ap (λ (v : Walk). walk_fault s [] v words) step ∙ rest.fault);
+  walk = ap (λ (v : Walk). fold (walked s.rules []) v words) step ∙ rest.walk;
+}
+
+-- where the walk stands, at no trailing word
+abbrev pub at : Held → Waiting → ℕ → Walk
+at h waiting position =
+    record { held = h; waiting = waiting; position = position; is_trailing = false; stopped = None }
+
+abbrev pub after_plain : List Rule → Held → Waiting → ℕ → Text → Walk
+after_plain c h waiting position word =
+    after_step c word (at h waiting position) (plain_word c waiting word h).0 (plain_word c waiting word h).1
+
+pub goes_plain : (s : Shape) (h : Held) (waiting : Waiting) (position : ℕ) (next end : Walk) (word : Text) (words : List Text) → IsPlain word
+    → step_fault s position (plain_word s.rules waiting word h).0 (plain_word s.rules waiting word h).1 ≡ []
+    → after_plain s.rules h waiting position word ≡ next → Goes s next words end → Goes s (at h waiting position) (word ∷ words) end
+unfolding walked
+goes_plain s h waiting position next end word words plain none step rest =
+    let met = plain_met s.rules waiting position word h plain in
+    goes s (at h waiting position) next end word words
+    (ap₂ or_else (plain_fault s waiting word h plain)
+    (ap (λ (m : Held × Step). step_fault s position m.0 m.1) met ∙ none))
+    (ap (λ (m : Held × Step). after_step s.rules word (at h waiting position) m.0 m.1) met ∙ step) rest
+
+-- ---- the end
+
+-- what is at fault once the walk has ended
+abbrev pub end_fault : App → Walk → Kinds
+end_fault b w = or_else (entered_fault b w.stopped)
+    (or_else (settle_fault b.top.rules b.top.args_override_self w.held)
+    (or_else (defaults_fault (settled b.top.rules w.held).rows b.top.rules)
+    (check_fault b.top (finished b.top.rules w.held) (is_some (entered b w.stopped)))))
+
+pub taken : (a : App) (words : List Text) (end : Walk) (rows : List Row) → names_of (built a) ≡ []
+    → Goes (built a).top (walk_from nothing_held) (argument_words a words) end
+    → end_fault (built a) end ≡ [] → finished (built a).top.rules end.held ≡ rows → found a words ≡ Some rows
+unfolding found
+taken a words end rows no_names over none rows_are =
+    let b = built a in
+    let ws = argument_words a words in
+    let fault : fault_of a words ≡ [] =
+    ap (λ (names : Names). or_else (walk_fault b.top names (walk_from nothing_held) ws)
+    (end_fault b (walk b.top.rules names nothing_held ws))) no_names
+    ∙ ap₂ (λ (k : Kinds) (w : Walk). or_else k (end_fault b w)) over.fault over.walk ∙ none in
+    let is : matches_of a words ≡ rows =
+    ap (λ (names : Names). finished b.top.rules (walk b.top.rules names nothing_held ws).held) no_names
+    ∙ ap (λ (w : Walk). finished b.top.rules w.held) over.walk ∙ rows_are in
+    ap₂ (λ (k : Kinds) (found_rows : List Row). if is_empty k then Some found_rows else None) fault is
