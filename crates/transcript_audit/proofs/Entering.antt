@@ -14,7 +14,7 @@ use Rattle.wf_talk.specs.declared.reply.Reply.TheVariants as reply
 use Rattle.wf_talk.specs.declared.request.Ask.{Ask}
 use Rattle.wf_board.specs.Boards.{BoardShape, numbered, state_on}
 use Rattle.wf_board.specs.Counting.{counted, counted_end, counts_for, lane_end}
-use Rattle.wf_board.specs.Decisions.{decision_of, needs_verdict}
+use Rattle.wf_board.specs.Decisions.{decision_of, is_view, needs_verdict}
 use Rattle.wf_board.specs.Histories.{IsRetry}
 use Rattle.wf_board.specs.HistoryLaws.{after_again, after_more, again_rests, edits_within, step_once, step_rests}
 use Rattle.wf_board.specs.States.{State, case_at, opening_state}
@@ -66,6 +66,7 @@ state_again a s j n place same = same ∙ sym (after_again (opening_state a.open
 pub record MayAgain (a : AuditShape) (what : Ask) (lane n place : ℕ) : Type 0 where
   pub rounds : n ≡ a.rounds
   pub positive : 1 ≤ n
+  pub deed : is_view what ≡ false
   pub undecided : needs_verdict (decision_of (state_now a).book what) ≡ true
   pub rests : rests_on a.entries (present_start a) lane what n place ≡ true
 
@@ -88,6 +89,7 @@ again_next a j n place next may =
             (
               refl,
               record {
+                deed = may.deed;
                 undecided = may.undecided;
                 positive = omega (arith, rounds, positive);
                 all = may.rounds;
@@ -123,6 +125,7 @@ may_next a j n place next = by_right next.right.1
         record {
           rounds = n_same ∙ all;
           positive = omega (arith, n_same, all, positive);
+          deed = may.deed;
           undecided = may.undecided;
           rests = and_from _ _ (grind (arith, common_steps, enough)) (eq_is (place + 1) (counted_end j.ask a.entries) (omega (arith, p_same, last)));
         }

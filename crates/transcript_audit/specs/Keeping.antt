@@ -100,10 +100,12 @@ abbrev pub rests_on : List Entry → ℕ → ℕ → Ask → ℕ → ℕ → Boo
 rests_on entries start lane what n place =
     nat_le n (counted what (drop (max (lane_end lane entries) start) entries)) && nat_eq (place + 1) (counted_end what entries)
 
--- an edit of the policy
-abbrev pub is_change : Ask → Bool
-is_change (ask.Request (request.Change by edit)) = true
-is_change what = false
+-- an edit of the policy, or a view over the open cases
+abbrev pub asks_of_all : Ask → Bool
+asks_of_all (ask.Request (request.Change by edit)) = true
+asks_of_all (ask.Request (request.Worklist user)) = true
+asks_of_all (ask.Request (request.WhatIf by edit)) = true
+asks_of_all what = false
 
 -- the rounds and the place of a reply that is `again`
 abbrev pub again_in : Reply → Option (ℕ × ℕ)

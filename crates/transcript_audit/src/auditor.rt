@@ -21,7 +21,7 @@ use policy_book::Policy;
 use std::alloc::{AllocError, Global};
 use std::marker::Model;
 use std::sync::Arc;
-use wf_board::{Board, Decider, Verdict};
+use wf_board::{Board, Decider, Verdict, is_view};
 use wf_talk::{Ask, Ends, Job, Jobs, Reply};
 
 /// An audit of a transcript, line by line.
@@ -248,6 +248,9 @@ impl Auditor {
             return false;
         }
         if rounds == 0 {
+            return false;
+        }
+        if is_view(&job.ask) {
             return false;
         }
         if !self.board.needs(&job.ask) {

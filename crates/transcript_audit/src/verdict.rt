@@ -4,14 +4,14 @@ ghost use Rattle.wf_board.specs.Admitting.{HasVerdict};
 ghost use Rattle.wf_board.specs.Boards.{state_on};
 ghost use Rattle.wf_board.specs.Decisions.{decision_of, needs_verdict};
 ghost use Rattle.wf_board.specs.Verdicts.{IsRight};
-ghost use Rattle.transcript_audit.specs.Keeping.{is_change};
+ghost use Rattle.transcript_audit.specs.Keeping.{asks_of_all};
 
 use std::alloc::Global;
 use wf_board::{Board, Decider, Verdict};
 use wf_talk::{Ask, Reply, Request};
 
-/// A decider's verdict for an edit against which there is no cause. Nothing else needs one: a plan
-/// or a tree in a reply is checked by itself.
+/// A decider's verdict for an edit or a view over the open cases, against which there is no cause.
+/// Nothing else needs one: a plan or a tree in a reply is checked by itself.
 pub(crate) fn verdict_for<V: Decider>(
     board: &Board,
     alloc: Global,
@@ -25,7 +25,7 @@ pub(crate) fn verdict_for<V: Decider>(
         → HasVerdict (state_on board.now) ask.now reply.now result }
 {
     let _ = reply;
-    if is_change(ask) && board.needs(ask) {
+    if asks_of_all(ask) && board.needs(ask) {
         found(board, alloc, decider, ask)
     } else {
         Verdict::Nothing
@@ -45,9 +45,12 @@ fn found<V: Decider>(board: &Board, alloc: Global, decider: &V, ask: &Ask) -> Ve
     }
 }
 
-/// Whether this is an edit of the policy.
-fn is_change(ask: &Ask) -> bool
-    ensures { result ≡ is_change ask.now }
+/// Whether this is an edit of the policy or a view over the open cases.
+fn asks_of_all(ask: &Ask) -> bool
+    ensures { result ≡ asks_of_all ask.now }
 {
-    matches!(ask, Ask::Request(Request::Change { .. }))
+    matches!(
+        ask,
+        Ask::Request(Request::Change { .. } | Request::Worklist { .. } | Request::WhatIf { .. })
+    )
 }

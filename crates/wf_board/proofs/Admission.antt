@@ -35,21 +35,24 @@ use Rattle.wf_board.specs.declared.deed.Deed.TheVariants as deed
 use Rattle.wf_board.specs.declared.verdict.Verdict.{Verdict}
 use Rattle.wf_board.specs.declared.verdict.Verdict.TheVariants as verdict
 use Rattle.wf_board.specs.Admission.{has_no_tree, when, HasAdmitted, IsNoAnswer, IsVerdictFor}
-use Rattle.wf_board.specs.Admitting.{HasVerdict, is_edit_left}
+use Rattle.wf_board.specs.Admitting.{HasVerdict, rests_on_all}
 use Rattle.wf_board.specs.Boards.{EditionShape, book_of, state_on}
 use Rattle.wf_board.specs.Decisions.{cause_aside, cause_full, decision_aside, decision_of, is_held_by, unless_denied}
 use Rattle.wf_board.specs.Edited.{ArePlansOf, CanAllBeCompleted, IsFirstStranded, IsTreeOf}
 use Rattle.wf_board.specs.Found.{IsAllowed}
-use Rattle.wf_board.specs.Resolved.{changed, edit_denial, on_step, open_case_at, resolve}
+use Rattle.wf_board.specs.Resolved.{edit_denial, on_edit, on_step, open_case_at, resolve}
 use Rattle.wf_board.specs.States.{Book, State, case_at, flow_named, is_full, open_cases, step_named, user_named}
 use Rattle.wf_board.specs.Kept.{IsSoundState}
+use Rattle.wf_board.specs.Views.{AreStranded, IsWorkOf, steps_of}
+use Rattle.wf_talk.specs.declared.reply.WorkItem.{WorkItem}
 use Rattle.wf_board.specs.Steps.{Answers, IsReplyTo, IsStep, state_after_decision}
 use Rattle.wf_board.specs.Taking.{board_of, full_or, keeps_policy, HasTaken, IsKept}
-use Rattle.wf_board.specs.Verdicts.{IsEditionFor, IsMadeOf, IsPlanFor, IsRight, IsStrandingFor, IsTreeFor}
+use Rattle.wf_board.specs.Verdicts.{IsEditionFor, IsMadeOf, IsPlanFor, IsRight, IsStrandingFor, IsTreeFor, IsViewFor}
 use Rattle.wf_board.proofs.Amended.{IsChange, IsFoundCase, change_decided, edition_change, plans_complete, same_case, stranded_case}
 use Rattle.wf_board.proofs.Answering.{same_taken}
 use Rattle.wf_board.proofs.Exact.{stranded_not}
 use Rattle.wf_board.proofs.Fixed.{one_stranded}
+use Rattle.wf_board.proofs.Listed.{one_list}
 use Rattle.wf_board.proofs.Told.{HoldsOf, IsTold, aside_told}
 
 -- ---- causes have no tree
@@ -96,9 +99,9 @@ bare_edit fault.Full = refl
 bare_edit fault.LastAdmin = refl
 bare_edit fault.NoMemory = refl
 
-bare_change : (r : Result Amendment EditFault) → FaultOf IsBare (changed r)
-bare_change (Ok a) = tt
-bare_change (Err f) = bare_edit f
+bare_change : (make : Amendment → Deed) (r : Result Amendment EditFault) → FaultOf IsBare (on_edit make r)
+bare_change make (Ok a) = tt
+bare_change make (Err f) = bare_edit f
 
 bare_resolve : (b : Book) (what : Ask) → FaultOf IsBare (resolve b what)
 bare_resolve b (ask.Request (request.OpenCase flow)) =
@@ -113,9 +116,12 @@ bare_resolve b (ask.Request (request.Release by n step)) =
 bare_resolve b (ask.Request (request.Withdraw by n)) =
     then_fault IsBare (check (is_admin b.policy by) denial.NotAdmin) _ (check_fault IsBare (is_admin b.policy by) denial.NotAdmin refl)
     (λ _. then_fault IsBare (open_case_at b n) _ (bare_open b n) (λ c. tt))
-bare_resolve b (ask.Request (request.Change by edit)) = bare_change (amendment_of b.policy by edit)
+bare_resolve b (ask.Request (request.Change by edit)) = bare_change deed.Change (amendment_of b.policy by edit)
 bare_resolve b (ask.Request (request.Show n)) =
     then_fault IsBare (or_fault (case_at b.cases n) denial.NoCase) _ (there_fault IsBare (case_at b.cases n) denial.NoCase refl) (λ c. tt)
+bare_resolve b (ask.Request (request.Worklist user)) =
+    then_fault IsBare (or_fault (user_named b user) denial.NoUser) _ (there_fault IsBare (user_named b user) denial.NoUser refl) (λ u. tt)
+bare_resolve b (ask.Request (request.WhatIf by edit)) = bare_change deed.WhatIf (amendment_of b.policy by edit)
 bare_resolve b (ask.Bad bad) = tt
 
 -- a cause, if there is one, shows no tree
@@ -159,6 +165,8 @@ bare_aside b (deed.Release n c s) = bare_unless (is_held (state_at c s)) (denial
 bare_aside b (deed.Withdraw n) = tt
 bare_aside b (deed.Change a) = tt
 bare_aside b (deed.Show c) = tt
+bare_aside b (deed.Work u) = tt
+bare_aside b (deed.WhatIf a) = tt
 bare_aside b (deed.TurnAway bad) = tt
 
 bare_full : (b : Book) (d : Deed) → IsBareCause (cause_full b d)
@@ -170,6 +178,8 @@ bare_full b (deed.Release n c s) = tt
 bare_full b (deed.Withdraw n) = tt
 bare_full b (deed.Change a) = tt
 bare_full b (deed.Show c) = tt
+bare_full b (deed.Work u) = tt
+bare_full b (deed.WhatIf a) = tt
 bare_full b (deed.TurnAway bad) = tt
 
 bare_denied : (d : Deed) (o : Option Denial) → IsBareCause o → FaultOf IsBare (unless_denied d o)
@@ -196,6 +206,8 @@ want_stays s (Ok (deed.Release n c t)) = refl
 want_stays s (Ok (deed.Withdraw n)) = refl
 want_stays s (Ok (deed.Change a)) = refl
 want_stays s (Ok (deed.Show c)) = refl
+want_stays s (Ok (deed.Work u)) = refl
+want_stays s (Ok (deed.WhatIf a)) = refl
 want_stays s (Ok (deed.TurnAway bad)) = refl
 want_stays s (Err d) = refl
 
@@ -231,7 +243,8 @@ cause_admitted p t r d given b result kept memory decided test is =
 
 -- ---- verdicts
 
--- a right verdict on an edit that is left, by which the policy stays, is the case that the edit strands
+-- a right verdict on an edit that is left, by which the policy stays, is the case that the edit strands, and one on a view
+-- that is left is its lists
 pub verdict_for : (b : Book) (s : State) (what : Ask) (given : Reply) (v : Verdict) (d : Deed) → s.book ≡ b → IsRight b what v → keeps_policy v ≡ true → HasVerdict s what given v → given ≢ reply.NoMemory →
     decision_of b what ≡ Ok d → decision_aside b what ≡ Ok d → IsVerdictFor b d v
 verdict_for b s what given v (deed.Open f) same right keeps has memory decided aside = tt
@@ -243,7 +256,7 @@ verdict_for b s what given v (deed.Withdraw n) same right keeps has memory decid
 verdict_for b s what given v (deed.Show c) same right keeps has memory decided aside = tt
 verdict_for b s what given v (deed.TurnAway bad) same right keeps has memory decided aside = tt
 verdict_for b s what given v (deed.Change a) same right keeps has memory decided aside =
-    of_change v right keeps (has (ap (λ (x : Book). is_edit_left (decision_of x what)) same ∙ ap is_edit_left decided) memory)
+    of_change v right keeps (has (ap (λ (x : Book). rests_on_all (decision_of x what)) same ∙ ap rests_on_all decided) memory)
   where
     of_change : (x : Verdict) → IsRight b what x → keeps_policy x ≡ true → (x ≢ verdict.Nothing) × (x ≢ verdict.NoMemory) → IsVerdictFor b (deed.Change a) x
     of_change verdict.Nothing is stays some = absurd (some.0 refl)
@@ -252,6 +265,29 @@ verdict_for b s what given v (deed.Change a) same right keeps has memory decided
     of_change (verdict.Refuted tree) is stays some = absurd (subst (λ r. IsTreeFor b r tree) aside is)
     of_change (verdict.Edited edition) is stays some = cc
     of_change (verdict.Strands n tree) is stays some = subst (λ r. IsStrandingFor b r n tree) aside is
+    of_change (verdict.View x) is stays some = absurd (subst (λ r. IsViewFor b r x) aside is)
+verdict_for b s what given v (deed.Work u) same right keeps has memory decided aside =
+    of_work v right keeps (has (ap (λ (x : Book). rests_on_all (decision_of x what)) same ∙ ap rests_on_all decided) memory)
+  where
+    of_work : (x : Verdict) → IsRight b what x → keeps_policy x ≡ true → (x ≢ verdict.Nothing) × (x ≢ verdict.NoMemory) → IsVerdictFor b (deed.Work u) x
+    of_work verdict.Nothing is stays some = absurd (some.0 refl)
+    of_work verdict.NoMemory is stays some = absurd (some.1 refl)
+    of_work (verdict.Plan plan) is stays some = absurd (subst (λ r. IsPlanFor b r plan) aside is)
+    of_work (verdict.Refuted tree) is stays some = absurd (subst (λ r. IsTreeFor b r tree) aside is)
+    of_work (verdict.Edited edition) is stays some = cc
+    of_work (verdict.Strands n tree) is stays some = absurd (subst (λ r. IsStrandingFor b r n tree) aside is)
+    of_work (verdict.View x) is stays some = subst (λ r. IsViewFor b r x) aside is
+verdict_for b s what given v (deed.WhatIf a) same right keeps has memory decided aside =
+    of_what_if v right keeps (has (ap (λ (x : Book). rests_on_all (decision_of x what)) same ∙ ap rests_on_all decided) memory)
+  where
+    of_what_if : (x : Verdict) → IsRight b what x → keeps_policy x ≡ true → (x ≢ verdict.Nothing) × (x ≢ verdict.NoMemory) → IsVerdictFor b (deed.WhatIf a) x
+    of_what_if verdict.Nothing is stays some = absurd (some.0 refl)
+    of_what_if verdict.NoMemory is stays some = absurd (some.1 refl)
+    of_what_if (verdict.Plan plan) is stays some = absurd (subst (λ r. IsPlanFor b r plan) aside is)
+    of_what_if (verdict.Refuted tree) is stays some = absurd (subst (λ r. IsTreeFor b r tree) aside is)
+    of_what_if (verdict.Edited edition) is stays some = cc
+    of_what_if (verdict.Strands n tree) is stays some = absurd (subst (λ r. IsStrandingFor b r n tree) aside is)
+    of_what_if (verdict.View x) is stays some = subst (λ r. IsViewFor b r x) aside is
 
 -- ---- which replies a deed has
 
@@ -292,6 +328,43 @@ pub showing_only : (s : State) (c : CaseShape) (given : Reply) → given ≢ rep
 showing_only s c reply.NoMemory memory shown is = memory refl
 showing_only s c (reply.Shown face) memory shown is = shown face refl
 showing_only s c given memory shown is = is
+
+work_only : (s : State) (u : ℕ) (items : List WorkItem) (given : Reply) → given ≢ reply.NoMemory → IsWorkOf s.book u items → given ≢ reply.Work items → ¬ IsReplyTo s (deed.Work u) given
+work_only s u items reply.NoMemory memory work other is = memory refl
+work_only s u items (reply.Work told) memory work other is =
+    other (ap reply.Work (one_list _ _ _ (steps_of (open_cases s.book.cases)) told items (λ x is not. not is) is work))
+work_only s u items given memory work other is = is
+
+-- a list of a user's work is taken where it is the one that is right
+pub work_admitted : (p : PolicyShape) (t : CasesShape) (u : ℕ) (items : List WorkItem) (given : Reply) (b : Bool) (result : Result (Unit {0}) AdmitFault) → IsKept p t → given ≢ reply.NoMemory →
+    IsWorkOf (book_of p t) u items → b ≡ true ↔ given ≡ reply.Work items → result ≡ when b → HasAdmitted p t t (Ok (deed.Work u)) given result
+work_admitted p t u items given b result kept memory work test is =
+    test_admitted p t (Ok (deed.Work u)) given b result kept is
+    (λ passed edits. subst (IsReplyTo (state_on (board_of p t edits)) (deed.Work u)) (sym (test.0 passed)) work)
+    (λ failed edits. work_only (state_on (board_of p t edits)) u items given memory work (not_told failed))
+    (λ s. refl)
+  where
+    not_told : b ≡ false → given ≢ reply.Work items
+    not_told failed told = let apart : true ≡ false = sym (test.1 told) ∙ failed in cc
+
+what_if_only : (s : State) (a : Amendment) (numbers : List ℕ) (given : Reply) → given ≢ reply.NoMemory → AreStranded (amended s.book.policy a) (open_cases s.book.cases) numbers →
+    given ≢ reply.WhatIf numbers → ¬ IsReplyTo s (deed.WhatIf a) given
+what_if_only s a numbers reply.NoMemory memory stranded other is = memory refl
+what_if_only s a numbers (reply.WhatIf told) memory stranded other is =
+    other (ap reply.WhatIf (one_list _ _ _ (open_cases s.book.cases) told numbers (λ e not is. not is) is stranded))
+what_if_only s a numbers given memory stranded other is = is
+
+-- a list of stranded cases is taken where it is the one that is right
+pub what_if_admitted : (p : PolicyShape) (t : CasesShape) (a : Amendment) (numbers : List ℕ) (given : Reply) (b : Bool) (result : Result (Unit {0}) AdmitFault) → IsKept p t → given ≢ reply.NoMemory →
+    AreStranded (amended p a) (open_cases (book_of p t).cases) numbers → b ≡ true ↔ given ≡ reply.WhatIf numbers → result ≡ when b → HasAdmitted p t t (Ok (deed.WhatIf a)) given result
+what_if_admitted p t a numbers given b result kept memory stranded test is =
+    test_admitted p t (Ok (deed.WhatIf a)) given b result kept is
+    (λ passed edits. subst (IsReplyTo (state_on (board_of p t edits)) (deed.WhatIf a)) (sym (test.0 passed)) stranded)
+    (λ failed edits. what_if_only (state_on (board_of p t edits)) a numbers given memory stranded (not_told failed))
+    (λ s. refl)
+  where
+    not_told : b ≡ false → given ≢ reply.WhatIf numbers
+    not_told failed told = let apart : true ≡ false = sym (test.1 told) ∙ failed in cc
 
 pub bad_only : (s : State) (bad : Bad) (given : Reply) → given ≢ reply.NoMemory → ((b : Bad) → given ≢ reply.Bad b) → ¬ IsReplyTo s (deed.TurnAway bad) given
 bad_only s bad reply.NoMemory memory why is = memory refl

@@ -229,7 +229,7 @@ denied_alone p t decision d is kept =
 
 pub short_alone : (p : PolicyShape) (t : CasesShape) (decision : Result Deed Denial) → takes_memory decision ≡ true → IsKept p t → HasAnsweredAlone p t t decision (Done reply.NoMemory)
 short_alone p t (Ok d) takes kept = cc
-short_alone p t (Err d) takes kept = (same_taken p t (Err d) reply.NoMemory kept (λ edits. inr refl) (λ s. refl), (refl, λ short. takes))
+short_alone p t (Err d) takes kept = (same_taken p t (Err d) reply.NoMemory kept (λ edits. inr refl) (λ s. refl), (refl, λ short. (takes, refl)))
 
 -- ---- answers
 
@@ -239,13 +239,15 @@ reply_of a b h = cc
 -- a step that was taken by a verdict
 pub verdict_answers : (p : PolicyShape) (before after : CasesShape) (what : Ask) (v : Verdict) (given : Reply) → ¬ (v ≡ verdict.Nothing) → HasTaken p before after (decision_of (book_of p before) what) given →
     (needs_verdict (decision_of (book_of p before) what) ≡ true → IsMadeOf v given) →
-    (given ≡ reply.NoMemory → (is_opening (decision_of (book_of p before) what) ≡ true) × (before.spare ≡ 0)) → HasAnsweredBy p before after what v (Done given)
-verdict_answers p before after what v given some taken made memory = record {
+    (given ≡ reply.NoMemory → (is_opening (decision_of (book_of p before) what) ≡ true) × (before.spare ≡ 0)) → (given ≡ reply.NoMemory → after ≡ before) →
+    HasAnsweredBy p before after what v (Done given)
+verdict_answers p before after what v given some taken made memory lacking = record {
   kept = taken.kept;
   answered = λ edits. (taken.step edits, taken.next edits);
   needs = λ needed none. absurd (some none);
   made = made;
   memory = λ edits short. inr (inr (memory (reply_of given reply.NoMemory short)));
+  lacking = λ short. lacking (reply_of given reply.NoMemory short);
   room = taken.room;
 }
 
@@ -257,6 +259,7 @@ nothing_answers p before after what Needs kept alone = record {
   needs = λ needed none. refl;
   made = λ needed. refl;
   memory = λ edits short. cc;
+  lacking = λ short. cc;
   room = subst (λ (t : CasesShape). before.spare ≤ t.spare + 1) (sym alone.1) (omega arith);
 }
 nothing_answers p before after what (Done given) kept alone = record {
@@ -264,7 +267,8 @@ nothing_answers p before after what (Done given) kept alone = record {
   answered = λ edits. (alone.0.step edits, alone.0.next edits);
   needs = λ needed none. apart needed;
   made = λ needed. apart needed;
-  memory = λ edits short. inr (inl (alone.1.1 (reply_of given reply.NoMemory short)));
+  memory = λ edits short. inr (inl (alone.1.1 (reply_of given reply.NoMemory short)).0);
+  lacking = λ short. (alone.1.1 (reply_of given reply.NoMemory short)).1;
   room = alone.0.room;
 }
   where
@@ -278,7 +282,8 @@ short_answers p before after what given alone = record {
   answered = λ edits. (alone.0.step edits, alone.0.next edits);
   needs = λ needed none. cc;
   made = λ needed. apart needed;
-  memory = λ edits short. inr (inl (alone.1.1 (reply_of given reply.NoMemory short)));
+  memory = λ edits short. inr (inl (alone.1.1 (reply_of given reply.NoMemory short)).0);
+  lacking = λ short. (alone.1.1 (reply_of given reply.NoMemory short)).1;
   room = alone.0.room;
 }
   where
@@ -301,6 +306,8 @@ short_step p t (Ok d) needed kept = same_taken p t (Ok d) reply.NoMemory kept (�
     no_memory_stays s (deed.Withdraw n) = refl
     no_memory_stays s (deed.Change a) = refl
     no_memory_stays s (deed.Show c) = refl
+    no_memory_stays s (deed.Work u) = refl
+    no_memory_stays s (deed.WhatIf a) = refl
     no_memory_stays s (deed.TurnAway bad) = refl
 short_step p t (Err d) needed kept = cc
 
@@ -314,6 +321,7 @@ memory_answers p before after what kept alone =
       needs = λ needed none. cc;
       made = λ needed. tt;
       memory = λ edits short. inl (refl, alone.0);
+      lacking = λ short. refl;
       room = omega arith;
     }
 

@@ -31,6 +31,7 @@ certified_right b what verdict.Nothing is = tt
 certified_right b what verdict.NoMemory is = tt
 certified_right b what (verdict.Edited edition) is = absurd is
 certified_right b what (verdict.Strands n tree) is = absurd is
+certified_right b what (verdict.View v) is = absurd is
 certified_right b what (verdict.Plan plan) is = aside (decision_aside b what) is
   where
     undone : (given : Deed) (o : Option Denial) → IsPlanFor b (unless_denied given o) plan → IsPlanFor b (Ok given) plan
@@ -66,6 +67,7 @@ open_certificate b f verdict.NoMemory result is = is
 open_certificate b f (verdict.Plan plan) result is = is
 open_certificate b f (verdict.Edited edition) result is = is
 open_certificate b f (verdict.Strands m tree) result is = is
+open_certificate b f (verdict.View v) result is = is
 open_certificate b f (verdict.Refuted tree) result is = is
 
 pub claim_certificate : (b : Book) (n : ℕ) (c : CaseShape) (t u : ℕ) (v : Verdict) (result : Bool) →
@@ -75,6 +77,7 @@ claim_certificate b n c t u verdict.NoMemory result is = is
 claim_certificate b n c t u (verdict.Plan plan) result is = is
 claim_certificate b n c t u (verdict.Edited edition) result is = is
 claim_certificate b n c t u (verdict.Strands m tree) result is = is
+claim_certificate b n c t u (verdict.View v) result is = is
 claim_certificate b n c t u (verdict.Refuted tree) result is = is
 
 -- a claim is left to decide where there is no cause against it

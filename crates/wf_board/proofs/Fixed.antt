@@ -23,10 +23,12 @@ use Rattle.wf_board.specs.declared.deed.Deed.{Deed}
 use Rattle.wf_board.specs.declared.deed.Deed.TheVariants as deed
 use Rattle.wf_board.specs.States.{Numbered, State, open_cases}
 use Rattle.wf_board.specs.Decisions.{decision_of}
+use Rattle.wf_board.specs.Views.{steps_of}
 use Rattle.wf_board.specs.Edited.{CanBeCompleted, IsFirstStranded, IsTreeOf}
 use Rattle.wf_board.specs.Steps.{Answers, IsReplyTo, face_of, state_after_decision}
 use Rattle.wf_board.specs.Kept.{IsSoundState}
 use Rattle.wf_board.specs.Laws.{OutcomeIsFixed, bare}
+use Rattle.wf_board.proofs.Listed.{one_list}
 use Rattle.wf_board.proofs.Exact.{finished_assigned, refuted_claim, stranded_not, well_formed_any}
 use Rattle.wf_board.proofs.Told.{HoldsOf, IsTold, told}
 use Rattle.wf_board.proofs.Valid.{none_member}
@@ -173,6 +175,26 @@ bad_this s bad reply.NoMemory is memory = absurd (memory refl)
 bad_this s bad (reply.Bad b) is memory = ap reply.Bad is
 bad_this s bad given is memory = absurd is
 
+-- ---- views
+
+work_fixed : (s : State) (u : ℕ) (one other : Reply) → IsReplyTo s (deed.Work u) one → IsReplyTo s (deed.Work u) other → ¬ (one ≡ reply.NoMemory) → ¬ (other ≡ reply.NoMemory) →
+    HasSame s (Ok (deed.Work u)) one other
+work_fixed s u reply.NoMemory other a b m memory = absurd (m refl)
+work_fixed s u (reply.Work items) reply.NoMemory a b m memory = absurd (memory refl)
+work_fixed s u (reply.Work items) (reply.Work given) a b m memory =
+    (ap reply.Work (one_list _ _ _ (steps_of (open_cases s.book.cases)) items given (λ x is not. not is) a b), refl)
+work_fixed s u (reply.Work items) other a b m memory = absurd b
+work_fixed s u one other a b m memory = absurd a
+
+what_if_fixed : (s : State) (a : Amendment) (one other : Reply) → IsReplyTo s (deed.WhatIf a) one → IsReplyTo s (deed.WhatIf a) other → ¬ (one ≡ reply.NoMemory) → ¬ (other ≡ reply.NoMemory) →
+    HasSame s (Ok (deed.WhatIf a)) one other
+what_if_fixed s a reply.NoMemory other x y m memory = absurd (m refl)
+what_if_fixed s a (reply.WhatIf numbers) reply.NoMemory x y m memory = absurd (memory refl)
+what_if_fixed s a (reply.WhatIf numbers) (reply.WhatIf given) x y m memory =
+    (ap reply.WhatIf (one_list _ _ _ (open_cases s.book.cases) numbers given (λ e not is. not is) x y), refl)
+what_if_fixed s a (reply.WhatIf numbers) other x y m memory = absurd y
+what_if_fixed s a one other x y m memory = absurd x
+
 -- ---- outcomes
 
 fixed_deed : (s : State) (d : Deed) (one other : Reply) → IsSoundState s → IsTold s.book d → IsReplyTo s d one → IsReplyTo s d other → ¬ (one ≡ reply.NoMemory) → ¬ (other ≡ reply.NoMemory) → HasSame s (Ok d) one other
@@ -187,6 +209,8 @@ fixed_deed s (deed.Change a) one other sound known x y m memory =
     let its = known.0 sound.policy in
     fixed_change s a one other (changes_keep_policies_sound s.book.policy a sound.policy its.found its.allowed) x y m memory
 fixed_deed s (deed.Show c) one other sound known a b m memory = same_this s (deed.Show c) (reply.Shown (face_of c)) one other (showing_this s c) a b m memory
+fixed_deed s (deed.Work u) one other sound known a b m memory = work_fixed s u one other a b m memory
+fixed_deed s (deed.WhatIf a) one other sound known x y m memory = what_if_fixed s a one other x y m memory
 fixed_deed s (deed.TurnAway bad) one other sound known a b m memory = same_this s (deed.TurnAway bad) (reply.Bad bad) one other (bad_this s bad) a b m memory
 
 fixed_decision : (s : State) (r : Result Deed Denial) (one other : Reply) → IsSoundState s → HoldsOf (IsTold s.book) r → Answers s r one → Answers s r other → ¬ (one ≡ reply.NoMemory) → ¬ (other ≡ reply.NoMemory) →

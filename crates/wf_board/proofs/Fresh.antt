@@ -21,10 +21,10 @@ use Rattle.wf_board.specs.States.{Book, Numbered, State, case_at, flow_named, st
 use Rattle.admin_edits.specs.Edits.{amendment_of, is_admin}
 use Rattle.admin_edits.specs.declared.amendment.Amendment.{Amendment}
 use Rattle.admin_edits.specs.declared.fault.EditFault.{EditFault}
-use Rattle.wf_board.specs.Resolved.{changed, on_step, open_case_at, resolve}
+use Rattle.wf_board.specs.Resolved.{on_edit, on_step, open_case_at, resolve}
 use Rattle.wf_board.specs.Decisions.{cause_aside, cause_full, decision_aside, decision_of}
 use Rattle.wf_board.specs.Steps.{Answers, IsReplyTo, IsStep, state_after_decision, state_after_deed, state_after_step}
-use Rattle.wf_board.specs.Counting.{IsFresh, case_of_ask, changed_case, counted, counts_for, is_edited, is_number}
+use Rattle.wf_board.specs.Counting.{IsFresh, case_of_ask, changed_case, changes_any, counted, counts_for, is_edited, is_number}
 use Rattle.wf_board.specs.Histories.{EachAfter, IsLegal, IsRetry, IsRightAfter, state_after}
 use Rattle.wf_board.specs.HistoryLaws.{after_all, after_more, again_stays, each_from, policy_stays}
 use Rattle.wf_board.specs.Verdicts.{IsRight}
@@ -34,23 +34,29 @@ use Rattle.wf_board.proofs.Snaps.{claim_no_change, finish_plain, opening_no_chan
 -- ---- what is the same
 
 -- two states have what a verdict on what is asked rests on alike: the policy for an opening, for a claim its case too, and
--- for an edit the whole book
+-- for an edit or a view over the open cases the whole book
 abbrev pub SameFor : Ask → State → State → Type 0
 SameFor (ask.Request (request.OpenCase flow)) s t = s.book.policy ≡ t.book.policy
 SameFor (ask.Request (request.Claim n step user)) s t = (s.book.policy ≡ t.book.policy) × (case_at s.book.cases n ≡ case_at t.book.cases n)
 SameFor (ask.Request (request.Change by edit)) s t = s.book ≡ t.book
+SameFor (ask.Request (request.Worklist user)) s t = s.book ≡ t.book
+SameFor (ask.Request (request.WhatIf by edit)) s t = s.book ≡ t.book
 SameFor what s t = Unit {0}
 
 pub same_here : (what : Ask) (s : State) → SameFor what s s
 same_here (ask.Request (request.OpenCase flow)) s = refl
 same_here (ask.Request (request.Claim n step user)) s = (refl, refl)
 same_here (ask.Request (request.Change by edit)) s = refl
+same_here (ask.Request (request.Worklist user)) s = refl
+same_here (ask.Request (request.WhatIf by edit)) s = refl
 same_here what s = tt
 
 pub same_then : (what : Ask) (s t u : State) → SameFor what s t → SameFor what t u → SameFor what s u
 same_then (ask.Request (request.OpenCase flow)) s t u first later = first ∙ later
 same_then (ask.Request (request.Claim n step user)) s t u first later = (first.0 ∙ later.0, first.1 ∙ later.1)
 same_then (ask.Request (request.Change by edit)) s t u first later = first ∙ later
+same_then (ask.Request (request.Worklist user)) s t u first later = first ∙ later
+same_then (ask.Request (request.WhatIf by edit)) s t u first later = first ∙ later
 same_then what s t u first later = tt
 
 -- ---- one step
@@ -88,6 +94,8 @@ IsNamed what (deed.Release n c t) = case_of_ask what ≡ Some n
 IsNamed what (deed.Withdraw n) = case_of_ask what ≡ Some n
 IsNamed what (deed.Change a) = Unit {0}
 IsNamed what (deed.Show c) = Unit {0}
+IsNamed what (deed.Work u) = Unit {0}
+IsNamed what (deed.WhatIf a) = Unit {0}
 IsNamed what (deed.TurnAway bad) = Unit {0}
 
 any_read : {A F : Type 0} (r : Result A F) → HoldsOf (λ _. Unit {0}) r
@@ -102,9 +110,9 @@ named_step what b make n step user named =
     (λ t _. then_holds (λ _. Unit {0}) (IsNamed what) (or_fault (user_named b user) NoUser) _ (any_read (or_fault (user_named b user) NoUser))
     (λ u _. named c t u)))
 
-change_named : (what : Ask) (r : Result Amendment EditFault) → HoldsOf (IsNamed what) (changed r)
-change_named what (Ok a) = tt
-change_named what (Err fault) = tt
+change_named : (what : Ask) (make : Amendment → Deed) (r : Result Amendment EditFault) → ((a : Amendment) → IsNamed what (make a)) → HoldsOf (IsNamed what) (on_edit make r)
+change_named what make (Ok a) named = named a
+change_named what make (Err fault) named = tt
 
 resolve_named : (b : Book) (what : Ask) → HoldsOf (IsNamed what) (resolve b what)
 resolve_named b (ask.Request (request.OpenCase flow)) =
@@ -121,9 +129,12 @@ resolve_named b (ask.Request (request.Withdraw by n)) =
     let what = ask.Request (request.Withdraw by n) in
     then_holds (λ _. Unit {0}) (IsNamed what) (check (is_admin b.policy by) NotAdmin) _ (any_read (check (is_admin b.policy by) NotAdmin))
     (λ _ _. then_holds (λ _. Unit {0}) (IsNamed what) (open_case_at b n) _ (any_read (open_case_at b n)) (λ c _. refl))
-resolve_named b (ask.Request (request.Change by edit)) = change_named (ask.Request (request.Change by edit)) (amendment_of b.policy by edit)
+resolve_named b (ask.Request (request.Change by edit)) = change_named (ask.Request (request.Change by edit)) deed.Change (amendment_of b.policy by edit) (λ a. tt)
 resolve_named b (ask.Request (request.Show n)) =
     then_holds (λ _. Unit {0}) (IsNamed (ask.Request (request.Show n))) (or_fault (case_at b.cases n) NoCase) _ (any_read (or_fault (case_at b.cases n) NoCase)) (λ c _. tt)
+resolve_named b (ask.Request (request.Worklist user)) =
+    then_holds (λ _. Unit {0}) (IsNamed (ask.Request (request.Worklist user))) (or_fault (user_named b user) NoUser) _ (any_read (or_fault (user_named b user) NoUser)) (λ u _. tt)
+resolve_named b (ask.Request (request.WhatIf by edit)) = change_named (ask.Request (request.WhatIf by edit)) deed.WhatIf (amendment_of b.policy by edit) (λ a. tt)
 resolve_named b (ask.Bad bad) = tt
 
 decision_named : (b : Book) (what : Ask) → HoldsOf (IsNamed what) (decision_of b what)
@@ -179,15 +190,20 @@ neither true b h = cc
 neither false true h = cc
 neither false false h = (refl, refl)
 
+same_book : (s : State) (e : Entry) → changes_any e ≡ false → s.book ≡ (state_after_step s e.ask e.reply).book
+same_book s e other =
+    let both = neither (is_edited e.reply) (is_some (changed_case e.ask e.reply)) other in
+    decision_book s e.ask (decision_of s.book e.ask) e.reply (decision_named s.book e.ask) both.0 both.1
+
 -- a step that does not count leaves what a verdict rests on
 pub step_same : (s : State) (e : Entry) (what : Ask) → IsStep s e.ask e.reply → counts_for e what ≡ false → SameFor what s (state_after_step s e.ask e.reply)
 step_same s e (ask.Request (request.OpenCase flow)) is other = sym (policy_stays s e.ask e.reply other)
 step_same s e (ask.Request (request.Claim n step user)) is other =
     let both = neither (is_edited e.reply) (is_number n (changed_case e.ask e.reply)) other in
     (sym (policy_stays s e.ask e.reply both.0), decision_case s e.ask (decision_of s.book e.ask) e.reply n (decision_named s.book e.ask) is both.1)
-step_same s e (ask.Request (request.Change by edit)) is other =
-    let both = neither (is_edited e.reply) (is_some (changed_case e.ask e.reply)) other in
-    decision_book s e.ask (decision_of s.book e.ask) e.reply (decision_named s.book e.ask) both.0 both.1
+step_same s e (ask.Request (request.Change by edit)) is other = same_book s e other
+step_same s e (ask.Request (request.Worklist user)) is other = same_book s e other
+step_same s e (ask.Request (request.WhatIf by edit)) is other = same_book s e other
 step_same s e what is other = tt
 
 -- ---- histories
@@ -243,6 +259,8 @@ right_stays (ask.Request (request.Release by n step)) s t v same is = plain_righ
 right_stays (ask.Request (request.Withdraw by n)) s t v same is = plain_right s.book t.book (ask.Request (request.Withdraw by n)) v (withdraw_plain by n) is
 right_stays (ask.Request (request.Change by edit)) s t v same is = subst (λ b. IsRight b (ask.Request (request.Change by edit)) v) same is
 right_stays (ask.Request (request.Show n)) s t v same is = plain_right s.book t.book (ask.Request (request.Show n)) v (show_plain n) is
+right_stays (ask.Request (request.Worklist user)) s t v same is = subst (λ b. IsRight b (ask.Request (request.Worklist user)) v) same is
+right_stays (ask.Request (request.WhatIf by edit)) s t v same is = subst (λ b. IsRight b (ask.Request (request.WhatIf by edit)) v) same is
 right_stays (ask.Bad bad) s t v same is = plain_right s.book t.book (ask.Bad bad) v (λ b. refl) is
 
 -- a fresh verdict that was right is right

@@ -8,6 +8,7 @@ pub mod Certificates
 pub mod Valid
 pub mod Keeping
 pub mod Exact
+pub mod Listed
 pub mod Within
 pub mod Known
 pub mod Grants

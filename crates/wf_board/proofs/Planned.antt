@@ -198,4 +198,6 @@ planned_snap p rows (ask.Request (request.Release by n step)) planned = none_pla
 planned_snap p rows (ask.Request (request.Withdraw by n)) planned = none_planned p
 planned_snap p rows (ask.Request (request.Change by edit)) planned = planned_live p rows planned
 planned_snap p rows (ask.Request (request.Show n)) planned = none_planned p
+planned_snap p rows (ask.Request (request.Worklist user)) planned = planned_live p rows planned
+planned_snap p rows (ask.Request (request.WhatIf by edit)) planned = planned_live p rows planned
 planned_snap p rows (ask.Bad bad) planned = none_planned p

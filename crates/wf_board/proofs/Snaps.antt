@@ -18,6 +18,9 @@ use Rattle.wf_board.specs.declared.deed.Deed.{Deed}
 use Rattle.wf_board.specs.declared.deed.Deed.TheVariants as deed
 use Rattle.wf_board.specs.declared.verdict.Verdict.{Verdict}
 use Rattle.wf_board.specs.declared.verdict.Verdict.TheVariants as verdict
+use Rattle.wf_board.specs.declared.verdict.View.{View}
+use Rattle.wf_board.specs.declared.verdict.View.TheVariants as view
+use Rattle.wf_board.specs.Views.{AreStranded, AreThose, IsGrantable, item_of, steps_of}
 use Rattle.wf_board.specs.States.{Book, Numbered, case_at, flow_named, open_cases, step_named, user_named}
 use Rattle.admin_edits.specs.Edits.{is_admin}
 use Rattle.wf_board.specs.Resolved.{on_step, open_case_at, resolve, resolve_request}
@@ -25,7 +28,7 @@ use Rattle.wf_board.specs.Edited.{ArePlansOf, IsFirstStranded}
 use Rattle.admin_edits.specs.Edits.{amended}
 use Rattle.wf_board.specs.Decisions.{cause_aside, cause_full, decision_aside, decision_of, needs_plan, needs_verdict, unless_denied}
 use Rattle.wf_board.specs.Boards.{BoardShape, EditionShape, book_on, numbered, state_on}
-use Rattle.wf_board.specs.Verdicts.{IsEditionFor, IsPlanFor, IsRight, IsStrandingFor, IsTreeFor, snap_of}
+use Rattle.wf_board.specs.Verdicts.{IsEditionFor, IsPlanFor, IsRight, IsStrandingFor, IsTreeFor, IsViewFor, snap_of}
 use Rattle.wf_board.specs.Laws.{SnapsSuffice}
 
 -- a snapshot of one case has it as the table has it
@@ -66,6 +69,8 @@ same_cause p xs ys m k (deed.Release n c s) = refl
 same_cause p xs ys m k (deed.Withdraw n) = refl
 same_cause p xs ys m k (deed.Change a) = refl
 same_cause p xs ys m k (deed.Show c) = refl
+same_cause p xs ys m k (deed.Work u) = refl
+same_cause p xs ys m k (deed.WhatIf a) = refl
 same_cause p xs ys m k (deed.TurnAway bad) = refl
 
 same_decision : (p : PolicyShape) (xs ys : List Numbered) (m k : ℕ) (what : Ask) → resolve (with_cases p xs m) what ≡ resolve (with_cases p ys k) what →
@@ -104,7 +109,16 @@ pub opening_alone : (b : BoardShape) (flow : List ℕ) (spare : ℕ) →
     ≡ decision_aside (state_on b).book (ask.Request (request.OpenCase flow))
 opening_alone b flow spare = same_opening b.policy [] (map numbered b.cases.rows) b.cases.ever b.cases.ever flow
 
--- what is no opening, no claim and no edit
+-- and a view over the open cases
+same_work : (p : PolicyShape) (xs ys : List Numbered) (m k : ℕ) (user : List ℕ) →
+    decision_aside (with_cases p xs m) (ask.Request (request.Worklist user)) ≡ decision_aside (with_cases p ys k) (ask.Request (request.Worklist user))
+same_work p xs ys m k user = same_decision p xs ys m k (ask.Request (request.Worklist user)) refl
+
+same_what_if : (p : PolicyShape) (xs ys : List Numbered) (m k : ℕ) (by : List ℕ) (e : Edit) →
+    decision_aside (with_cases p xs m) (ask.Request (request.WhatIf by e)) ≡ decision_aside (with_cases p ys k) (ask.Request (request.WhatIf by e))
+same_what_if p xs ys m k by e = same_decision p xs ys m k (ask.Request (request.WhatIf by e)) refl
+
+-- what is no opening, no claim, no edit and no view over the open cases
 abbrev pub IsPlain : Result Deed Denial → Type 0
 IsPlain (Ok given) = needs_plan given ≡ false
 IsPlain (Err d) = Unit {0}
@@ -171,6 +185,10 @@ needs_same b (ask.Request (request.Withdraw by n)) spare = both_plain b (ask.Req
 needs_same b (ask.Request (request.Change by e)) spare =
     ap needs_verdict (same_change b.policy (map numbered (open_rows b.cases.rows)) (map numbered b.cases.rows) b.cases.ever b.cases.ever by e)
 needs_same b (ask.Request (request.Show n)) spare = both_plain b (ask.Request (request.Show n)) spare (show_plain n)
+needs_same b (ask.Request (request.Worklist user)) spare =
+    ap needs_verdict (same_work b.policy (map numbered (open_rows b.cases.rows)) (map numbered b.cases.rows) b.cases.ever b.cases.ever user)
+needs_same b (ask.Request (request.WhatIf by e)) spare =
+    ap needs_verdict (same_what_if b.policy (map numbered (open_rows b.cases.rows)) (map numbered b.cases.rows) b.cases.ever b.cases.ever by e)
 needs_same b (ask.Bad bad) spare = refl
 
 denied_needs : (given : Deed) (o : Option Denial) → needs_verdict (unless_denied given o) ≡ true → needs_plan given ≡ true
@@ -208,6 +226,11 @@ no_stranding : (b : Book) (r : Result Deed Denial) (n : ℕ) (tree : Tree) {X : 
 no_stranding b (Ok (deed.Change a)) n tree plain is = cc
 no_stranding b r n tree plain is = absurd is
 
+no_view : (b : Book) (r : Result Deed Denial) (v : View) {X : Type 0} → IsPlain r → IsViewFor b r v → X
+no_view b (Ok (deed.Work u)) v plain is = cc
+no_view b (Ok (deed.WhatIf a)) v plain is = cc
+no_view b r v plain is = absurd is
+
 -- no plan and no tree is right for what rests on no plan
 pub plain_right : (b c : Book) (what : Ask) (v : Verdict) → IsAlwaysAside what → IsRight b what v → IsRight c what v
 plain_right b c what verdict.Nothing plain is = tt
@@ -216,12 +239,15 @@ plain_right b c what (verdict.Plan plan) plain is = no_plan b (decision_aside b 
 plain_right b c what (verdict.Refuted tree) plain is = no_tree b (decision_aside b what) tree (plain b) is
 plain_right b c what (verdict.Edited edition) plain is = no_edition b (decision_aside b what) edition (plain b) is
 plain_right b c what (verdict.Strands n tree) plain is = no_stranding b (decision_aside b what) n tree (plain b) is
+plain_right b c what (verdict.View v) plain is = no_view b (decision_aside b what) v (plain b) is
 
--- ---- what is no edit
+-- ---- what is no edit and no view
 
--- what was decided changes no policy
+-- what was decided rests on no other case than its own
 abbrev pub IsNoChange : Result Deed Denial → Type 0
 IsNoChange (Ok (deed.Change a)) = ⊥
+IsNoChange (Ok (deed.Work u)) = ⊥
+IsNoChange (Ok (deed.WhatIf a)) = ⊥
 IsNoChange r = Unit {0}
 
 then_no_change : {X : Type 0} (r : Result X Denial) (f : X → Result Deed Denial) → ((x : X) → IsNoChange (f x)) → IsNoChange (r >>= f)
@@ -257,7 +283,7 @@ tree_same p xs ys m k (Ok (deed.Open f)) tree is = is
 tree_same p xs ys m k (Ok (deed.Claim n c t u)) tree is = is
 tree_same p xs ys m k r tree is = absurd is
 
--- also of an edit, where the open cases are the same
+-- also of an edit and a view, where the open cases are the same
 abbrev pub MayChange : List Numbered → List Numbered → Result Deed Denial → Type 0
 MayChange xs ys r = IsNoChange r ⊎ (open_cases xs ≡ open_cases ys)
 
@@ -273,6 +299,17 @@ stranding_same p xs ys m k (Ok (deed.Change a)) n tree (inl kept) is = absurd ke
 stranding_same p xs ys m k (Ok (deed.Change a)) n tree (inr same) is = (is.0, subst (λ es. IsFirstStranded (amended p a) es n is.0 tree) same is.1)
 stranding_same p xs ys m k r n tree may is = absurd is
 
+view_same : (p : PolicyShape) (xs ys : List Numbered) (m k : ℕ) (r : Result Deed Denial) (v : View) → MayChange xs ys r →
+    IsViewFor (with_cases p xs m) r v → IsViewFor (with_cases p ys k) r v
+view_same p xs ys m k (Ok (deed.Work u)) v (inl kept) is = absurd kept
+view_same p xs ys m k (Ok (deed.Work u)) (view.Work items) (inr same) is =
+    subst (λ es. AreThose (λ x. IsGrantable p x.of.case x.step u) (λ x. ¬ IsGrantable p x.of.case x.step u) item_of (steps_of es) items) same is
+view_same p xs ys m k (Ok (deed.Work u)) (view.WhatIf numbers) (inr same) is = absurd is
+view_same p xs ys m k (Ok (deed.WhatIf a)) v (inl kept) is = absurd kept
+view_same p xs ys m k (Ok (deed.WhatIf a)) (view.Work items) (inr same) is = absurd is
+view_same p xs ys m k (Ok (deed.WhatIf a)) (view.WhatIf numbers) (inr same) is = subst (λ es. AreStranded (amended p a) es numbers) same is
+view_same p xs ys m k r v may is = absurd is
+
 pub right_same : (p : PolicyShape) (xs ys : List Numbered) (m k : ℕ) (what : Ask) (v : Verdict) → decision_aside (with_cases p xs m) what ≡ decision_aside (with_cases p ys k) what →
     MayChange xs ys (decision_aside (with_cases p xs m) what) → IsRight (with_cases p xs m) what v → IsRight (with_cases p ys k) what v
 right_same p xs ys m k what verdict.Nothing same may is = tt
@@ -285,6 +322,8 @@ right_same p xs ys m k what (verdict.Edited edition) same may is =
     subst (λ r. IsEditionFor (with_cases p ys k) r edition) same (edition_same p xs ys m k (decision_aside (with_cases p xs m) what) edition may is)
 right_same p xs ys m k what (verdict.Strands n tree) same may is =
     subst (λ r. IsStrandingFor (with_cases p ys k) r n tree) same (stranding_same p xs ys m k (decision_aside (with_cases p xs m) what) n tree may is)
+right_same p xs ys m k what (verdict.View v) same may is =
+    subst (λ r. IsViewFor (with_cases p ys k) r v) same (view_same p xs ys m k (decision_aside (with_cases p xs m) what) v may is)
 
 pub snaps_suffice : SnapsSuffice
 snaps_suffice b (ask.Request (request.OpenCase flow)) spare v is =
@@ -300,4 +339,12 @@ snaps_suffice b (ask.Request (request.Change by e)) spare v is =
     right_same b.policy live (map numbered b.cases.rows) b.cases.ever b.cases.ever (ask.Request (request.Change by e)) v
     (same_change b.policy live (map numbered b.cases.rows) b.cases.ever b.cases.ever by e) (inr (open_alone b.cases.rows)) is
 snaps_suffice b (ask.Request (request.Show n)) spare v is = plain_right (book_on (snap_of b (ask.Request (request.Show n)) spare)) (state_on b).book (ask.Request (request.Show n)) v (show_plain n) is
+snaps_suffice b (ask.Request (request.Worklist user)) spare v is =
+    let live = map numbered (open_rows b.cases.rows) in
+    right_same b.policy live (map numbered b.cases.rows) b.cases.ever b.cases.ever (ask.Request (request.Worklist user)) v
+    (same_work b.policy live (map numbered b.cases.rows) b.cases.ever b.cases.ever user) (inr (open_alone b.cases.rows)) is
+snaps_suffice b (ask.Request (request.WhatIf by e)) spare v is =
+    let live = map numbered (open_rows b.cases.rows) in
+    right_same b.policy live (map numbered b.cases.rows) b.cases.ever b.cases.ever (ask.Request (request.WhatIf by e)) v
+    (same_what_if b.policy live (map numbered b.cases.rows) b.cases.ever b.cases.ever by e) (inr (open_alone b.cases.rows)) is
 snaps_suffice b (ask.Bad bad) spare v is = plain_right (book_on (snap_of b (ask.Bad bad) spare)) (state_on b).book (ask.Bad bad) v (λ a. refl) is

@@ -24,7 +24,7 @@ use Rattle.denial_reasons.specs.Causes.{first_cause, first_of, unless}
 use Rattle.wf_board.specs.declared.deed.Deed.{Deed}
 use Rattle.wf_board.specs.declared.deed.Deed.TheVariants as deed
 use Rattle.wf_board.specs.States.{Book, case_at, flow_named, step_named, user_named}
-use Rattle.wf_board.specs.Resolved.{changed, on_step, open_case_at, resolve}
+use Rattle.wf_board.specs.Resolved.{on_edit, on_step, open_case_at, resolve}
 use Rattle.wf_board.specs.Found as found
 use Rattle.wf_board.specs.Decisions.{cause_aside, cause_full, decision_aside, decision_of, is_held_by, unless_denied}
 use Rattle.admin_edits.proofs.Keeping.{amendment_found}
@@ -73,6 +73,8 @@ IsThere b (deed.Finish n c t u) = HasStep b n c t
 IsThere b (deed.GiveBack n c t u) = HasStep b n c t
 IsThere b (deed.Release n c t) = HasStep b n c t
 IsThere b (deed.Change a) = IsSoundPolicy b.policy → found.IsAllowed b.policy a
+IsThere b (deed.Work u) = u < length b.policy.roster.users
+IsThere b (deed.WhatIf a) = IsSoundPolicy b.policy → found.IsAllowed b.policy a
 IsThere b given = Unit {0}
 
 open_there : (b : Book) (n : ℕ) → HoldsOf (IsOpenCase b n) (open_case_at b n)
@@ -92,11 +94,18 @@ step_there b make n step user made =
       user = place_within b.policy.roster.users user u known;
     })))
 
-change_there : (b : Book) (by : List ℕ) (e : Edit) (r : Result Amendment EditFault) → amendment_of b.policy by e ≡ r → HoldsOf (IsThere b) (changed r)
-change_there b by e (Ok a) is = λ sound.
+change_allowed : (b : Book) (by : List ℕ) (e : Edit) (a : Amendment) → amendment_of b.policy by e ≡ Ok a → IsSoundPolicy b.policy → found.IsAllowed b.policy a
+change_allowed b by e a is sound =
     let known = amendment_found b.policy by e a sound is in
     record { found = known.0; allowed = known.1 }
+
+change_there : (b : Book) (by : List ℕ) (e : Edit) (r : Result Amendment EditFault) → amendment_of b.policy by e ≡ r → HoldsOf (IsThere b) (on_edit deed.Change r)
+change_there b by e (Ok a) is = change_allowed b by e a is
 change_there b by e (Err fault) is = tt
+
+what_if_there : (b : Book) (by : List ℕ) (e : Edit) (r : Result Amendment EditFault) → amendment_of b.policy by e ≡ r → HoldsOf (IsThere b) (on_edit deed.WhatIf r)
+what_if_there b by e (Ok a) is = change_allowed b by e a is
+what_if_there b by e (Err fault) is = tt
 
 resolve_there : (b : Book) (what : Ask) → HoldsOf (IsThere b) (resolve b what)
 resolve_there b (ask.Request (request.OpenCase flow)) =
@@ -116,6 +125,10 @@ resolve_there b (ask.Request (request.Withdraw by n)) =
 resolve_there b (ask.Request (request.Change by edit)) = change_there b by edit (amendment_of b.policy by edit) refl
 resolve_there b (ask.Request (request.Show n)) =
     then_holds (λ c. case_at b.cases n ≡ Some c) (IsThere b) (or_fault (case_at b.cases n) NoCase) _ (there_holds (case_at b.cases n) NoCase) (λ c found. tt)
+resolve_there b (ask.Request (request.Worklist user)) =
+    then_holds (λ u. user_named b user ≡ Some u) (IsThere b) (or_fault (user_named b user) NoUser) _ (there_holds (user_named b user) NoUser)
+    (λ u named. place_within b.policy.roster.users user u named)
+resolve_there b (ask.Request (request.WhatIf by edit)) = what_if_there b by edit (amendment_of b.policy by edit) refl
 resolve_there b (ask.Bad bad) = tt
 
 -- no cause is against a deed
@@ -147,6 +160,8 @@ allowed_told b (deed.Release n c t) there = unless_holds (IsTold b) (deed.Releas
 allowed_told b (deed.Withdraw n) there = (tt, tt)
 allowed_told b (deed.Change a) there = (there, tt)
 allowed_told b (deed.Show c) there = (tt, tt)
+allowed_told b (deed.Work u) there = (there, tt)
+allowed_told b (deed.WhatIf a) there = (there, tt)
 allowed_told b (deed.TurnAway bad) there = (tt, tt)
 
 pub aside_told : (b : Book) (what : Ask) → HoldsOf (IsTold b) (decision_aside b what)

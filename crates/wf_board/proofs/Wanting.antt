@@ -30,7 +30,7 @@ plain_apart b what plain needs =
     let is : true ≡ false = sym (needs_aside b what needs) ∙ plain_needs (decision_aside b what) (plain b) in
     cc
 
--- a verdict is needed for an opening, a claim or an edit alone
+-- a verdict is needed for an opening, a claim, an edit or a view over the open cases alone
 pub needs_rightly : (b : Book) (what : Ask) → needs_verdict (decision_of b what) ≡ true → may_lack_memory what ≡ true
 needs_rightly b (ask.Request (request.OpenCase flow)) needs = refl
 needs_rightly b (ask.Request (request.Claim n step user)) needs = refl
@@ -40,6 +40,8 @@ needs_rightly b (ask.Request (request.Release by n step)) needs = plain_apart b 
 needs_rightly b (ask.Request (request.Withdraw by n)) needs = plain_apart b (ask.Request (request.Withdraw by n)) (withdraw_plain by n) needs
 needs_rightly b (ask.Request (request.Change by edit)) needs = refl
 needs_rightly b (ask.Request (request.Show n)) needs = plain_apart b (ask.Request (request.Show n)) (show_plain n) needs
+needs_rightly b (ask.Request (request.Worklist user)) needs = refl
+needs_rightly b (ask.Request (request.WhatIf by edit)) needs = refl
 needs_rightly b (ask.Bad bad) needs = plain_apart b (ask.Bad bad) (λ a. refl) needs
 
 -- ---- a list of roles
@@ -84,6 +86,8 @@ aside_none b (deed.Release n c t) other = unless_none (deed.Release n c t) (is_h
 aside_none b (deed.Withdraw n) other = tt
 aside_none b (deed.Change a) other = tt
 aside_none b (deed.Show c) other = tt
+aside_none b (deed.Work u) other = tt
+aside_none b (deed.WhatIf a) other = tt
 aside_none b (deed.TurnAway bad) other = tt
 
 full_none : (b : Book) (given : Deed) → HasNoRoles (unless_denied given (cause_full b given))
@@ -95,6 +99,8 @@ full_none b (deed.Release n c t) = tt
 full_none b (deed.Withdraw n) = tt
 full_none b (deed.Change a) = tt
 full_none b (deed.Show c) = tt
+full_none b (deed.Work u) = tt
+full_none b (deed.WhatIf a) = tt
 full_none b (deed.TurnAway bad) = tt
 
 -- what is another deed, if it is one
@@ -150,6 +156,8 @@ roles_rightly b (ask.Request (request.Change by edit)) takes = refl
 roles_rightly b (ask.Request (request.Show n)) takes =
     let what = ask.Request (request.Show n) in
     none_apart (decision_of b what) (decided_none b what (then_other (or_fault (case_at b.cases n) NoCase) _ (or_none (case_at b.cases n) NoCase refl) (λ c. tt))) takes
+roles_rightly b (ask.Request (request.Worklist user)) takes = refl
+roles_rightly b (ask.Request (request.WhatIf by edit)) takes = refl
 roles_rightly b (ask.Bad bad) takes = none_apart (decision_of b (ask.Bad bad)) (decided_none b (ask.Bad bad) tt) takes
 
 -- ---- a reply
@@ -158,7 +166,7 @@ opening_needs : (r : Result Deed Denial) → is_opening r ≡ true → needs_ver
 opening_needs (Ok (deed.Open f)) is = refl
 opening_needs r is = cc
 
--- want of memory is answered only to an opening, a claim or an edit
+-- want of memory is answered only to an opening, a claim, an edit or a view over the open cases
 pub lacks_rightly : (b : BoardShape) (what : Ask) (v : Verdict) → LacksMemory b what v → may_lack_memory what ≡ true
 lacks_rightly b what v (inl short) = needs_rightly (state_on b).book what short.1
 lacks_rightly b what v (inr (inl takes)) = roles_rightly (state_on b).book what takes

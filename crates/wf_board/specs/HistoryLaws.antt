@@ -35,6 +35,8 @@ again_same s (Ok (deed.Release m c t)) n place = refl
 again_same s (Ok (deed.Withdraw m)) n place = refl
 again_same s (Ok (deed.Change a)) n place = refl
 again_same s (Ok (deed.Show c)) n place = refl
+again_same s (Ok (deed.Work u)) n place = refl
+again_same s (Ok (deed.WhatIf a)) n place = refl
 again_same s (Ok (deed.TurnAway bad)) n place = refl
 again_same s (Err d) n place = refl
 
@@ -89,6 +91,8 @@ no_again s (deed.Release m c t) n place is = is
 no_again s (deed.Withdraw m) n place is = is
 no_again s (deed.Change a) n place is = is
 no_again s (deed.Show c) n place is = is
+no_again s (deed.Work u) n place is = is
+no_again s (deed.WhatIf a) n place is = is
 no_again s (deed.TurnAway bad) n place is = is
 
 answers_once : (s : State) (decision : Result Deed Denial) (given : Reply) (n place : ℕ) → given ≡ reply.Again n place → Answers s decision given → ⊥

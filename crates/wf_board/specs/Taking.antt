@@ -86,7 +86,8 @@ pub record HasChanged (p : PolicyShape) (before after : CasesShape) (n : ℕ) (c
 abbrev pub HasAnsweredAlone : PolicyShape → CasesShape → CasesShape → Result Deed Denial → Answered → Type 0
 HasAnsweredAlone p before after decision Needs = (needs_verdict decision ≡ true) × (after ≡ before)
 HasAnsweredAlone p before after decision (Done given) =
-    HasTaken p before after decision given × ((needs_verdict decision ≡ false) × (given ≡ reply.NoMemory → takes_memory decision ≡ true))
+    HasTaken p before after decision given
+    × ((needs_verdict decision ≡ false) × (given ≡ reply.NoMemory → (takes_memory decision ≡ true) × (after ≡ before)))
 
 -- all that a board promises of an answer
 pub record HasAnsweredBy (p : PolicyShape) (before after : CasesShape) (what : Ask) (v : Verdict) (given : Answered) : Type 0 where
@@ -95,4 +96,5 @@ pub record HasAnsweredBy (p : PolicyShape) (before after : CasesShape) (what : A
   pub needs : needs_verdict (decision_of (book_of p before) what) ≡ true → v ≡ verdict.Nothing → given ≡ Needs
   pub made : needs_verdict (decision_of (book_of p before) what) ≡ true → HasUsed v given
   pub memory : (edits : ℕ) → given ≡ Done reply.NoMemory → MayLackMemory (board_of p before edits) what v
+  pub lacking : given ≡ Done reply.NoMemory → after ≡ before
   pub room : before.spare ≤ after.spare + 1

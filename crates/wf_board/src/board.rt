@@ -261,6 +261,7 @@ impl Board {
         requires few { self.old.edits < 4294967295 }
         ensures decided { IsDecided self.old ask.now Verdict.Nothing result }
         ensures next { state_on self.new ≡ state_after_step (state_on self.old) ask.now result }
+        ensures lacking { result ≡ Reply.NoMemory → self.new ≡ self.old }
         ensures room { self.old.cases.spare ≤ self.new.cases.spare + 1 }
     {
         match self.harmless(ask) {
@@ -276,6 +277,7 @@ impl Board {
         requires few { self.old.edits < 4294967295 }
         ensures decided { IsDecided self.old ask.now Verdict.Nothing result }
         ensures next { state_on self.new ≡ state_after_step (state_on self.old) ask.now result }
+        ensures lacking { result ≡ Reply.NoMemory → self.new ≡ self.old }
         ensures room { self.old.cases.spare ≤ self.new.cases.spare + 1 }
     {
         let found = self.verdict(alloc, decider, ask);
@@ -299,6 +301,7 @@ impl Board {
         requires few { self.old.edits < 4294967295 }
         ensures step { IsStep (state_on self.old) ask.now result }
         ensures next { state_on self.new ≡ state_after_step (state_on self.old) ask.now result }
+        ensures lacking { result ≡ Reply.NoMemory → self.new ≡ self.old }
         ensures spare { self.new.cases.spare ≡ self.old.cases.spare }
     {
         let _ = ask;

@@ -7,7 +7,7 @@ ghost use Rattle.denial_reasons.specs.Causes as causes;
 ghost use Rattle.wf_board.specs.Boards.{book_of};
 ghost use Rattle.wf_board.specs.Kept.{ArePlanned};
 ghost use Rattle.wf_board.specs.Found.{IsFound};
-ghost use Rattle.wf_board.specs.Decisions.{cause_aside, cause_full, decision_aside, decision_of, is_held_by, needs_plan, needs_verdict, takes_memory};
+ghost use Rattle.wf_board.specs.Decisions.{cause_aside, cause_full, decision_aside, decision_of, is_held_by, is_view, needs_plan, needs_verdict, takes_memory};
 ghost use Rattle.wf_board.specs.Taking.{undenied};
 ghost use Rattle.wf_board.specs.Refusals.{denial_in};
 ghost use Rattle.wf_board.specs.States.{is_full};
@@ -20,7 +20,7 @@ use grant_table::Cases;
 use policy_book::Policy;
 use std::alloc::{AllocError, Global};
 use wf_names::{CASE_LIMIT, OPEN_CASE_LIMIT, StepId, StepState, UserId};
-use wf_talk::{Ask, Denial};
+use wf_talk::{Ask, Denial, Request};
 
 /// Why a deed is not done.
 #[derive(Drop)]
@@ -205,6 +205,17 @@ pub(crate) fn is_full(p: &Policy, cases: &Cases) -> bool
 {
     let _ = p;
     cases.live() >= OPEN_CASE_LIMIT || cases.ever() >= CASE_LIMIT
+}
+
+/// Whether this is a work list, or what an edit would strand: a view, which is never answered
+/// again.
+pub fn is_view(ask: &Ask) -> bool
+    ensures { result ≡ is_view ask.now }
+{
+    matches!(
+        ask,
+        Ask::Request(Request::Worklist { .. } | Request::WhatIf { .. })
+    )
 }
 
 /// Whether a deed rests on whether cases can be completed.

@@ -25,7 +25,7 @@ pub use admit::AdmitFault;
 pub use board::Board;
 pub use counting::counts;
 pub use decider::Decider;
-pub use decision::{Refused, decision_aside};
+pub use decision::{Refused, decision_aside, is_view};
 pub use deed::Deed;
 pub use edition::{Edition, Plans};
 pub use snap::Snap;

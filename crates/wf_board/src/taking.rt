@@ -82,6 +82,7 @@ pub(crate) fn by_plan(p: &Policy, cases: &mut Cases, ask: &Ask, plan: Plan) -> R
     ensures made { needs_verdict (decision_of (book_of p.now cases.old) ask.now) ≡ true → IsMadeOf (verdicts.Plan plan) result }
     ensures memory { result ≡ replies.NoMemory
         → (is_opening (decision_of (book_of p.now cases.old) ask.now) ≡ true) × (cases.old.spare ≡ 0) }
+    ensures unchanged { result ≡ replies.NoMemory → cases.new ≡ cases.old }
 {
     match resolve(p, cases, ask) {
         Ok(deed) => plan_for(p, cases, deed, plan),
@@ -99,6 +100,7 @@ fn plan_for(p: &Policy, cases: &mut Cases, deed: Deed, plan: Plan) -> Reply
     ensures made { needs_verdict (full_or (book_of p.now cases.old) deed) ≡ true → IsMadeOf (verdicts.Plan plan) result }
     ensures memory { result ≡ replies.NoMemory
         → (is_opening (full_or (book_of p.now cases.old) deed) ≡ true) × (cases.old.spare ≡ 0) }
+    ensures unchanged { result ≡ replies.NoMemory → cases.new ≡ cases.old }
 {
     match deed {
         Deed::Open { flow } => open(p, cases, flow, plan),

@@ -50,12 +50,31 @@ pub(crate) fn admit_work(
     requires verdict { IsVerdictFor (book_of p.now cases.now) (deeds.Work user) verdict.now }
     ensures { HasAdmitted p.now cases.now cases.now (Ok (deeds.Work user)) reply.now result }
 {
+    match verdict {
+        Verdict::View(view) => admit_listed_work(p, cases, user, reply, view),
+        _ => unreachable!(),
+    }
+}
+
+/// Whether a reply lists the work of a user, as a view does.
+fn admit_listed_work(
+    p: &Policy,
+    cases: &Cases,
+    user: UserId,
+    reply: &Reply,
+    view: &View,
+) -> Result<(), AdmitFault>
+    requires kept { IsKept p.now cases.now }
+    requires given { reply.now ≢ replies.NoMemory }
+    requires view { IsViewFor (book_of p.now cases.now) (Ok (deeds.Work user)) view.now }
+    ensures { HasAdmitted p.now cases.now cases.now (Ok (deeds.Work user)) reply.now result }
+{
     let _ = p;
     let _ = cases;
     let _ = user;
-    match verdict {
-        Verdict::View(View::Work(items)) => when(is_work(reply, items.as_slice())),
-        _ => unreachable!(),
+    match view {
+        View::Work(items) => when(is_work(reply, items.as_slice())),
+        View::WhatIf(_) => unreachable!(),
     }
 }
 
@@ -73,12 +92,31 @@ pub(crate) fn admit_what_if(
     requires verdict { IsVerdictFor (book_of p.now cases.now) (deeds.WhatIf a) verdict.now }
     ensures { HasAdmitted p.now cases.now cases.now (Ok (deeds.WhatIf a)) reply.now result }
 {
+    match verdict {
+        Verdict::View(view) => admit_listed_cases(p, cases, a, reply, view),
+        _ => unreachable!(),
+    }
+}
+
+/// Whether a reply lists the cases that a change would strand, as a view does.
+fn admit_listed_cases(
+    p: &Policy,
+    cases: &Cases,
+    a: Amendment,
+    reply: &Reply,
+    view: &View,
+) -> Result<(), AdmitFault>
+    requires kept { IsKept p.now cases.now }
+    requires given { reply.now ≢ replies.NoMemory }
+    requires view { IsViewFor (book_of p.now cases.now) (Ok (deeds.WhatIf a)) view.now }
+    ensures { HasAdmitted p.now cases.now cases.now (Ok (deeds.WhatIf a)) reply.now result }
+{
     let _ = p;
     let _ = cases;
     let _ = a;
-    match verdict {
-        Verdict::View(View::WhatIf(stranded)) => when(is_what_if(reply, stranded.as_slice())),
-        _ => unreachable!(),
+    match view {
+        View::WhatIf(stranded) => when(is_what_if(reply, stranded.as_slice())),
+        View::Work(_) => unreachable!(),
     }
 }
 
@@ -87,7 +125,7 @@ fn is_work(reply: &Reply, items: &[WorkItem]) -> bool
     ensures { result ≡ true ↔ reply.now ≡ replies.Work items.now }
 {
     match reply {
-        Reply::Work(given) => given.as_slice() == items,
+        Reply::Work(given) => are_items(given.as_slice(), items),
         _ => false,
     }
 }
@@ -97,7 +135,19 @@ fn is_what_if(reply: &Reply, cases: &[CaseId]) -> bool
     ensures { result ≡ true ↔ reply.now ≡ replies.WhatIf cases.now }
 {
     match reply {
-        Reply::WhatIf(given) => given.as_slice() == cases,
+        Reply::WhatIf(given) => are_cases(given.as_slice(), cases),
         _ => false,
     }
+}
+
+fn are_items(some: &[WorkItem], others: &[WorkItem]) -> bool
+    ensures { result ≡ true ↔ some.now ≡ others.now }
+{
+    some == others
+}
+
+fn are_cases(some: &[CaseId], others: &[CaseId]) -> bool
+    ensures { result ≡ true ↔ some.now ≡ others.now }
+{
+    some == others
 }

@@ -13,7 +13,7 @@ use Rattle.wf_board.specs.declared.verdict.Verdict.{Verdict}
 use Rattle.wf_board.specs.declared.verdict.Verdict.TheVariants as verdict
 use Rattle.wf_board.specs.Boards.{BoardShape, SnapShape, state_on}
 use Rattle.wf_board.specs.Counting.{count_of, counted, counted_end, counts_for, lane_end, last_end_from}
-use Rattle.wf_board.specs.Decisions.{decision_of, needs_verdict}
+use Rattle.wf_board.specs.Decisions.{decision_of, is_view, needs_verdict}
 use Rattle.wf_board.specs.Histories.{IsRightAfter}
 use Rattle.wf_board.specs.HistoryLaws.{again_rests, again_stays, step_rests}
 use Rattle.wf_board.specs.States.{opening_state}
@@ -45,16 +45,27 @@ fresh_verdict d places t v is fresh right =
 
 record LostFacts (d : DeskShape) (t : Task) : Type 0 where
   pub positive : 1 ≤ d.rounds
+  pub deed : is_view t.ask ≡ false
   pub undecided : needs_verdict (decision_of (state_on d.board).book t.ask) ≡ true
   pub floor : floor_of d t.lane ≤ t.number
+
+not_told : (b : Bool) → not b ≡ true → b ≡ false
+not_told true h = cc
+not_told false h = refl
 
 lost_facts : (d : DeskShape) (t : Task) → is_lost d t ≡ true → LostFacts d t
 lost_facts d t lost =
     let first = and_both (nat_le 1 d.rounds) _ lost in
-    let second = and_both (needs_verdict (decision_of (state_on d.board).book t.ask)) _ first.1 in
+    let next = and_both (not (is_view t.ask)) _ first.1 in
+    let second = and_both (needs_verdict (decision_of (state_on d.board).book t.ask)) _ next.1 in
     let one = first.0 in
     let floor = second.1 in
-    record { positive = grind (arith, common_steps, one); undecided = second.0; floor = grind (arith, common_steps, floor) }
+    record {
+      positive = grind (arith, common_steps, one);
+      deed = not_told (is_view t.ask) next.0;
+      undecided = second.0;
+      floor = grind (arith, common_steps, floor);
+    }
 
 pub may_lose : (d : DeskShape) (t : Task) → IsNext d t → is_fresh d t ≡ false → is_lost d t ≡ true → MayLose d t.lane t.ask
 may_lose d t next stale lost =
@@ -90,6 +101,7 @@ again_right d places t place is next stale lost last end =
           (
             refl,
             record {
+              deed = facts.deed;
               undecided = subst (λ s. needs_verdict (decision_of s.book t.ask) ≡ true) is.sound.state facts.undecided;
               positive = facts.positive;
               all = refl;
@@ -301,6 +313,7 @@ added_as d e j place P Q as_well added = record {
   stands = added.stands;
   answers = added.answers;
   reply = as_well added.entry.reply added.reply;
+  lacking = added.lacking;
   added = added.added;
   opening = added.opening;
   lanes = added.lanes;

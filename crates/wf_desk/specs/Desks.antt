@@ -51,7 +51,8 @@ IsDone d = (lane : ℕ) → next_job d lane ≡ None
 
 -- what the type of a desk keeps: the entries are a legal history, and the board shows the state after it; each lane's
 -- entries of the batch answer its first jobs, in order; what is answered again rests on entries of the batch; only an
--- opening, a claim or an edit is answered with want of memory; and there is room for a case for each job that is left
+-- opening, a claim, an edit or a view over the open cases is answered with want of memory; and there is room for a case for
+-- each job that is left
 pub record IsSoundDesk (d : DeskShape) : Type 0 where
   pub legal : IsLegal (opening_state d.opening) d.rounds d.entries
   pub state : state_on d.board ≡ state_after (opening_state d.opening) d.entries

@@ -2,7 +2,6 @@
 ghost use Rattle.std.specs.Prelude.{◌≡◌, ◌≤◌, ◌<◌, ◌+◌, ◌↔◌, ◌≢◌, nat_le, true, false, [], length, replicate, OnErr, OnOk, IfOk, None, Some, Option};
 ghost use Rattle.wf_names.specs.declared.limits.TheConstants.{BATCH_LINE_LIMIT, LANE_LIMIT, ROUND_LIMIT};
 ghost use Rattle.wf_board.specs.Boards.{book_on, state_on};
-ghost use Rattle.wf_board.specs.Decisions.{is_view};
 ghost use Rattle.wf_board.specs.States.{opening_state};
 ghost use Rattle.wf_board.specs.Verdicts.{Decides, IsDecided, IsRight};
 ghost use Rattle.wf_desk.specs.Desks.{AreOfLanes, HasAdded, IsDone, IsSoundDesk, left_of, next_job, no_loss, with_batch, with_room};
@@ -16,7 +15,7 @@ use policy_book::Policy;
 use std::alloc::{AllocError, Global};
 use std::marker::Model;
 use std::sync::Arc;
-use wf_board::{Board, Decider, Verdict};
+use wf_board::{Board, Decider, Verdict, is_view};
 use wf_names::LANE_LIMIT;
 use wf_talk::{Ask, Job, Jobs, Journal, Reply, Request};
 
@@ -403,16 +402,6 @@ fn is_change(ask: &Ask) -> bool
     ensures { result ≡ is_change ask.now }
 {
     matches!(ask, Ask::Request(Request::Change { .. }))
-}
-
-// Whether this is a view over the open cases.
-fn is_view(ask: &Ask) -> bool
-    ensures { result ≡ is_view ask.now }
-{
-    matches!(
-        ask,
-        Ask::Request(Request::Worklist { .. } | Request::WhatIf { .. })
-    )
 }
 
 // The job of a task.

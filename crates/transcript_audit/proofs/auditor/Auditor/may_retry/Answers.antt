@@ -19,6 +19,7 @@ returns c =
     (λ yes. record {
       rounds = c.if-rounds.false ∙ c.rounds.ensures;
       positive = some;
+      deed = sym c.is_view.ensures ∙ c.if-is_view.false;
       undecided = subst (λ (s : State). needs_verdict (decision_of s.book j.ask) ≡ true) c.self.invariant (sym c.needs.ensures ∙ c.if-not-needs.false);
       rests = sym c.rests.ensures ∙ yes;
     })

@@ -1,4 +1,4 @@
-use Rattle.std.proofs.Common.{◌≡◌, ◌≤◌, ◌+◌, true, subst}
+use Rattle.std.proofs.Common.{◌≡◌, ◌≤◌, ◌+◌, true, subst, ap, ◌∙◌}
 use Rattle.std.specs.Arc.{arc_value}
 use Rattle.wf_talk.specs.declared.reply.Reply.TheVariants as replies
 use Rattle.wf_board.specs.declared.verdict.Verdict.TheVariants as verdicts
@@ -24,5 +24,6 @@ returns-in_default c =
       needs = subst (λ b. needs_verdict (decision_of (state_on b).book what) ≡ true → c.args.verdict ≡ verdicts.Nothing → given ≡ Needs) c.self.view_is by.needs;
       made = subst (λ b. needs_verdict (decision_of (state_on b).book what) ≡ true → HasUsed c.args.verdict given) c.self.view_is by.made;
       memory = subst (λ b. given ≡ Done replies.NoMemory → MayLackMemory b what c.args.verdict) c.self.view_is (by.memory edits);
+      lacking = λ short. ap (λ (t : _). board_of (arc_value c.self.inside.policy) t edits) (by.lacking short) ∙ c.self.view_is;
       room = subst (λ b. b.cases.spare ≤ c.answer.new.cases.spare + 1) c.self.view_is by.room;
     }

@@ -1,0 +1,5 @@
+pub mod Passing
+pub mod Numbers
+pub mod Usage
+pub mod Plain
+pub mod Decimals

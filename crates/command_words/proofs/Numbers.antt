@@ -1,0 +1,208 @@
+-- The numbers that are found.
+use Rattle.std.proofs.Common.{◌≡◌, ◌⊎◌, ◌∙◌, ◌<◌, ◌≤◌, ◌-◌, ◌^◌, ◌==◌, ℕ, ℤ, Bool, true, false, cond, drop, refl, sym, ap, subst, arith, inl, inr, rules, length, List, [], ◌∷◌, Option, Some, None, Result, Ok, Err, true≢false}
+use Rattle.std.specs.Prelude.{IfSome, codes, slice_get, ⊤, find, option_and_then, option_map, pos, unwrap_or}
+use Rattle.std.specs.List.{All, Any, slice_index_or}
+use Rattle.std.specs.Str.{bytes_eq}
+use Rattle.std.specs.Str.Parse.{IsNumeral, ParsesUnsigned, digits_value, starts_with_minus, without_leading_plus}
+use Rattle.std.proofs.lemmas.Bool.{ne_eqb}
+use Rattle.std.proofs.lemmas.Int.{ints}
+use Rattle.std.proofs.lemmas.List.Elements.{All-cons, All-drop, All-get_or, All-nil}
+use Rattle.std.proofs.lemmas.Slice.Eq.{bytes_eq-Decides}
+use Rattle.std.proofs.lemmas.Str.Parse.{digit_from_value}
+use Rattle.clap.specs.Lexer.{without_minus}
+use Rattle.clap.specs.Words.{Accepts, App, ReadsOne, Row, Rule, Text, built, one_of, read_as, reading_of}
+use Rattle.clap.specs.Facts.{parser_of_value}
+use Rattle.clap.specs.Values.{IsSignedIn}
+use Rattle.clap.specs.Walk.{row_text}
+use Rattle.clap.specs.declared.builder.value_parser.Reading.{Reading}
+use Rattle.clap.specs.declared.builder.value_parser.ValueParser.{ValueParser}
+use Rattle.clap.specs.declared.builder.value_parser.ValueParser.TheVariants.{Signed, Unsigned}
+use Rattle.wf_names.specs.declared.limits.TheConstants.{LANE_LIMIT, ROUND_LIMIT}
+use Rattle.command_words.specs.Words.{audit_form, serve_form, trial_form}
+use Rattle.command_words.specs.Finding.{HasOptions, PassesIn, RowPasses, TakesValue, WritesWithin}
+
+-- ---- reading a text that writes a number
+
+number_at : {E : Type 0} (G : List ℕ → Result ℕ E → Type 0) (k least most : ℕ) (text : Text) (r : Option ℕ)
+    → ((u : Text) (x : Result ℕ E) → G u x → ParsesUnsigned k 10 u x) → most < 2 ^ k
+    → IsNumeral 10 (without_leading_plus text) × (least ≤ digits_value 10 (without_leading_plus text)) × (digits_value 10 (without_leading_plus text) ≤ most)
+    → ReadsOne G text r
+    → (r ≡ Some (digits_value 10 (without_leading_plus text))) × IfSome r (λ n. (least ≤ n) × (n ≤ most))
+number_at G k least most text (Some n) only fits writes read =
+    let is = (only text (Ok n) read).1 in
+    (ap Some is, (rw is writes.1, rw is writes.2))
+number_at G k least most text None only fits writes read =
+    let small : digits_value 10 (without_leading_plus text) < 2 ^ k = omega arith in
+    absurd (only text (Err read.0) read.1 (writes.0, small))
+
+pub number_read : {E : Type 0} (G : List ℕ → Result ℕ E → Type 0) (k least most : ℕ) (o : Option Text) (r : Option ℕ)
+    → ((u : Text) (x : Result ℕ E) → G u x → ParsesUnsigned k 10 u x) → most < 2 ^ k
+    → ((text : Text) → o ≡ Some text → IsNumeral 10 (without_leading_plus text)
+    × (least ≤ digits_value 10 (without_leading_plus text)) × (digits_value 10 (without_leading_plus text) ≤ most))
+    → (o ≡ None → r ≡ None) → ((text : Text) → o ≡ Some text → ReadsOne G text r)
+    → (r ≡ option_map (λ text. digits_value 10 (without_leading_plus text)) o) × IfSome r (λ n. (least ≤ n) × (n ≤ most))
+number_read G k least most None r only fits writes none value = let is = none refl in (is, (rw is tt))
+number_read G k least most (Some text) r only fits writes none value =
+    number_at G k least most text r only fits (writes text refl) (value text refl)
+
+-- ---- the text that was found under a name
+
+row_found : (P : Row → Type 0) (name : Text) (rows : List Row) (row : Row) → All P rows
+    → find (λ r. bytes_eq r.id name) rows ≡ Some row → P row × (bytes_eq row.id name ≡ true)
+row_found P name [] row all is = cc
+row_found P name (r ∷ rows) row all is =
+    go (bytes_eq r.id name) refl (λ rest. row_found P name rows row (All-drop P 1 (r ∷ rows) all) rest)
+  where
+    go : (t : Bool) → bytes_eq r.id name ≡ t
+        → (find (λ r. bytes_eq r.id name) rows ≡ Some row → P row × (bytes_eq row.id name ≡ true))
+        → P row × (bytes_eq row.id name ≡ true)
+    go true t rec =
+        let same : Some r ≡ Some row = rw t at is in
+        let one : r ≡ row = ap (λ (o : Option Row). unwrap_or o r) same in
+        subst (λ (x : Row). P x × (bytes_eq x.id name ≡ true)) one (All-get_or P (r ∷ rows) 0 r (omega arith) all, t)
+    go false t rec = rec (rw t at is)
+
+-- each argument with this name has this parser
+abbrev pub HasParser : Text → ValueParser → Rule → Type 0
+HasParser name q r = bytes_eq r.id name ≡ true → parser_of_value r.parser ≡ q
+
+-- a text that is read by this parser of a value that passed it
+abbrev pub IsReadBy : ValueParser → Text → Type 0
+IsReadBy q text = (b : Bool) × (v : Text) × (text ≡ read_as (reading_of q) v) × Accepts b q v
+
+parser_at : (rules : List Rule) (name : Text) (q : ValueParser) (P : Rule → Type 0) → All (HasParser name q) rules
+    → Any (λ r. (bytes_eq r.id name ≡ true) × P r) rules → (r : Rule) × (parser_of_value r.parser ≡ q) × P r
+parser_at rules name q P all any =
+    let has = All-get_or (HasParser name q) rules any.0 any.1 any.2 all in
+    (any.1, subst (HasParser name q) any.3 has any.4.0, any.4.1)
+
+text_read : (rules : List Rule) (name : Text) (q : ValueParser) → All (HasParser name q) rules
+    → (how : Reading) (values : List Text)
+    → All (λ value. Any (TakesValue name value) rules) values
+    → Any (λ r. (bytes_eq r.id name ≡ true) × (reading_of (parser_of_value r.parser) ≡ how)) rules
+    → (text : Text) → option_map (read_as how) (slice_get values 0) ≡ Some text → IsReadBy q text
+text_read rules name q all how [] pass reads text is = cc
+text_read rules name q all how (v ∷ vs) pass reads text is =
+    let taken = parser_at rules name q (λ r. Accepts r.ignore_case (parser_of_value r.parser) v) all
+    (All-get_or (λ value. Any (TakesValue name value) rules) (v ∷ vs) 0 v (omega arith) pass) in
+    let read = parser_at rules name q (λ r. reading_of (parser_of_value r.parser) ≡ how) all reads in
+    let how_is : how ≡ reading_of q = sym read.2 ∙ ap reading_of read.1 in
+    let same : read_as how v ≡ text = ap (λ (o : Option Text). unwrap_or o text) is in (
+      taken.0.ignore_case,
+      v,
+      sym same ∙ ap (λ (h : Reading). read_as h v) how_is,
+      subst (λ (p : ValueParser). Accepts taken.0.ignore_case p v) taken.1 taken.2,
+    )
+
+found_text : (rules : List Rule) (name : Text) (q : ValueParser) (rows : List Row) → (name ≡ [] → ⊥) → All (HasParser name q) rules
+    → All (RowPasses rules) rows → (text : Text) → one_of name rows ≡ Some text → IsReadBy q text
+found_text rules name q rows named all pass text is = go (find (λ r. bytes_eq r.id name) rows) refl is
+  where
+    at_row : (row : Row) → row.id ≡ name → RowPasses rules row → row_text row ≡ Some text → IsReadBy q text
+    at_row row id passes is = elim passes [
+      | inl empty ↦ absurd (named (sym id ∙ empty))
+      | inr h ↦ text_read rules name q all row.reading row.values
+          (subst (λ (w : Text). All (λ value. Any (TakesValue w value) rules) row.values) id h.0)
+          (subst (λ (w : Text). Any (λ r. (bytes_eq r.id w ≡ true) × (reading_of (parser_of_value r.parser) ≡ row.reading)) rules) id h.1)
+          text is
+    ]
+
+    go : (o : Option Row) → find (λ r. bytes_eq r.id name) rows ≡ o → option_and_then row_text o ≡ Some text → IsReadBy q text
+    go None e is = cc
+    go (Some row) e is =
+        let got = row_found (RowPasses rules) name rows row pass e in
+        at_row row ((bytes_eq-Decides row.id name).0 got.1) got.0 is
+
+-- ---- what the parsers take
+
+without_minus-cond : (t : Text) → without_minus t ≡ cond (starts_with_minus t) (drop 1 t) t
+without_minus-cond [] = refl
+without_minus-cond (x ∷ xs) = go (x == 45)
+  where
+    go : (b : Bool) → unwrap_or (cond b (Some xs) None) (x ∷ xs) ≡ cond b xs (x ∷ xs)
+    go true = refl
+    go false = refl
+
+pub no_plus : (ds : Text) → IsNumeral 10 ds → without_leading_plus ds ≡ ds
+no_plus [] h = refl
+no_plus (d ∷ ds) h =
+    let plus : (d == 43) ≡ false = ne_eqb _ _ (λ e. omega (arith, digit_from_value d h.1.0)) in
+    ap (λ (b : Bool). drop (cond b 1 0) (d ∷ ds)) plus
+
+-- the text writes a number from the least to the most
+abbrev pub Writes : ℕ → ℕ → Text → Type 0
+Writes least most text = IsNumeral 10 (without_leading_plus text)
+    × (least ≤ digits_value 10 (without_leading_plus text)) × (digits_value 10 (without_leading_plus text) ≤ most)
+
+signed_writes : (least most : ℕ) (v : Text) → IsSignedIn (pos least) (pos most) v → Writes least most (without_minus v)
+signed_writes least most v passed = subst (Writes least most) (sym (without_minus-cond v)) (go (starts_with_minus v) refl)
+  where
+    go : (b : Bool) → starts_with_minus v ≡ b → Writes least most (cond (starts_with_minus v) (drop 1 v) v)
+    go true minus =
+        let low_ok = rw minus at passed.2 in
+        let numeral : IsNumeral 10 (drop 1 v) = rw minus at passed.0 in
+        let same = no_plus (drop 1 v) numeral in
+        rw minus (rw same numeral, rw same (omega (arith, ints)), rw same (omega (arith, ints)))
+    go false minus =
+        let low_ok = rw minus at passed.2 in
+        let high_ok = rw minus at passed.3 in
+        let numeral = rw minus at passed.0 in
+        rw minus (numeral, omega (arith, ints), omega (arith, ints))
+
+signed_within : (rules : List Rule) (name : Text) (least most : ℕ) (rows : List Row) → (name ≡ [] → ⊥)
+    → All (HasParser name (Signed (pos least) (pos most))) rules → All (RowPasses rules) rows → WritesWithin least most name rows
+signed_within rules name least most rows named all pass text is =
+    let read = found_text rules name (Signed (pos least) (pos most)) rows named all pass text is in
+    subst (Writes least most) (sym read.2) (signed_writes least most read.1 read.3)
+
+unsigned_within : (rules : List Rule) (name : Text) (least most : ℕ) (rows : List Row) → (name ≡ [] → ⊥)
+    → All (HasParser name (Unsigned least most)) rules → All (RowPasses rules) rows → WritesWithin least most name rows
+unsigned_within rules name least most rows named all pass text is =
+    let read = found_text rules name (Unsigned least most) rows named all pass text is in
+    subst (Writes least most) (sym read.2) (read.3.0, read.3.2, read.3.3)
+
+-- ---- the forms
+
+-- P holds of each rule, one by one
+abbrev pub Each : (Rule → Type 0) → List Rule → Type 0
+Each P [] = ⊤
+Each P (r ∷ rs) = P r × Each P rs
+
+all_of : (P : Rule → Type 0) (rs : List Rule) → Each P rs → All P rs
+all_of P [] h = All-nil P
+all_of P (r ∷ rs) h = All-cons P r rs h.0 (all_of P rs h.1)
+
+rules_of : (P : Rule → Type 0) (a : App) (rows : List Row) (p : PassesIn a rows) → Each P a.top.rules → Each P (built a).top.rules → All P p.rules
+rules_of P a rows p before after = elim p.are [
+  | inl same ↦ subst (All P) (sym same) (all_of P a.top.rules before)
+  | inr same ↦ subst (All P) (sym same) (all_of P (built a).top.rules after)
+]
+
+other : {X : Type 0} → false ≡ true → X
+other e = absurd (true≢false (sym e))
+
+abbrev lanes_parser : ValueParser
+lanes_parser = Signed (pos 1) (pos LANE_LIMIT)
+
+abbrev rounds_parser : ValueParser
+rounds_parser = Signed (pos 0) (pos ROUND_LIMIT)
+
+pub serve_options : (rows : List Row) → PassesIn serve_form rows → HasOptions rows
+serve_options rows p = record {
+  lanes = signed_within p.rules (codes "lanes") 1 LANE_LIMIT rows (λ e. cc)
+      (rules_of (HasParser (codes "lanes") lanes_parser) serve_form rows p (other, (λ e. refl, (other, tt))) (other, (λ e. refl, (other, (other, tt))))) p.pass;
+  rounds = signed_within p.rules (codes "rounds") 0 ROUND_LIMIT rows (λ e. cc)
+      (rules_of (HasParser (codes "rounds") rounds_parser) serve_form rows p (other, (other, (λ e. refl, tt))) (other, (other, (λ e. refl, (other, tt))))) p.pass;
+}
+
+pub audit_options : (rows : List Row) → PassesIn audit_form rows → HasOptions rows
+audit_options rows p = record {
+  lanes = signed_within p.rules (codes "lanes") 1 LANE_LIMIT rows (λ e. cc)
+      (rules_of (HasParser (codes "lanes") lanes_parser) audit_form rows p (other, (other, (λ e. refl, (other, tt)))) (other, (other, (λ e. refl, (other, (other, tt)))))) p.pass;
+  rounds = signed_within p.rules (codes "rounds") 0 ROUND_LIMIT rows (λ e. cc)
+      (rules_of (HasParser (codes "rounds") rounds_parser) audit_form rows p (other, (other, (other, (λ e. refl, tt)))) (other, (other, (other, (λ e. refl, (other, tt)))))) p.pass;
+}
+
+pub trial_seed : (rows : List Row) → PassesIn trial_form rows → WritesWithin 0 (2 ^ 64 - 1) (codes "SEED") rows
+trial_seed rows p = unsigned_within p.rules (codes "SEED") 0 (2 ^ 64 - 1) rows (λ e. cc)
+    (rules_of (HasParser (codes "SEED") (Unsigned 0 (2 ^ 64 - 1))) trial_form rows p (λ e. refl, tt) (λ e. refl, (other, tt))) p.pass

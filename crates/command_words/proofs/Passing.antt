@@ -1,0 +1,155 @@
+-- What a parse that succeeds finds, by the definitions.
+use Rattle.std.proofs.Common.{◌≡◌, ◌⊎◌, ◌∙◌, ◌<◌, ◌&&◌, ℕ, Bool, true, false, not, refl, sym, ap, rules, subst, arith, inl, inr, length, List, [], ◌∷◌, map, Option, Some, None, true≢false}
+use Rattle.std.specs.List.{All, Any, list_all, slice_index_or}
+use Rattle.std.specs.Borrow.{Bor}
+use Rattle.std.specs.Prelude.{if◌then◌else◌}
+use Rattle.std.proofs.lemmas.Bool.{ne_eqb}
+use Rattle.std.proofs.lemmas.List.{get_or-map, length-map}
+use Rattle.std.proofs.lemmas.List.Elements.{All-map, All-weaker}
+use Rattle.clap.specs.Words.{App, IsParsed, Row, Rule, Shape, Text, app_of, args_of, built, fault_of, found_of, groups_of, has_subcommand, is_simple, is_simple_and_free, matches_of, rows_of, rule_of}
+use Rattle.clap.specs.Words.{BuildsOrBreaks, HasKind, HasMatchesOf, IsAmong, Kinds, is_broken, kind_of}
+use Rattle.clap.specs.Facts.{Entry, EntryPasses, HasReading, PassesArg, ValuesPass}
+use Rattle.clap.specs.Walk.{is_empty, row_of, rules_of, texts}
+use Rattle.clap.specs.Simple.{has_plain_fields, has_simple_rules, is_buildable, is_ready}
+use Rattle.clap.specs.declared.builder.arg.Arg.{Arg}
+use Rattle.clap.specs.declared.builder.command.Command.{Command}
+use Rattle.clap.specs.declared.builder.command.Command.TheViews.{out-Command as fields_of}
+use Rattle.clap.specs.declared.error.Error.{Error}
+use Rattle.clap.specs.declared.error.kind.ErrorKind.TheVariants.{OutOfMemory}
+use Rattle.clap.specs.declared.parser.matches.ArgMatches.{ArgMatches}
+use Rattle.clap.specs.declared.parser.matches.Found.{Found}
+use Rattle.command_words.specs.Words.{found}
+use Rattle.command_words.specs.Finding.{PassesIn, RowPasses, TakesValue, rows_in}
+
+both : (a b : Bool) → (a && b) ≡ true → (a ≡ true) × (b ≡ true)
+both true b e = (refl, e)
+both false b e = absurd (true≢false (sym e))
+
+not_empty : {X : Type 0} (x : X) (xs : List X) → is_empty (x ∷ xs) ≡ false
+not_empty x xs = ne_eqb _ _ (λ e. let lots : length (x ∷ xs) ≡ 0 = e in omega arith)
+
+no_elements : {X : Type 0} (xs : List X) → is_empty xs ≡ true → xs ≡ []
+no_elements [] e = refl
+no_elements (x ∷ xs) e = absurd (true≢false (sym e ∙ not_empty x xs))
+
+of_not : (b : Bool) → not b ≡ true → b ≡ false
+of_not false e = refl
+of_not true e = absurd (true≢false (sym e))
+
+-- ---- from the arguments of a command to its rules
+
+any_rule : (P : Rule → Type 0) (xs : List Arg) → Any (λ a. P (rule_of a)) xs → Any P (map rule_of xs)
+any_rule P xs any = (
+  any.0,
+  rule_of any.1,
+  rw (length-map xs rule_of) any.2,
+  get_or-map rule_of xs any.0 any.1 (rule_of any.1) any.2 ∙ ap rule_of any.3,
+  any.4,
+)
+
+values_pass : (c : Command) (name : Text) (vals : List (Bor Text)) → All (λ v. PassesArg c name v.now) vals
+    → All (λ value. Any (TakesValue name value) (rules_of c)) (texts vals)
+values_pass c name vals all = All-map (λ value. Any (TakesValue name value) (rules_of c)) (λ v. v.now) vals
+    (All-weaker (λ v. PassesArg c name v.now) (λ v. Any (TakesValue name v.now) (rules_of c))
+    (λ v h. any_rule (TakesValue name v.now) (args_of c) h) vals all)
+
+row_passes : (c : Command) → groups_of c ≡ [] → (e : Entry) → EntryPasses c e → RowPasses (rules_of c) (row_of e)
+row_passes c no_groups e pass = go e.1.is_group refl
+  where
+    go : (g : Bool) → e.1.is_group ≡ g → RowPasses (rules_of c) (row_of e)
+    go true is = elim (pass.3 is) [
+      | inl empty ↦ inl empty
+      | inr lots ↦
+          let bad : 0 < 0 = rw no_groups at lots in
+          absurd (omega arith)
+    ]
+    go false is = elim pass.0 [
+      | inl g ↦ absurd (true≢false (sym g ∙ is))
+      | inr vals ↦ elim pass.4 [
+        | inl g ↦ absurd (true≢false (sym g ∙ is))
+        | inr read ↦ inr (values_pass c e.0.now e.1.vals.items vals, any_rule _ (args_of c) read)
+      ]
+    ]
+
+rows_pass : (c : Command) (f : Found) → groups_of c ≡ [] → ValuesPass c f → All (RowPasses (rules_of c)) (rows_of f)
+rows_pass c f no_groups pass = All-map (RowPasses (rules_of c)) row_of f.entries.items
+    (All-weaker (EntryPasses c) (λ e. RowPasses (rules_of c) (row_of e)) (row_passes c no_groups) f.entries.items pass)
+
+-- ---- a plain command
+
+plain_before : (a : App) → is_simple_and_free a ≡ true → a.top.is_plain ≡ true
+plain_before a e =
+    let simple = (both _ _ e).0 in
+    let buildable = (both _ _ simple).0 in
+    (both _ _ (both _ _ buildable).0).0
+
+plain_built : (a : App) → is_simple_and_free a ≡ true → (built a).top.is_plain ≡ true
+plain_built a e =
+    let simple = (both _ _ e).0 in
+    let ready = (both _ _ (both _ _ simple).1).0 in
+    (both _ _ (both _ _ ready).0).0
+
+no_groups : (c : Command) → (app_of c).top.is_plain ≡ true → groups_of c ≡ []
+no_groups c e = no_elements (groups_of c) (both _ _ e).0
+
+no_globals : (c : Command) → (app_of c).top.is_plain ≡ true → (fields_of c).has_globals ≡ false
+no_globals c e = of_not _ (both _ _ (both _ _ (both _ _ e).1).1).0
+
+-- ---- a parse that succeeds
+
+buildable : (a : App) → is_simple_and_free a ≡ true → is_buildable a ≡ true
+buildable a e = (both _ _ (both _ _ e).0).0
+
+simple : (a : App) → is_simple_and_free a ≡ true → is_simple a ≡ true
+simple a e = (both _ _ e).0
+
+passes_as : (old new : Command) (m : ArgMatches) → is_simple_and_free (app_of old) ≡ true
+    → (app_of new ≡ app_of old) ⊎ (app_of new ≡ built (app_of old))
+    → ((fields_of new).has_globals ≡ false → IsParsed new (found_of m) (has_subcommand m))
+    → PassesIn (app_of old) (rows_in m)
+passes_as old new m free which parsed =
+    let plain : (app_of new).top.is_plain ≡ true = elim which [
+      | inl same ↦ ap (λ (a : App). a.top.is_plain) same ∙ plain_before (app_of old) free
+      | inr same ↦ ap (λ (a : App). a.top.is_plain) same ∙ plain_built (app_of old) free
+    ] in
+    record {
+      rules = rules_of new;
+      are = elim which [
+        | inl same ↦ inl (ap (λ (a : App). a.top.rules) same)
+        | inr same ↦ inr (ap (λ (a : App). a.top.rules) same)
+      ];
+      pass = rows_pass new (found_of m) (no_groups new plain) (parsed (no_globals new plain)).values;
+    }
+
+pub passes : (old new : Command) (m : ArgMatches) → is_simple_and_free (app_of old) ≡ true
+    → ((fields_of new).has_globals ≡ false → IsParsed new (found_of m) (has_subcommand m))
+    → (is_broken new ≡ true → ⊥) → BuildsOrBreaks old new
+    → PassesIn (app_of old) (rows_in m)
+passes old new m free parsed whole after = elim after [
+  | inl broken ↦ absurd (whole broken)
+  | inr is ↦ passes_as old new m free (elim is.2 [
+    | inl same ↦ inl same
+    | inr same ↦ inr (same (buildable (app_of old) free))
+  ]) parsed
+]
+
+-- ---- what is found
+
+pub is_found : (a : App) (words : List Text) (m : ArgMatches) → is_simple_and_free a ≡ true → HasMatchesOf a words m
+    → fault_of a words ≡ [] → Some (rows_in m) ≡ found a words
+unfolding found
+is_found a words m free matches none =
+    let rows = (matches (simple a free)).0 in
+    ap Some rows ∙ sym (ap (λ (k : Kinds). if is_empty k then Some (matches_of a words) else None) none)
+
+among : (k : Kinds) (e : Error) → IsAmong (kind_of e) k → is_empty k ≡ false
+among [] e h = absurd h
+among (x ∷ xs) e h = not_empty x xs
+
+pub none_found : (a : App) (words : List Text) (e : Error) → HasKind (fault_of a words) e → (kind_of e ≡ OutOfMemory → ⊥)
+    → None ≡ found a words
+unfolding found
+none_found a words e has other = elim has [
+  | inl out ↦ absurd (other out)
+  | inr is ↦ sym (ap (λ (b : Bool). if b then Some (matches_of a words) else None) (among (fault_of a words) e is))
+]

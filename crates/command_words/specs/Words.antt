@@ -1,0 +1,151 @@
+-- The words of the program's command line. Which words are at fault, and what is found at the others,
+-- is said by the definitions of `clap`, for one form for each command.
+use Rattle.std.specs.Prelude.{ℕ, pos, ◌<◌, ◌≤◌, ◌^◌, ◌-◌, Bool, true, false, ◌&&◌, List, [], ◌∷◌, fold, Option, None, Some, option_map, option_and_then, codes, nat_eq, nat_lt, if◌then◌else◌}
+use Rattle.std.specs.Fmt.{decimal}
+use Rattle.std.specs.Str.Parse.{digits_value, without_leading_plus}
+use Rattle.std.specs.Cmp.Lexicographic.{pointwise}
+use Rattle.clap.specs.Words.{App, Row, Rule, Text, fault_of, first_of, matches_of, new_app, new_rule, one_of, with_rule}
+use Rattle.clap.specs.Walk.{is_empty}
+use Rattle.clap.specs.declared.builder.value_parser.ValueParser.TheVariants.{Signed, Unsigned}
+use Rattle.wf_names.specs.declared.limits.TheConstants.{LANE_LIMIT, DEFAULT_LANES, ROUND_LIMIT, DEFAULT_ROUNDS}
+
+-- how a session is served: on how many lanes, and after how many rounds a request is answered again
+pub record Options : Type 0 where
+  pub lanes : ℕ
+  pub rounds : ℕ
+
+-- there are some lanes, and not too many lanes and rounds
+pub record AreOptions (o : Options) : Type 0 where
+  pub some : 0 < o.lanes
+  pub lanes : o.lanes ≤ LANE_LIMIT
+  pub rounds : o.rounds ≤ ROUND_LIMIT
+
+-- what the program is asked to do, with the names of the files and the workflow, and the seed
+pub data Command : Type 0 where
+  plan : Text → Text → Command
+  show : Text → Command
+  solve : Text → Command
+  serve : Text → Options → Command
+  audit : Text → Text → Options → Command
+  trial : ℕ → Command
+
+-- ---- the forms of the commands
+
+-- a word that has to be there
+abbrev pub wanted : Text → Rule
+wanted name = record (new_rule name) { required = true }
+
+-- a word that has to be there and writes a number below 2 ^ 64
+abbrev pub wanted_number : Text → Rule
+wanted_number name = record (wanted name) { parser = Some (Unsigned 0 (2 ^ 64 - 1)) }
+
+-- `--name` with a number from the least to the most, and what stands for it where it is left out
+abbrev pub ranged : Text → ℕ → ℕ → Text → Rule
+ranged name least most usual = record (new_rule name) {
+  long = Some name;
+  parser = Some (Signed (pos least) (pos most));
+  defaults = usual ∷ [];
+}
+
+abbrev pub policy_word : Rule
+policy_word = wanted (codes "POLICY")
+
+abbrev pub lanes_option : Rule
+lanes_option = ranged (codes "lanes") 1 LANE_LIMIT (decimal DEFAULT_LANES)
+
+abbrev pub rounds_option : Rule
+rounds_option = ranged (codes "rounds") 0 ROUND_LIMIT (decimal DEFAULT_ROUNDS)
+
+-- a command with this name and these arguments
+abbrev pub form : Text → List Rule → App
+form name arguments = fold with_rule (new_app name) arguments
+
+abbrev pub plan_form : App
+plan_form = form (codes "plan") (policy_word ∷ wanted (codes "FLOW") ∷ [])
+
+abbrev pub show_form : App
+show_form = form (codes "show") (policy_word ∷ [])
+
+abbrev pub solve_form : App
+solve_form = form (codes "solve") (policy_word ∷ [])
+
+abbrev pub serve_form : App
+serve_form = form (codes "serve") (policy_word ∷ lanes_option ∷ rounds_option ∷ [])
+
+abbrev pub audit_form : App
+audit_form = form (codes "audit") (policy_word ∷ wanted (codes "REQUESTS") ∷ lanes_option ∷ rounds_option ∷ [])
+
+abbrev pub trial_form : App
+trial_form = form (codes "trial") (wanted_number (codes "SEED") ∷ [])
+
+-- ---- what is found at the words
+
+-- what `clap` finds at the words, the first of which names the command, where none of them is at fault
+unfoldable pub found : App → List Text → Option (List Row)
+found app words = if is_empty (fault_of app words) then Some (matches_of app words) else None
+
+-- the number that was found under a name
+abbrev pub number_of : Text → List Row → Option ℕ
+number_of name rows = option_map (λ text. digits_value 10 (without_leading_plus text)) (one_of name rows)
+
+-- both, where both are there
+abbrev pub with_both : {X Y Z : Type 0} → (X → Y → Z) → Option X → Option Y → Option Z
+with_both make x y = option_and_then (λ a. option_map (make a) y) x
+
+abbrev pub policy_in : List Row → Option Text
+policy_in rows = first_of (codes "POLICY") rows
+
+abbrev pub options_of : List Row → Option Options
+options_of rows = with_both (λ lanes rounds. record { lanes = lanes; rounds = rounds })
+    (number_of (codes "lanes") rows) (number_of (codes "rounds") rows)
+
+abbrev pub plan_of : List Row → Option Command
+plan_of rows = with_both plan (policy_in rows) (first_of (codes "FLOW") rows)
+
+abbrev pub serve_of : List Row → Option Command
+serve_of rows = with_both serve (policy_in rows) (options_of rows)
+
+abbrev pub audit_of : List Row → Option Command
+audit_of rows = option_and_then (λ policy. with_both (audit policy) (first_of (codes "REQUESTS") rows) (options_of rows)) (policy_in rows)
+
+-- ---- the command
+
+-- two words are the same
+abbrev pub is_word : Text → Text → Bool
+is_word word other = pointwise nat_eq word other
+
+-- the command of this first word, at all the words
+abbrev pub command_at : Text → List Text → Option Command
+command_at word words =
+    if is_word word (codes "plan") then option_and_then plan_of (found plan_form words) else
+    if is_word word (codes "show") then option_and_then (λ rows. option_map show (policy_in rows)) (found show_form words) else
+    if is_word word (codes "solve") then option_and_then (λ rows. option_map solve (policy_in rows)) (found solve_form words) else
+    if is_word word (codes "serve") then option_and_then serve_of (found serve_form words) else
+    if is_word word (codes "audit") then option_and_then audit_of (found audit_form words) else
+    if is_word word (codes "trial") then option_and_then (λ rows. option_map trial (number_of (codes "SEED") rows)) (found trial_form words) else
+    None
+
+-- the command that the words are, where they are one
+abbrev pub command_of : List Text → Option Command
+command_of [] = None
+command_of (word ∷ more) = command_at word (word ∷ more)
+
+-- whether the input is read for these words
+abbrev pub reads_input : Option Command → Bool
+reads_input None = false
+reads_input (Some (plan policy flow)) = true
+reads_input (Some (show policy)) = false
+reads_input (Some (solve policy)) = false
+reads_input (Some (serve policy options)) = true
+reads_input (Some (audit policy requests options)) = true
+reads_input (Some (trial seed)) = false
+
+-- whether a request may be answered again for these words: there are several lanes, and some rounds
+abbrev pub may_repeat : Option Command → Bool
+may_repeat None = false
+may_repeat (Some (plan policy flow)) = false
+may_repeat (Some (show policy)) = false
+may_repeat (Some (solve policy)) = false
+may_repeat (Some (audit policy requests options)) = false
+may_repeat (Some (trial seed)) = false
+may_repeat (Some (serve policy options)) = nat_lt 1 options.lanes && nat_lt 0 options.rounds

@@ -1,0 +1,44 @@
+//! What the program is asked to do.
+
+/// How a session is served.
+#[derive(Clone, Copy, Debug, PartialEq, Eq)]
+pub struct Options {
+    /// How many lanes there are, at least one.
+    pub lanes: u8,
+    /// After how many rounds a request that could not be decided is answered again.
+    pub rounds: u8,
+}
+
+/// A command with its words: the policy file, and what else it names.
+#[derive(Clone, Copy, Debug, PartialEq, Eq)]
+pub enum Command<'a> {
+    /// Judges the plan in the input for a workflow.
+    Plan {
+        policy: &'a str,
+        flow: &'a str,
+    },
+    /// Writes the policy.
+    Show {
+        policy: &'a str,
+    },
+    /// Finds a plan for each workflow, or shows that there is none.
+    Solve {
+        policy: &'a str,
+    },
+    /// Answers the requests in the input.
+    Serve {
+        policy: &'a str,
+        options: Options,
+    },
+    /// Audits the transcript in the input, for a requests file.
+    Audit {
+        policy: &'a str,
+        requests: &'a str,
+        options: Options,
+    },
+    /// Runs a trial of random requests.
+    Trial {
+        /// What the random numbers begin from.
+        seed: u64,
+    },
+}

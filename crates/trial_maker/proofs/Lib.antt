@@ -1,0 +1,5 @@
+pub mod NameForms
+pub mod Growing
+pub mod Peers
+pub mod FlowFacts
+pub mod Batches

@@ -1,0 +1,6 @@
+use Rattle.std.proofs.Common.{◌≡◌}
+use Rattle.trial_maker.specs.Trials.{openings}
+use Rattle.trial_maker.proofs.jobs.openings.Given as goal
+
+abbrev pub invariant-cases : goal.invariant-cases
+invariant-cases l = l.jobs ≡ openings l._case

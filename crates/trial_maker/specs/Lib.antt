@@ -1,0 +1,5 @@
+pub mod Draws
+pub mod TrialNames
+pub mod TrialPolicy
+pub mod Trials
+pub mod TrialLaws

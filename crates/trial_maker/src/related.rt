@@ -1,0 +1,71 @@
+//! The relations of a trial.
+ghost use Rattle.std.specs.Prelude.{◌≡◌, ◌≤◌, ◌<◌, ◌+◌, ◌∷◌, [], ◌++◌, length, is_some, false, if◌then◌else◌, IfOk, OnOk};
+ghost use Rattle.std.specs.FinSet as set;
+ghost use Rattle.wf_names.specs.declared.limits.TheConstants.{PAIR_LIMIT, RELATION_LIMIT, USER_LIMIT};
+ghost use Rattle.wf_names.specs.Table.{place_of};
+ghost use Rattle.pair_set.specs.Pairs.{AllPairs};
+ghost use Rattle.user_relations.specs.Relations.{known_names, listed};
+ghost use Rattle.trial_maker.specs.TrialPolicy.{are_peers, peers, trial_relations};
+
+use crate::named::named;
+use crate::people::USERS;
+use pair_set::PairSet;
+use std::alloc::{AllocError, Global};
+use user_relations::Relations;
+use wf_names::{Name, NameFault, RelId};
+
+/// The relation of users of different teams, and of a user to themselves.
+pub(crate) const APART: RelId = RelId(2);
+/// The relation of different users of one team.
+pub(crate) const PEER: RelId = RelId(3);
+/// How many users a team has.
+const TEAM: u16 = 6;
+
+/// The relations.
+#[tactic(auto, using(crate::proofs::NameForms::apart_form, crate::proofs::NameForms::peer_form, crate::proofs::Peers::peers_few, crate::proofs::Peers::peers_users, crate::proofs::Peers::none_few, crate::proofs::Peers::none_users), unfolding(crate::specs::TrialPolicy::trial_relations))]
+pub(crate) fn relations_of(alloc: Global) -> Result<Relations, AllocError>
+    ensures { IfOk result (λ r. r ≡ trial_relations) }
+{
+    let mut relations = Relations::new(alloc)?;
+    declare(&mut relations, named("apart"), PairSet::new(alloc))?;
+    declare(&mut relations, named("peer"), peers(alloc)?)?;
+    relations.make_complement(APART, PEER);
+    Ok(relations)
+}
+
+// Declares a listed relation of a new name, where there is room.
+fn declare(relations: &mut Relations, name: Name, pairs: PairSet) -> Result<(), AllocError>
+    requires few { set.len pairs ≤ PAIR_LIMIT }
+    requires users { AllPairs (λ u v. (u < USER_LIMIT) × (v < USER_LIMIT)) pairs }
+    requires fresh { is_some (place_of (known_names relations.old) name) ≡ false }
+    requires room { length relations.old < RELATION_LIMIT }
+    ensures { OnOk result (relations.new ≡ relations.old ++ (record { name = name; kind = listed pairs }) ∷ []) }
+{
+    match relations.add_pairs(name, pairs) {
+        Ok(_) => Ok(()),
+        Err(NameFault::NoMemory) => Err(AllocError),
+        Err(_) => unreachable!(),
+    }
+}
+
+// The pairs of different users of one team.
+#[tactic(auto, using(crate::proofs::Peers::peers_none, crate::proofs::Peers::peers_more, crate::proofs::Peers::peers_all))]
+fn peers(alloc: Global) -> Result<PairSet, AllocError>
+    ensures { IfOk result (λ s. s ≡ peers) }
+{
+    let mut pairs = PairSet::new(alloc);
+    'pairs: for n in 0..USERS * USERS {
+        add_peers(&mut pairs, n / USERS, n % USERS)?;
+    }
+    Ok(pairs)
+}
+
+// Puts in a pair of users, if they are different ones of one team.
+fn add_peers(pairs: &mut PairSet, i: u16, j: u16) -> Result<(), AllocError>
+    ensures { OnOk result (pairs.new ≡ (if are_peers i j then set.insert pairs.old (i, j) else pairs.old)) }
+{
+    if i != j && i / TEAM == j / TEAM {
+        pairs.insert(i, j)?;
+    }
+    Ok(())
+}
