@@ -6,3 +6,4 @@ pub mod Stranded
 pub mod Replies
 pub mod Entries
 pub mod Texts
+pub mod Listed

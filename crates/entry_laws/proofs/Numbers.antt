@@ -98,6 +98,8 @@ room_of b (deed.Release n c t) none = tt
 room_of b (deed.Withdraw n) none = tt
 room_of b (deed.Change a) none = tt
 room_of b (deed.Show c) none = tt
+room_of b (deed.Work u) none = tt
+room_of b (deed.WhatIf a) none = tt
 room_of b (deed.TurnAway bad) none = tt
 
 always : {A F : Type 0} (r : Result A F) → HoldsOf (λ _. Unit {0}) r
@@ -129,10 +131,10 @@ step_serial s what answer are = decision_serial s (decision_of s.book what) answ
 
 -- ---- each case stands at its number
 
--- P holds of each of these cases
-abbrev pub EachCase : (Numbered → Type 0) → List Numbered → Type 0
-EachCase P [] = Unit {0}
-EachCase P (e ∷ es) = P e × EachCase P es
+-- P holds of each of these
+abbrev pub EachOf : {A : Type 0} → (A → Type 0) → List A → Type 0
+EachOf P [] = Unit {0}
+EachOf P (e ∷ es) = P e × EachOf P es
 
 -- a case of some is found at its number, which is one of those from k on
 pub record IsFoundIn (cases : List Numbered) (k : ℕ) (e : Numbered) : Type 0 where
@@ -163,11 +165,11 @@ found_later k x xs e is later =
       below = omega (arith, below);
     }
 
-each_later : (k : ℕ) (x : Numbered) (xs es : List Numbered) → x.number ≡ k → EachCase (IsFoundIn xs (k + 1)) es → EachCase (IsFoundIn (x ∷ xs) k) es
+each_later : (k : ℕ) (x : Numbered) (xs es : List Numbered) → x.number ≡ k → EachOf (IsFoundIn xs (k + 1)) es → EachOf (IsFoundIn (x ∷ xs) k) es
 each_later k x xs [] is each = tt
 each_later k x xs (e ∷ es) is each = (found_later k x xs e is each.0, each_later k x xs es is each.1)
 
-pub each_found : (k : ℕ) (cases : List Numbered) → AreFrom k cases → EachCase (IsFoundIn cases k) cases
+pub each_found : (k : ℕ) (cases : List Numbered) → AreFrom k cases → EachOf (IsFoundIn cases k) cases
 each_found k [] are = tt
 each_found k (x ∷ xs) are = (found_first k x xs are.0, each_later k x xs xs are.0 (each_found (k + 1) xs are.1))
 
@@ -177,13 +179,13 @@ pub record IsOpenIn (cases : List Numbered) (e : Numbered) : Type 0 where
   pub below : e.number < length cases
   pub live : is_open e.case ≡ true
 
-each_open : (cases es : List Numbered) → EachCase (IsFoundIn cases 0) es → EachCase (IsOpenIn cases) (open_cases es)
+each_open : (cases es : List Numbered) → EachOf (IsFoundIn cases 0) es → EachOf (IsOpenIn cases) (open_cases es)
 each_open cases [] each = tt
 each_open cases (e ∷ es) each = at_first (is_open e.case) refl (each_open cases es each.1)
   where
-    at_first : (b : Bool) → is_open e.case ≡ b → EachCase (IsOpenIn cases) (open_cases es) → EachCase (IsOpenIn cases) (if b then e ∷ open_cases es else open_cases es)
+    at_first : (b : Bool) → is_open e.case ≡ b → EachOf (IsOpenIn cases) (open_cases es) → EachOf (IsOpenIn cases) (if b then e ∷ open_cases es else open_cases es)
     at_first true live rest = (record { found = each.0.found; below = let below = each.0.below in omega (arith, below); live = live }, rest)
     at_first false closed rest = rest
 
-pub open_found : (b : Book) → AreSerial b → EachCase (IsOpenIn b.cases) (open_cases b.cases)
+pub open_found : (b : Book) → AreSerial b → EachOf (IsOpenIn b.cases) (open_cases b.cases)
 open_found b are = each_open b.cases b.cases (each_found 0 b.cases are.numbers)

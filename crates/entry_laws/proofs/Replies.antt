@@ -12,6 +12,7 @@ use Rattle.case_record.specs.Cases.{CaseShape, finished_of}
 use Rattle.wf_talk.specs.declared.request.Ask.{Ask}
 use Rattle.wf_talk.specs.declared.request.Bad.{Bad}
 use Rattle.wf_talk.specs.declared.reply.Face.{Face}
+use Rattle.wf_talk.specs.declared.reply.WorkItem.{WorkItem}
 use Rattle.wf_talk.specs.declared.reply.Reply.{Reply}
 use Rattle.wf_talk.specs.declared.reply.Reply.TheVariants as reply
 use Rattle.wf_talk.specs.declared.reply.Denial.{Denial}
@@ -26,6 +27,7 @@ use Rattle.wf_board.specs.Edited.{IsFirstStranded}
 use Rattle.wf_board.specs.Found.{IsAllowed}
 use Rattle.wf_board.specs.Decisions.{decision_of}
 use Rattle.wf_board.specs.Steps.{Answers, IsReplyTo, IsStep, face_of}
+use Rattle.wf_board.specs.Views.{AreStranded, IsWorkOf}
 use Rattle.wf_board.specs.Kept.{IsOfPolicy, IsSoundState, KeepsCompletable}
 use Rattle.wf_board.proofs.Told.{HoldsOf, IsTold, told}
 use Rattle.wire_json.specs.Replies.{reply_data}
@@ -35,6 +37,7 @@ use Rattle.entry_laws.specs.Asks.{IsNamedAsk}
 use Rattle.entry_laws.specs.Laws.{HasFewSteps, flows_of}
 use Rattle.entry_laws.proofs.Trees.{tree_fits}
 use Rattle.entry_laws.proofs.Parts.{bad_nests, case_few, case_stands, given_long, names_flat, no_users_long, phase_flat, plan_fits, problem_fits, states_nest}
+use Rattle.entry_laws.proofs.Listed.{numbers_flat, stranded_stand, work_nests, work_stands}
 use Rattle.entry_laws.proofs.Numbers.{AreSerial}
 use Rattle.entry_laws.proofs.Stranded.{stranded_fits}
 use Rattle.entry_laws.proofs.Told.{Fares, FitsDenial, IsDeedFor, IsOn, decision_fares}
@@ -114,6 +117,17 @@ face_fits s o c is of =
       omega (arith, phase, states),
     )
 
+-- ---- lists of views
+
+work_fits : (s : State) (o : Option ℕ) (u : ℕ) (items : List WorkItem) → IsReached s → IsWorkOf s.book u items → FitsReply s.book.policy (flows_of s) o (reply.Work items)
+work_fits s o u items reached is =
+    (work_stands s u items reached.sound reached.serial is, let nests = work_nests s.book.policy items in omega (arith, nests))
+
+what_if_fits : (s : State) (o : Option ℕ) (pol : PolicyShape) (numbers : List ℕ) → IsReached s → AreStranded pol (open_cases s.book.cases) numbers
+    → FitsReply s.book.policy (flows_of s) o (reply.WhatIf numbers)
+what_if_fits s o pol numbers reached is =
+    (stranded_stand s pol numbers reached.serial is, let flat = numbers_flat numbers in omega (arith, flat))
+
 -- ---- deeds
 
 bad_fits : (s : State) (o : Option ℕ) (b : Bad) → IsBad b → FitsReply s.book.policy (flows_of s) o (reply.Bad b)
@@ -136,6 +150,8 @@ deed_fits s o (deed.Change a) (reply.Edited n) edits reached known of is = let n
 deed_fits s o (deed.Change a) (reply.Denied (denial.Strands n f tree)) edits reached known of is = edit_fits s o a n f tree reached (known.0 reached.sound.policy) is
 deed_fits s o (deed.Show c) (reply.Shown face) edits reached known of is =
     subst (λ (x : Face). FitsReply s.book.policy (flows_of s) o (reply.Shown x)) (sym is) (face_fits s o c reached of)
+deed_fits s o (deed.Work u) (reply.Work items) edits reached known of is = work_fits s o u items reached is
+deed_fits s o (deed.WhatIf a) (reply.WhatIf numbers) edits reached known of is = what_if_fits s o (amended s.book.policy a) numbers reached is
 deed_fits s o (deed.TurnAway b) (reply.Bad given) edits reached known of is =
     subst (λ (x : Bad). FitsReply s.book.policy (flows_of s) o (reply.Bad x)) (sym is) (bad_fits s o b of)
 deed_fits s o given answer edits reached known of is = absurd is

@@ -23,7 +23,7 @@ use Rattle.wf_board.proofs.Exact.{stranded_not}
 use Rattle.entry_laws.specs.Laws.{HasFewSteps, flows_of}
 use Rattle.entry_laws.proofs.Trees.{FitsTree, IsProblemOf, tree_fits}
 use Rattle.entry_laws.proofs.Parts.{assigned_long, case_few, problem_fits}
-use Rattle.entry_laws.proofs.Numbers.{AreSerial, EachCase, IsOpenIn, open_found}
+use Rattle.entry_laws.proofs.Numbers.{AreSerial, EachOf, IsOpenIn, open_found}
 
 -- the case that is stranded: it stands at the number, and the tree refutes it
 record IsStranded (pol : PolicyShape) (all : List Numbered) (n f : ℕ) (tree : Tree) : Type 0 where
@@ -33,7 +33,7 @@ record IsStranded (pol : PolicyShape) (all : List Numbered) (n f : ℕ) (tree : 
   flow : case.flow ≡ f
   refuted : refutes (problem_of pol case.flow) (assigned_of case) (finished_of case) (shape_of tree) ≡ true
 
-find_stranded : (pol : PolicyShape) (all es : List Numbered) (n f : ℕ) (tree : Tree) → EachCase (IsOpenIn all) es → IsFirstStranded pol es n f tree → IsStranded pol all n f tree
+find_stranded : (pol : PolicyShape) (all es : List Numbered) (n f : ℕ) (tree : Tree) → EachOf (IsOpenIn all) es → IsFirstStranded pol es n f tree → IsStranded pol all n f tree
 find_stranded pol all [] n f tree each is = absurd is
 find_stranded pol all (e ∷ es) n f tree each (inl here) = record {
   case = e.case;
@@ -46,7 +46,7 @@ find_stranded pol all (e ∷ es) n f tree each (inr later) = find_stranded pol a
 
 -- ---- a user who is added strands no case
 
-still_complete : (s : State) (name : List ℕ) (es : List Numbered) → KeepsCompletable s → EachCase (IsOpenIn s.book.cases) es → CanAllBeCompleted (amended s.book.policy (amend.AddUser name)) es
+still_complete : (s : State) (name : List ℕ) (es : List Numbered) → KeepsCompletable s → EachOf (IsOpenIn s.book.cases) es → CanAllBeCompleted (amended s.book.policy (amend.AddUser name)) es
 still_complete s name [] kept each = tt
 still_complete s name (e ∷ es) kept each =
     let plan = kept e.number e.case each.0.found each.0.live in (

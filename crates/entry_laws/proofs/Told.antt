@@ -26,7 +26,7 @@ use Rattle.admin_edits.specs.Edits.{amendment_of, is_admin}
 use Rattle.wf_board.specs.declared.deed.Deed.{Deed}
 use Rattle.wf_board.specs.declared.deed.Deed.TheVariants as deed
 use Rattle.wf_board.specs.States.{State, case_at, flow_named, step_named, user_named}
-use Rattle.wf_board.specs.Resolved.{changed, edit_denial, on_step, open_case_at, resolve}
+use Rattle.wf_board.specs.Resolved.{edit_denial, on_edit, on_step, open_case_at, resolve}
 use Rattle.wf_board.specs.Decisions.{cause_aside, cause_full, decision_aside, decision_of, unless_denied}
 use Rattle.wf_board.specs.Kept.{IsOfPolicy, IsSoundState}
 use Rattle.wf_board.proofs.Told.{place_within}
@@ -101,6 +101,8 @@ IsDeedFor s o (deed.Release n c t) = IsOn s o c
 IsDeedFor s o (deed.Withdraw n) = Unit {0}
 IsDeedFor s o (deed.Change a) = Unit {0}
 IsDeedFor s o (deed.Show c) = IsOfPolicy s.book.policy c
+IsDeedFor s o (deed.Work u) = Unit {0}
+IsDeedFor s o (deed.WhatIf a) = Unit {0}
 IsDeedFor s o (deed.TurnAway b) = IsBad b
 
 -- a denial of what concerns this workflow
@@ -124,9 +126,10 @@ fault_fits p flows o fault.Full = (tt, omega arith)
 fault_fits p flows o fault.LastAdmin = (tt, omega arith)
 fault_fits p flows o fault.NoMemory = (tt, omega arith)
 
-changed_fares : (s : State) (o : Option ℕ) (r : Result Amendment EditFault) → Fares (IsDeedFor s o) (Fits s o) (changed r)
-changed_fares s o (Ok a) = tt
-changed_fares s o (Err why) = fault_fits s.book.policy (flows_of s) o why
+edit_fares : (s : State) (o : Option ℕ) (make : Amendment → Deed) (r : Result Amendment EditFault) → ((a : Amendment) → IsDeedFor s o (make a))
+    → Fares (IsDeedFor s o) (Fits s o) (on_edit make r)
+edit_fares s o make (Ok a) made = made a
+edit_fares s o make (Err why) made = fault_fits s.book.policy (flows_of s) o why
 
 -- ---- what a line asks
 
@@ -180,11 +183,17 @@ resolve_fares s (ask.Request (request.Withdraw by n)) sound named =
     let Q = Fits s (flows_of s n) in
     then_fares (λ _. Unit {0}) P Q (check (is_admin s.book.policy by) denial.NotAdmin) _ (check_fares Q (is_admin s.book.policy by) denial.NotAdmin (tt, omega arith))
     (λ _ _. then_fares (IsOn s (flows_of s n)) P Q (open_case_at s.book n) _ (case_fares s n sound) (λ c of. tt))
-resolve_fares s (ask.Request (request.Change by e)) sound named = changed_fares s None (amendment_of s.book.policy by e)
+resolve_fares s (ask.Request (request.Change by e)) sound named = edit_fares s None deed.Change (amendment_of s.book.policy by e) (λ a. tt)
 resolve_fares s (ask.Request (request.Show n)) sound named =
     let Q = Fits s (flows_of s n) in
     then_fares (λ c. case_at s.book.cases n ≡ Some c) (IsDeedFor s (flows_of s n)) Q (or_fault (case_at s.book.cases n) denial.NoCase) _
     (or_fares Q (case_at s.book.cases n) denial.NoCase (tt, omega arith)) (λ c is. sound.cases n c is)
+resolve_fares s (ask.Request (request.Worklist user)) sound named =
+    let P = IsDeedFor s None in
+    let Q = Fits s None in
+    then_fares (λ u. user_named s.book user ≡ Some u) P Q (or_fault (user_named s.book user) denial.NoUser) _
+    (or_fares Q (user_named s.book user) denial.NoUser (tt, omega arith)) (λ u _. tt)
+resolve_fares s (ask.Request (request.WhatIf by e)) sound named = edit_fares s None deed.WhatIf (amendment_of s.book.policy by e) (λ a. tt)
 resolve_fares s (ask.Bad b) sound named = bad_stands b named
 
 -- ---- causes
@@ -226,6 +235,8 @@ cause_so s o (deed.Release n c t) sound of = unless_so (Fits s o) _ (denial.NotH
 cause_so s o (deed.Withdraw n) sound of = tt
 cause_so s o (deed.Change a) sound of = tt
 cause_so s o (deed.Show c) sound of = tt
+cause_so s o (deed.Work u) sound of = tt
+cause_so s o (deed.WhatIf a) sound of = tt
 cause_so s o (deed.TurnAway b) sound of = tt
 
 full_so : (s : State) (o : Option ℕ) (given : Deed) → IsCauseSo (Fits s o) (cause_full s.book given)
@@ -237,6 +248,8 @@ full_so s o (deed.Release n c t) = tt
 full_so s o (deed.Withdraw n) = tt
 full_so s o (deed.Change a) = tt
 full_so s o (deed.Show c) = tt
+full_so s o (deed.Work u) = tt
+full_so s o (deed.WhatIf a) = tt
 full_so s o (deed.TurnAway b) = tt
 
 unless_fares : (P : Deed → Type 0) (Q : Denial → Type 0) (given : Deed) (o : Option Denial) → P given → IsCauseSo Q o → Fares P Q (unless_denied given o)

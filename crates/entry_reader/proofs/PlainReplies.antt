@@ -3,7 +3,7 @@ use Rattle.std.proofs.Common.{ℕ, suc, ◌<◌, ◌≤◌, ◌^◌, List, [], �
 use Rattle.std.specs.Prelude.{codes, map, Option}
 use Rattle.std.specs.List.{All}
 use Rattle.json.proofs.Printed.Utf8.{IsUtf8-are_ascii}
-use Rattle.serde_json.specs.Data.{Data, number, unsigned, string}
+use Rattle.serde_json.specs.Data.{Data, number, unsigned, string, array}
 use Rattle.serde_json.specs.View.{items_of}
 use Rattle.wf_names.proofs.NameForms.{name_utf8}
 use Rattle.wf_names.specs.declared.states.StepState.{StepState}
@@ -18,6 +18,7 @@ use Rattle.wf_talk.specs.declared.entry.Entry.{Entry}
 use Rattle.wf_talk.specs.declared.request.Bad.{Bad}
 use Rattle.wf_talk.specs.declared.request.Bad.TheVariants as bad
 use Rattle.wf_talk.specs.declared.reply.Face.{Face}
+use Rattle.wf_talk.specs.declared.reply.WorkItem.{WorkItem}
 use Rattle.wf_talk.specs.declared.reply.Reply.{Reply}
 use Rattle.wf_talk.specs.declared.reply.Reply.TheVariants as reply
 use Rattle.wf_talk.specs.declared.reply.Denial.{Denial}
@@ -26,10 +27,10 @@ use Rattle.policy_book.specs.Shapes.{PolicyShape}
 use Rattle.policy_book.specs.Policies.{flow_at}
 use Rattle.wire_json.specs.Entries.{single, named, names_data, user_data, step_data, plan_data, state_data, seen_data, phase_data, bad_data}
 use Rattle.wire_json.specs.Trees.{tree_data, branches_data}
-use Rattle.wire_json.specs.Replies.{missing_data, strands_data, denial_data, opened_data, face_data, again_data, reply_data, entry_data}
+use Rattle.wire_json.specs.Replies.{missing_data, strands_data, denial_data, opened_data, face_data, again_data, work_data, cases_data, reply_data, entry_data}
 use Rattle.wf_names.specs.Table.{AreNames}
 use Rattle.entry_reader.specs.Named.{HasNames}
-use Rattle.entry_reader.specs.Within.{IsPlan, IsTree, AreKids, IsState, IsFace, IsBad, IsDenial, IsReply}
+use Rattle.entry_reader.specs.Within.{IsPlan, IsTree, AreKids, IsState, IsFace, IsBad, IsCase, IsDenial, IsWorkItem, IsReply}
 use Rattle.entry_reader.specs.Lines.{concerned}
 use Rattle.entry_reader.proofs.NamesBack.{named_utf8}
 use Rattle.entry_reader.proofs.ReadBack.{IsPlain, ArePlain}
@@ -141,6 +142,18 @@ plain_denial p flows f (denial.Strands c g t) k h =
     plain_single (codes "strands") (strands_data c (tree_data p g (shape_of t))) (IsUtf8-are_ascii _ refl)
     (refl, (IsUtf8-are_ascii _ refl, case_small c h.0, (IsUtf8-are_ascii _ refl, plain_tree p g (shape_of t) k h.2, tt)))
 
+-- ---- lists of views
+
+plain_items : (p : PolicyShape) (flows : ℕ → Option ℕ) (items : List WorkItem) → HasNames p → All (IsWorkItem p flows) items → ArePlain (items_of (map (work_data p) items))
+plain_items p flows [] k h = tt
+plain_items p flows (i ∷ items) k h =
+    let first = all_first (IsWorkItem p flows) i items h in
+    ((case_small i.case first.0, (named_utf8 (flow_at p i.flow).flow.steps i.step (k.steps i.flow) first.2, tt)), plain_items p flows items k (all_more (IsWorkItem p flows) i items h))
+
+plain_cases : (cases : List ℕ) → All IsCase cases → ArePlain (items_of (map (λ c. number (unsigned c)) cases))
+plain_cases [] h = tt
+plain_cases (c ∷ cases) h = (case_small c (all_first IsCase c cases h), plain_cases cases (all_more IsCase c cases h))
+
 -- ---- replies and entries
 
 plain_bad : (b : Bad) → IsBad b → IsPlain (bad_data b)
@@ -169,6 +182,9 @@ plain_reply p flows f (reply.Edited n) k h =
     plain_single (codes "edited") (single (codes "number") (number (unsigned n))) (IsUtf8-are_ascii _ refl)
     (plain_single (codes "number") (number (unsigned n)) (IsUtf8-are_ascii _ refl) (middle n h))
 plain_reply p flows f (reply.Shown face) k h = plain_single (codes "view") (face_data p face) (IsUtf8-are_ascii _ refl) (plain_face p face k h)
+plain_reply p flows f (reply.Work items) k h =
+    plain_single (codes "worklist") (array (items_of (map (work_data p) items))) (IsUtf8-are_ascii _ refl) (plain_items p flows items k h)
+plain_reply p flows f (reply.WhatIf cases) k h = plain_single (codes "what_if") (cases_data cases) (IsUtf8-are_ascii _ refl) (plain_cases cases h)
 plain_reply p flows f (reply.Denied d) k h = plain_single (codes "denied") (denial_data p d) (IsUtf8-are_ascii _ refl) (plain_denial p flows f d k h)
 plain_reply p flows f (reply.Again rounds n) k h =
     plain_single (codes "again") (again_data rounds n) (IsUtf8-are_ascii _ refl)

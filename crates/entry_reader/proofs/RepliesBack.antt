@@ -2,6 +2,7 @@
 use Rattle.std.proofs.Common.{◌≡◌, ℕ, ◌<◌, ◌≤◌, ◌^◌, List, [], ◌∷◌, length, refl, ap, ◌∙◌, arith, lt-ltb, le-leb, true}
 use Rattle.std.specs.Prelude.{codes, map, Option, Some, option_map, option_and_then, nat_lt}
 use Rattle.std.specs.List.{All}
+use Rattle.serde_json.specs.Data.{number, unsigned}
 use Rattle.serde_json.specs.View.{items_of}
 use Rattle.wf_names.specs.declared.limits.TheConstants.{STEP_LIMIT, CASE_NUMBER_LIMIT}
 use Rattle.wf_names.specs.declared.states.StepState.{StepState}
@@ -16,6 +17,7 @@ use Rattle.wf_talk.specs.declared.edit.Missing.TheVariants as missing
 use Rattle.wf_talk.specs.declared.request.Bad.{Bad}
 use Rattle.wf_talk.specs.declared.request.Bad.TheVariants as bad
 use Rattle.wf_talk.specs.declared.reply.Face.{Face}
+use Rattle.wf_talk.specs.declared.reply.WorkItem.{WorkItem}
 use Rattle.wf_talk.specs.declared.reply.Reply.{Reply}
 use Rattle.wf_talk.specs.declared.reply.Reply.TheVariants as reply
 use Rattle.wf_talk.specs.declared.reply.Denial.{Denial}
@@ -24,12 +26,12 @@ use Rattle.policy_book.specs.Shapes.{PolicyShape}
 use Rattle.policy_book.specs.Policies.{flow_at}
 use Rattle.wire_json.specs.Entries.{named, step_data, plan_data, state_data, seen_data, bad_data}
 use Rattle.wire_json.specs.Trees.{tree_data}
-use Rattle.wire_json.specs.Replies.{missing_data, strands_data, denial_data, face_data, reply_data}
+use Rattle.wire_json.specs.Replies.{missing_data, strands_data, denial_data, face_data, work_data, reply_data}
 use Rattle.wf_names.specs.Table.{AreNames}
 use Rattle.entry_reader.specs.Named.{HasNames}
-use Rattle.entry_reader.specs.Within.{IsPlan, IsTree, IsState, IsFace, IsBad, IsConcerned, IsDenial, IsReply}
+use Rattle.entry_reader.specs.Within.{IsPlan, IsTree, IsState, IsFace, IsBad, IsCase, IsConcerned, IsDenial, IsWorkItem, IsReply}
 use Rattle.entry_reader.specs.Values.{each_in, few, few_in, numbered, user_in, user_state, seen_in, state_in, tree_in}
-use Rattle.entry_reader.specs.Told.{tree_from, flow_within, tree_by, step_by, strands_in, missing_in, denial_in, states_in, phase_in, flow_in, face_in, bad_in, reply_in}
+use Rattle.entry_reader.specs.Told.{tree_from, flow_within, tree_by, step_by, strands_in, missing_in, denial_in, states_in, phase_in, flow_in, face_in, number_of_case, item_in, bad_in, reply_in}
 use Rattle.entry_reader.proofs.NamesBack.{numbered_named}
 use Rattle.entry_reader.proofs.PlainReplies.{all_first, all_more}
 use Rattle.entry_reader.proofs.TreesBack.{below_back, user_back, step_back, tree_back}
@@ -137,6 +139,28 @@ denial_back p flows f denial.Absent k h = refl
 denial_back p flows f denial.LastAdmin k h = refl
 denial_back p flows f (denial.Strands c g t) k h = strands_back p flows c g t k h.0 h.1 h.2
 
+-- ---- lists of views
+
+item_back : (p : PolicyShape) (flows : ℕ → Option ℕ) (i : WorkItem) → HasNames p → IsWorkItem p flows i → item_in p flows (work_data p i) ≡ Some i
+item_back p flows i k h =
+    rw (case_back i.case h.0) (ap (option_map (λ s. record { case = i.case; flow = s.0; step = s.1 })) (step_by_back p (flows i.case) i.flow i.step k h.1 h.2))
+
+items_back : (p : PolicyShape) (flows : ℕ → Option ℕ) (items : List WorkItem) → HasNames p → All (IsWorkItem p flows) items
+    → each_in (item_in p flows) (items_of (map (work_data p) items)) ≡ Some items
+items_back p flows [] k h = refl
+items_back p flows (i ∷ items) k h =
+    ap (option_and_then (λ x. option_map (λ xs. x ∷ xs) (each_in (item_in p flows) (items_of (map (work_data p) items))))) (item_back p flows i k (all_first (IsWorkItem p flows) i items h))
+    ∙ ap (option_map (λ xs. i ∷ xs)) (items_back p flows items k (all_more (IsWorkItem p flows) i items h))
+
+number_back : (c : ℕ) → c ≤ CASE_NUMBER_LIMIT → number_of_case (number (unsigned c)) ≡ Some c
+number_back c h = rw (case_back c h) refl
+
+cases_back : (cases : List ℕ) → All IsCase cases → each_in number_of_case (items_of (map (λ c. number (unsigned c)) cases)) ≡ Some cases
+cases_back [] h = refl
+cases_back (c ∷ cases) h =
+    ap (option_and_then (λ x. option_map (λ xs. x ∷ xs) (each_in number_of_case (items_of (map (λ n. number (unsigned n)) cases))))) (number_back c (all_first IsCase c cases h))
+    ∙ ap (option_map (λ xs. c ∷ xs)) (cases_back cases (all_more IsCase c cases h))
+
 -- ---- replies
 
 bad_back : (b : Bad) → IsBad b → bad_in (bad_data b) ≡ Some b
@@ -157,6 +181,8 @@ reply_back p flows f (reply.Opened c plan) k h = rw (case_back c h.0) (ap (optio
 reply_back p flows f reply.Withdrawn k h = refl
 reply_back p flows f (reply.Edited n) k h = rw (lt-ltb n (2 ^ 32) h) refl
 reply_back p flows f (reply.Shown face) k h = ap (option_map reply.Shown) (face_back p face k h)
+reply_back p flows f (reply.Work items) k h = ap (option_map reply.Work) (items_back p flows items k h)
+reply_back p flows f (reply.WhatIf cases) k h = ap (option_map reply.WhatIf) (cases_back cases h)
 reply_back p flows f (reply.Denied d) k h = ap (option_map reply.Denied) (denial_back p flows f d k h)
 reply_back p flows f (reply.Again rounds n) k h = rw (lt-ltb n (2 ^ 32) h.1, lt-ltb rounds 256 h.0) refl
 reply_back p flows f reply.NoMemory k h = refl

@@ -14,6 +14,7 @@ use Rattle.refutation_tree.specs.declared.tree.Tree.{Tree}
 use Rattle.wf_talk.specs.declared.request.Bad.{Bad}
 use Rattle.wf_talk.specs.declared.request.Bad.TheVariants as bad
 use Rattle.wf_talk.specs.declared.reply.Face.{Face}
+use Rattle.wf_talk.specs.declared.reply.WorkItem.{WorkItem}
 use Rattle.wf_talk.specs.declared.reply.Reply.{Reply}
 use Rattle.wf_talk.specs.declared.reply.Reply.TheVariants as reply
 use Rattle.wf_talk.specs.declared.reply.Denial.{Denial}
@@ -25,9 +26,9 @@ use Rattle.entry_reader.specs.declared.kind.ReplyKind.TheVariants as told
 use Rattle.entry_reader.specs.declared.kind.DenialKind.{DenialKind}
 use Rattle.entry_reader.specs.declared.kind.DenialKind.TheVariants as why
 use Rattle.entry_reader.specs.Places.{number_below}
-use Rattle.entry_reader.specs.Within.{IsUser, IsRole, IsPlan, IsTree, IsState, IsFace, IsBad, IsConcerned, IsDenial, IsReply}
-use Rattle.entry_reader.specs.Values.{row_of, or_else, only, below, name_in, numbered, each_in, few, few_in, user_in, step_in, free_state, user_state, state_in, seen_at, seen_in, tree_in}
-use Rattle.entry_reader.specs.Told.{denial_words, denial_kinds, reply_words, reply_kinds, bad_words, tree_from, flow_within, tree_by, step_by, case_in, strands_in, missing_in, roles_in, denial_by, denial_in, plan_in, opened_in, states_in, phase_in, flow_in, face_in, again_in, key_in, bad_in, done_in, reply_by, reply_in}
+use Rattle.entry_reader.specs.Within.{IsUser, IsRole, IsPlan, IsTree, IsState, IsFace, IsBad, IsCase, IsConcerned, IsDenial, IsWorkItem, IsReply}
+use Rattle.entry_reader.specs.Values.{row_of, or_else, only, below, name_in, numbered, each_in, few, few_in, pair_parts, user_in, step_in, free_state, user_state, state_in, seen_at, seen_in, tree_in}
+use Rattle.entry_reader.specs.Told.{denial_words, denial_kinds, reply_words, reply_kinds, bad_words, tree_from, flow_within, tree_by, step_by, case_in, strands_in, missing_in, roles_in, denial_by, denial_in, plan_in, opened_in, states_in, phase_in, flow_in, face_in, number_of_case, item_in, work_in, cases_in, again_in, key_in, bad_in, done_in, reply_by, reply_in}
 use Rattle.entry_reader.proofs.Readings.{and_then_some, map_some, none_some, some_same}
 use Rattle.entry_reader.proofs.NamesBack.{numbered_is, name_text}
 use Rattle.entry_reader.proofs.TreesBack.{below_is, tree_is}
@@ -230,6 +231,29 @@ denial_within p flows o d x e = elim (either_read (option_and_then (row_of denia
       denial_by_within p flows o q.found r.found.1 x q.then_
 ]
 
+-- ---- lists of views
+
+number_of_case_within : (d : Data) (c : ℕ) → number_of_case d ≡ Some c → IsCase c
+number_of_case_within d c e = omega (arith, (below_is (CASE_NUMBER_LIMIT + 1) d c e).below)
+
+item_within : (p : PolicyShape) (flows : ℕ → Option ℕ) (d : Data) (i : WorkItem) → item_in p flows d ≡ Some i → IsWorkItem p flows i
+item_within p flows d i e =
+    let r = and_then_some (pair_parts d) (λ m. option_and_then (λ c. option_map (λ s. record { case = c; flow = s.0; step = s.1 }) (step_by p (flows c) m.1)) (number_of_case m.0)) i e in
+    let q = and_then_some (number_of_case r.found.0) (λ c. option_map (λ s. record { case = c; flow = s.0; step = s.1 }) (step_by p (flows c) r.found.1)) i r.then_ in
+    let m = map_some (step_by p (flows q.found) r.found.1) (λ s. record { case = q.found; flow = s.0; step = s.1 }) i q.then_ in
+    let h = step_by_within p (flows q.found) r.found.1 m.found m.there in
+    subst (IsWorkItem p flows) m.same (number_of_case_within r.found.0 q.found q.there, h.0, h.1)
+
+work_within : (p : PolicyShape) (flows : ℕ → Option ℕ) (d : Data) (items : List WorkItem) → work_in p flows d ≡ Some items → All (IsWorkItem p flows) items
+work_within p flows d items e =
+    let r = and_then_some (as_array d) (each_in (item_in p flows)) items e in
+    each_holds (IsWorkItem p flows) (item_in p flows) r.found items (item_within p flows) r.then_
+
+cases_within : (d : Data) (cases : List ℕ) → cases_in d ≡ Some cases → All IsCase cases
+cases_within d cases e =
+    let r = and_then_some (as_array d) (each_in number_of_case) cases e in
+    each_holds IsCase number_of_case r.found cases number_of_case_within r.then_
+
 -- ---- replies
 
 bad_within : (d : Data) (b : Bad) → bad_in d ≡ Some b → IsBad b
@@ -260,6 +284,8 @@ reply_by_within p flows o told.Opened d x e = opened_within p flows o d x e
 reply_by_within p flows o told.Edited d x e =
     let r = map_some (number_below (2 ^ 32) (codes "number") d) reply.Edited x e in subst (IsReply p flows o) r.same (number_within (2 ^ 32) (codes "number") d r.found r.there)
 reply_by_within p flows o told.Shown d x e = let r = map_some (face_in p d) reply.Shown x e in subst (IsReply p flows o) r.same (face_within p d r.found r.there)
+reply_by_within p flows o told.Work d x e = let r = map_some (work_in p flows d) reply.Work x e in subst (IsReply p flows o) r.same (work_within p flows d r.found r.there)
+reply_by_within p flows o told.WhatIf d x e = let r = map_some (cases_in d) reply.WhatIf x e in subst (IsReply p flows o) r.same (cases_within d r.found r.there)
 reply_by_within p flows o told.Denied d x e =
     let r = map_some (denial_in p flows o d) reply.Denied x e in subst (IsReply p flows o) r.same (denial_within p flows o d r.found r.there)
 reply_by_within p flows o told.Again d x e = again_within p flows o d x e

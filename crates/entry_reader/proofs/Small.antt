@@ -7,7 +7,7 @@ use Rattle.serde_json.specs.Data.{no_items, item, depth, items_depth}
 use Rattle.serde_json.specs.Find.{as_str}
 use Rattle.serde_json.specs.View.{view, items_view, members_view}
 use Rattle.policy_book.specs.Shapes.{PolicyShape}
-use Rattle.entry_reader.specs.Values.{lone, branch_at, free_state, user_state, user_in, seen_at}
+use Rattle.entry_reader.specs.Values.{lone, pair_at, free_state, user_state, user_in, seen_at}
 use Rattle.entry_reader.proofs.Readings.{some_same, none_some}
 
 pub lone_none : (es : List (String Global × Value)) → (length es ≡ 1 → ⊥) → lone (members_view es) ≡ None
@@ -20,13 +20,13 @@ lone_some [] k v h e = absurd (none_some (k, v) e)
 lone_some (x ∷ []) k v h e = ap (λ m. Some (string_bytes m.0, view m.1)) (some_same x (k, v) e)
 lone_some (x ∷ y ∷ es) k v h e = absurd (omega (arith, h))
 
-pub pair_none : (vs : List Value) → (length vs ≡ 2 → ⊥) → branch_at (items_view vs) ≡ None
+pub pair_none : (vs : List Value) → (length vs ≡ 2 → ⊥) → pair_at (items_view vs) ≡ None
 pair_none [] h = refl
 pair_none (a ∷ []) h = refl
 pair_none (a ∷ b ∷ []) h = absurd (h refl)
 pair_none (a ∷ b ∷ c ∷ vs) h = refl
 
-pub pair_some : (vs : List Value) (a b : Value) → length vs ≡ 2 → a ≡ get_or vs 0 a → b ≡ get_or vs 1 b → branch_at (items_view vs) ≡ Some (view a, view b)
+pub pair_some : (vs : List Value) (a b : Value) → length vs ≡ 2 → a ≡ get_or vs 0 a → b ≡ get_or vs 1 b → pair_at (items_view vs) ≡ Some (view a, view b)
 pair_some [] a b h i j = absurd (omega (arith, h))
 pair_some (x ∷ []) a b h i j = absurd (omega (arith, h))
 pair_some (x ∷ y ∷ []) a b h i j = ap₂ (λ u v. Some (view u, view v)) (sym i) (sym j)

@@ -10,7 +10,7 @@ use Rattle.refutation_tree.specs.Views.{branch_onto}
 use Rattle.refutation_tree.specs.declared.tree.Branch.{Branch}
 use Rattle.refutation_tree.proofs.ShapeLaws.{kid_onto-joined, joined-assoc, joined-none}
 use Rattle.policy_book.specs.Shapes.{PolicyShape}
-use Rattle.entry_reader.specs.Values.{are_node_keys, tree_in, kids_in, kid_in, with_kid, node_parts, node_in, lone_leaf, branch_parts, user_in, twin_in}
+use Rattle.entry_reader.specs.Values.{are_node_keys, tree_in, kids_in, kid_in, with_kid, node_parts, node_in, lone_leaf, pair_parts, user_in, twin_in}
 use Rattle.entry_reader.proofs.Readings.{none_some, some_same}
 
 -- a tree of a node's parts, or a leaf
@@ -45,7 +45,7 @@ abbrev pub kid_of_parts : PolicyShape → ℕ → Option Kids → Option (Data �
 kid_of_parts p f rest (Some b) = option_and_then (λ u. with_kid u (twin_in p b.1) (tree_in p f b.1) rest) (user_in p b.0)
 kid_of_parts p f rest None = None
 
-pub kid_by_parts : (p : PolicyShape) (f : ℕ) (d : Data) (rest : Option Kids) → kid_in p f d rest ≡ kid_of_parts p f rest (branch_parts d)
+pub kid_by_parts : (p : PolicyShape) (f : ℕ) (d : Data) (rest : Option Kids) → kid_in p f d rest ≡ kid_of_parts p f rest (pair_parts d)
 kid_by_parts p f null rest = refl
 kid_by_parts p f (boolean b) rest = refl
 kid_by_parts p f (number n) rest = refl
@@ -56,19 +56,19 @@ kid_by_parts p f (array (item d (item e no_items))) rest = refl
 kid_by_parts p f (array (item d (item e (item g ds)))) rest = refl
 kid_by_parts p f (object ms) rest = refl
 
-pub branch_twin : (p : PolicyShape) (f : ℕ) (d s x : Data) (u v : ℕ) (rest : Option Kids) → Some (s, x) ≡ branch_parts d → Some u ≡ user_in p s → Some v ≡ twin_in p x
+pub branch_twin : (p : PolicyShape) (f : ℕ) (d s x : Data) (u v : ℕ) (rest : Option Kids) → Some (s, x) ≡ pair_parts d → Some u ≡ user_in p s → Some v ≡ twin_in p x
     → kid_in p f d rest ≡ option_map (twin_kid u v) rest
 branch_twin p f d s x u v rest e user twin =
     kid_by_parts p f d rest ∙ ap (kid_of_parts p f rest) (sym e) ∙ ap (option_and_then (λ n. with_kid n (twin_in p x) (tree_in p f x) rest)) (sym user)
     ∙ ap (λ o. with_kid u o (tree_in p f x) rest) (sym twin)
 
-pub branch_tree : (p : PolicyShape) (f : ℕ) (d s x : Data) (u : ℕ) (t : Shape) (rest : Option Kids) → Some (s, x) ≡ branch_parts d → Some u ≡ user_in p s → None ≡ twin_in p x → tree_in p f x ≡ Some t
+pub branch_tree : (p : PolicyShape) (f : ℕ) (d s x : Data) (u : ℕ) (t : Shape) (rest : Option Kids) → Some (s, x) ≡ pair_parts d → Some u ≡ user_in p s → None ≡ twin_in p x → tree_in p f x ≡ Some t
     → kid_in p f d rest ≡ option_map (tree_kid u t) rest
 branch_tree p f d s x u t rest e user twin tree =
     kid_by_parts p f d rest ∙ ap (kid_of_parts p f rest) (sym e) ∙ ap (option_and_then (λ n. with_kid n (twin_in p x) (tree_in p f x) rest)) (sym user)
     ∙ ap (λ o. with_kid u o (tree_in p f x) rest) (sym twin) ∙ ap (λ o. with_kid u None o rest) tree
 
-pub branch_bad : (p : PolicyShape) (f : ℕ) (d s x : Data) (u : ℕ) (rest : Option Kids) → Some (s, x) ≡ branch_parts d → Some u ≡ user_in p s → None ≡ twin_in p x → tree_in p f x ≡ None
+pub branch_bad : (p : PolicyShape) (f : ℕ) (d s x : Data) (u : ℕ) (rest : Option Kids) → Some (s, x) ≡ pair_parts d → Some u ≡ user_in p s → None ≡ twin_in p x → tree_in p f x ≡ None
     → kid_in p f d rest ≡ None
 branch_bad p f d s x u rest e user twin tree =
     kid_by_parts p f d rest ∙ ap (kid_of_parts p f rest) (sym e) ∙ ap (option_and_then (λ n. with_kid n (twin_in p x) (tree_in p f x) rest)) (sym user)
@@ -91,7 +91,7 @@ node_deeper (object (member k d no_members)) s u e = absurd (none_some _ (sym e)
 node_deeper (object (member k d (member l g no_members))) s u e = omega (arith, ap depth (deeper_pair k l d g s u (are_node_keys k l) refl e))
 node_deeper (object (member k d (member l g (member m h ms)))) s u e = absurd (none_some _ (sym e))
 
-pub branch_deeper : (d s u : Data) → Some (s, u) ≡ branch_parts d → depth u + 1 ≤ depth d
+pub branch_deeper : (d s u : Data) → Some (s, u) ≡ pair_parts d → depth u + 1 ≤ depth d
 branch_deeper null s u e = absurd (none_some _ (sym e))
 branch_deeper (boolean b) s u e = absurd (none_some _ (sym e))
 branch_deeper (number n) s u e = absurd (none_some _ (sym e))

@@ -7,7 +7,7 @@ use Rattle.wf_talk.specs.declared.entry.Entry.{Entry}
 use Rattle.wf_talk.specs.declared.request.Ask.{Ask}
 use Rattle.wf_talk.specs.declared.request.Ask.TheVariants as ask
 use Rattle.wf_talk.specs.declared.request.Request.{Request}
-use Rattle.wf_talk.specs.declared.request.Request.TheVariants.{OpenCase, Claim, Finish, GiveBack, Release, Withdraw, Change, Show}
+use Rattle.wf_talk.specs.declared.request.Request.TheVariants.{OpenCase, Claim, Finish, GiveBack, Release, Withdraw, Change, Show, Worklist, WhatIf}
 use Rattle.wf_talk.specs.declared.reply.Reply.{Reply}
 use Rattle.policy_book.specs.Shapes.{PolicyShape}
 use Rattle.wire_json.specs.Replies.{entry_data, entry_text}
@@ -25,6 +25,8 @@ concerned_by p flows (Release by c step) = flows c
 concerned_by p flows (Withdraw by c) = flows c
 concerned_by p flows (Change by edit) = None
 concerned_by p flows (Show c) = flows c
+concerned_by p flows (Worklist user) = None
+concerned_by p flows (WhatIf by edit) = None
 
 -- the workflow that an ask concerns
 abbrev pub concerned : PolicyShape → (ℕ → Option ℕ) → Ask → Option ℕ

@@ -16,6 +16,7 @@ use Rattle.wf_talk.specs.declared.request.Ask.{Ask}
 use Rattle.wf_talk.specs.declared.request.Bad.{Bad}
 use Rattle.wf_talk.specs.declared.request.Bad.TheVariants as bad
 use Rattle.wf_talk.specs.declared.reply.Face.{Face}
+use Rattle.wf_talk.specs.declared.reply.WorkItem.{WorkItem}
 use Rattle.wf_talk.specs.declared.reply.Reply.{Reply}
 use Rattle.wf_talk.specs.declared.reply.Reply.TheVariants as reply
 use Rattle.wf_talk.specs.declared.reply.Denial.{Denial}
@@ -28,7 +29,7 @@ use Rattle.entry_reader.specs.declared.kind.DenialKind.{DenialKind}
 use Rattle.entry_reader.specs.declared.kind.DenialKind.TheVariants as why
 use Rattle.entry_reader.specs.Places.{number_below, place_in}
 use Rattle.entry_reader.specs.Lines.{concerned, entry_at}
-use Rattle.entry_reader.specs.Values.{row_of, or_else, only, at_key, below, name_in, numbered, user_in, step_in, each_in, few_in, tree_in, state_in, seen_in}
+use Rattle.entry_reader.specs.Values.{row_of, or_else, only, at_key, below, name_in, numbered, user_in, step_in, each_in, few_in, pair_parts, tree_in, state_in, seen_in}
 
 -- ---- words
 
@@ -70,8 +71,8 @@ reply_words =
 abbrev pub reply_kinds : List (List ℕ × ReplyKind)
 reply_kinds =
     (codes "granted", told.Granted) ∷ (codes "finished", told.Finished) ∷ (codes "opened", told.Opened)
-    ∷ (codes "edited", told.Edited) ∷ (codes "view", told.Shown) ∷ (codes "denied", told.Denied)
-    ∷ (codes "again", told.Again) ∷ (codes "bad", told.Bad) ∷ []
+    ∷ (codes "edited", told.Edited) ∷ (codes "view", told.Shown) ∷ (codes "worklist", told.Work)
+    ∷ (codes "what_if", told.WhatIf) ∷ (codes "denied", told.Denied) ∷ (codes "again", told.Again) ∷ (codes "bad", told.Bad) ∷ []
 
 -- ---- denials
 
@@ -161,6 +162,26 @@ face_in p d =
     (phase_in d))
     (flow_in p d)
 
+-- the number of a case
+abbrev pub number_of_case : Data → Option ℕ
+number_of_case d = below (CASE_NUMBER_LIMIT + 1) d
+
+-- the number of a case, and a step of its workflow
+abbrev pub item_in : PolicyShape → (ℕ → Option ℕ) → Data → Option WorkItem
+item_in p flows d =
+    option_and_then (λ m.
+    option_and_then (λ c.
+    option_map (λ s. record { case = c; flow = s.0; step = s.1 })
+    (step_by p (flows c) m.1))
+    (number_of_case m.0))
+    (pair_parts d)
+
+abbrev pub work_in : PolicyShape → (ℕ → Option ℕ) → Data → Option (List WorkItem)
+work_in p flows d = option_and_then (each_in (item_in p flows)) (as_array d)
+
+abbrev pub cases_in : Data → Option (List ℕ)
+cases_in d = option_and_then (each_in number_of_case) (as_array d)
+
 abbrev pub again_in : Data → Option Reply
 again_in d =
     option_and_then (λ number. option_map (λ rounds. reply.Again rounds number) (number_below 256 (codes "rounds") d))
@@ -182,6 +203,8 @@ short_reply told.Finished d = option_map reply.Finished (done_in d)
 short_reply told.Opened d = None
 short_reply told.Edited d = option_map reply.Edited (number_below (2 ^ 32) (codes "number") d)
 short_reply told.Shown d = None
+short_reply told.Work d = None
+short_reply told.WhatIf d = None
 short_reply told.Denied d = None
 short_reply told.Again d = again_in d
 short_reply told.Bad d = option_map reply.Bad (bad_in d)
@@ -193,6 +216,8 @@ reply_by p flows f told.Finished d = short_reply told.Finished d
 reply_by p flows f told.Opened d = opened_in p d
 reply_by p flows f told.Edited d = short_reply told.Edited d
 reply_by p flows f told.Shown d = option_map reply.Shown (face_in p d)
+reply_by p flows f told.Work d = option_map reply.Work (work_in p flows d)
+reply_by p flows f told.WhatIf d = option_map reply.WhatIf (cases_in d)
 reply_by p flows f told.Denied d = option_map reply.Denied (denial_in p flows f d)
 reply_by p flows f told.Again d = short_reply told.Again d
 reply_by p flows f told.Bad d = short_reply told.Bad d

@@ -150,14 +150,15 @@ lone_leaf p f d = option_and_then (λ m. leaf_in p f m.0 m.1) (only d)
 abbrev pub node_in : PolicyShape → ℕ → Data → Data → Option Shape
 node_in p f step users = option_and_then (λ s. option_map (node s) (kids_of p f users)) (step_in p f step)
 
-abbrev pub branch_at : Items → Option (Data × Data)
-branch_at no_items = None
-branch_at (item d no_items) = None
-branch_at (item d (item e no_items)) = Some (d, e)
-branch_at (item d (item e (item g ds))) = None
+-- the two items of an array
+abbrev pub pair_at : Items → Option (Data × Data)
+pair_at no_items = None
+pair_at (item d no_items) = None
+pair_at (item d (item e no_items)) = Some (d, e)
+pair_at (item d (item e (item g ds))) = None
 
-abbrev pub branch_parts : Data → Option (Data × Data)
-branch_parts d = option_and_then branch_at (as_array d)
+abbrev pub pair_parts : Data → Option (Data × Data)
+pair_parts d = option_and_then pair_at (as_array d)
 
 -- ---- states of steps
 

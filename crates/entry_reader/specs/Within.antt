@@ -11,6 +11,7 @@ use Rattle.refutation_tree.specs.Views.{shape_of}
 use Rattle.wf_talk.specs.declared.request.Bad.{Bad}
 use Rattle.wf_talk.specs.declared.request.Bad.TheVariants as bad
 use Rattle.wf_talk.specs.declared.reply.Face.{Face}
+use Rattle.wf_talk.specs.declared.reply.WorkItem.{WorkItem}
 use Rattle.wf_talk.specs.declared.reply.Reply.{Reply}
 use Rattle.wf_talk.specs.declared.reply.Reply.TheVariants as reply
 use Rattle.wf_talk.specs.declared.reply.Denial.{Denial}
@@ -102,6 +103,10 @@ IsDenial p flows concerned denial.LastAdmin = Unit {0}
 IsDenial p flows concerned (denial.Strands c f tree) =
     IsCase c × IsConcerned p (flows c) f × IsTree p f (shape_of tree)
 
+-- a step of a work list: its workflow is that of the case
+abbrev pub IsWorkItem : PolicyShape → (ℕ → Option ℕ) → WorkItem → Type 0
+IsWorkItem p flows i = IsCase i.case × IsConcerned p (flows i.case) i.flow × IsStep p i.flow i.step
+
 -- a reply
 abbrev pub IsReply : PolicyShape → (ℕ → Option ℕ) → Option ℕ → Reply → Type 0
 IsReply p flows concerned (reply.Granted plan) = IsPlan p plan
@@ -112,6 +117,8 @@ IsReply p flows concerned (reply.Opened c plan) = IsCase c × IsPlan p plan
 IsReply p flows concerned reply.Withdrawn = Unit {0}
 IsReply p flows concerned (reply.Edited n) = n < 2 ^ 32
 IsReply p flows concerned (reply.Shown face) = IsFace p face
+IsReply p flows concerned (reply.Work items) = All (IsWorkItem p flows) items
+IsReply p flows concerned (reply.WhatIf cases) = All IsCase cases
 IsReply p flows concerned (reply.Denied d) = IsDenial p flows concerned d
 IsReply p flows concerned (reply.Again rounds number) = (rounds < 2 ^ 8) × (number < 2 ^ 32)
 IsReply p flows concerned reply.NoMemory = Unit {0}

@@ -129,8 +129,8 @@ fn tree_by(
     Ok((flow, tree))
 }
 
-// A workflow of the policy, with a step of it.
-fn step_by(p: &Policy, flow: Option<FlowId>, value: &Value) -> Option<(FlowId, StepId)>
+/// A workflow of the policy, with a step of it.
+pub(crate) fn step_by(p: &Policy, flow: Option<FlowId>, value: &Value) -> Option<(FlowId, StepId)>
     ensures { result ≡ told.step_by p.now flow (view value.now) }
 {
     let flow = flow_within(p, flow)?;

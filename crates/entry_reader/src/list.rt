@@ -7,13 +7,14 @@ ghost use Rattle.entry_reader.specs.Values as read;
 ghost use Rattle.entry_reader.specs.Told as told;
 
 use crate::TextFault;
-use crate::parts::{numbered, seen_of, user_of};
+use crate::denial::step_by;
+use crate::parts::{case_number_of, numbered, pair_of, seen_of, user_of};
 use basics::List;
 use policy_book::{Plan, Policy};
 use serde_json::Value;
 use std::alloc::Global;
-use wf_names::{RoleId, STEP_LIMIT, StepState, UserId};
-use wf_talk::{RoleList, States};
+use wf_names::{CaseId, RoleId, STEP_LIMIT, StepState, UserId};
+use wf_talk::{CaseList, FlowOf, RoleList, States, WorkItem, WorkList};
 
 /// The plan at the key plan.
 pub(crate) fn plan_of(alloc: Global, p: &Policy, value: &Value) -> Result<Plan, TextFault>
@@ -48,6 +49,25 @@ pub(crate) fn roles_of(alloc: Global, p: &Policy, value: &Value) -> Result<RoleL
     ensures { Reads (λ roles. roles) result (told.roles_in p.now (view value.now)) }
 {
     each_role(alloc, p, items_of(value)?)
+}
+
+/// A work list.
+pub(crate) fn work_of<F: FlowOf>(
+    alloc: Global,
+    p: &Policy,
+    cases: &F,
+    value: &Value,
+) -> Result<WorkList, TextFault>
+    ensures { Reads (λ items. items) result (told.work_in p.now (F.FlowOf.flows cases.now) (view value.now)) }
+{
+    each_item(alloc, p, cases, items_of(value)?)
+}
+
+/// Numbers of cases.
+pub(crate) fn cases_of(alloc: Global, value: &Value) -> Result<CaseList, TextFault>
+    ensures { Reads (λ cases. cases) result (told.cases_in (view value.now)) }
+{
+    each_case(alloc, items_of(value)?)
 }
 
 // The items of an array.
@@ -100,4 +120,47 @@ fn each_role(alloc: Global, p: &Policy, items: &[Value]) -> Result<RoleList, Tex
         roles.push(RoleId(role as u8))?;
     }
     Ok(roles)
+}
+
+#[tactic(auto, using(crate::proofs::Readings::each_more, crate::proofs::Readings::each_none, crate::proofs::Readings::each_end, crate::proofs::Readings::each_start))]
+fn each_item<F: FlowOf>(
+    alloc: Global,
+    p: &Policy,
+    cases: &F,
+    items: &[Value],
+) -> Result<WorkList, TextFault>
+    ensures { Reads (λ work. work) result (read.each_in (told.item_in p.now (F.FlowOf.flows cases.now)) (items_view items.now)) }
+{
+    let mut work = List::new(alloc);
+    'items: for item in items {
+        let Some(step) = item_of(p, cases, item) else {
+            return Err(TextFault::NotText);
+        };
+        work.push(step)?;
+    }
+    Ok(work)
+}
+
+// A step of a work list, of the workflow of its case.
+fn item_of<F: FlowOf>(p: &Policy, cases: &F, value: &Value) -> Option<WorkItem>
+    ensures { result ≡ told.item_in p.now (F.FlowOf.flows cases.now) (view value.now) }
+{
+    let (case, step) = pair_of(value)?;
+    let case = case_number_of(case)?;
+    let (flow, step) = step_by(p, cases.flow_of(case), step)?;
+    Some(WorkItem { case, flow, step })
+}
+
+#[tactic(auto, using(crate::proofs::Readings::each_more, crate::proofs::Readings::each_none, crate::proofs::Readings::each_end, crate::proofs::Readings::each_start))]
+fn each_case(alloc: Global, items: &[Value]) -> Result<CaseList, TextFault>
+    ensures { Reads (λ cases. cases) result (read.each_in told.number_of_case (items_view items.now)) }
+{
+    let mut cases: List<CaseId> = List::new(alloc);
+    'items: for item in items {
+        let Some(case) = case_number_of(item) else {
+            return Err(TextFault::NotText);
+        };
+        cases.push(case)?;
+    }
+    Ok(cases)
 }

@@ -21,6 +21,18 @@ pub(crate) fn only(value: &Value) -> Option<(&str, &Value)>
     Some((key.as_str(), member))
 }
 
+/// The two items of an array.
+#[tactic(auto, using(crate::proofs::Small::pair_none, crate::proofs::Small::pair_some))]
+pub(crate) fn pair_of(value: &Value) -> Option<(&Value, &Value)>
+    ensures { option_map (λ b. (view b.0.now, view b.1.now)) result ≡ read.pair_parts (view value.now) }
+{
+    let items = value.as_array()?;
+    if items.len() != 2 {
+        return None;
+    }
+    Some((&items[0], &items[1]))
+}
+
 /// The number at a key, where it is below a bound.
 pub(crate) fn number_below(value: &Value, key: &str, bound: u64) -> Option<u64>
     ensures { result ≡ number_below bound key.now (view value.now) }
@@ -38,6 +50,16 @@ pub(crate) fn case_of(value: &Value) -> Option<CaseId>
     match number_below(value, "case", CASE_NUMBER_LIMIT as u64 + 1) {
         Some(n) => Some(CaseId(n as u16)),
         None => None,
+    }
+}
+
+/// The number of a case.
+pub(crate) fn case_number_of(value: &Value) -> Option<CaseId>
+    ensures { result ≡ told.number_of_case (view value.now) }
+{
+    match value.as_u64() {
+        Some(n) if n <= CASE_NUMBER_LIMIT as u64 => Some(CaseId(n as u16)),
+        _ => None,
     }
 }
 

@@ -12,7 +12,7 @@ ghost use Rattle.entry_reader.specs.Told as told;
 use crate::TextFault;
 use crate::denial::denial_of;
 use crate::kind::{ReplyKind, bad_word, phase_word, reply_word};
-use crate::list::{plan_of, states_of};
+use crate::list::{cases_of, plan_of, states_of, work_of};
 use crate::names::know_names;
 use crate::parts::{case_of, name_of, number_below, numbered, only};
 use crate::place::place_in;
@@ -25,7 +25,8 @@ use wire_json::{read_value, write_entry};
 
 /// The reply of the entry whose text is this line, with its line end, where the entry answers this
 /// ask. The steps and trees in it are of the workflow that is concerned: the one of the case in the
-/// reply where an edit strands a case, and else the one that the ask names or its case's.
+/// reply in a work list and where an edit strands a case, and else the one that the ask names or its
+/// case's.
 #[tactic(auto, using(crate::proofs::LinesBack::has_reply, crate::proofs::LinesBack::not_told, crate::proofs::LinesBack::not_written))]
 pub fn read_reply<F: FlowOf>(
     alloc: Global,
@@ -119,6 +120,8 @@ fn flow_asked<F: FlowOf>(p: &Policy, cases: &F, ask: &Ask) -> Option<FlowId>
         Request::Withdraw { case, .. } => cases.flow_of(*case),
         Request::Change { .. } => None,
         Request::Show { case } => cases.flow_of(*case),
+        Request::Worklist { .. } => None,
+        Request::WhatIf { .. } => None,
     }
 }
 
@@ -167,6 +170,8 @@ fn reply_by<F: FlowOf>(
         ReplyKind::Granted => Ok(Reply::Granted(plan_of(alloc, p, value)?)),
         ReplyKind::Opened => opened_of(alloc, p, value),
         ReplyKind::Shown => Ok(Reply::Shown(face_of(alloc, p, value)?)),
+        ReplyKind::Work => Ok(Reply::Work(work_of(alloc, p, cases, value)?)),
+        ReplyKind::WhatIf => Ok(Reply::WhatIf(cases_of(alloc, value)?)),
         ReplyKind::Denied => Ok(Reply::Denied(denial_of(alloc, p, cases, flow, value)?)),
         _ => match short_reply(kind, value) {
             Some(reply) => Ok(reply),

@@ -31,8 +31,12 @@ fn replies_are_read(rt: HostRuntime) -> Result<(), Fail> {
     Ok(())
 }
 
-fn replies() -> [&'static str; 16] {
+fn replies() -> [&'static str; 20] {
     [
+        r#"{"worklist":[]}"#,
+        r#"{"worklist":[[3,"prepare"],[65535,"pay"]]}"#,
+        r#"{"what_if":[]}"#,
+        r#"{"what_if":[0,65535]}"#,
         r#"{"granted":{"plan":["ann","cyd","bob"]}}"#,
         r#"{"finished":{"done":true}}"#,
         r#""returned""#,
@@ -111,7 +115,7 @@ fn other_texts_are_not_read(rt: HostRuntime) -> Result<(), Fail> {
 }
 
 // Lines that are the text of no entry for a claim.
-fn other_texts() -> [&'static str; 16] {
+fn other_texts() -> [&'static str; 19] {
     [
         "",
         "{\"at\":4,\"lane\":1,\"line\":7,\"reply\":\"returned\"",
@@ -129,6 +133,9 @@ fn other_texts() -> [&'static str; 16] {
         "{\"at\":4,\"lane\":1,\"line\":7,\"reply\":{\"again\":{\"at\":4294967296,\"rounds\":1}}}\n",
         "{\"at\":4,\"lane\":1,\"line\":7,\"reply\":{\"denied\":{\"taken\":\"ann\",\"why\":1}}}\n",
         "{\"at\":4,\"lane\":1,\"line\":7,\"reply\":{\"denied\":{\"order\":\"sign\"}}}\n",
+        "{\"at\":4,\"lane\":1,\"line\":7,\"reply\":{\"worklist\":[[3,\"sign\"]]}}\n",
+        "{\"at\":4,\"lane\":1,\"line\":7,\"reply\":{\"worklist\":[[\"pay\",3]]}}\n",
+        "{\"at\":4,\"lane\":1,\"line\":7,\"reply\":{\"what_if\":[65536]}}\n",
     ]
 }
 

@@ -11,7 +11,7 @@ ghost use Rattle.entry_reader.specs.Values as read;
 
 use crate::TextFault;
 use crate::names::know_names;
-use crate::parts::{only, rule_of, step_of, user_of};
+use crate::parts::{only, pair_of, rule_of, step_of, user_of};
 use policy_book::Policy;
 use refutation_tree::{Branch, Branches, Kid, Tree};
 use serde_json::Value;
@@ -86,7 +86,7 @@ fn read_branches(
 fn read_branch(alloc: Global, p: &Policy, f: FlowId, value: &Value) -> Result<Branch, TextFault>
     ensures { (rest : Option Kids) → ReadsOnto result rest (read.kid_in p.now f (view value.now) rest) }
 {
-    let Some((user, kid)) = branch_parts(value) else {
+    let Some((user, kid)) = pair_of(value) else {
         return Err(TextFault::NotText);
     };
     let Some(user) = user_of(p, user) else {
@@ -140,18 +140,6 @@ fn leaf_of(p: &Policy, f: FlowId, value: &Value) -> Option<Tree>
         "rule" => Some(Tree::Rule(rule_of(value)?)),
         _ => None,
     }
-}
-
-// The user and what stands behind it.
-#[tactic(auto, using(crate::proofs::Small::pair_none, crate::proofs::Small::pair_some))]
-fn branch_parts(value: &Value) -> Option<(&Value, &Value)>
-    ensures { option_map (λ b. (view b.0.now, view b.1.now)) result ≡ read.branch_parts (view value.now) }
-{
-    let items = value.as_array()?;
-    if items.len() != 2 {
-        return None;
-    }
-    Some((&items[0], &items[1]))
 }
 
 // The user of a leaf that names a twin.

@@ -3,3 +3,4 @@ pub mod Floats
 pub mod Branches
 pub mod Texts
 pub mod PlainLines
+pub mod Keys

@@ -8,6 +8,7 @@ use Rattle.wf_talk.specs.declared.entry.Entry.{Entry}
 use Rattle.wf_talk.specs.declared.reply.Reply.{Reply}
 use Rattle.wf_talk.specs.declared.reply.Reply.TheVariants as reply
 use Rattle.wf_talk.specs.declared.reply.Face.{Face}
+use Rattle.wf_talk.specs.declared.reply.WorkItem.{WorkItem}
 use Rattle.wf_talk.specs.declared.reply.Denial.{Denial}
 use Rattle.wf_talk.specs.declared.reply.Denial.TheVariants as denial
 use Rattle.wf_talk.specs.declared.edit.Missing.{Missing}
@@ -70,6 +71,14 @@ abbrev pub again_data : ℕ → ℕ → Data
 again_data rounds at =
     object (member (codes "at") (number (unsigned at)) (member (codes "rounds") (number (unsigned rounds)) no_members))
 
+-- a step of a work list, with the number of its case before it
+abbrev pub work_data : PolicyShape → WorkItem → Data
+work_data p i = array (items_of (number (unsigned i.case) ∷ step_data p i.flow i.step ∷ []))
+
+-- the numbers of cases, in order
+abbrev pub cases_data : List ℕ → Data
+cases_data cases = array (items_of (map (λ c. number (unsigned c)) cases))
+
 -- a reply
 abbrev pub reply_data : PolicyShape → Reply → Data
 reply_data p (reply.Granted plan) = single (codes "granted") (single (codes "plan") (plan_data p.roster.users plan))
@@ -80,6 +89,8 @@ reply_data p (reply.Opened c plan) = single (codes "opened") (opened_data p c pl
 reply_data p reply.Withdrawn = word (codes "withdrawn")
 reply_data p (reply.Edited n) = single (codes "edited") (single (codes "number") (number (unsigned n)))
 reply_data p (reply.Shown face) = single (codes "view") (face_data p face)
+reply_data p (reply.Work items) = single (codes "worklist") (array (items_of (map (work_data p) items)))
+reply_data p (reply.WhatIf cases) = single (codes "what_if") (cases_data cases)
 reply_data p (reply.Denied d) = single (codes "denied") (denial_data p d)
 reply_data p (reply.Again rounds at) = single (codes "again") (again_data rounds at)
 reply_data p reply.NoMemory = word (codes "no_memory")

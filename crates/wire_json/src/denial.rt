@@ -129,7 +129,13 @@ fn push_step_in(
     Ok(())
 }
 
-fn push_step(out: &mut Vec<u8>, p: &Policy, f: FlowId, s: StepId) -> Result<(), AllocError>
+/// Adds the name of a step of a workflow, as text; the empty text where there is none.
+pub(crate) fn push_step(
+    out: &mut Vec<u8>,
+    p: &Policy,
+    f: FlowId,
+    s: StepId,
+) -> Result<(), AllocError>
     ensures { OnOk result (out.new.items ≡ out.old.items ++ compact_text (step_data p.now f s)) }
 {
     if (f.0 as u16) < p.flows().len() {

@@ -15,6 +15,7 @@ mod tests;
 mod text;
 mod tree;
 mod value;
+mod views;
 mod word;
 
 pub use finding::{write_plan, write_tree};

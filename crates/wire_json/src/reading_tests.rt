@@ -22,7 +22,7 @@ fn is_asked(alloc: Global, line: &str, wanted: &Asked) -> Result<bool, AllocErro
     }
 }
 
-fn requests(flow: Name, by: Name, step: Name, user: Name) -> [(&'static str, u8, Request); 9] {
+fn requests(flow: Name, by: Name, step: Name, user: Name) -> [(&'static str, u8, Request); 10] {
     let case = CaseId(3);
     [
         (
@@ -56,6 +56,11 @@ fn requests(flow: Name, by: Name, step: Name, user: Name) -> [(&'static str, u8,
             Request::Withdraw { by, case },
         ),
         (r#"{"do":"view","case":3}"#, 0, Request::Show { case }),
+        (
+            r#"{"do":"worklist","lane":1,"user":"bob"}"#,
+            1,
+            Request::Worklist { user },
+        ),
         (
             r#"{"do":"view","case":65535}"#,
             0,
@@ -170,11 +175,7 @@ fn bad_lines() -> [(&'static str, &'static str); 35] {
         (r#"{"lane":9}"#, "do"),
         (r#"{"do":7,"lane":9}"#, "do"),
         (r#"{"do":"grant","case":3,"step":"pay","user":"bob"}"#, "do"),
-        (
-            r#"{"do":"what_if","edit":"leave","by":"eve","user":"bob"}"#,
-            "do",
-        ),
-        (r#"{"do":"worklist","user":"bob"}"#, "do"),
+        (r#"{"do":"leave_it","edit":"leave"}"#, "do"),
         (r#"{"do":"claim","lane":2}"#, "lane"),
         (r#"{"do":"view","case":3,"lane":-0}"#, "lane"),
         (r#"{"do":"view","case":3,"lane":1.0}"#, "lane"),
@@ -206,7 +207,88 @@ fn bad_lines() -> [(&'static str, &'static str); 35] {
         (r#"{"do":"open","flow":""}"#, "flow"),
         (r#"{"do":"open","flow":"pay","plan":["ann"]}"#, "extra"),
         (r#"{"do":"view","case":3,"edit":"leave"}"#, "extra"),
+        (
+            r#"{"do":"dismiss","edit":"dismiss","by":"eve","role":"boss","user":"bob"}"#,
+            "extra",
+        ),
         (r#"{"do":"view","case":3,"Lane":0}"#, "extra"),
+    ]
+}
+
+#[test]
+fn what_ifs_are_read(rt: HostRuntime) -> Result<(), Fail> {
+    let (by, user, role) = (read("eve")?, read("bob")?, read("boss")?);
+    let (flow, step, relation) = (read("pay")?, read("approve")?, read("mentor")?);
+    for (line, edit) in what_ifs(user, role, relation, flow, step) {
+        let ask = Ask::Request(Request::WhatIf { by, edit });
+        assert!(rt;
+            is_asked(rt.alloc(), line, &Asked { lane: 0, ask })?,
+            "{line}"
+        );
+    }
+    for (line, wanted) in bad_views() {
+        assert!(rt; is_bad(rt.alloc(), line.as_bytes(), wanted)?, "{line}");
+    }
+    Ok(())
+}
+
+fn what_ifs(
+    user: Name,
+    role: Name,
+    relation: Name,
+    flow: Name,
+    step: Name,
+) -> [(&'static str, Edit); 5] {
+    [
+        (
+            r#"{"do":"what_if","edit":"leave","by":"eve","user":"bob"}"#,
+            Edit::Leave { user },
+        ),
+        (
+            r#"{"user":"bob","role":"boss","by":"eve","edit":"dismiss","do":"what_if"}"#,
+            Edit::Dismiss { role, user },
+        ),
+        (
+            r#"{"do":"what_if","edit":"unrelate","by":"eve","first":"bob","relation":"mentor","second":"bob"}"#,
+            Edit::Unrelate {
+                first: user,
+                relation,
+                second: user,
+            },
+        ),
+        (
+            r#"{"do":"what_if","edit":"forbid","by":"eve","flow":"pay","role":"boss","step":"approve"}"#,
+            Edit::Forbid { flow, role, step },
+        ),
+        (
+            r#"{"do":"what_if","edit":"retire","by":"eve","flow":"pay"}"#,
+            Edit::Retire { flow },
+        ),
+    ]
+}
+
+// Requests of views with what is wrong with them.
+fn bad_views() -> [(&'static str, &'static str); 10] {
+    [
+        (r#"{"do":"worklist","lane":2}"#, "lane"),
+        (r#"{"do":"worklist","by":"eve"}"#, "user"),
+        (r#"{"do":"worklist","by":"eve","user":"bob"}"#, "extra"),
+        (r#"{"do":"what_if","edit":"grant","lane":2}"#, "lane"),
+        (r#"{"do":"what_if","by":"eve","user":"bob"}"#, "edit"),
+        (r#"{"do":"what_if","edit":7,"x":1}"#, "edit"),
+        (
+            r#"{"do":"what_if","edit":"what_if","by":"eve","flow":"pay"}"#,
+            "edit",
+        ),
+        (r#"{"do":"what_if","edit":"leave","user":7}"#, "by"),
+        (
+            r#"{"do":"what_if","edit":"dismiss","by":"eve","user":"bob"}"#,
+            "role",
+        ),
+        (
+            r#"{"do":"what_if","edit":"leave","by":"eve","role":"boss","user":"bob"}"#,
+            "extra",
+        ),
     ]
 }
 

@@ -10,6 +10,7 @@ use crate::denial::push_denial;
 use crate::text::{
     push, push_case, push_comma, push_name, push_name_in, push_number, push_plan, push_quoted,
 };
+use crate::views::{push_what_if, push_work};
 use policy_book::{Plan, Policy};
 use std::alloc::{AllocError, Global};
 use wf_names::{CaseId, FlowId, Name, Phase, StepState};
@@ -55,6 +56,8 @@ fn push_reply(alloc: Global, out: &mut Vec<u8>, p: &Policy, reply: &Reply) -> Re
         Reply::Withdrawn => push(out, b"\"withdrawn\""),
         Reply::Edited { number } => push_edited(out, *number),
         Reply::Shown(face) => push_shown(out, p, face),
+        Reply::Work(items) => push_work(out, p, items.as_slice()),
+        Reply::WhatIf(cases) => push_what_if(out, cases.as_slice()),
         Reply::Denied(denial) => push_denied(alloc, out, p, denial),
         Reply::Again { rounds, at } => push_again(out, *rounds, *at),
         Reply::NoMemory => push(out, b"\"no_memory\""),

@@ -1,5 +1,5 @@
 //! Reading a line as a request.
-ghost use Rattle.std.specs.Prelude.{◌≡◌, IsTrue, IfOk, Some, Err, option_map, option_and_then, map, codes, nat_eq};
+ghost use Rattle.std.specs.Prelude.{◌≡◌, ◌++◌, IsTrue, IfOk, Some, Err, option_map, option_and_then, map, codes, nat_eq};
 ghost use Rattle.std.specs.List.{list_any};
 ghost use Rattle.std.specs.Cmp.Lexicographic.{pointwise};
 ghost use Rattle.serde_json.specs.View.{view, members_view};
@@ -8,12 +8,9 @@ ghost use Rattle.first_fault.specs.Reading.{Gives, or_fault, check};
 ghost use Rattle.wf_names.specs.Names.{is_name};
 ghost use Rattle.wf_talk.specs.declared.request.Bad.TheVariants as bad;
 ghost use Rattle.wire_json.specs.Requests as read;
-ghost use Rattle.wire_json.specs.Words.{row_of_word};
+ghost use Rattle.wire_json.specs.Words.{reading_of_word};
 
-use crate::change::{
-    add_user_in, dismiss_in, enrol_in, forbid_in, leave_in, permit_in, relate_in, retire_in,
-    unrelate_in,
-};
+use crate::change::{change_in, what_if_in};
 use crate::plain::read_plain;
 use crate::value::read_value;
 use crate::word::Word;
@@ -94,7 +91,7 @@ fn members_of(value: &Value) -> Result<&Map<String, Value>, Bad>
 
 // The word at the key do.
 fn word_in(value: &Value) -> Result<Word, Bad>
-    ensures { Gives Some row_of_word result (or_fault (option_and_then read.row_of (read.text_at (codes "do") (view value.now))) bad.Do) }
+    ensures { Gives Some reading_of_word result (or_fault (option_and_then read.reading_of (read.text_at (codes "do") (view value.now))) bad.Do) }
 {
     let Some(text) = text_at(value, "do") else {
         return Err(Bad::Do);
@@ -119,7 +116,7 @@ fn lane_in(value: &Value, lanes: u8) -> Result<u8, Bad>
 }
 
 fn request_named(word: Word, value: &Value, members: &Map<String, Value>) -> Result<Request, Bad>
-    ensures { Gives Some (λ r. r) result (read.request_by (row_of_word word) (view value.now) (members_view members.now.entries)) }
+    ensures { Gives Some (λ r. r) result (reading_of_word word (view value.now) (members_view members.now.entries)) }
 {
     match word {
         Word::Open => open_in(value, members),
@@ -128,89 +125,92 @@ fn request_named(word: Word, value: &Value, members: &Map<String, Value>) -> Res
         Word::GiveBack => give_back_in(value, members),
         Word::Release => release_in(value, members),
         Word::Withdraw => withdraw_in(value, members),
-        Word::AddUser => add_user_in(value, members),
-        Word::Leave => leave_in(value, members),
-        Word::Enrol => enrol_in(value, members),
-        Word::Dismiss => dismiss_in(value, members),
-        Word::Relate => relate_in(value, members),
-        Word::Unrelate => unrelate_in(value, members),
-        Word::Permit => permit_in(value, members),
-        Word::Forbid => forbid_in(value, members),
-        Word::Retire => retire_in(value, members),
         Word::View => view_in(value, members),
+        Word::Worklist => worklist_in(value, members),
+        Word::WhatIf => what_if_in(value, members),
+        Word::Change(edit) => change_in(edit, value, members),
     }
 }
 
 #[tactic(auto, unfolding(crate::specs::Requests::request_by, wf_names::specs::Names::is_name))]
 fn open_in(value: &Value, members: &Map<String, Value>) -> Result<Request, Bad>
-    ensures { Gives Some (λ r. r) result (read.request_by (row_of_word Word.Open) (view value.now) (members_view members.now.entries)) }
+    ensures { Gives Some (λ r. r) result (reading_of_word Word.Open (view value.now) (members_view members.now.entries)) }
 {
     let flow = name_at(value, "flow")?;
-    no_others(members, &["do", "lane", "flow"])?;
+    no_others(members, &["do", "lane"], &["flow"])?;
     Ok(Request::OpenCase { flow })
 }
 
 #[tactic(auto, unfolding(crate::specs::Requests::request_by, wf_names::specs::Names::is_name))]
 fn claim_in(value: &Value, members: &Map<String, Value>) -> Result<Request, Bad>
-    ensures { Gives Some (λ r. r) result (read.request_by (row_of_word Word.Claim) (view value.now) (members_view members.now.entries)) }
+    ensures { Gives Some (λ r. r) result (reading_of_word Word.Claim (view value.now) (members_view members.now.entries)) }
 {
     let case = case_at(value)?;
     let step = name_at(value, "step")?;
     let user = name_at(value, "user")?;
-    no_others(members, &["do", "lane", "case", "step", "user"])?;
+    no_others(members, &["do", "lane"], &["case", "step", "user"])?;
     Ok(Request::Claim { case, step, user })
 }
 
 #[tactic(auto, unfolding(crate::specs::Requests::request_by, wf_names::specs::Names::is_name))]
 fn finish_in(value: &Value, members: &Map<String, Value>) -> Result<Request, Bad>
-    ensures { Gives Some (λ r. r) result (read.request_by (row_of_word Word.Finish) (view value.now) (members_view members.now.entries)) }
+    ensures { Gives Some (λ r. r) result (reading_of_word Word.Finish (view value.now) (members_view members.now.entries)) }
 {
     let case = case_at(value)?;
     let step = name_at(value, "step")?;
     let user = name_at(value, "user")?;
-    no_others(members, &["do", "lane", "case", "step", "user"])?;
+    no_others(members, &["do", "lane"], &["case", "step", "user"])?;
     Ok(Request::Finish { case, step, user })
 }
 
 #[tactic(auto, unfolding(crate::specs::Requests::request_by, wf_names::specs::Names::is_name))]
 fn give_back_in(value: &Value, members: &Map<String, Value>) -> Result<Request, Bad>
-    ensures { Gives Some (λ r. r) result (read.request_by (row_of_word Word.GiveBack) (view value.now) (members_view members.now.entries)) }
+    ensures { Gives Some (λ r. r) result (reading_of_word Word.GiveBack (view value.now) (members_view members.now.entries)) }
 {
     let case = case_at(value)?;
     let step = name_at(value, "step")?;
     let user = name_at(value, "user")?;
-    no_others(members, &["do", "lane", "case", "step", "user"])?;
+    no_others(members, &["do", "lane"], &["case", "step", "user"])?;
     Ok(Request::GiveBack { case, step, user })
 }
 
 #[tactic(auto, unfolding(crate::specs::Requests::request_by, wf_names::specs::Names::is_name))]
 fn release_in(value: &Value, members: &Map<String, Value>) -> Result<Request, Bad>
-    ensures { Gives Some (λ r. r) result (read.request_by (row_of_word Word.Release) (view value.now) (members_view members.now.entries)) }
+    ensures { Gives Some (λ r. r) result (reading_of_word Word.Release (view value.now) (members_view members.now.entries)) }
 {
     let by = name_at(value, "by")?;
     let case = case_at(value)?;
     let step = name_at(value, "step")?;
-    no_others(members, &["do", "lane", "by", "case", "step"])?;
+    no_others(members, &["do", "lane"], &["by", "case", "step"])?;
     Ok(Request::Release { by, case, step })
 }
 
 #[tactic(auto, unfolding(crate::specs::Requests::request_by, wf_names::specs::Names::is_name))]
 fn withdraw_in(value: &Value, members: &Map<String, Value>) -> Result<Request, Bad>
-    ensures { Gives Some (λ r. r) result (read.request_by (row_of_word Word.Withdraw) (view value.now) (members_view members.now.entries)) }
+    ensures { Gives Some (λ r. r) result (reading_of_word Word.Withdraw (view value.now) (members_view members.now.entries)) }
 {
     let by = name_at(value, "by")?;
     let case = case_at(value)?;
-    no_others(members, &["do", "lane", "by", "case"])?;
+    no_others(members, &["do", "lane"], &["by", "case"])?;
     Ok(Request::Withdraw { by, case })
 }
 
 #[tactic(auto, unfolding(crate::specs::Requests::request_by, wf_names::specs::Names::is_name))]
 fn view_in(value: &Value, members: &Map<String, Value>) -> Result<Request, Bad>
-    ensures { Gives Some (λ r. r) result (read.request_by (row_of_word Word.View) (view value.now) (members_view members.now.entries)) }
+    ensures { Gives Some (λ r. r) result (reading_of_word Word.View (view value.now) (members_view members.now.entries)) }
 {
     let case = case_at(value)?;
-    no_others(members, &["do", "lane", "case"])?;
+    no_others(members, &["do", "lane"], &["case"])?;
     Ok(Request::Show { case })
+}
+
+#[tactic(auto, unfolding(crate::specs::Requests::request_by, wf_names::specs::Names::is_name))]
+fn worklist_in(value: &Value, members: &Map<String, Value>) -> Result<Request, Bad>
+    ensures { Gives Some (λ r. r) result (reading_of_word Word.Worklist (view value.now) (members_view members.now.entries)) }
+{
+    let user = name_at(value, "user")?;
+    no_others(members, &["do", "lane"], &["user"])?;
+    Ok(Request::Worklist { user })
 }
 
 // The number of the case, at the key case.
@@ -238,8 +238,8 @@ pub(crate) fn name_at(value: &Value, key: &str) -> Result<Name, Bad>
     }
 }
 
-// The fault of a key.
-fn key_fault(key: &str) -> Bad
+/// The fault of a key.
+pub(crate) fn key_fault(key: &str) -> Bad
     requires { IsTrue (is_name key.now) }
     ensures { result ≡ bad.Key key.now }
 {
@@ -252,22 +252,35 @@ fn number_at(value: &Value, key: &str) -> Option<u64>
     value.get(key).and_then(Value::as_u64)
 }
 
-fn text_at<'v>(value: &'v Value, key: &str) -> Option<&'v str>
+/// The text at a key.
+pub(crate) fn text_at<'v>(value: &'v Value, key: &str) -> Option<&'v str>
     ensures { option_map (λ t. t.now) result ≡ read.text_at key.now (view value.now) }
 {
     value.get(key).and_then(Value::as_str)
 }
 
 /// Refuses an object with another key than these.
-pub(crate) fn no_others(members: &Map<String, Value>, known: &[&str]) -> Result<(), Bad>
-    ensures { Gives Some (λ u. u) result (check (read.has_only (map (λ k. k.now) known.now) (members_view members.now.entries)) bad.Extra) }
+pub(crate) fn no_others(
+    members: &Map<String, Value>,
+    others: &[&str],
+    keys: &[&str],
+) -> Result<(), Bad>
+    ensures { Gives Some (λ u. u) result (check (read.has_only (map (λ k. k.now) others.now ++ map (λ k. k.now) keys.now) (members_view members.now.entries)) bad.Extra) }
 {
     'members: for (key, _value) in members {
-        if !is_among(known, key.as_str()) {
+        if !is_either(others, keys, key.as_str()) {
             return Err(Bad::Extra);
         }
     }
     Ok(())
+}
+
+// Whether a text is one of some texts or of some others.
+#[tactic(auto, using(crate::proofs::Keys::any_of_both))]
+fn is_either(texts: &[&str], others: &[&str], text: &str) -> bool
+    ensures { result ≡ list_any (pointwise nat_eq text.now) (map (λ t. t.now) texts.now ++ map (λ t. t.now) others.now) }
+{
+    is_among(texts, text) || is_among(others, text)
 }
 
 // Whether a text is one of some texts.

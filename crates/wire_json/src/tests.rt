@@ -8,7 +8,9 @@ use refutation_tree::Tree;
 use std::alloc::{AllocError, Global};
 use std::test::Fail;
 use wf_names::{CaseId, FlowId, Name, NameTable, Phase, RoleId, StepId, StepState, UserId};
-use wf_talk::{Ask, Bad, Denial, Entry, Face, Missing, Reply, RoleList, States};
+use wf_talk::{
+    Ask, Bad, CaseList, Denial, Entry, Face, Missing, Reply, RoleList, States, WorkItem, WorkList,
+};
 
 #[test]
 fn entries_have_their_texts(rt: HostRuntime) -> Result<(), Fail> {
@@ -18,7 +20,11 @@ fn entries_have_their_texts(rt: HostRuntime) -> Result<(), Fail> {
 }
 
 fn all_have_their_texts(alloc: Global, p: &Policy) -> Result<bool, Fail> {
-    Ok(replies_have_their_texts(alloc, p)? && all_denials_have_their_texts(alloc, p)?)
+    Ok(
+        replies_have_their_texts(alloc, p)?
+            && views_have_their_texts(alloc, p)?
+            && all_denials_have_their_texts(alloc, p)?,
+    )
 }
 
 fn all_denials_have_their_texts(alloc: Global, p: &Policy) -> Result<bool, Fail> {
@@ -93,6 +99,52 @@ fn face(phase: Phase) -> Face {
         phase,
         states,
     }
+}
+
+fn views_have_their_texts(alloc: Global, p: &Policy) -> Result<bool, Fail> {
+    Ok(work_has_its_text(alloc, p)? && what_ifs_have_their_texts(alloc, p)?)
+}
+
+fn work_has_its_text(alloc: Global, p: &Policy) -> Result<bool, Fail> {
+    let none = Reply::Work(WorkList::new(alloc));
+    let work = Reply::Work(work(alloc)?);
+    Ok(
+        is_written(alloc, p, none, r#"{"worklist":[]}"#)?
+            && is_written(
+                alloc,
+                p,
+                work,
+                r#"{"worklist":[[3,"prepare"],[65535,"pay"]]}"#,
+            )?,
+    )
+}
+
+fn work(alloc: Global) -> Result<WorkList, AllocError> {
+    let mut work = WorkList::new(alloc);
+    for (case, step) in [(3, 0), (65_535, 2)] {
+        work.add(&WorkItem {
+            case: CaseId(case),
+            flow: FlowId(0),
+            step: StepId(step),
+        })?;
+    }
+    Ok(work)
+}
+
+fn what_ifs_have_their_texts(alloc: Global, p: &Policy) -> Result<bool, Fail> {
+    let none = Reply::WhatIf(CaseList::new(alloc));
+    let some = Reply::WhatIf(cases(alloc)?);
+    Ok(
+        is_written(alloc, p, none, r#"{"what_if":[]}"#)?
+            && is_written(alloc, p, some, r#"{"what_if":[0,65535]}"#)?,
+    )
+}
+
+fn cases(alloc: Global) -> Result<CaseList, AllocError> {
+    let mut cases = CaseList::new(alloc);
+    cases.add(&CaseId(0))?;
+    cases.add(&CaseId(65_535))?;
+    Ok(cases)
 }
 
 fn denials_have_their_texts(alloc: Global, p: &Policy) -> Result<bool, Fail> {
