@@ -1,5 +1,5 @@
 -- What a parse that succeeds finds, by the definitions.
-use Rattle.std.proofs.Common.{◌≡◌, ◌⊎◌, ◌∙◌, ◌<◌, ◌&&◌, Bool, true, false, not, refl, sym, ap, arith, inl, inr, length, List, [], ◌∷◌, map, Some, None, true≢false}
+use Rattle.std.proofs.Common.{◌≡◌, ◌⊎◌, ◌∙◌, ◌<◌, Bool, true, false, not, refl, sym, ap, arith, inl, inr, length, List, [], ◌∷◌, map, Some, None, true≢false}
 use Rattle.std.specs.List.{All, Any}
 use Rattle.std.specs.Borrow.{Bor}
 use Rattle.std.specs.Prelude.{if◌then◌else◌}
@@ -18,12 +18,9 @@ use Rattle.clap.specs.declared.error.Error.{Error}
 use Rattle.clap.specs.declared.error.kind.ErrorKind.TheVariants.{OutOfMemory}
 use Rattle.clap.specs.declared.parser.matches.ArgMatches.{ArgMatches}
 use Rattle.clap.specs.declared.parser.matches.Found.{Found}
+use Rattle.clap.proofs.WalkLemmas.{both}
 use Rattle.command_words.specs.Words.{found}
 use Rattle.command_words.specs.Finding.{PassesIn, RowPasses, TakesValue, rows_in}
-
-both : (a b : Bool) → (a && b) ≡ true → (a ≡ true) × (b ≡ true)
-both true b e = (refl, e)
-both false b e = absurd (true≢false (sym e))
 
 not_empty : {X : Type 0} (x : X) (xs : List X) → is_empty (x ∷ xs) ≡ false
 not_empty x xs = ne_eqb _ _ (λ e. let lots : length (x ∷ xs) ≡ 0 = e in omega arith)

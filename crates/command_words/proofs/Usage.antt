@@ -1,12 +1,12 @@
 -- Words in the form of the usage are taken, and are read as their command.
 use Rattle.std.proofs.Common.{◌≡◌, ◌∙◌, ◌<◌, ◌≤◌, ◌^◌, ◌-◌, ℕ, true, false, refl, ap, ap₂, arith, List, [], ◌∷◌, ◌++◌, Option, Some, None}
-use Rattle.std.specs.Prelude.{codes, pos, option_and_then, option_map, unwrap_or}
+use Rattle.std.specs.Prelude.{codes, pos, option_and_then, option_map}
 use Rattle.std.specs.Fmt.{decimal}
 use Rattle.std.specs.Str.Parse.{digits_value, without_leading_plus}
 use Rattle.clap.specs.Lexer.{without_minus}
 use Rattle.clap.specs.Words.{App, Row, Text, built}
 use Rattle.clap.specs.Simple.{Shape}
-use Rattle.clap.specs.Walk.{Held, Walk, idle, nothing_held, option}
+use Rattle.clap.specs.Walk.{Held, idle, nothing_held, option}
 use Rattle.clap.specs.ValueTests.{accepts}
 use Rattle.clap.specs.declared.builder.value_parser.Reading.{Reading}
 use Rattle.clap.specs.declared.builder.value_parser.Reading.TheVariants.{AsWritten, WithoutMinus}
@@ -15,7 +15,7 @@ use Rattle.clap.specs.declared.parser.matches.ValueSource.{ValueSource}
 use Rattle.clap.specs.declared.parser.matches.ValueSource.TheVariants.{CommandLine, DefaultValue}
 use Rattle.clap.proofs.OnLiterals.{clap_on_literals}
 use Rattle.wf_names.specs.declared.limits.TheConstants.{DEFAULT_LANES, DEFAULT_ROUNDS, LANE_LIMIT, ROUND_LIMIT}
-use Rattle.command_words.specs.Words.{AreOptions, Options, audit, audit_form, audit_of, command_of, found, number_of, options_of, plan, plan_form, plan_of, policy_in, serve, serve_form, serve_of, show, show_form, solve, solve_form, trial, trial_form}
+use Rattle.command_words.specs.Words.{AreOptions, Options, audit, audit_form, audit_of, command_of, found, number_of, plan, plan_form, plan_of, policy_in, serve, serve_form, serve_of, show, show_form, solve, solve_form, trial, trial_form}
 use Rattle.command_words.specs.Usage.{IsPlain, option_words, options_with}
 use Rattle.command_words.proofs.Decimals.{decimal_plain, signed_taken, unsigned_taken, value_of, value_without_minus}
 use Rattle.command_words.proofs.Walking.{at, ends, goes, goes_plain, taken}

@@ -1,16 +1,15 @@
 -- The walk of `clap` over words that are written out, but for those that begin with no hyphen.
-use Rattle.std.proofs.Common.{◌≡◌, ◌∙◌, ◌<◌, ◌≤◌, ◌^◌, ◌-◌, ℕ, Bool, true, false, refl, ap, ap₂, arith, List, [], ◌∷◌, Option, Some, None}
-use Rattle.std.specs.Prelude.{codes, pos, fold, if◌then◌else◌, is_some, option_and_then, option_map, slice_index}
+use Rattle.std.proofs.Common.{◌≡◌, ◌∙◌, ℕ, Bool, true, false, refl, ap, ap₂, List, [], ◌∷◌, Option, Some, None}
+use Rattle.std.specs.Prelude.{fold, if◌then◌else◌, is_some, option_and_then, slice_index}
 use Rattle.std.specs.Option.{option_map_or}
 use Rattle.std.specs.Str.{bytes_eq}
 use Rattle.std.proofs.lemmas.Slice.Eq.{bytes_eq-Decides}
-use Rattle.clap.specs.Lexer.{without_minus, long_of, long_of_rest, short_of, short_of_rest, strip_byte}
+use Rattle.clap.specs.Lexer.{long_of, long_of_rest, short_of, short_of_rest, strip_byte}
 use Rattle.clap.specs.Words.{App, Kinds, Row, Rule, Text, built, fault_of, matches_of}
 use Rattle.clap.specs.Faults.{bundle_fault, check_fault, defaults_fault, entered_fault, flag_word_fault, other_fault, settle_fault, step_fault, turn_fault, walk_fault, word_fault}
 use Rattle.clap.specs.Kinds.{or_else}
 use Rattle.clap.specs.Simple.{Shape, argument_words, entered, names_of}
 use Rattle.clap.specs.Walk.{Held, Names, Step, Waiting, trailing, Walk, after_step, finished, idle, is_empty, long_or_other, nothing_held, option, plain_word, positional, settled, short_or_plain, subcommand_met, subcommand_or_other, walk, walk_from, walked, word_met}
-use Rattle.clap.proofs.OnLiterals.{clap_on_literals}
 use Rattle.command_words.specs.Words.{found}
 use Rattle.command_words.specs.Usage.{IsPlain}
 use Rattle.command_words.proofs.Plain.{no_hyphen}

@@ -14,12 +14,14 @@ rows_in m = rows_of (found_of m)
 
 -- the argument has this name, and takes the value
 abbrev pub TakesValue : Text → Text → Rule → Type 0
-TakesValue name value r = (bytes_eq r.id name ≡ true) × Accepts r.ignore_case (parser_of_value r.parser) value
+TakesValue name value r =
+    (bytes_eq r.id name ≡ true) × Accepts r.ignore_case (parser_of_value r.parser) value
 
 -- the values of a row passed an argument with its name, and are read as one with its name says
 abbrev pub RowPasses : List Rule → Row → Type 0
 RowPasses rules row = (row.id ≡ []) ⊎ (All (λ value. Any (TakesValue row.id value) rules) row.values
-    × Any (λ r. (bytes_eq r.id row.id ≡ true) × (reading_of (parser_of_value r.parser) ≡ row.reading)) rules)
+    × Any (λ r. (bytes_eq r.id row.id ≡ true)
+    × (reading_of (parser_of_value r.parser) ≡ row.reading)) rules)
 
 -- the values that were found passed the arguments of a command, as it was or as it was built
 pub record PassesIn (app : App) (rows : List Row) : Type 0 where
@@ -31,7 +33,8 @@ pub record PassesIn (app : App) (rows : List Row) : Type 0 where
 abbrev pub WritesWithin : ℕ → ℕ → Text → List Row → Type 0
 WritesWithin least most name rows = (text : Text) → one_of name rows ≡ Some text
     → IsNumeral 10 (without_leading_plus text)
-    × (least ≤ digits_value 10 (without_leading_plus text)) × (digits_value 10 (without_leading_plus text) ≤ most)
+    × (least ≤ digits_value 10 (without_leading_plus text))
+    × (digits_value 10 (without_leading_plus text) ≤ most)
 
 -- both options are numbers within their limits
 pub record HasOptions (rows : List Row) : Type 0 where

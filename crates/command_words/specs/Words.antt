@@ -1,5 +1,7 @@
--- The words of the program's command line. Which words are at fault, and what is found at the others,
--- is said by the definitions of `clap`, for one form for each command.
+-- The words of the program's command line. Each command has a form, and the definitions of `clap` say
+-- for a form which words are at fault, and what is found at others: `new_rule`, `new_app` and
+-- `with_rule` are what its builders make, `fault_of` lists what is wrong with words, and `first_of`
+-- and `one_of` are the texts that its getters read.
 use Rattle.std.specs.Prelude.{ℕ, pos, ◌<◌, ◌≤◌, ◌^◌, ◌-◌, Bool, true, false, ◌&&◌, List, [], ◌∷◌, fold, Option, None, Some, option_map, option_and_then, codes, nat_eq, nat_lt, if◌then◌else◌}
 use Rattle.std.specs.Fmt.{decimal}
 use Rattle.std.specs.Str.Parse.{digits_value, without_leading_plus}
@@ -73,20 +75,22 @@ abbrev pub serve_form : App
 serve_form = form (codes "serve") (policy_word ∷ lanes_option ∷ rounds_option ∷ [])
 
 abbrev pub audit_form : App
-audit_form = form (codes "audit") (policy_word ∷ wanted (codes "REQUESTS") ∷ lanes_option ∷ rounds_option ∷ [])
+audit_form = form (codes "audit")
+    (policy_word ∷ wanted (codes "REQUESTS") ∷ lanes_option ∷ rounds_option ∷ [])
 
 abbrev pub trial_form : App
 trial_form = form (codes "trial") (wanted_number (codes "SEED") ∷ [])
 
 -- ---- what is found at the words
 
--- what `clap` finds at the words, the first of which names the command, where none of them is at fault
+-- what `clap` finds at the words, where none of them is at fault; the first names the command
 unfoldable pub found : App → List Text → Option (List Row)
 found app words = if is_empty (fault_of app words) then Some (matches_of app words) else None
 
 -- the number that was found under a name
 abbrev pub number_of : Text → List Row → Option ℕ
-number_of name rows = option_map (λ text. digits_value 10 (without_leading_plus text)) (one_of name rows)
+number_of name rows =
+    option_map (λ text. digits_value 10 (without_leading_plus text)) (one_of name rows)
 
 -- both, where both are there
 abbrev pub with_both : {X Y Z : Type 0} → (X → Y → Z) → Option X → Option Y → Option Z
@@ -106,7 +110,8 @@ abbrev pub serve_of : List Row → Option Command
 serve_of rows = with_both serve (policy_in rows) (options_of rows)
 
 abbrev pub audit_of : List Row → Option Command
-audit_of rows = option_and_then (λ policy. with_both (audit policy) (first_of (codes "REQUESTS") rows) (options_of rows)) (policy_in rows)
+audit_of rows = option_and_then (λ policy.
+    with_both (audit policy) (first_of (codes "REQUESTS") rows) (options_of rows)) (policy_in rows)
 
 -- ---- the command
 
@@ -118,11 +123,14 @@ is_word word other = pointwise nat_eq word other
 abbrev pub command_at : Text → List Text → Option Command
 command_at word words =
     if is_word word (codes "plan") then option_and_then plan_of (found plan_form words) else
-    if is_word word (codes "show") then option_map show (option_and_then policy_in (found show_form words)) else
-    if is_word word (codes "solve") then option_map solve (option_and_then policy_in (found solve_form words)) else
+    if is_word word (codes "show")
+    then option_map show (option_and_then policy_in (found show_form words)) else
+    if is_word word (codes "solve")
+    then option_map solve (option_and_then policy_in (found solve_form words)) else
     if is_word word (codes "serve") then option_and_then serve_of (found serve_form words) else
     if is_word word (codes "audit") then option_and_then audit_of (found audit_form words) else
-    if is_word word (codes "trial") then option_map trial (option_and_then (number_of (codes "SEED")) (found trial_form words)) else
+    if is_word word (codes "trial")
+    then option_map trial (option_and_then (number_of (codes "SEED")) (found trial_form words)) else
     None
 
 -- the command that the words are, where they are one

@@ -1,5 +1,5 @@
 //! The arguments of the commands.
-ghost use Rattle.std.specs.Prelude.{◌≡◌, ◌≤◌, false, pos};
+ghost use Rattle.std.specs.Prelude.{◌≡◌, false, pos};
 ghost use Rattle.clap.specs.Words.{rule_of};
 ghost use Rattle.clap.specs.declared.builder.value_parser.ValueParser.TheVariants.{Signed};
 ghost use Rattle.command_words.specs.Words.{lanes_option, ranged, rounds_option, wanted, wanted_number};
@@ -30,6 +30,7 @@ pub(crate) fn lanes<'a>(alloc: Global) -> Arg<'a>
     ensures rule { rule_of result ≡ lanes_option }
     ensures own { result.global ≡ false }
 {
+    // The last word is `DEFAULT_LANES` in digits.
     ranged(alloc, "lanes", 1, LANE_LIMIT, "1")
 }
 
@@ -38,6 +39,7 @@ pub(crate) fn rounds<'a>(alloc: Global) -> Arg<'a>
     ensures rule { rule_of result ≡ rounds_option }
     ensures own { result.global ≡ false }
 {
+    // The last word is `DEFAULT_ROUNDS` in digits.
     ranged(alloc, "rounds", 0, ROUND_LIMIT, "2")
 }
 

@@ -14,8 +14,10 @@ pub(crate) fn find<'a>(
     words: &'a [String],
 ) -> Result<Option<ArgMatches<'a>>, AllocError>
     requires simple { is_simple_and_free (app_of command) ≡ true }
-    ensures found { IfOk result (λ m. option_map rows_in m ≡ found (app_of command.entry) (map string_bytes words.now)) }
-    ensures passes { IfOk result (λ m. IfSome m (λ m. PassesIn (app_of command.entry) (rows_in m))) }
+    ensures found { IfOk result (λ m. option_map rows_in m
+        ≡ found (app_of command.entry) (map string_bytes words.now)) }
+    ensures passes { IfOk result (λ m.
+        IfSome m (λ m. PassesIn (app_of command.entry) (rows_in m))) }
 {
     match command.try_get_matches_from_mut(words) {
         Ok(matches) => Ok(Some(matches)),

@@ -1,8 +1,9 @@
 //! Reading the words of the command line.
-ghost use Rattle.std.specs.Prelude.{◌≡◌, ◌<◌, ◌≤◌, ◌-◌, ◌^◌, IfOk, IfSome, map, option_map, option_and_then, string_bytes, codes};
+ghost use Rattle.std.specs.Prelude.{◌≡◌, IfOk, IfSome, map, option_map, option_and_then, string_bytes, codes, true};
+ghost use Rattle.clap.specs.Words.{app_of, is_simple_and_free};
 ghost use Rattle.command_words.specs.Words.{AreOptions, audit_form, audit_of, command_at, command_of, found, number_of, options_of, plan_form, plan_of, policy_in, serve_form, serve_of, show, show_form, solve, solve_form, trial, trial_form};
 ghost use Rattle.command_words.specs.Asked.{CanServe, asked, options_in};
-ghost use Rattle.command_words.specs.Finding.{HasOptions, WritesWithin, rows_in};
+ghost use Rattle.command_words.specs.Finding.{HasOptions, rows_in};
 
 use crate::finding::{find, number_in, seed_in, word_in};
 use crate::forms::{audit_form, plan_form, serve_form, show_form, solve_form, trial_form};
@@ -11,10 +12,12 @@ use clap::ArgMatches;
 use std::alloc::{AllocError, Global};
 use wf_names::{LANE_LIMIT, ROUND_LIMIT};
 
-/// The command that the words are, where they are one. They are those behind the name of the program.
-/// Only want of memory is an error.
+/// The command that the words are, where they are one; they are those behind the program's name.
+/// There is none where a word is at fault, and where help is asked for. The options of the command
+/// are within their limits. Only want of memory is an error.
 pub fn read_words<'a>(alloc: Global, words: &'a [String]) -> Result<Option<Command<'a>>, AllocError>
-    ensures command { IfOk result (λ c. option_map asked c ≡ command_of (map string_bytes words.now)) }
+    ensures command { IfOk result (λ c.
+        option_map asked c ≡ command_of (map string_bytes words.now)) }
     ensures served { IfOk result (λ c. IfSome c CanServe) }
 {
     match words {
@@ -29,7 +32,8 @@ fn read_command<'a>(
     word: &str,
     words: &'a [String],
 ) -> Result<Option<Command<'a>>, AllocError>
-    ensures command { IfOk result (λ c. option_map asked c ≡ command_at word.now (map string_bytes words.now)) }
+    ensures command { IfOk result (λ c.
+        option_map asked c ≡ command_at word.now (map string_bytes words.now)) }
     ensures served { IfOk result (λ c. IfSome c CanServe) }
 {
     match word {
@@ -44,7 +48,8 @@ fn read_command<'a>(
 }
 
 fn read_plan<'a>(alloc: Global, words: &'a [String]) -> Result<Option<Command<'a>>, AllocError>
-    ensures command { IfOk result (λ c. option_map asked c ≡ option_and_then plan_of (found plan_form (map string_bytes words.now))) }
+    ensures command { IfOk result (λ c. option_map asked c
+        ≡ option_and_then plan_of (found plan_form (map string_bytes words.now))) }
     ensures served { IfOk result (λ c. IfSome c CanServe) }
 {
     match find(plan_form(alloc)?, words)? {
@@ -64,44 +69,46 @@ fn plan_in<'a>(matches: &ArgMatches<'a>) -> Option<Command<'a>>
 
 fn read_show<'a>(alloc: Global, words: &'a [String]) -> Result<Option<Command<'a>>, AllocError>
     ensures command { IfOk result (λ c. option_map asked c
-        ≡ option_and_then (λ rows. option_map show (policy_in rows)) (found show_form (map string_bytes words.now))) }
+        ≡ option_map show (option_and_then policy_in
+        (found show_form (map string_bytes words.now)))) }
     ensures served { IfOk result (λ c. IfSome c CanServe) }
 {
-    match find(show_form(alloc)?, words)? {
-        Some(matches) => Ok(show_in(&matches)),
+    match read_policy(show_form(alloc)?, words)? {
+        Some(policy) => Ok(Some(Command::Show { policy })),
         None => Ok(None),
     }
-}
-
-fn show_in<'a>(matches: &ArgMatches<'a>) -> Option<Command<'a>>
-    ensures command { option_map asked result ≡ option_map show (policy_in (rows_in matches.now)) }
-    ensures served { IfSome result CanServe }
-{
-    let policy = word_in(matches, "POLICY")?;
-    Some(Command::Show { policy })
 }
 
 fn read_solve<'a>(alloc: Global, words: &'a [String]) -> Result<Option<Command<'a>>, AllocError>
     ensures command { IfOk result (λ c. option_map asked c
-        ≡ option_and_then (λ rows. option_map solve (policy_in rows)) (found solve_form (map string_bytes words.now))) }
+        ≡ option_map solve (option_and_then policy_in
+        (found solve_form (map string_bytes words.now)))) }
     ensures served { IfOk result (λ c. IfSome c CanServe) }
 {
-    match find(solve_form(alloc)?, words)? {
-        Some(matches) => Ok(solve_in(&matches)),
+    match read_policy(solve_form(alloc)?, words)? {
+        Some(policy) => Ok(Some(Command::Solve { policy })),
         None => Ok(None),
     }
 }
 
-fn solve_in<'a>(matches: &ArgMatches<'a>) -> Option<Command<'a>>
-    ensures command { option_map asked result ≡ option_map solve (policy_in (rows_in matches.now)) }
-    ensures served { IfSome result CanServe }
+// The policy file, for a command of which nothing else is wanted.
+fn read_policy<'a>(
+    command: clap::Command<'a>,
+    words: &'a [String],
+) -> Result<Option<&'a str>, AllocError>
+    requires simple { is_simple_and_free (app_of command) ≡ true }
+    ensures { IfOk result (λ p. option_map (λ s. s.now) p
+        ≡ option_and_then policy_in (found (app_of command.entry) (map string_bytes words.now))) }
 {
-    let policy = word_in(matches, "POLICY")?;
-    Some(Command::Solve { policy })
+    match find(command, words)? {
+        Some(matches) => Ok(word_in(&matches, "POLICY")),
+        None => Ok(None),
+    }
 }
 
 fn read_serve<'a>(alloc: Global, words: &'a [String]) -> Result<Option<Command<'a>>, AllocError>
-    ensures command { IfOk result (λ c. option_map asked c ≡ option_and_then serve_of (found serve_form (map string_bytes words.now))) }
+    ensures command { IfOk result (λ c. option_map asked c
+        ≡ option_and_then serve_of (found serve_form (map string_bytes words.now))) }
     ensures served { IfOk result (λ c. IfSome c CanServe) }
 {
     match find(serve_form(alloc)?, words)? {
@@ -121,7 +128,8 @@ fn serve_in<'a>(matches: &ArgMatches<'a>) -> Option<Command<'a>>
 }
 
 fn read_audit<'a>(alloc: Global, words: &'a [String]) -> Result<Option<Command<'a>>, AllocError>
-    ensures command { IfOk result (λ c. option_map asked c ≡ option_and_then audit_of (found audit_form (map string_bytes words.now))) }
+    ensures command { IfOk result (λ c. option_map asked c
+        ≡ option_and_then audit_of (found audit_form (map string_bytes words.now))) }
     ensures served { IfOk result (λ c. IfSome c CanServe) }
 {
     match find(audit_form(alloc)?, words)? {
@@ -147,22 +155,26 @@ fn audit_in<'a>(matches: &ArgMatches<'a>) -> Option<Command<'a>>
 
 fn read_trial<'a>(alloc: Global, words: &'a [String]) -> Result<Option<Command<'a>>, AllocError>
     ensures command { IfOk result (λ c. option_map asked c
-        ≡ option_and_then (λ rows. option_map trial (number_of (codes "SEED") rows)) (found trial_form (map string_bytes words.now))) }
+        ≡ option_map trial (option_and_then (number_of (codes "SEED"))
+        (found trial_form (map string_bytes words.now)))) }
     ensures served { IfOk result (λ c. IfSome c CanServe) }
 {
-    match find(trial_form(alloc)?, words)? {
-        Some(matches) => Ok(trial_in(&matches)),
+    match read_seed(trial_form(alloc)?, words)? {
+        Some(seed) => Ok(Some(Command::Trial { seed })),
         None => Ok(None),
     }
 }
 
-fn trial_in<'a>(matches: &ArgMatches<'a>) -> Option<Command<'a>>
-    requires seed { WritesWithin 0 (2 ^ 64 - 1) (codes "SEED") (rows_in matches.now) }
-    ensures command { option_map asked result ≡ option_map trial (number_of (codes "SEED") (rows_in matches.now)) }
-    ensures served { IfSome result CanServe }
+fn read_seed<'a>(command: clap::Command<'a>, words: &'a [String]) -> Result<Option<u64>, AllocError>
+    requires form { app_of command ≡ trial_form }
+    ensures { IfOk result (λ n. n
+        ≡ option_and_then (number_of (codes "SEED"))
+        (found trial_form (map string_bytes words.now))) }
 {
-    let seed = seed_in(matches)?;
-    Some(Command::Trial { seed })
+    match find(command, words)? {
+        Some(matches) => Ok(seed_in(&matches)),
+        None => Ok(None),
+    }
 }
 
 // The options that were found.
