@@ -1,6 +1,6 @@
 -- What a caller may rest on of every trial.
-use Rattle.std.proofs.Common.{◌≡◌, ℕ, zero, suc, ◌+◌, ◌*◌, ◌-◌, ◌/◌, ◌%◌, ◌<◌, ◌≤◌, Bool, true, false, List, [], ◌∷◌, ◌++◌, map, length, slice_index_or, if◌then◌else◌, ◌⊎◌, inl, inr, nat_lt, refl, sym, ap, subst, ◌∙◌, map-id, length-append, arith}
-use Rattle.std.specs.List.{All, range_with_len}
+use Rattle.std.proofs.Common.{◌≡◌, ℕ, zero, suc, ◌+◌, ◌*◌, ◌-◌, ◌/◌, ◌%◌, ◌<◌, ◌≤◌, Bool, true, false, List, [], ◌∷◌, ◌++◌, map, length, slice_index_or, if◌then◌else◌, ◌⊎◌, inl, inr, nat_lt, refl, sym, ap, ◌∙◌, map-id, length-append, arith}
+use Rattle.std.specs.List.{range_with_len}
 use Rattle.std.proofs.lemmas.List.{map-append, get_or_append_left}
 use Rattle.std.proofs.lemmas.List.Elements.{All-append, All-cons, All-nil}
 use Rattle.std.proofs.lemmas.List.FromFn.{get_or-map-range_with_len, length-map-range_with_len, map-range_with_len_more}
@@ -10,9 +10,8 @@ use Rattle.wf_names.specs.declared.limits.TheConstants.{BATCH_LINE_LIMIT}
 use Rattle.wf_talk.specs.declared.job.Job.{Job}
 use Rattle.wf_talk.specs.declared.request.Ask.TheVariants as ask
 use Rattle.wf_talk.specs.declared.request.Request.{Request}
-use Rattle.wf_talk.specs.declared.request.Request.TheVariants as request
 use Rattle.trial_maker.specs.Draws.{after}
-use Rattle.trial_maker.specs.TrialLaws.{AreBatches, AreTrialJobs, AreTrials, IsTrial}
+use Rattle.trial_maker.specs.TrialLaws.{AreBatches, AreTrialJobs, AreTrials}
 use Rattle.trial_maker.specs.Trials.{Made, batch_ends, is_edited, job_count, openings, rounds, trial_jobs, turn, turns, with_edit, with_job, with_round}
 use Rattle.trial_maker.proofs.Growing.{job_more, jobs_count}
 

@@ -1,6 +1,6 @@
 -- The workflow of a trial: its order has no cycle, no pair stands twice, and its rules name its steps.
-use Rattle.std.proofs.Common.{◌≡◌, ℕ, zero, suc, ◌+◌, ◌%◌, ◌<◌, ◌≤◌, ◌⊎◌, inl, inr, Bool, true, false, ◌||◌, List, [], ◌∷◌, ◌++◌, map, length, replicate, slice_index_or, Option, Some, unwrap_or, ◌==◌, IsTrue, refl, sym, ap, subst, ◌∙◌, append_assoc, arith}
-use Rattle.std.specs.List.{list_any, range_with_len, slice_get}
+use Rattle.std.proofs.Common.{◌≡◌, ℕ, zero, suc, ◌+◌, ◌%◌, ◌<◌, ◌≤◌, inl, inr, Bool, true, false, ◌||◌, List, [], ◌∷◌, ◌++◌, map, length, replicate, slice_index_or, Option, unwrap_or, ◌==◌, refl, sym, ap, subst, ◌∙◌, append_assoc, arith}
+use Rattle.std.specs.List.{list_any, range_with_len}
 use Rattle.std.specs.Ordering.{eq_by_cmp}
 use Rattle.std.specs.FinSet as set
 use Rattle.std.proofs.lemmas.Bool.Decides.{nat_tests}
@@ -14,7 +14,7 @@ use Rattle.constraint_forms.specs.declared.rule.Rule.{Rule}
 use Rattle.constraint_forms.specs.declared.rule.Rule.TheVariants.{Pair, SomeOf, AllOf}
 use Rattle.policy_book.specs.Facts.{AreSoundRules, IsSoundRule, PermitsRolesBelow}
 use Rattle.trial_maker.specs.TrialNames.{step_name}
-use Rattle.trial_maker.specs.TrialPolicy.{both, trial_flow, trial_relations, trial_roster, trial_rules}
+use Rattle.trial_maker.specs.TrialPolicy.{both, trial_flow, trial_rules}
 
 abbrev pub pair_up : ℕ → ℕ × ℕ
 pair_up k = (k, k + 1)

@@ -1,10 +1,10 @@
 -- What grows step by step: draws, memberships and jobs.
-use Rattle.std.proofs.Common.{◌≡◌, ℕ, zero, suc, ◌+◌, ◌*◌, ◌-◌, ◌/◌, ◌%◌, ◌<◌, ◌≤◌, Bool, true, false, cond, List, [], ◌∷◌, ◌++◌, map, length, if◌then◌else◌, refl, sym, ap, ◌∙◌, add-one, length-append, arith}
+use Rattle.std.proofs.Common.{◌≡◌, ℕ, zero, suc, ◌+◌, ◌*◌, ◌-◌, ◌/◌, ◌%◌, Bool, true, false, cond, List, [], ◌∷◌, ◌++◌, map, length, if◌then◌else◌, refl, sym, ap, ◌∙◌, add-one, length-append, arith}
 use Rattle.std.specs.List.{range_with_len}
 use Rattle.std.specs.FinSet as set
-use Rattle.std.proofs.lemmas.List.FromFn.{length-map-range_with_len, map-range_with_len_more}
+use Rattle.std.proofs.lemmas.List.FromFn.{map-range_with_len_more}
 use Rattle.std.proofs.lemmas.Bool.Decides.{nat_tests}
-use Rattle.pair_set.specs.Pairs.{Pairs, pair_cmp}
+use Rattle.pair_set.specs.Pairs.{Pairs}
 use Rattle.pair_set.specs.PairLaws.{insert_held, pair_cmp_total, pair_cmp-IsAntisymmetric}
 use Rattle.wf_names.specs.declared.limits.TheConstants.{BATCH_LINE_LIMIT}
 use Rattle.wf_talk.specs.declared.job.Job.{Job}

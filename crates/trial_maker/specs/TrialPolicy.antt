@@ -30,19 +30,20 @@ trial_roster seed = record {
 abbrev pub are_peers : ℕ → ℕ → Bool
 are_peers i j = not (i == j) && (i / 6 == j / 6)
 
--- all pairs of users, in order
+-- all pairs of users
 unfoldable pub user_pairs : List (ℕ × ℕ)
 user_pairs = map (λ n. (n / 60, n % 60)) (range_with_len 0 3600)
 
+-- the pairs of peers
 unfoldable pub peers : Pairs
 peers = set.from_list (filter (λ p. are_peers p.0 p.1) user_pairs)
 
--- the relations: `apart` has the number 2, `peer` the number 3
+-- the relations: `apart`, with the number 2, holds wherever `peer`, with the number 3, does not
 unfoldable pub trial_relations : List RelationShape
 trial_relations =
     record { name = codes "apart"; kind = complement 3 } ∷ record { name = codes "peer"; kind = listed peers } ∷ []
 
--- the workflow's steps, each before the next; the step k is permitted for the role k mod 5
+-- the workflow: twelve steps, each before the next; the step k is permitted for the role k mod 5
 unfoldable pub trial_flow : FlowShape
 trial_flow = record {
   steps = map step_name (range_with_len 0 12);

@@ -5,7 +5,9 @@ ghost use Rattle.trial_maker.specs.Draws.{below, drawn, next_state};
 use std::marker::Model;
 
 const MULTIPLIER: u64 = 6_364_136_223_846_793_005;
+
 const INCREMENT: u64 = 1_442_695_040_888_963_407;
+
 const DROPPED_BITS: u32 = 33;
 
 /// A generator of numbers. Contracts see its state.

@@ -1,29 +1,34 @@
 //! What no clause shows: that a trial is made while there is memory. The values are those that
 //! another program worked out from the description of trials.
 
-use crate::make;
+use crate::{Trial, make};
 use policy_book::Policy;
 use std::test::Fail;
-use wf_names::{CaseId, Name, RoleId, UserId};
-use wf_talk::{Ask, Edit, Jobs, Request};
+use wf_names::{RoleId, UserId};
+use wf_talk::{Ask, Edit, Job, Jobs, Request};
 
 #[test]
-fn a_trial_has_its_batches(rt: HostRuntime) -> Result<(), Fail> {
+fn a_trial_has_what_is_drawn(rt: HostRuntime) -> Result<(), Fail> {
     let trial = make(rt.alloc(), 7, 40)?;
-    assert!(rt; trial.jobs.len() == 1_965);
-    assert!(rt; trial.ends.as_slice() == [40, 1_064, 1_965].as_slice());
+    assert!(rt; has_ends(&trial, 1_965, &[40, 1_064, 1_965]));
+    assert!(rt; has_roles_of_seed_7(&trial.policy));
+    assert!(rt; has_claims_of_seed_7(&trial.jobs));
+    assert!(rt; has_edits_of_seed_7(&trial.jobs));
     Ok(())
 }
 
 #[test]
-fn a_small_trial_has_its_batches(rt: HostRuntime) -> Result<(), Fail> {
+fn a_small_trial_has_two_batches(rt: HostRuntime) -> Result<(), Fail> {
     let trial = make(rt.alloc(), u64::MAX, 1)?;
-    assert!(rt; trial.jobs.len() == 54);
-    assert!(rt; trial.ends.as_slice() == [1, 54].as_slice());
+    assert!(rt; has_ends(&trial, 54, &[1, 54]));
     Ok(())
 }
 
-// For users, the roles of each as flags, the lowest that of the first role.
+fn has_ends(trial: &Trial, count: usize, ends: &[u32]) -> bool {
+    trial.jobs.len() == count && trial.ends.as_slice() == ends
+}
+
+// Some users with the roles of each as flags, the lowest that of the first role.
 const ROLES_OF_SEED_7: [(u16, u8); 7] = [
     (0, 0b101001),
     (1, 0b000010),
@@ -34,13 +39,13 @@ const ROLES_OF_SEED_7: [(u16, u8); 7] = [
     (59, 0b011000),
 ];
 
-#[test]
-fn a_trial_draws_its_roles(rt: HostRuntime) -> Result<(), Fail> {
-    let trial = make(rt.alloc(), 7, 1)?;
+fn has_roles_of_seed_7(policy: &Policy) -> bool {
     for (user, flags) in ROLES_OF_SEED_7 {
-        assert!(rt; has_roles(&trial.policy, UserId(user), flags), "{user}");
+        if !has_roles(policy, UserId(user), flags) {
+            return false;
+        }
     }
-    Ok(())
+    true
 }
 
 fn has_roles(policy: &Policy, user: UserId, flags: u8) -> bool {
@@ -56,18 +61,28 @@ const CLAIMS_OF_SEED_7: [(usize, u8, u16, &str, &str); 5] = [
     (1_963, 3, 39, "s11", "u40"),
 ];
 
-#[test]
-fn a_trial_has_its_claims(rt: HostRuntime) -> Result<(), Fail> {
-    let trial = make(rt.alloc(), 7, 40)?;
+fn has_claims_of_seed_7(jobs: &Jobs) -> bool {
     for (line, lane, case, step, user) in CLAIMS_OF_SEED_7 {
-        let claim = Request::Claim {
-            case: CaseId(case),
-            step: name(step)?,
-            user: name(user)?,
-        };
-        assert!(rt; is_job(&trial.jobs, line, lane, claim), "{line}");
+        if !is_claim(jobs.as_slice().get(line), lane, case, step, user) {
+            return false;
+        }
     }
-    Ok(())
+    true
+}
+
+fn is_claim(job: Option<&Job>, of_lane: u8, of_case: u16, of_step: &str, by: &str) -> bool {
+    match job {
+        Some(
+            Job {
+                lane,
+                ask: Ask::Request(Request::Claim { case, step, user }),
+                ..
+            },
+        ) => {
+            *lane == of_lane && case.0 == of_case && step.as_str() == of_step && user.as_str() == by
+        }
+        _ => false,
+    }
 }
 
 // The line, the user and the role of each edit.
@@ -79,27 +94,29 @@ const EDITS_OF_SEED_7: [(usize, &str, &str); 5] = [
     (1_644, "u19", "r4"),
 ];
 
-#[test]
-fn a_trial_has_its_edits(rt: HostRuntime) -> Result<(), Fail> {
-    let trial = make(rt.alloc(), 7, 40)?;
+fn has_edits_of_seed_7(jobs: &Jobs) -> bool {
     for (line, user, role) in EDITS_OF_SEED_7 {
-        let edit = Edit::Dismiss {
-            role: name(role)?,
-            user: name(user)?,
-        };
-        let by = name("u00")?;
-        assert!(rt; is_job(&trial.jobs, line, 0, Request::Change { by, edit }), "{line}");
+        if !is_dismissal(jobs.as_slice().get(line), user, role) {
+            return false;
+        }
     }
-    Ok(())
+    true
 }
 
-fn is_job(jobs: &Jobs, line: usize, lane: u8, request: Request) -> bool {
-    match jobs.as_slice().get(line) {
-        Some(job) => job.lane == lane && job.line as usize == line && job.ask == Ask::Request(request),
-        None => false,
+fn is_dismissal(job: Option<&Job>, of_user: &str, of_role: &str) -> bool {
+    match job {
+        Some(
+            Job {
+                lane: 0,
+                ask: Ask::Request(
+                    Request::Change {
+                        by,
+                        edit: Edit::Dismiss { role, user },
+                    },
+                ),
+                ..
+            },
+        ) => { by.as_str() == "u00" && user.as_str() == of_user && role.as_str() == of_role }
+        _ => false,
     }
-}
-
-fn name(text: &str) -> Result<Name, Fail> {
-    Ok(Name::read(text).ok_or("not a name")?)
 }
