@@ -3,9 +3,11 @@
 
 mod outside;
 mod row;
+mod session;
 
 use crate::outside::{shelf_of, sink_of, source_of, with_pieces};
-use crate::row::{Row, Rows};
+use crate::row::{Row, Rows, Sessions};
+use crate::session::is_legal;
 use std::alloc::{AllocError, Global};
 use std::fs;
 use wf_outside::{MemShelf, MemSink, MemSource};
@@ -13,6 +15,9 @@ use wf_server::{Report, run_alone};
 
 // The files: commands with what comes of them, and devices that fail with texts made to break it.
 const FILES: [&str; 2] = ["rows.toml", "hostile.toml"];
+
+// Whole sessions.
+const SESSIONS: &str = "sessions.toml";
 
 fn main(rt: HostRuntime) -> anyhow::Result<()> {
     for file in FILES {
@@ -28,6 +33,22 @@ fn main(rt: HostRuntime) -> anyhow::Result<()> {
         }
         println!(rt; "{file}: {holding} rows hold")?;
     }
+    run_sessions(rt)
+}
+
+// Serves and audits each session of the file of sessions.
+fn run_sessions(rt: HostRuntime) -> anyhow::Result<()> {
+    let text = fs::read_to_string(&rt, SESSIONS)?;
+    let sessions = toml::from_str::<Sessions>(rt.alloc(), text.as_str())?;
+    let mut legal = 0u32;
+    for session in &sessions.session {
+        if is_legal(rt.alloc(), session)? {
+            legal = legal.saturating_add(1);
+        } else {
+            println!(rt; "is not legal: {}", session.name.as_str())?;
+        }
+    }
+    println!(rt; "{SESSIONS}: {legal} sessions are legal")?;
     Ok(())
 }
 

@@ -46,7 +46,13 @@ fn push_named(rows: &Rows, name: &str, text: &mut String) -> Result<(), AllocErr
     Ok(())
 }
 
-fn file_of(alloc: Global, name: &str, text: &str, more: &[Piece]) -> Result<MemFile, AllocError> {
+/// A file of this name, of a text and pieces behind it.
+pub fn file_of(
+    alloc: Global,
+    name: &str,
+    text: &str,
+    more: &[Piece],
+) -> Result<MemFile, AllocError> {
     Ok(MemFile {
         name: String::from_str(alloc, name)?,
         bytes: with_pieces(alloc, text, more)?,
@@ -78,6 +84,16 @@ fn push_copy(
         }
     }
     bytes.extend_from_slice(&piece.bytes)
+}
+
+/// A source of these bytes, which never fails.
+pub fn whole_source(alloc: Global, bytes: &[u8]) -> Result<MemSource, AllocError> {
+    Ok(MemSource::new(bytes.to_vec(alloc)?, PIECE, Vec::new(alloc)))
+}
+
+/// A sink with nothing in it, which never fails.
+pub fn whole_sink(alloc: Global) -> Result<MemSink, AllocError> {
+    MemSink::new(alloc, PIECE, PIECE, Vec::new(alloc))
 }
 
 /// The row's input.

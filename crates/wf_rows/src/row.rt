@@ -73,3 +73,22 @@ pub struct Outside {
     #[serde(default)]
     pub failing_loads: Vec<u64>,
 }
+
+/// The file of whole sessions.
+#[derive(Drop, Deserialize)]
+pub struct Sessions {
+    pub session: Vec<Session>,
+}
+
+/// A session: the words that serve it and those that audit its transcript, over a policy file and
+/// requests, which stand under the names `policy` and `requests`. Each request has its entry, and
+/// the audit finds the transcript legal.
+#[derive(Drop, Deserialize)]
+pub struct Session {
+    pub name: String,
+    pub serve: Vec<String>,
+    pub audit: Vec<String>,
+    pub policy: String,
+    pub requests: String,
+    pub entries: usize,
+}

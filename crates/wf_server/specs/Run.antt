@@ -8,7 +8,7 @@ use Rattle.wf_commands.specs.Plan.{Plans}
 use Rattle.wf_commands.specs.Show.{Shows}
 use Rattle.wf_commands.specs.Solve.{Solves}
 use Rattle.audit_command.specs.Running.{AuditsRun}
-use Rattle.trial_command.specs.Running.{TrialRun}
+use Rattle.trial_command.specs.Running.{RunsTrial}
 use Rattle.command_words.specs.Words.{Command, plan, show, solve, serve, audit, trial}
 use Rattle.wf_server.specs.Serving.{ServesRun}
 
@@ -20,7 +20,14 @@ Does (Some (show policy)) r = Shows policy r
 Does (Some (solve policy)) r = Solves policy r
 Does (Some (serve policy options)) r = ServesRun policy options r
 Does (Some (audit policy requests options)) r = AuditsRun policy requests options.lanes options.rounds r
-Does (Some (trial seed)) r = IsOrderly r × TrialRun seed r
+Does (Some (trial seed)) r = IsOrderly r × RunsTrial seed (record {
+  output = r.before.output;
+  output_after = r.after.output;
+  faults = r.before.write_faults;
+  faults_after = r.after.write_faults;
+  told = r.told;
+  fault = r.fault;
+})
 
 -- there was no memory to read the words, and the run ended before anything
 abbrev pub LacksWords : Run → Type 0
