@@ -375,9 +375,8 @@ fn cases_for(alloc: Global, cases: &Cases, ask: &Ask) -> Result<Cases, AllocErro
 {
     match *ask {
         Ask::Request(Request::Claim { case, .. }) => cases.copy_one(alloc, case),
-        Ask::Request(
-            Request::Change { .. } | Request::Worklist { .. } | Request::WhatIf { .. },
-        ) => cases.copy_open(alloc),
+        Ask::Request(Request::Change { .. } | Request::Worklist { .. } | Request::WhatIf { .. }) =>
+            cases.copy_open(alloc),
         _ => Ok(cases.copy_none(alloc)),
     }
 }

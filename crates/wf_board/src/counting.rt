@@ -14,9 +14,8 @@ pub fn counts(entry: &Entry, ask: &Ask) -> bool
         Ask::Request(Request::Claim { case, .. }) => {
             is_edited(&entry.reply) || changes(entry, case)
         }
-        Ask::Request(
-            Request::Change { .. } | Request::Worklist { .. } | Request::WhatIf { .. },
-        ) => changes_any(entry),
+        Ask::Request(Request::Change { .. } | Request::Worklist { .. } | Request::WhatIf { .. }) =>
+            changes_any(entry),
         _ => false,
     }
 }
