@@ -1,5 +1,5 @@
 -- Lists of those of some values that have a property.
-use Rattle.std.proofs.Common.{◌≡◌, List, [], ◌∷◌, inl, inr, refl, sym, ap, ◌∙◌}
+use Rattle.std.proofs.Common.{◌≡◌, List, [], ◌∷◌, inl, inr, sym, ap, ◌∙◌}
 use Rattle.wf_board.specs.Views.{AreThose}
 
 -- where no value has both properties, one list alone is that of those that have the one
