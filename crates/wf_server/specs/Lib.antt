@@ -1,6 +1,5 @@
 pub mod Words
 pub mod Asked
-pub mod Deciding
 pub mod Transcripts
 pub mod Sessions
 pub mod Ways

@@ -9,10 +9,10 @@ ghost use Rattle.wf_lanes.specs.Turns.{HasServedOn};
 ghost use Rattle.wf_server.specs.Words.{command_of, may_repeat, reads_input};
 ghost use Rattle.wf_server.specs.Run.{Does};
 
-use crate::decider::PlainDecider;
 use crate::serve::run_serve;
 use crate::words::{Command, read_words};
 use audit_command::run_audit;
+use case_views::PlainDecider;
 use run_record::{Report, RunFault, bare_report};
 use std::alloc::Global;
 use std::sync::Wait;
