@@ -34,7 +34,7 @@ use Rattle.wf_board.specs.Found.{AreFound}
 use Rattle.wf_board.proofs.Within.{claimed_within, planned_within}
 use Rattle.wf_board.proofs.Exact.{finished_assigned}
 use Rattle.admin_edits.specs.declared.amendment.Amendment.{Amendment}
-use Rattle.case_views.specs.Deciding.{DecidesChange, DecidesDeed, DecidesFor, IsVerdictOf}
+use Rattle.case_views.specs.Deciding.{DecidesChange, DecidesDeed, DecidesFor, DecidesWhatIf, DecidesWork, IsVerdictOf}
 
 each_at : (P : Row → Type 0) (n : ℕ) (rows : List Row) (r : Row) → EachRow P rows → row_at n rows ≡ Some r → P r
 each_at P n [] r each is = cc
@@ -105,10 +105,9 @@ pub kept_length : (p : PolicyShape) (c : CaseShape) (plan : List ℕ) → IsOfPo
 kept_length p c plan known valid = valid.whole ∙ sym known.steps
 
 -- what a search needs of a claim
-pub search_within : (p : PolicyShape) (rows : List Row) (n : ℕ) (c : CaseShape) (t u : ℕ) → ArePlanned p rows → AreFound p rows n c t u → IsWithin (problem_of p c.flow) (assigned_with c t u)
-search_within p rows n c t u are found =
-    let keeps = kept_plan p rows n c are found.case.found found.case.live in
-    claimed_within p c t u found.case.known found.step found.user (planned_within p c keeps.plan found.case.known keeps.valid)
+pub search_within : (p : PolicyShape) (c : CaseShape) (plan : List ℕ) (t u : ℕ) → IsOfPolicy p c → IsValidPlan (problem_of p c.flow) (assigned_of c) (finished_of c) plan →
+    t < length c.states → u < length p.roster.users → IsWithin (problem_of p c.flow) (assigned_with c t u)
+search_within p c plan t u known valid step user = claimed_within p c t u known step user (planned_within p c plan known valid)
 
 pub search_assigned : (c : CaseShape) (t u : ℕ) → t < length (assigned_of c) → AreAssigned (finished_of c) (assigned_with c t u)
 search_assigned c t u below = still_assigned (finished_of c) (assigned_of c) t u below (finished_assigned c)
@@ -129,6 +128,7 @@ verdict_decides p a d (outcome.Refuted tree) v found is = subst (DecidesFor p a 
 -- a verdict on an opening
 pub decides_open : (b : Book) (f : ℕ) (v : Verdict) → DecidesFor (problem_of b.policy f) no_users no_steps v → DecidesDeed b (deed.Open f) v
 decides_open b f verdict.Nothing h = absurd h
+decides_open b f (verdict.View v) h = absurd h
 decides_open b f (verdict.Edited edition) h = absurd h
 decides_open b f (verdict.Strands m tree) h = absurd h
 decides_open b f verdict.NoMemory h = record { fits = tt; nothing = λ e. cc; something = λ e same. cc }
@@ -138,6 +138,7 @@ decides_open b f (verdict.Refuted tree) h = record { fits = h; nothing = λ e. c
 -- a verdict on a claim
 pub decides_claim : (b : Book) (n : ℕ) (c : CaseShape) (t u : ℕ) (v : Verdict) → DecidesFor (problem_of b.policy c.flow) (assigned_with c t u) (finished_of c) v → DecidesDeed b (deed.Claim n c t u) v
 decides_claim b n c t u verdict.Nothing h = absurd h
+decides_claim b n c t u (verdict.View v) h = absurd h
 decides_claim b n c t u (verdict.Edited edition) h = absurd h
 decides_claim b n c t u (verdict.Strands m tree) h = absurd h
 decides_claim b n c t u verdict.NoMemory h = record { fits = tt; nothing = λ e. cc; something = λ e same. cc }
@@ -147,11 +148,32 @@ decides_claim b n c t u (verdict.Refuted tree) h = record { fits = h; nothing = 
 -- a verdict on a change of the policy
 pub decides_change : (b : Book) (a : Amendment) (v : Verdict) → DecidesChange b a v → DecidesDeed b (deed.Change a) v
 decides_change b a verdict.Nothing h = absurd h
+decides_change b a (verdict.View v) h = absurd h
 decides_change b a verdict.NoMemory h = record { fits = tt; nothing = λ e. cc; something = λ e same. cc }
 decides_change b a (verdict.Plan plan) h = absurd h
 decides_change b a (verdict.Refuted tree) h = absurd h
 decides_change b a (verdict.Edited edition) h = record { fits = h; nothing = λ e. cc; something = λ e same. cc }
 decides_change b a (verdict.Strands n tree) h = record { fits = h; nothing = λ e. cc; something = λ e same. cc }
+
+-- a verdict on a user's work
+pub decides_work : (b : Book) (u : ℕ) (v : Verdict) → DecidesWork b u v → DecidesDeed b (deed.Work u) v
+decides_work b u verdict.Nothing h = absurd h
+decides_work b u verdict.NoMemory h = record { fits = tt; nothing = λ e. cc; something = λ e same. cc }
+decides_work b u (verdict.Plan plan) h = absurd h
+decides_work b u (verdict.Refuted tree) h = absurd h
+decides_work b u (verdict.Edited edition) h = absurd h
+decides_work b u (verdict.Strands n tree) h = absurd h
+decides_work b u (verdict.View v) h = record { fits = h; nothing = λ e. cc; something = λ e same. cc }
+
+-- a verdict on what a change would strand
+pub decides_what_if : (b : Book) (a : Amendment) (v : Verdict) → DecidesWhatIf b a v → DecidesDeed b (deed.WhatIf a) v
+decides_what_if b a verdict.Nothing h = absurd h
+decides_what_if b a verdict.NoMemory h = record { fits = tt; nothing = λ e. cc; something = λ e same. cc }
+decides_what_if b a (verdict.Plan plan) h = absurd h
+decides_what_if b a (verdict.Refuted tree) h = absurd h
+decides_what_if b a (verdict.Edited edition) h = absurd h
+decides_what_if b a (verdict.Strands n tree) h = absurd h
+decides_what_if b a (verdict.View v) h = record { fits = h; nothing = λ e. cc; something = λ e same. cc }
 
 listed_needs_none : (reading : Result Deed Denial) → takes_memory reading ≡ true → needs_verdict reading ≡ false
 listed_needs_none (Ok given) h = cc

@@ -1,6 +1,6 @@
 -- What a change of the policy leaves the open cases.
-use Rattle.std.proofs.Common.{◌≡◌, ℕ, zero, suc, ◌+◌, ◌<◌, inl, inr, Bool, true, false, List, [], ◌∷◌, ◌++◌, length, take, drop, map, get_or, Option, Some, refl, sym, ap, subst, ◌∙◌, arith}
-use Rattle.std.proofs.lemmas.List.{append_assoc, take-append-drop}
+use Rattle.std.proofs.Common.{◌≡◌, ℕ, zero, suc, ◌+◌, ◌<◌, inl, inr, Bool, true, false, List, [], ◌∷◌, ◌++◌, length, take, drop, map, get_or, Option, None, Some, refl, sym, ap, subst, ◌∙◌, arith}
+use Rattle.std.proofs.lemmas.List.{append_assoc, append-nil, take-append-drop}
 use Rattle.std.proofs.Math.Seq.{take-suc}
 use Rattle.basics.proofs.Booleans.{bool_cases}
 use Rattle.refutation_tree.specs.declared.tree.Tree.{Tree}
@@ -13,7 +13,11 @@ use Rattle.grant_table.proofs.Places.{taken_off}
 use Rattle.wf_board.specs.Boards.{numbered}
 use Rattle.wf_board.specs.Edited.{ArePlansOf, IsFirstStranded, IsPlanOf, IsTreeOf}
 use Rattle.wf_board.specs.Kept.{EachRow, IsPlanned}
-use Rattle.wf_board.specs.States.{Numbered, open_cases}
+use Rattle.wf_board.specs.States.{Numbered}
+use Rattle.wsp_solver.specs.declared.search.Outcome.{Outcome}
+use Rattle.wsp_solver.specs.declared.search.Outcome.TheVariants as outcome
+use Rattle.case_views.specs.Deciding.{HasAdded, IsAdded}
+use Rattle.case_views.specs.Listing.{IsLeftAt, open_in}
 
 -- what is said of a workflow, an assignment and finished steps is said of equal ones
 pub said_same : (P : Problem → List (Option ℕ) → List Bool → Type 0) (p : PolicyShape) (f g : ℕ) (a b : List (Option ℕ)) (d e : List Bool) → g ≡ f → b ≡ a → e ≡ d
@@ -25,10 +29,6 @@ said_same P p f g a b d e flow assigned done h =
 
 -- ---- rows
 
--- the open cases of rows
-abbrev pub open_in : List Row → List Numbered
-open_in rows = open_cases (map numbered rows)
-
 -- with one more row in front
 open_cons : (r : Row) (rs : List Row) → open_in (r ∷ rs) ≡ open_in (r ∷ []) ++ open_in rs
 open_cons r rs = elim (bool_cases (is_open r.case)) [
@@ -37,7 +37,7 @@ open_cons r rs = elim (bool_cases (is_open r.case)) [
 ]
 
 -- the open cases of two lists of rows
-open_append : (xs ys : List Row) → open_in (xs ++ ys) ≡ open_in xs ++ open_in ys
+pub open_append : (xs ys : List Row) → open_in (xs ++ ys) ≡ open_in xs ++ open_in ys
 open_append [] ys = refl
 open_append (r ∷ rs) ys =
     open_cons r (rs ++ ys) ∙ ap (λ es. open_in (r ∷ []) ++ es) (open_append rs ys) ∙ sym (append_assoc (open_in (r ∷ [])) (open_in rs) (open_in ys))
@@ -59,7 +59,7 @@ stranded_after p (x ∷ es) fs [] e tree plans shows = absurd plans
 stranded_after p (x ∷ es) fs (plan ∷ ps) e tree plans shows = inr ((plan, plans.0), stranded_after p es fs ps e tree plans.1 shows)
 
 -- the rows so far with one more
-take_next : (rows : List Row) (i : ℕ) (r : Row) → i < length rows → r ≡ get_or rows i r → take (i + 1) rows ≡ take i rows ++ r ∷ []
+pub take_next : (rows : List Row) (i : ℕ) (r : Row) → i < length rows → r ≡ get_or rows i r → take (i + 1) rows ≡ take i rows ++ r ∷ []
 take_next rows i r below is =
     let same : i + 1 ≡ suc i = omega arith in
     ap (λ (n : ℕ). take n rows) same ∙ take-suc rows i r below ∙ ap (λ (x : Row). take i rows ++ x ∷ []) (sym is)
@@ -100,3 +100,13 @@ row_at_place P (x ∷ xs) (suc i) r below is each = row_at_place P xs i r (omega
 -- the plan that is kept for an open case is one
 pub kept_plan_of : (p : PolicyShape) (c d : CaseShape) (o : Option (List ℕ)) (plan : List ℕ) → Some plan ≡ o → d ≡ c → IsPlanned p c o → IsPlanOf p d plan
 kept_plan_of p c d o plan is same planned = subst (λ k. IsPlanOf p k plan) (sym same) (subst (IsPlanned p c) (sym is) planned)
+
+-- what was found of an open case is what is added for it
+pub added_of : (p : PolicyShape) (r : Row) (o : Outcome) (t : Option Tree) (before after : List (List ℕ)) → IsLeftAt p r (Some o) → IsAdded o before after t → HasAdded p r before after t
+added_of p r (outcome.Plan plan) t before after left added =
+    subst (HasAdded p r before after) (sym added.0) (plan ∷ [], (added.1, one_plan p r plan left.0 left.1))
+added_of p r (outcome.Refuted tree) t before after left added = subst (HasAdded p r before after) (sym added) (left.0, left.1.refutes)
+
+-- and none where it is closed
+pub none_added : (p : PolicyShape) (r : Row) (plans : List (List ℕ)) → IsLeftAt p r None → HasAdded p r plans plans None
+none_added p r plans left = ([], (sym (append-nil plans), no_plan p r left))

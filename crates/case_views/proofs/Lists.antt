@@ -5,12 +5,12 @@ use Rattle.wf_board.specs.States.{Numbered}
 use Rattle.wf_board.specs.Views.{AreThose, Place, steps_from, steps_of}
 
 -- the list of two parts is made of theirs
-pub those_append : {A B : Type 0} (In Out : A → Type 0) (name : A → B) (xs ys : List A) (as bs : List B) →
-    AreThose In Out name xs as → AreThose In Out name ys bs → AreThose In Out name (xs ++ ys) (as ++ bs)
-those_append In Out name [] ys as bs first second = subst (λ l. AreThose In Out name ys (l ++ bs)) (sym first) second
-those_append In Out name (x ∷ xs) ys as bs (inl is) second =
-    inl (is.0, (is.1.0 ++ bs, (ap (λ l. l ++ bs) is.1.1.0, those_append In Out name xs ys is.1.0 bs is.1.1.1 second)))
-those_append In Out name (x ∷ xs) ys as bs (inr is) second = inr (is.0, those_append In Out name xs ys as bs is.1 second)
+pub those_append : {A B : Type 0} (In Out : A → Type 0) (name : A → B) (xs ys : List A) (ns ms : List B) →
+    AreThose In Out name xs ns → AreThose In Out name ys ms → AreThose In Out name (xs ++ ys) (ns ++ ms)
+those_append In Out name [] ys ns ms first second = subst (λ l. AreThose In Out name ys (l ++ ms)) (sym first) second
+those_append In Out name (x ∷ xs) ys ns ms (inl is) second =
+    inl (is.0, (is.1.0 ++ ms, (ap (λ l. l ++ ms) is.1.1.0, those_append In Out name xs ys is.1.0 ms is.1.1.1 second)))
+those_append In Out name (x ∷ xs) ys ns ms (inr is) second = inr (is.0, those_append In Out name xs ys ns ms is.1 second)
 
 -- one value that has it, and one that has not
 pub one_those : {A B : Type 0} (In Out : A → Type 0) (name : A → B) (x : A) → In x → AreThose In Out name (x ∷ []) (name x ∷ [])
@@ -26,17 +26,18 @@ steps_append (e ∷ es) fs =
     ap (λ l. steps_from e (length e.case.states) 0 ++ l) (steps_append es fs)
     ∙ sym (append_assoc (steps_from e (length e.case.states) 0) (steps_of es) (steps_of fs))
 
+-- a step of a case
+abbrev pub place : Numbered → ℕ → Place
+place e t = record { of = e; step = t }
+
 -- one step more
-steps_next : (e : Numbered) (n t : ℕ) → steps_from e (n + 1) t ≡ steps_from e n t ++ record { of = e; step = t + n } ∷ []
-steps_next e zero t = omega_place
-  where
-    omega_place : steps_from e (0 + 1) t ≡ record { of = e; step = t + 0 } ∷ []
-    omega_place =
-        let same : t ≡ t + 0 = omega arith in
-        ap (λ (k : ℕ). (record { of = e; step = k } : Place) ∷ []) same
+steps_next : (e : Numbered) (n t : ℕ) → steps_from e (n + 1) t ≡ steps_from e n t ++ place e (t + n) ∷ []
+steps_next e zero t =
+    let same : t ≡ t + 0 = omega arith in
+    ap (λ (k : ℕ). place e k ∷ []) same
 steps_next e (suc n) t =
     let same : t + 1 + n ≡ t + suc n = omega arith in
-    ap (λ l. (record { of = e; step = t } : Place) ∷ l) (steps_next e n (t + 1) ∙ ap (λ (k : ℕ). steps_from e n (t + 1) ++ (record { of = e; step = k } : Place) ∷ []) same)
+    ap (λ l. place e t ∷ l) (steps_next e n (t + 1) ∙ ap (λ (k : ℕ). steps_from e n (t + 1) ++ place e k ∷ []) same)
 
-pub steps_more : (e : Numbered) (n : ℕ) → steps_from e (n + 1) 0 ≡ steps_from e n 0 ++ record { of = e; step = n } ∷ []
+pub steps_more : (e : Numbered) (n : ℕ) → steps_from e (n + 1) 0 ≡ steps_from e n 0 ++ place e n ∷ []
 steps_more e n = steps_next e n 0

@@ -79,6 +79,11 @@ abbrev pub IsVerdictOn : PolicyShape → Left → Verdict → Type 0
 IsVerdictOn p (left.Plans plans) v = v ≡ verdict.Edited (record { policy = p; plans = plans })
 IsVerdictOn p (left.Stranded n tree) v = v ≡ verdict.Strands n tree
 
+-- a plan that was found is added to others, or there is a tree
+abbrev pub IsAdded : Outcome → List (List ℕ) → List (List ℕ) → Option Tree → Type 0
+IsAdded (outcome.Plan plan) before after o = (o ≡ None) × (after ≡ before ++ plan ∷ [])
+IsAdded (outcome.Refuted tree) before after o = o ≡ Some tree
+
 -- a plan for the case of a row is added to others, if the case is open; or there is none, as a tree shows
 abbrev pub HasAdded : PolicyShape → Row → List (List ℕ) → List (List ℕ) → Option Tree → Type 0
 HasAdded p r before after None =

@@ -1,5 +1,5 @@
 -- Inside: what views list of some rows of a table of cases.
-use Rattle.std.specs.Prelude.{◌≡◌, ℕ, true, false, List, [], ◌∷◌, ◌++◌, Option, None, Some, map}
+use Rattle.std.specs.Prelude.{◌≡◌, ℕ, Bool, true, false, List, [], ◌∷◌, ◌++◌, Option, None, Some, map}
 use Rattle.policy_book.specs.Shapes.{PolicyShape}
 use Rattle.policy_book.specs.Policies.{problem_of}
 use Rattle.case_record.specs.Cases.{assigned_of, finished_of, is_open}
@@ -7,8 +7,8 @@ use Rattle.grant_table.specs.declared.rows.Row.{Row}
 use Rattle.wf_talk.specs.declared.reply.WorkItem.{WorkItem}
 use Rattle.wsp_solver.specs.Searches.{Decides}
 use Rattle.wsp_solver.specs.declared.search.Outcome.{Outcome}
+use Rattle.wsp_solver.specs.declared.search.Outcome.TheVariants as outcome
 use Rattle.wf_board.specs.Boards.{numbered}
-use Rattle.wf_board.specs.Edited.{CanBeCompleted}
 use Rattle.wf_board.specs.States.{Numbered, open_cases}
 use Rattle.wf_board.specs.Views.{AreStranded, AreThose, IsGrantable, Place, item_of, steps_of}
 
@@ -43,3 +43,8 @@ abbrev pub IsLeftAt : PolicyShape → Row → Option Outcome → Type 0
 IsLeftAt p r None = is_open r.case ≡ false
 IsLeftAt p r (Some o) =
     (is_open r.case ≡ true) × Decides (problem_of p r.case.flow) (assigned_of r.case) (finished_of r.case) o
+
+-- what was found is a plan
+abbrev pub is_plan : Outcome → Bool
+is_plan (outcome.Plan plan) = true
+is_plan (outcome.Refuted tree) = false

@@ -9,7 +9,7 @@ ghost use Rattle.wf_board.specs.Boards.{book_on};
 ghost use Rattle.wf_board.specs.Edited.{IsPlanOf};
 ghost use Rattle.wf_board.specs.Found.{IsAllowed};
 ghost use Rattle.wf_board.specs.Kept.{ArePlanned, IsOfPolicy, IsPlanned};
-ghost use Rattle.case_views.specs.Deciding.{DecidesChange, HasAdded, IsLeft, IsVerdictOn};
+ghost use Rattle.case_views.specs.Deciding.{DecidesChange, HasAdded, IsAdded, IsLeft, IsVerdictOn};
 ghost use Rattle.case_views.specs.Listing.{IsLeftAt, open_in};
 
 use crate::found::outcome_near;
@@ -108,12 +108,21 @@ fn add_plan(
     ensures { IfOk result (HasAdded after.now row.now plans.old.items plans.new.items) }
 {
     match left_at(alloc, p, a, after, row)? {
-        Some(Outcome::Plan(plan)) => {
+        Some(outcome) => add_outcome(outcome, plans),
+        None => Ok(None),
+    }
+}
+
+// Adds a plan that was found, or hands on the tree that shows why there is none.
+fn add_outcome(outcome: Outcome, plans: &mut Vec<Plan>) -> Result<Option<Tree>, AllocError>
+    ensures { IfOk result (IsAdded outcome plans.old.items plans.new.items) }
+{
+    match outcome {
+        Outcome::Plan(plan) => {
             plans.push(plan)?;
             Ok(None)
         }
-        Some(Outcome::Refuted(tree)) => Ok(Some(tree)),
-        None => Ok(None),
+        Outcome::Refuted(tree) => Ok(Some(tree)),
     }
 }
 

@@ -1,5 +1,5 @@
 //! Which open cases a change of the policy would strand.
-ghost use Rattle.std.specs.Prelude.{◌≡◌, ◌∷◌, [], None, IfOk};
+ghost use Rattle.std.specs.Prelude.{◌≡◌, ◌∷◌, ◌++◌, [], None, IfOk, OnOk};
 ghost use Rattle.admin_edits.specs.Edits.{amended, edit_cause, edited_policy};
 ghost use Rattle.wf_board.specs.Boards.{book_on};
 ghost use Rattle.wf_board.specs.Found.{IsAllowed};
@@ -66,9 +66,8 @@ fn stranded_in(
 {
     let mut numbers = CaseList::new(alloc);
     'rows: for i in 0..rows.len() {
-        if let Some(number) = stranded_at(alloc, p, a, after, &rows[i])? {
-            numbers.push(number)?;
-        }
+        let number = stranded_at(alloc, p, a, after, &rows[i])?;
+        add_number(number, &mut numbers)?;
     }
     Ok(numbers)
 }
@@ -90,6 +89,17 @@ pub(crate) fn stranded_at(
     let _sound = after.admin();
     match left_at(alloc, p, a, after, row)? {
         Some(Outcome::Refuted(_)) => Ok(Some(row.number())),
-        _ => Ok(None),
+        Some(Outcome::Plan(_)) => Ok(None),
+        None => Ok(None),
+    }
+}
+
+/// Adds a number, where there is one.
+pub(crate) fn add_number(number: Option<CaseId>, numbers: &mut CaseList) -> Result<(), AllocError>
+    ensures { OnOk result (numbers.new ≡ numbers.old ++ list_of number) }
+{
+    match number {
+        Some(number) => numbers.push(number),
+        None => Ok(()),
     }
 }

@@ -4,7 +4,7 @@ ghost use Rattle.wf_board.specs.Boards.{book_on, numbered};
 ghost use Rattle.wf_board.specs.Edited.{IsPlanOf};
 ghost use Rattle.wf_board.specs.Kept.{ArePlanned, IsOfPolicy, IsPlanned};
 ghost use Rattle.wf_board.specs.Views.{IsGrantable, IsWorkOf, item_of, steps_from};
-ghost use Rattle.case_views.specs.Listing.{AreGrantable, HasListed, IsWorkIn};
+ghost use Rattle.case_views.specs.Listing.{AreGrantable, HasListed, IsWorkIn, is_plan};
 
 use crate::found::outcome_with;
 use case_record::Case;
@@ -133,8 +133,13 @@ fn is_granted(
         return Ok(false);
     }
     let _well_formed = p.rules(case.flow());
-    match outcome_with(alloc, p, case, kept, step, u)? {
-        Outcome::Plan(_) => Ok(true),
-        Outcome::Refuted(_) => Ok(false),
-    }
+    let outcome = outcome_with(alloc, p, case, kept, step, u)?;
+    Ok(is_plan(&outcome))
+}
+
+// Whether a plan was found.
+fn is_plan(outcome: &Outcome) -> bool
+    ensures { result ≡ is_plan outcome.now }
+{
+    matches!(outcome, Outcome::Plan(_))
 }

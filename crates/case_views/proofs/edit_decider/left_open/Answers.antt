@@ -1,7 +1,8 @@
 use Rattle.std.proofs.Common.{sym, subst}
 use Rattle.wf_board.specs.Edited.{IsFirstStranded}
 use Rattle.case_views.specs.Deciding.{HasAdded}
-use Rattle.case_views.proofs.Editing.{open_in, plans_more, stranded_here}
+use Rattle.case_views.specs.Listing.{open_in}
+use Rattle.case_views.proofs.Editing.{plans_more, stranded_here}
 use Rattle.case_views.proofs.edit_decider.left_open.Goals as goal
 
 pub returns-in-Some : goal.returns-in-Some

@@ -1,6 +1,6 @@
 use Rattle.std.proofs.Common.{take}
 use Rattle.wf_board.specs.Edited.{ArePlansOf}
-use Rattle.case_views.proofs.Editing.{open_in}
+use Rattle.case_views.specs.Listing.{open_in}
 use Rattle.case_views.proofs.edit_decider.left_open.Given as goal
 
 -- each open case so far has a plan
