@@ -1,8 +1,11 @@
 -- What views list of rows, one row after the other.
 use Rattle.std.proofs.Common.{◌≡◌, ℕ, ◌+◌, ◌<◌, true, false, Bool, List, [], ◌∷◌, ◌++◌, length, take, get_or, Option, None, Some, refl, sym, ap, subst, ◌∙◌}
-use Rattle.std.specs.Prelude.{MatchBool, is_some}
+use Rattle.std.specs.Prelude.{MatchBool, is_some, option_map}
 use Rattle.std.proofs.lemmas.Bool.{true≢false}
 use Rattle.std.proofs.lemmas.List.{append-nil}
+use Rattle.wf_names.specs.States.{user_of}
+use Rattle.wf_names.specs.declared.states.StepState.{StepState}
+use Rattle.wf_names.specs.declared.states.StepState.TheVariants.{Free, Held, Finished}
 use Rattle.refutation_tree.specs.declared.tree.Tree.{Tree}
 use Rattle.refutation_tree.specs.Views.{shape_of}
 use Rattle.policy_book.specs.Shapes.{PolicyShape}
@@ -10,11 +13,12 @@ use Rattle.policy_book.specs.Facts.{IsSoundPolicy}
 use Rattle.policy_book.specs.Policies.{problem_of}
 use Rattle.policy_book.specs.Plans.{AreAssigned, IsWellFormed}
 use Rattle.certificate_check.proofs.Refuted.{refutes_soundly}
-use Rattle.case_record.specs.Cases.{CaseShape, assigned_of, finished_of, is_open}
+use Rattle.case_record.specs.Cases.{CaseShape, assigned_of, finished_of, is_open, state_at}
 use Rattle.grant_table.specs.declared.rows.Row.{Row}
 use Rattle.wf_talk.specs.declared.reply.Denial.{Denial}
+use Rattle.wf_talk.specs.declared.reply.Denial.TheVariants.{Taken}
 use Rattle.wf_talk.specs.declared.reply.WorkItem.{WorkItem}
-use Rattle.denial_reasons.specs.Causes.{assigned_with, first_cause}
+use Rattle.denial_reasons.specs.Causes.{assigned_with, first_cause, first_of}
 use Rattle.wsp_solver.specs.Searches.{Decides}
 use Rattle.wsp_solver.specs.declared.search.Outcome.{Outcome}
 use Rattle.wsp_solver.specs.declared.search.Outcome.TheVariants as outcome
@@ -22,9 +26,8 @@ use Rattle.wf_board.specs.Boards.{numbered}
 use Rattle.wf_board.specs.Edited.{CanBeCompleted}
 use Rattle.wf_board.specs.States.{Numbered}
 use Rattle.wf_board.specs.Views.{AreThose, IsGrantable, Place, item_of, steps_from, steps_of}
-use Rattle.wf_board.proofs.Exact.{finished_assigned, well_formed_any}
+use Rattle.wf_board.proofs.Exact.{claimed_assigned, finished_assigned, well_formed_any}
 use Rattle.case_views.specs.Listing.{AreGrantable, AreStrandedIn, HasListed, IsLeftAt, IsWorkIn, is_plan, open_in}
-use Rattle.case_views.proofs.Deciding.{search_assigned}
 use Rattle.case_views.proofs.Editing.{open_append, take_next}
 use Rattle.case_views.proofs.Lists.{none_those, one_those, place, steps_append, steps_more, those_append}
 
@@ -68,12 +71,18 @@ work_here p u r items live work =
 pub no_work : (p : PolicyShape) (u : ℕ) (r : Row) → is_open r.case ≡ false → IsWorkIn p u (r ∷ []) []
 no_work p u r closed = subst (λ es. AreGrantable p u (steps_of es) []) (sym (closed_alone r closed)) refl
 
+-- a step of which nobody is told to have it is free
+free_of : (x : StepState) (rest : List (Option Denial)) → first_of (option_map Taken (user_of x) ∷ rest) ≡ None → x ≡ Free
+free_of Free rest clear = refl
+free_of (Held v) rest clear = cc
+free_of (Finished v) rest clear = cc
+
 -- where nothing is against a claim, what was found of its case tells whether it would be granted
-pub told_by : (p : PolicyShape) (c : CaseShape) (t u : ℕ) (o : Outcome) → IsWellFormed (problem_of p c.flow) → t < length (assigned_of c) → first_cause p c t u ≡ None →
+pub told_by : (p : PolicyShape) (c : CaseShape) (t u : ℕ) (o : Outcome) → IsWellFormed (problem_of p c.flow) → first_cause p c t u ≡ None →
     Decides (problem_of p c.flow) (assigned_with c t u) (finished_of c) o → MatchBool (is_plan o) (IsGrantable p c t u) (¬ IsGrantable p c t u)
-told_by p c t u (outcome.Plan plan) well below clear found = record { clear = clear; completable = (plan, found) }
-told_by p c t u (outcome.Refuted tree) well below clear found = λ grantable.
-    refutes_soundly (problem_of p c.flow) (assigned_with c t u) (finished_of c) (shape_of tree) well (search_assigned c t u below) found.refutes grantable.completable
+told_by p c t u (outcome.Plan plan) well clear found = record { clear = clear; completable = (plan, found) }
+told_by p c t u (outcome.Refuted tree) well clear found = λ grantable.
+    refutes_soundly (problem_of p c.flow) (assigned_with c t u) (finished_of c) (shape_of tree) well (claimed_assigned c t u (free_of (state_at c t) _ clear)) found.refutes grantable.completable
 
 -- a claim against which there is a cause
 pub refused_for : (p : PolicyShape) (c : CaseShape) (t u : ℕ) → is_some (first_cause p c t u) ≡ true → ¬ IsGrantable p c t u

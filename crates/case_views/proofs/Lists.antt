@@ -37,7 +37,11 @@ steps_next e zero t =
     ap (λ (k : ℕ). place e k ∷ []) same
 steps_next e (suc n) t =
     let same : t + 1 + n ≡ t + suc n = omega arith in
-    ap (λ l. place e t ∷ l) (steps_next e n (t + 1) ∙ ap (λ (k : ℕ). steps_from e n (t + 1) ++ place e k ∷ []) same)
+    let more : suc n + 1 ≡ suc (n + 1) = omega arith in
+    ap (λ (k : ℕ). steps_from e k t) more
+    ∙ ap (λ l. place e t ∷ l) (steps_next e n (t + 1) ∙ ap (λ (k : ℕ). steps_from e n (t + 1) ++ place e k ∷ []) same)
 
 pub steps_more : (e : Numbered) (n : ℕ) → steps_from e (n + 1) 0 ≡ steps_from e n 0 ++ place e n ∷ []
-steps_more e n = steps_next e n 0
+steps_more e n =
+    let same : 0 + n ≡ n = omega arith in
+    steps_next e n 0 ∙ ap (λ (k : ℕ). steps_from e n 0 ++ place e k ∷ []) same

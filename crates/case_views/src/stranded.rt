@@ -21,12 +21,7 @@ use wsp_solver::Outcome;
 /// The open cases that an edit against which there is no cause would leave without a valid plan,
 /// ascending. The plan that is kept for a case is taken where the edit cannot hurt it, else a plan
 /// near it where one is valid, and else a search is made. Nothing is changed.
-pub fn what_if(
-    alloc: Global,
-    snap: &Snap,
-    by: &Name,
-    e: &Edit,
-) -> Result<CaseList, AllocError>
+pub fn what_if(alloc: Global, snap: &Snap, by: &Name, e: &Edit) -> Result<CaseList, AllocError>
     requires { edit_cause snap.now.policy by.now e.now ≡ None }
     ensures { IfOk result (AreStranded (edited_policy snap.now.policy by.now e.now)
         (open_cases (book_on snap.now).cases)) }
@@ -38,11 +33,7 @@ pub fn what_if(
 }
 
 /// The open cases that a change would strand.
-pub(crate) fn stranded_by(
-    alloc: Global,
-    snap: &Snap,
-    a: &Amendment,
-) -> Result<CaseList, AllocError>
+pub(crate) fn stranded_by(alloc: Global, snap: &Snap, a: &Amendment) -> Result<CaseList, AllocError>
     requires { IsAllowed snap.now.policy a.now }
     ensures { IfOk result (AreStranded (amended snap.now.policy a.now)
         (open_cases (book_on snap.now).cases)) }
