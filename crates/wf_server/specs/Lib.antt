@@ -1,4 +1,3 @@
-pub mod Deciding
 pub mod Transcripts
 pub mod Sessions
 pub mod Ways

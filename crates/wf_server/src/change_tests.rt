@@ -2,9 +2,9 @@
 ghost use Rattle.std.specs.Prelude.{◌<◌, length, IsTrue};
 ghost use Rattle.policy_book.specs.Policies.{flow_at};
 
-use crate::decider::PlainDecider;
 use crate::solve_tests::is_valid;
 use crate::tests::PAY;
+use case_views::PlainDecider;
 use policy_book::{Policy, RosterFault};
 use std::alloc::{AllocError, Global};
 use std::test::Fail;

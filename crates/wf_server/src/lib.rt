@@ -6,8 +6,6 @@ mod batch;
 mod change_tests;
 #[cfg(test)]
 mod copy_tests;
-mod decider;
-mod edit_decider;
 #[cfg(test)]
 mod edit_tests;
 #[cfg(test)]

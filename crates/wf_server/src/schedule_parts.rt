@@ -4,7 +4,7 @@ ghost use Rattle.wf_names.specs.declared.limits.TheConstants.{ROUND_LIMIT};
 ghost use Rattle.wf_desk.specs.Desks.{IsDone};
 ghost use Rattle.wf_desk.specs.Schedules.{AreEventsOf};
 
-use crate::decider::PlainDecider;
+use case_views::PlainDecider;
 use std::alloc::{AllocError, Global};
 use std::test::Fail;
 use wf_desk::{Desk, Event, Mark};

@@ -4,11 +4,11 @@ ghost use Rattle.wf_names.specs.declared.limits.TheConstants.{ROUND_LIMIT};
 ghost use Rattle.wf_desk.specs.Desks.{AreOfLanes, IsDone};
 ghost use Rattle.wf_desk.specs.Schedules.{AreEventsOf};
 
-use crate::decider::PlainDecider;
 use crate::schedule_parts::{
     claims, empty_over, finishes, goes_at, has_kinds, job, opens, returns, shows,
 };
 use crate::tests::PAY;
+use case_views::PlainDecider;
 use std::alloc::{AllocError, Global};
 use std::test::Fail;
 use wf_board::Verdict;

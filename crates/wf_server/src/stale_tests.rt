@@ -3,10 +3,10 @@ ghost use Rattle.std.specs.Prelude.{◌≡◌, ◌≤◌, []};
 ghost use Rattle.wf_names.specs.declared.limits.TheConstants.{ROUND_LIMIT};
 ghost use Rattle.wf_desk.specs.Desks.{IsDone};
 
-use crate::decider::PlainDecider;
 use crate::schedule_parts::{
     adds, claims, dismisses, empty_over, enrols, finishes, goes_at, has_kinds, job, opens,
 };
+use case_views::PlainDecider;
 use std::alloc::{AllocError, Global};
 use std::test::Fail;
 use wf_desk::{Desk, Event, Mark, Outcome, solve_task};

@@ -1,0 +1,193 @@
+-- What the decider finds on a deed.
+use Rattle.std.proofs.Common.{◌≡◌, ℕ, ◌<◌, Bool, true, false, List, [], ◌∷◌, length, Option, None, Some, Result, Ok, Err, slice_set, refl, sym, ap, subst, ◌∙◌}
+use Rattle.std.specs.Option.{option_map}
+use Rattle.std.specs.Prelude.{nat_eq, if◌then◌else◌}
+use Rattle.std.proofs.lemmas.Bool.Decides.{eqb_tells}
+use Rattle.first_fault.specs.Reading.{Gives}
+use Rattle.constraint_forms.specs.Assigned.{no_steps, no_users, planned, user_at}
+use Rattle.policy_book.specs.Shapes.{PolicyShape}
+use Rattle.policy_book.specs.Policies.{problem_of}
+use Rattle.policy_book.specs.Plans.{AreAssigned, IsValidPlan, IsWithin, Problem}
+use Rattle.certificate_check.proofs.Assigned.{either, given, given_other, given_same}
+use Rattle.case_record.specs.Cases.{CaseShape, assigned_of, finished_of, is_open}
+use Rattle.grant_table.specs.declared.rows.Row.{Row}
+use Rattle.grant_table.specs.Tables.{case_in, plan_of, row_at}
+use Rattle.wf_talk.specs.declared.reply.Denial.{Denial}
+use Rattle.denial_reasons.specs.Causes.{assigned_with}
+use Rattle.wsp_solver.specs.Searches.{Decides}
+use Rattle.wsp_solver.specs.declared.search.Outcome.{Outcome}
+use Rattle.wsp_solver.specs.declared.search.Outcome.TheVariants as outcome
+use Rattle.wf_board.specs.declared.deed.Deed.{Deed}
+use Rattle.wf_board.specs.declared.deed.Deed.TheVariants as deed
+use Rattle.wf_board.specs.declared.decision.Refused.{Refused}
+use Rattle.wf_board.specs.declared.decision.Refused.TheVariants as refused
+use Rattle.wf_board.specs.declared.verdict.Verdict.{Verdict}
+use Rattle.wf_board.specs.declared.verdict.Verdict.TheVariants as verdict
+use Rattle.wf_board.specs.States.{Book}
+use Rattle.wf_board.specs.Decisions.{decision_aside, needs_verdict, takes_memory}
+use Rattle.wf_board.specs.Refusals.{denial_in}
+use Rattle.wf_board.specs.Verdicts.{Decides as IsDecided}
+use Rattle.wf_talk.specs.declared.request.Ask.{Ask}
+use Rattle.std.proofs.lemmas.Bool.{false≢true}
+use Rattle.wf_board.specs.Kept.{ArePlanned, EachRow, IsOfPolicy, IsPlanned}
+use Rattle.wf_board.specs.Found.{AreFound}
+use Rattle.wf_board.proofs.Within.{claimed_within, planned_within}
+use Rattle.wf_board.proofs.Exact.{finished_assigned}
+use Rattle.admin_edits.specs.declared.amendment.Amendment.{Amendment}
+use Rattle.case_views.specs.Deciding.{DecidesChange, DecidesDeed, DecidesFor, DecidesWhatIf, DecidesWork, IsVerdictOf}
+
+each_at : (P : Row → Type 0) (n : ℕ) (rows : List Row) (r : Row) → EachRow P rows → row_at n rows ≡ Some r → P r
+each_at P n [] r each is = cc
+each_at P n (x ∷ xs) r each is = at_first (nat_eq x.number n) is (each_at P n xs r each.1)
+  where
+    unsome : (y : Row) → Some y ≡ Some r → y ≡ r
+    unsome y e = cc
+
+    at_first : (b : Bool) → (if b then Some x else row_at n xs) ≡ Some r → (row_at n xs ≡ Some r → P r) → P r
+    at_first true e rest = subst P (unsome x e) each.0
+    at_first false e rest = rest e
+
+-- a row that is there, with its case
+found_row : (o : Option Row) (c : CaseShape) → option_map (λ (r : Row). r.case) o ≡ Some c → (r : Row) × ((o ≡ Some r) × (r.case ≡ c))
+found_row None c is = cc
+found_row (Some r) c is = (r, (refl, unsome is))
+  where
+    unsome : Some r.case ≡ Some c → r.case ≡ c
+    unsome e = cc
+
+-- the plan that is kept for a case
+pub record Keeps (p : PolicyShape) (rows : List Row) (n : ℕ) (c : CaseShape) : Type 0 where
+  pub plan : List ℕ
+  pub kept : plan_of (row_at n rows) ≡ Some plan
+  pub valid : IsValidPlan (problem_of p c.flow) (assigned_of c) (finished_of c) plan
+
+planned_keeps : (p : PolicyShape) (rows : List Row) (n : ℕ) (c : CaseShape) (o : Option (List ℕ)) → plan_of (row_at n rows) ≡ o → is_open c ≡ true → IsPlanned p c o → Keeps p rows n c
+planned_keeps p rows n c None is live planned = cc
+planned_keeps p rows n c (Some plan) is live planned = record { plan = plan; kept = is; valid = planned }
+
+-- each open case has a kept plan, which is valid
+pub kept_plan : (p : PolicyShape) (rows : List Row) (n : ℕ) (c : CaseShape) → ArePlanned p rows → case_in n rows ≡ Some c → is_open c ≡ true → Keeps p rows n c
+kept_plan p rows n c are is live =
+    let row = found_row (row_at n rows) c is in
+    let planned = each_at (λ r. IsPlanned p r.case r.plan) n rows row.0 are.plans row.1.0 in
+    planned_keeps p rows n c row.0.plan (ap plan_of row.1.0) live (subst (λ k. IsPlanned p k row.0.plan) row.1.1 planned)
+
+unsome_plan : (a b : List ℕ) → Some a ≡ Some b → a ≡ b
+unsome_plan a b e = cc
+
+-- the plan that is kept for an open case is valid
+pub kept_valid : (p : PolicyShape) (rows : List Row) (n : ℕ) (c : CaseShape) (plan : List ℕ) → ArePlanned p rows → case_in n rows ≡ Some c → is_open c ≡ true → plan_of (row_at n rows) ≡ Some plan
+    → IsValidPlan (problem_of p c.flow) (assigned_of c) (finished_of c) plan
+kept_valid p rows n c plan are is live kept =
+    let keeps = kept_plan p rows n c are is live in
+    subst (IsValidPlan (problem_of p c.flow) (assigned_of c) (finished_of c)) (unsome_plan keeps.plan plan (sym keeps.kept ∙ kept)) keeps.valid
+
+-- a plan that is valid and gives a step to a user is valid with the user there
+pub valid_with : (p : Problem) (c : CaseShape) (t u : ℕ) (plan : List ℕ) → planned plan t ≡ u → IsValidPlan p (assigned_of c) (finished_of c) plan → IsValidPlan p (assigned_with c t u) (finished_of c) plan
+valid_with p c t u plan gives valid = record {
+  whole = valid.whole;
+  known = valid.known;
+  keeps = λ s w is. either (given (assigned_of c) t u s w is)
+      (λ same. ap Some (ap (planned plan) same.0 ∙ gives ∙ sym same.1))
+      (λ other. valid.keeps s w other);
+  allowed = valid.allowed;
+  obeyed = valid.obeyed;
+}
+
+-- finished steps stay assigned where one more step is given
+pub still_assigned : (done : List Bool) (a : List (Option ℕ)) (t u : ℕ) → t < length a → AreAssigned done a → AreAssigned done (slice_set a t (Some u))
+still_assigned done a t u below are s is = either (eqb_tells s t)
+    (λ same. (u, subst (λ k. user_at (slice_set a t (Some u)) k ≡ Some u) (sym same.1) (given_same a t u below)))
+    (λ apart. (let w = are s is in (w.0, given_other a t u s apart.1 ∙ w.1)))
+
+-- a kept plan is as long as its case
+pub kept_length : (p : PolicyShape) (c : CaseShape) (plan : List ℕ) → IsOfPolicy p c → IsValidPlan (problem_of p c.flow) (assigned_of c) (finished_of c) plan → length plan ≡ length c.states
+kept_length p c plan known valid = valid.whole ∙ sym known.steps
+
+-- what a search needs of a claim
+pub search_within : (p : PolicyShape) (c : CaseShape) (plan : List ℕ) (t u : ℕ) → IsOfPolicy p c → IsValidPlan (problem_of p c.flow) (assigned_of c) (finished_of c) plan →
+    t < length c.states → u < length p.roster.users → IsWithin (problem_of p c.flow) (assigned_with c t u)
+search_within p c plan t u known valid step user = claimed_within p c t u known step user (planned_within p c plan known valid)
+
+pub search_assigned : (c : CaseShape) (t u : ℕ) → t < length (assigned_of c) → AreAssigned (finished_of c) (assigned_with c t u)
+search_assigned c t u below = still_assigned (finished_of c) (assigned_of c) t u below (finished_assigned c)
+
+pub decides_same : (p q : PolicyShape) (f g : ℕ) (a b : List (Option ℕ)) (d e : List Bool) (v : Verdict) → q ≡ p → g ≡ f → b ≡ a → e ≡ d
+    → DecidesFor (problem_of q g) b e v → DecidesFor (problem_of p f) a d v
+decides_same p q f g a b d e v policy flow assigned done h =
+    subst (λ x. DecidesFor (problem_of x f) a d v) policy
+    (subst (λ x. DecidesFor (problem_of q x) a d v) flow
+    (subst (λ x. DecidesFor (problem_of q g) x d v) assigned
+    (subst (λ x. DecidesFor (problem_of q g) b x v) done h)))
+
+-- what a search found is a verdict
+pub verdict_decides : (p : Problem) (a : List (Option ℕ)) (d : List Bool) (o : Outcome) (v : Verdict) → Decides p a d o → IsVerdictOf o v → DecidesFor p a d v
+verdict_decides p a d (outcome.Plan plan) v found is = subst (DecidesFor p a d) (sym is) found
+verdict_decides p a d (outcome.Refuted tree) v found is = subst (DecidesFor p a d) (sym is) found.refutes
+
+-- a verdict on an opening
+pub decides_open : (b : Book) (f : ℕ) (v : Verdict) → DecidesFor (problem_of b.policy f) no_users no_steps v → DecidesDeed b (deed.Open f) v
+decides_open b f verdict.Nothing h = absurd h
+decides_open b f (verdict.View v) h = absurd h
+decides_open b f (verdict.Edited edition) h = absurd h
+decides_open b f (verdict.Strands m tree) h = absurd h
+decides_open b f verdict.NoMemory h = record { fits = tt; nothing = λ e. cc; something = λ e same. cc }
+decides_open b f (verdict.Plan plan) h = record { fits = h; nothing = λ e. cc; something = λ e same. cc }
+decides_open b f (verdict.Refuted tree) h = record { fits = h; nothing = λ e. cc; something = λ e same. cc }
+
+-- a verdict on a claim
+pub decides_claim : (b : Book) (n : ℕ) (c : CaseShape) (t u : ℕ) (v : Verdict) → DecidesFor (problem_of b.policy c.flow) (assigned_with c t u) (finished_of c) v → DecidesDeed b (deed.Claim n c t u) v
+decides_claim b n c t u verdict.Nothing h = absurd h
+decides_claim b n c t u (verdict.View v) h = absurd h
+decides_claim b n c t u (verdict.Edited edition) h = absurd h
+decides_claim b n c t u (verdict.Strands m tree) h = absurd h
+decides_claim b n c t u verdict.NoMemory h = record { fits = tt; nothing = λ e. cc; something = λ e same. cc }
+decides_claim b n c t u (verdict.Plan plan) h = record { fits = h; nothing = λ e. cc; something = λ e same. cc }
+decides_claim b n c t u (verdict.Refuted tree) h = record { fits = h; nothing = λ e. cc; something = λ e same. cc }
+
+-- a verdict on a change of the policy
+pub decides_change : (b : Book) (a : Amendment) (v : Verdict) → DecidesChange b a v → DecidesDeed b (deed.Change a) v
+decides_change b a verdict.Nothing h = absurd h
+decides_change b a (verdict.View v) h = absurd h
+decides_change b a verdict.NoMemory h = record { fits = tt; nothing = λ e. cc; something = λ e same. cc }
+decides_change b a (verdict.Plan plan) h = absurd h
+decides_change b a (verdict.Refuted tree) h = absurd h
+decides_change b a (verdict.Edited edition) h = record { fits = h; nothing = λ e. cc; something = λ e same. cc }
+decides_change b a (verdict.Strands n tree) h = record { fits = h; nothing = λ e. cc; something = λ e same. cc }
+
+-- a verdict on a user's work
+pub decides_work : (b : Book) (u : ℕ) (v : Verdict) → DecidesWork b u v → DecidesDeed b (deed.Work u) v
+decides_work b u verdict.Nothing h = absurd h
+decides_work b u verdict.NoMemory h = record { fits = tt; nothing = λ e. cc; something = λ e same. cc }
+decides_work b u (verdict.Plan plan) h = absurd h
+decides_work b u (verdict.Refuted tree) h = absurd h
+decides_work b u (verdict.Edited edition) h = absurd h
+decides_work b u (verdict.Strands n tree) h = absurd h
+decides_work b u (verdict.View v) h = record { fits = h; nothing = λ e. cc; something = λ e same. cc }
+
+-- a verdict on what a change would strand
+pub decides_what_if : (b : Book) (a : Amendment) (v : Verdict) → DecidesWhatIf b a v → DecidesDeed b (deed.WhatIf a) v
+decides_what_if b a verdict.Nothing h = absurd h
+decides_what_if b a verdict.NoMemory h = record { fits = tt; nothing = λ e. cc; something = λ e same. cc }
+decides_what_if b a (verdict.Plan plan) h = absurd h
+decides_what_if b a (verdict.Refuted tree) h = absurd h
+decides_what_if b a (verdict.Edited edition) h = absurd h
+decides_what_if b a (verdict.Strands n tree) h = absurd h
+decides_what_if b a (verdict.View v) h = record { fits = h; nothing = λ e. cc; something = λ e same. cc }
+
+listed_needs_none : (reading : Result Deed Denial) → takes_memory reading ≡ true → needs_verdict reading ≡ false
+listed_needs_none (Ok given) h = cc
+listed_needs_none (Err d) h = refl
+
+-- where there is no deed, no verdict is needed
+pub refused_needs_none : (reading : Result Deed Denial) (e : Refused) → Gives {X = Deed} denial_in (λ d. d) (Err e) reading → (e ≡ refused.NoMemory → takes_memory reading ≡ true) → needs_verdict reading ≡ false
+refused_needs_none reading (refused.Denied d) gives memory = ap needs_verdict gives
+refused_needs_none reading refused.NoMemory gives memory = listed_needs_none reading (memory refl)
+
+-- and nothing is right
+pub nothing_decides : (b c : Book) (what : Ask) → c ≡ b → needs_verdict (decision_aside c what) ≡ false → IsDecided b what verdict.Nothing
+nothing_decides b c what same none = record {
+  right = tt;
+  nothing = λ e. refl;
+  something = λ needs other. absurd (false≢true (sym none ∙ ap (λ x. needs_verdict (decision_aside x what)) same ∙ needs));
+}

@@ -1,0 +1,112 @@
+-- What a change of the policy leaves the open cases.
+use Rattle.std.proofs.Common.{◌≡◌, ℕ, zero, suc, ◌+◌, ◌<◌, inl, inr, Bool, true, false, List, [], ◌∷◌, ◌++◌, length, take, drop, map, get_or, Option, None, Some, refl, sym, ap, subst, ◌∙◌, arith}
+use Rattle.std.proofs.lemmas.List.{append_assoc, append-nil, take-append-drop}
+use Rattle.std.proofs.Math.Seq.{take-suc}
+use Rattle.basics.proofs.Booleans.{bool_cases}
+use Rattle.refutation_tree.specs.declared.tree.Tree.{Tree}
+use Rattle.policy_book.specs.Shapes.{PolicyShape}
+use Rattle.policy_book.specs.Policies.{problem_of}
+use Rattle.policy_book.specs.Plans.{Problem}
+use Rattle.case_record.specs.Cases.{CaseShape, is_open}
+use Rattle.grant_table.specs.declared.rows.Row.{Row}
+use Rattle.grant_table.proofs.Places.{taken_off}
+use Rattle.wf_board.specs.Boards.{numbered}
+use Rattle.wf_board.specs.Edited.{ArePlansOf, IsFirstStranded, IsPlanOf, IsTreeOf}
+use Rattle.wf_board.specs.Kept.{EachRow, IsPlanned}
+use Rattle.wf_board.specs.States.{Numbered}
+use Rattle.wsp_solver.specs.declared.search.Outcome.{Outcome}
+use Rattle.wsp_solver.specs.declared.search.Outcome.TheVariants as outcome
+use Rattle.case_views.specs.Deciding.{HasAdded, IsAdded}
+use Rattle.case_views.specs.Listing.{IsLeftAt, open_in}
+
+-- what is said of a workflow, an assignment and finished steps is said of equal ones
+pub said_same : (P : Problem → List (Option ℕ) → List Bool → Type 0) (p : PolicyShape) (f g : ℕ) (a b : List (Option ℕ)) (d e : List Bool) → g ≡ f → b ≡ a → e ≡ d
+    → P (problem_of p g) b e → P (problem_of p f) a d
+said_same P p f g a b d e flow assigned done h =
+    subst (λ x. P (problem_of p x) a d) flow
+    (subst (λ x. P (problem_of p g) x d) assigned
+    (subst (λ x. P (problem_of p g) b x) done h))
+
+-- ---- rows
+
+-- with one more row in front
+open_cons : (r : Row) (rs : List Row) → open_in (r ∷ rs) ≡ open_in (r ∷ []) ++ open_in rs
+open_cons r rs = elim (bool_cases (is_open r.case)) [
+  | inl live ↦ rw live refl
+  | inr closed ↦ rw closed refl
+]
+
+-- the open cases of two lists of rows
+pub open_append : (xs ys : List Row) → open_in (xs ++ ys) ≡ open_in xs ++ open_in ys
+open_append [] ys = refl
+open_append (r ∷ rs) ys =
+    open_cons r (rs ++ ys) ∙ ap (λ es. open_in (r ∷ []) ++ es) (open_append rs ys) ∙ sym (append_assoc (open_in (r ∷ [])) (open_in rs) (open_in ys))
+    ∙ ap (λ es. es ++ open_in ys) (sym (open_cons r rs))
+
+-- plans for two lists of cases
+plans_append : (p : PolicyShape) (es fs : List Numbered) (ps qs : List (List ℕ)) → ArePlansOf p es ps → ArePlansOf p fs qs → ArePlansOf p (es ++ fs) (ps ++ qs)
+plans_append p [] fs [] qs first second = second
+plans_append p [] fs (plan ∷ ps) qs first second = absurd first
+plans_append p (e ∷ es) fs [] qs first second = absurd first
+plans_append p (e ∷ es) fs (plan ∷ ps) qs first second = (first.0, plans_append p es fs ps qs first.1 second)
+
+-- where the cases before it have plans, a case without one is the first
+stranded_after : (p : PolicyShape) (es fs : List Numbered) (ps : List (List ℕ)) (e : Numbered) (tree : Tree) → ArePlansOf p es ps → IsTreeOf p e.case tree →
+    IsFirstStranded p (es ++ e ∷ fs) e.number e.case.flow tree
+stranded_after p [] fs [] e tree plans shows = inl (refl, (refl, shows))
+stranded_after p [] fs (plan ∷ ps) e tree plans shows = absurd plans
+stranded_after p (x ∷ es) fs [] e tree plans shows = absurd plans
+stranded_after p (x ∷ es) fs (plan ∷ ps) e tree plans shows = inr ((plan, plans.0), stranded_after p es fs ps e tree plans.1 shows)
+
+-- the rows so far with one more
+pub take_next : (rows : List Row) (i : ℕ) (r : Row) → i < length rows → r ≡ get_or rows i r → take (i + 1) rows ≡ take i rows ++ r ∷ []
+take_next rows i r below is =
+    let same : i + 1 ≡ suc i = omega arith in
+    ap (λ (n : ℕ). take n rows) same ∙ take-suc rows i r below ∙ ap (λ (x : Row). take i rows ++ x ∷ []) (sym is)
+
+-- plans for the rows so far, with those for one more
+pub plans_more : (p : PolicyShape) (rows : List Row) (i : ℕ) (r : Row) (ps more all : List (List ℕ)) → i < length rows → r ≡ get_or rows i r →
+    ArePlansOf p (open_in (take i rows)) ps → ArePlansOf p (open_in (r ∷ [])) more → all ≡ ps ++ more → ArePlansOf p (open_in (take (i + 1) rows)) all
+plans_more p rows i r ps more all below is plans added same =
+    subst (ArePlansOf p (open_in (take (i + 1) rows))) (sym same)
+    (subst (λ es. ArePlansOf p es (ps ++ more)) (sym (ap open_in (take_next rows i r below is) ∙ open_append (take i rows) (r ∷ [])))
+    (plans_append p (open_in (take i rows)) (open_in (r ∷ [])) ps more plans added))
+
+-- the case of the next row is the first without a plan
+pub stranded_here : (p : PolicyShape) (rows : List Row) (i : ℕ) (r : Row) (ps : List (List ℕ)) (tree : Tree) → i < length rows → r ≡ get_or rows i r →
+    ArePlansOf p (open_in (take i rows)) ps → is_open r.case ≡ true → IsTreeOf p r.case tree → IsFirstStranded p (open_in rows) r.number r.case.flow tree
+stranded_here p rows i r ps tree below is plans live shows =
+    let all : open_in rows ≡ open_in (take i rows) ++ numbered r ∷ open_in (drop (i + 1) rows) =
+    ap open_in (sym (take-append-drop i rows) ∙ ap (λ xs. take i rows ++ xs) (taken_off rows i r below is))
+    ∙ open_append (take i rows) (r ∷ drop (i + 1) rows) ∙ ap (λ es. open_in (take i rows) ++ es) (open_row r (drop (i + 1) rows) live) in
+    subst (λ es. IsFirstStranded p es r.number r.case.flow tree) (sym all) (stranded_after p (open_in (take i rows)) (open_in (drop (i + 1) rows)) ps (numbered r) tree plans shows)
+  where
+    open_row : (x : Row) (xs : List Row) → is_open x.case ≡ true → open_in (x ∷ xs) ≡ numbered x ∷ open_in xs
+    open_row x xs live = rw live refl
+
+-- a plan for an open case, and none for one that is not
+pub one_plan : (p : PolicyShape) (r : Row) (plan : List ℕ) → is_open r.case ≡ true → IsPlanOf p r.case plan → ArePlansOf p (open_in (r ∷ [])) (plan ∷ [])
+one_plan p r plan live valid = rw live (valid, tt)
+
+pub no_plan : (p : PolicyShape) (r : Row) → is_open r.case ≡ false → ArePlansOf p (open_in (r ∷ [])) []
+no_plan p r closed = rw closed tt
+
+-- what is said of each row is said of the one at a place
+pub row_at_place : (P : Row → Type 0) (rows : List Row) (i : ℕ) (r : Row) → i < length rows → r ≡ get_or rows i r → EachRow P rows → P r
+row_at_place P [] i r below is each = absurd (omega arith)
+row_at_place P (x ∷ xs) zero r below is each = subst P (sym is) each.0
+row_at_place P (x ∷ xs) (suc i) r below is each = row_at_place P xs i r (omega arith) is each.1
+
+-- the plan that is kept for an open case is one
+pub kept_plan_of : (p : PolicyShape) (c d : CaseShape) (o : Option (List ℕ)) (plan : List ℕ) → Some plan ≡ o → d ≡ c → IsPlanned p c o → IsPlanOf p d plan
+kept_plan_of p c d o plan is same planned = subst (λ k. IsPlanOf p k plan) (sym same) (subst (IsPlanned p c) (sym is) planned)
+
+-- what was found of an open case is what is added for it
+pub added_of : (p : PolicyShape) (r : Row) (o : Outcome) (t : Option Tree) (before after : List (List ℕ)) → IsLeftAt p r (Some o) → IsAdded o before after t → HasAdded p r before after t
+added_of p r (outcome.Plan plan) t before after left added =
+    subst (HasAdded p r before after) (sym added.0) (plan ∷ [], (added.1, one_plan p r plan left.0 left.1))
+added_of p r (outcome.Refuted tree) t before after left added = subst (HasAdded p r before after) (sym added) (left.0, left.1.refutes)
+
+-- and none where it is closed
+pub none_added : (p : PolicyShape) (r : Row) (plans : List (List ℕ)) → IsLeftAt p r None → HasAdded p r plans plans None
+none_added p r plans left = ([], (sym (append-nil plans), no_plan p r left))

@@ -1,0 +1,4 @@
+pub mod Lists
+pub mod Deciding
+pub mod Editing
+pub mod Listing

@@ -1,0 +1,148 @@
+-- What views list of rows, one row after the other.
+use Rattle.std.proofs.Common.{◌≡◌, ℕ, ◌+◌, ◌<◌, true, false, Bool, List, [], ◌∷◌, ◌++◌, length, take, get_or, Option, None, Some, refl, sym, ap, subst, ◌∙◌}
+use Rattle.std.specs.Prelude.{MatchBool, is_some, option_map}
+use Rattle.std.proofs.lemmas.Bool.{true≢false}
+use Rattle.std.proofs.lemmas.List.{append-nil}
+use Rattle.wf_names.specs.States.{user_of}
+use Rattle.wf_names.specs.declared.states.StepState.{StepState}
+use Rattle.wf_names.specs.declared.states.StepState.TheVariants.{Free, Held, Finished}
+use Rattle.refutation_tree.specs.declared.tree.Tree.{Tree}
+use Rattle.refutation_tree.specs.Views.{shape_of}
+use Rattle.policy_book.specs.Shapes.{PolicyShape}
+use Rattle.policy_book.specs.Facts.{IsSoundPolicy}
+use Rattle.policy_book.specs.Policies.{problem_of}
+use Rattle.policy_book.specs.Plans.{AreAssigned, IsWellFormed}
+use Rattle.certificate_check.proofs.Refuted.{refutes_soundly}
+use Rattle.case_record.specs.Cases.{CaseShape, assigned_of, finished_of, is_open, state_at}
+use Rattle.grant_table.specs.declared.rows.Row.{Row}
+use Rattle.wf_talk.specs.declared.reply.Denial.{Denial}
+use Rattle.wf_talk.specs.declared.reply.Denial.TheVariants.{Taken}
+use Rattle.wf_talk.specs.declared.reply.WorkItem.{WorkItem}
+use Rattle.denial_reasons.specs.Causes.{assigned_with, first_cause, first_of}
+use Rattle.wsp_solver.specs.Searches.{Decides}
+use Rattle.wsp_solver.specs.declared.search.Outcome.{Outcome}
+use Rattle.wsp_solver.specs.declared.search.Outcome.TheVariants as outcome
+use Rattle.wf_board.specs.Boards.{numbered}
+use Rattle.wf_board.specs.Edited.{CanBeCompleted}
+use Rattle.wf_board.specs.States.{Numbered}
+use Rattle.wf_board.specs.Views.{AreThose, IsGrantable, Place, item_of, steps_from, steps_of}
+use Rattle.wf_board.proofs.Exact.{claimed_assigned, finished_assigned, well_formed_any}
+use Rattle.case_views.specs.Listing.{AreGrantable, AreStrandedIn, HasListed, IsLeftAt, IsWorkIn, is_plan, open_in}
+use Rattle.case_views.proofs.Editing.{open_append, take_next}
+use Rattle.case_views.proofs.Lists.{none_those, one_those, place, steps_append, steps_more, those_append}
+
+-- the one open case of a row, and none
+open_alone : (r : Row) → is_open r.case ≡ true → open_in (r ∷ []) ≡ numbered r ∷ []
+open_alone r live = rw live refl
+
+closed_alone : (r : Row) → is_open r.case ≡ false → open_in (r ∷ []) ≡ []
+closed_alone r closed = rw closed refl
+
+-- ---- work lists
+
+-- the step would be granted, or not
+abbrev pub granted : PolicyShape → ℕ → Place → Type 0
+granted p u x = IsGrantable p x.of.case x.step u
+
+abbrev pub refused : PolicyShape → ℕ → Place → Type 0
+refused p u x = ¬ IsGrantable p x.of.case x.step u
+
+-- the work of two lists of steps
+pub granted_append : (p : PolicyShape) (u : ℕ) (xs ys : List Place) (ns ms all : List WorkItem) → AreGrantable p u xs ns → AreGrantable p u ys ms → all ≡ ns ++ ms →
+    AreGrantable p u (xs ++ ys) all
+granted_append p u xs ys ns ms all first second same =
+    subst (AreGrantable p u (xs ++ ys)) (sym same) (those_append (granted p u) (refused p u) item_of xs ys ns ms first second)
+
+-- the work in the rows so far, with that in one more
+pub work_more : (p : PolicyShape) (u : ℕ) (rows : List Row) (i : ℕ) (r : Row) (ns ms all : List WorkItem) → i < length rows → r ≡ get_or rows i r →
+    IsWorkIn p u (take i rows) ns → IsWorkIn p u (r ∷ []) ms → all ≡ ns ++ ms → IsWorkIn p u (take (i + 1) rows) all
+work_more p u rows i r ns ms all below is first second same =
+    let places : steps_of (open_in (take (i + 1) rows)) ≡ steps_of (open_in (take i rows)) ++ steps_of (open_in (r ∷ [])) =
+    ap steps_of (ap open_in (take_next rows i r below is) ∙ open_append (take i rows) (r ∷ [])) ∙ steps_append (open_in (take i rows)) (open_in (r ∷ [])) in
+    subst (λ l. AreGrantable p u l all) (sym places)
+    (granted_append p u (steps_of (open_in (take i rows))) (steps_of (open_in (r ∷ []))) ns ms all first second same)
+
+-- the work in one row
+pub work_here : (p : PolicyShape) (u : ℕ) (r : Row) (items : List WorkItem) → is_open r.case ≡ true →
+    AreGrantable p u (steps_from (numbered r) (length r.case.states) 0) items → IsWorkIn p u (r ∷ []) items
+work_here p u r items live work =
+    subst (λ l. AreGrantable p u l items) (sym (ap steps_of (open_alone r live) ∙ append-nil (steps_from (numbered r) (length r.case.states) 0))) work
+
+pub no_work : (p : PolicyShape) (u : ℕ) (r : Row) → is_open r.case ≡ false → IsWorkIn p u (r ∷ []) []
+no_work p u r closed = subst (λ es. AreGrantable p u (steps_of es) []) (sym (closed_alone r closed)) refl
+
+-- a step of which nobody is told to have it is free
+free_of : (x : StepState) (rest : List (Option Denial)) → first_of (option_map Taken (user_of x) ∷ rest) ≡ None → x ≡ Free
+free_of Free rest clear = refl
+free_of (Held v) rest clear = cc
+free_of (Finished v) rest clear = cc
+
+-- where nothing is against a claim, what was found of its case tells whether it would be granted
+pub told_by : (p : PolicyShape) (c : CaseShape) (t u : ℕ) (o : Outcome) → IsWellFormed (problem_of p c.flow) → first_cause p c t u ≡ None →
+    Decides (problem_of p c.flow) (assigned_with c t u) (finished_of c) o → MatchBool (is_plan o) (IsGrantable p c t u) (¬ IsGrantable p c t u)
+told_by p c t u (outcome.Plan plan) well clear found = record { clear = clear; completable = (plan, found) }
+told_by p c t u (outcome.Refuted tree) well clear found = λ grantable.
+    refutes_soundly (problem_of p c.flow) (assigned_with c t u) (finished_of c) (shape_of tree) well (claimed_assigned c t u (free_of (state_at c t) _ clear)) found.refutes grantable.completable
+
+-- a claim against which there is a cause
+pub refused_for : (p : PolicyShape) (c : CaseShape) (t u : ℕ) → is_some (first_cause p c t u) ≡ true → ¬ IsGrantable p c t u
+refused_for p c t u cause grantable = absurd (true≢false (sym cause ∙ ap is_some grantable.clear))
+
+pub clear_of : (o : Option Denial) → is_some o ≡ false → o ≡ None
+clear_of None is = refl
+clear_of (Some d) is = cc
+
+-- a step that would be granted is listed, another is not
+pub granted_item : (p : PolicyShape) (u : ℕ) (e : Numbered) (t : ℕ) (c : CaseShape) (b : Bool) (before after : List WorkItem) → b ≡ true → c ≡ e.case →
+    MatchBool b (IsGrantable p c t u) (¬ IsGrantable p c t u) → after ≡ before ++ item_of (place e t) ∷ [] → HasListed p u (place e t) before after
+granted_item p u e t c b before after is same told added =
+    let grantable = subst (λ x. IsGrantable p x t u) same (subst (λ x. MatchBool x (IsGrantable p c t u) (¬ IsGrantable p c t u)) is told) in
+    (item_of (place e t) ∷ [], (added, one_those (granted p u) (refused p u) item_of (place e t) grantable))
+
+pub refused_item : (p : PolicyShape) (u : ℕ) (e : Numbered) (t : ℕ) (c : CaseShape) (b : Bool) (items : List WorkItem) → b ≡ false → c ≡ e.case →
+    MatchBool b (IsGrantable p c t u) (¬ IsGrantable p c t u) → HasListed p u (place e t) items items
+refused_item p u e t c b items is same told =
+    let not = subst (λ x. ¬ IsGrantable p x t u) same (subst (λ x. MatchBool x (IsGrantable p c t u) (¬ IsGrantable p c t u)) is told) in
+    ([], (sym (append-nil items), none_those (granted p u) (refused p u) item_of (place e t) not))
+
+-- the steps so far, with one more
+pub step_more : (p : PolicyShape) (u : ℕ) (e : Numbered) (t : ℕ) (before after : List WorkItem) → AreGrantable p u (steps_from e t 0) before → HasListed p u (place e t) before after →
+    AreGrantable p u (steps_from e (t + 1) 0) after
+step_more p u e t before after first added =
+    subst (λ l. AreGrantable p u l after) (sym (steps_more e t))
+    (granted_append p u (steps_from e t 0) (place e t ∷ []) before added.0 after first added.1.1 added.1.0)
+
+-- ---- stranded cases
+
+-- the case cannot be completed, or can
+abbrev pub stranded : PolicyShape → Numbered → Type 0
+stranded p e = ¬ CanBeCompleted p e.case
+
+abbrev pub kept : PolicyShape → Numbered → Type 0
+kept p e = CanBeCompleted p e.case
+
+-- the stranded cases among the rows so far, with one more row
+pub stranded_more : (p : PolicyShape) (rows : List Row) (i : ℕ) (r : Row) (ns ms all : List ℕ) → i < length rows → r ≡ get_or rows i r →
+    AreStrandedIn p (take i rows) ns → AreStrandedIn p (r ∷ []) ms → all ≡ ns ++ ms → AreStrandedIn p (take (i + 1) rows) all
+stranded_more p rows i r ns ms all below is first second same =
+    subst (AreStrandedIn p (take (i + 1) rows)) (sym same)
+    (subst (λ es. AreThose (stranded p) (kept p) (λ e. e.number) es (ns ++ ms))
+    (sym (ap open_in (take_next rows i r below is) ∙ open_append (take i rows) (r ∷ [])))
+    (those_append (stranded p) (kept p) (λ e. e.number) (open_in (take i rows)) (open_in (r ∷ [])) ns ms first second))
+
+-- an open case that a tree refutes, and one that has a plan; a case that is not open
+pub refuted_here : (p : PolicyShape) (r : Row) (tree : Tree) → IsSoundPolicy p → IsLeftAt p r (Some (outcome.Refuted tree)) → AreStrandedIn p (r ∷ []) (r.number ∷ [])
+refuted_here p r tree sound left =
+    let c = r.case in
+    let cannot : ¬ CanBeCompleted p c =
+    refutes_soundly (problem_of p c.flow) (assigned_of c) (finished_of c) (shape_of tree) (well_formed_any p c.flow sound) (finished_assigned c) left.1.refutes in
+    subst (λ es. AreThose (stranded p) (kept p) (λ e. e.number) es (r.number ∷ [])) (sym (open_alone r left.0))
+    (one_those (stranded p) (kept p) (λ e. e.number) (numbered r) cannot)
+
+pub planned_here : (p : PolicyShape) (r : Row) (plan : List ℕ) → IsLeftAt p r (Some (outcome.Plan plan)) → AreStrandedIn p (r ∷ []) []
+planned_here p r plan left =
+    subst (λ es. AreThose (stranded p) (kept p) (λ e. e.number) es []) (sym (open_alone r left.0))
+    (none_those (stranded p) (kept p) (λ e. e.number) (numbered r) (plan, left.1))
+
+pub closed_here : (p : PolicyShape) (r : Row) → is_open r.case ≡ false → AreStrandedIn p (r ∷ []) []
+closed_here p r closed = subst (λ es. AreThose (stranded p) (kept p) (λ e. e.number) es []) (sym (closed_alone r closed)) refl

@@ -1,0 +1,37 @@
+use Rattle.std.proofs.Common.{refl, sym, subst}
+use Rattle.wf_board.specs.Boards.{book_on}
+use Rattle.case_views.specs.Deciding.{DecidesDeed}
+use Rattle.case_views.proofs.Deciding.{decides_change, decides_claim, decides_open, decides_same, decides_what_if, decides_work}
+use Rattle.case_views.proofs.decider.verdict_on.Goals as goal
+
+pub returns-in-Open : goal.returns-in-Open
+returns-in-Open c =
+    let b = book_on c.args.snap.now in
+    subst (λ d. DecidesDeed b d c.searched.result) (sym c.in-Open.is)
+    (decides_open b c.in-Open.flow c.searched.result
+    (decides_same c.args.snap.now.policy c.policy.result.now c.in-Open.flow c.in-Open.flow _ c.empty.result _ c.empty-in-Open.result c.searched.result
+    c.policy.ensures.policy refl c.empty.ensures.value c.empty-in-Open.ensures.value c.searched.ensures))
+
+pub returns-in-Claim : goal.returns-in-Claim
+returns-in-Claim c =
+    let b = book_on c.args.snap.now in
+    subst (λ d. DecidesDeed b d c.claim_verdict.result) (sym c.in-Claim.is)
+    (decides_claim b c.in-Claim.number c.in-Claim.case c.in-Claim.step c.in-Claim.user c.claim_verdict.result c.claim_verdict.ensures)
+
+pub returns-in-Change : goal.returns-in-Change
+returns-in-Change c =
+    let b = book_on c.args.snap.now in
+    subst (λ d. DecidesDeed b d c.edit_verdict.result) (sym c.in-Change.is)
+    (decides_change b c.in-Change.amendment c.edit_verdict.result c.edit_verdict.ensures)
+
+pub returns-in-Work : goal.returns-in-Work
+returns-in-Work c =
+    let b = book_on c.args.snap.now in
+    subst (λ d. DecidesDeed b d c.work_verdict.result) (sym c.in-Work.is)
+    (decides_work b c.in-Work.user c.work_verdict.result c.work_verdict.ensures)
+
+pub returns-in-WhatIf : goal.returns-in-WhatIf
+returns-in-WhatIf c =
+    let b = book_on c.args.snap.now in
+    subst (λ d. DecidesDeed b d c.what_if_verdict.result) (sym c.in-WhatIf.is)
+    (decides_what_if b c.in-WhatIf.amendment c.what_if_verdict.result c.what_if_verdict.ensures)

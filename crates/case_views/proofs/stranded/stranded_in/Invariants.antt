@@ -1,0 +1,7 @@
+use Rattle.std.proofs.Common.{take}
+use Rattle.case_views.specs.Listing.{AreStrandedIn}
+use Rattle.case_views.proofs.stranded.stranded_in.Given as goal
+
+-- the stranded cases so far are listed
+abbrev pub invariant-rows : goal.invariant-rows
+invariant-rows l = AreStrandedIn l.after (take l.i l.rows) l.numbers

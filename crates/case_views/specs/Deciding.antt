@@ -1,0 +1,91 @@
+-- Inside: what the decider finds on a deed.
+use Rattle.std.specs.Prelude.{◌≡◌, ◌≢◌, ℕ, Bool, true, false, List, [], ◌∷◌, ◌++◌, Option, None, Some, Ok, IsTrue}
+use Rattle.refutation_tree.specs.declared.tree.Tree.{Tree}
+use Rattle.refutation_tree.specs.Views.{shape_of}
+use Rattle.policy_book.specs.Shapes.{PolicyShape}
+use Rattle.policy_book.specs.Plans.{Problem, IsValidPlan}
+use Rattle.policy_book.specs.Refuting.{refutes}
+use Rattle.case_record.specs.Cases.{is_open}
+use Rattle.grant_table.specs.declared.rows.Row.{Row}
+use Rattle.admin_edits.specs.declared.amendment.Amendment.{Amendment}
+use Rattle.wsp_solver.specs.declared.search.Outcome.{Outcome}
+use Rattle.wsp_solver.specs.declared.search.Outcome.TheVariants as outcome
+use Rattle.wf_board.specs.declared.deed.Deed.{Deed}
+use Rattle.wf_board.specs.declared.deed.Deed.TheVariants as deed
+use Rattle.wf_board.specs.declared.verdict.Verdict.{Verdict}
+use Rattle.wf_board.specs.declared.verdict.Verdict.TheVariants as verdict
+use Rattle.wf_board.specs.States.{Book, Numbered, open_cases}
+use Rattle.wf_board.specs.Boards.{numbered}
+use Rattle.wf_board.specs.Edited.{ArePlansOf, IsFirstStranded, IsTreeOf}
+use Rattle.wf_board.specs.Decisions.{needs_plan}
+use Rattle.wf_board.specs.Verdicts.{IsEditionFor, IsPlanFor, IsStrandingFor, IsTreeFor, IsViewFor}
+use Rattle.case_views.specs.declared.edit_decider.Left.{Left}
+use Rattle.case_views.specs.declared.edit_decider.Left.TheVariants as left
+
+-- a plan or a tree for an assignment, or want of memory
+abbrev pub DecidesFor : Problem → List (Option ℕ) → List Bool → Verdict → Type 0
+DecidesFor p assigned finished verdict.NoMemory = Unit {0}
+DecidesFor p assigned finished (verdict.Plan plan) = IsValidPlan p assigned finished plan
+DecidesFor p assigned finished (verdict.Refuted tree) = IsTrue (refutes p assigned finished (shape_of tree))
+DecidesFor p assigned finished v = ⊥
+
+-- the policy after a change with plans for the open cases, the first of them that it leaves without one, or want of memory
+abbrev pub DecidesChange : Book → Amendment → Verdict → Type 0
+DecidesChange b a verdict.NoMemory = Unit {0}
+DecidesChange b a (verdict.Edited edition) = IsEditionFor b (Ok (deed.Change a)) edition
+DecidesChange b a (verdict.Strands n tree) = IsStrandingFor b (Ok (deed.Change a)) n tree
+DecidesChange b a v = ⊥
+
+-- the work of a user, or want of memory
+abbrev pub DecidesWork : Book → ℕ → Verdict → Type 0
+DecidesWork b u verdict.NoMemory = Unit {0}
+DecidesWork b u (verdict.View v) = IsViewFor b (Ok (deed.Work u)) v
+DecidesWork b u v = ⊥
+
+-- the open cases that a change would strand, or want of memory
+abbrev pub DecidesWhatIf : Book → Amendment → Verdict → Type 0
+DecidesWhatIf b a verdict.NoMemory = Unit {0}
+DecidesWhatIf b a (verdict.View v) = IsViewFor b (Ok (deed.WhatIf a)) v
+DecidesWhatIf b a v = ⊥
+
+-- a verdict fits a deed
+abbrev pub FitsDeed : Book → Deed → Verdict → Type 0
+FitsDeed b given verdict.Nothing = Unit {0}
+FitsDeed b given verdict.NoMemory = Unit {0}
+FitsDeed b given (verdict.Plan plan) = IsPlanFor b (Ok given) plan
+FitsDeed b given (verdict.Refuted tree) = IsTreeFor b (Ok given) tree
+FitsDeed b given (verdict.Edited edition) = IsEditionFor b (Ok given) edition
+FitsDeed b given (verdict.Strands n tree) = IsStrandingFor b (Ok given) n tree
+FitsDeed b given (verdict.View v) = IsViewFor b (Ok given) v
+
+-- a verdict decides a deed: there is one exactly where one is needed
+pub record DecidesDeed (b : Book) (deed : Deed) (v : Verdict) : Type 0 where
+  pub fits : FitsDeed b deed v
+  pub nothing : needs_plan deed ≡ false → v ≡ verdict.Nothing
+  pub something : needs_plan deed ≡ true → v ≢ verdict.Nothing
+
+-- what a search found, as a verdict
+abbrev pub IsVerdictOf : Outcome → Verdict → Type 0
+IsVerdictOf (outcome.Plan plan) v = v ≡ verdict.Plan plan
+IsVerdictOf (outcome.Refuted tree) v = v ≡ verdict.Refuted tree
+
+-- what a changed policy leaves these cases: a plan each, or the first of them has none
+abbrev pub IsLeft : PolicyShape → List Numbered → Left → Type 0
+IsLeft p cases (left.Plans plans) = ArePlansOf p cases plans
+IsLeft p cases (left.Stranded n tree) = (f : ℕ) × IsFirstStranded p cases n f tree
+
+-- the same, as a verdict
+abbrev pub IsVerdictOn : PolicyShape → Left → Verdict → Type 0
+IsVerdictOn p (left.Plans plans) v = v ≡ verdict.Edited (record { policy = p; plans = plans })
+IsVerdictOn p (left.Stranded n tree) v = v ≡ verdict.Strands n tree
+
+-- a plan that was found is added to others, or there is a tree
+abbrev pub IsAdded : Outcome → List (List ℕ) → List (List ℕ) → Option Tree → Type 0
+IsAdded (outcome.Plan plan) before after o = (o ≡ None) × (after ≡ before ++ plan ∷ [])
+IsAdded (outcome.Refuted tree) before after o = o ≡ Some tree
+
+-- a plan for the case of a row is added to others, if the case is open; or there is none, as a tree shows
+abbrev pub HasAdded : PolicyShape → Row → List (List ℕ) → List (List ℕ) → Option Tree → Type 0
+HasAdded p r before after None =
+    (more : List (List ℕ)) × ((after ≡ before ++ more) × ArePlansOf p (open_cases (numbered r ∷ [])) more)
+HasAdded p r before after (Some tree) = (is_open r.case ≡ true) × IsTreeOf p r.case tree

@@ -1,0 +1,155 @@
+//! The decider on one thread.
+ghost use Rattle.std.specs.Prelude.{◌≡◌, ◌<◌, length, MatchResult};
+ghost use Rattle.policy_book.specs.Policies.{problem_of};
+ghost use Rattle.policy_book.specs.Plans.{AreAssigned, IsWithin};
+ghost use Rattle.case_record.specs.Cases.{finished_of};
+ghost use Rattle.denial_reasons.specs.Causes.{assigned_with};
+ghost use Rattle.wf_board.specs.Boards.{book_on};
+ghost use Rattle.wf_board.specs.Found.{AreFound, IsAllowed, IsFound};
+ghost use Rattle.case_views.specs.Deciding.{DecidesDeed, DecidesFor, DecidesWhatIf, DecidesWork, IsVerdictOf};
+
+use crate::edit_decider::edit_verdict;
+use crate::found::outcome_with;
+use crate::stranded::stranded_by;
+use crate::work_lists::worklist;
+use admin_edits::Amendment;
+use case_record::Case;
+use constraint_forms::{Assign, StepSet};
+use policy_book::Policy;
+use std::alloc::{AllocError, Global};
+use wf_board::{Decider, Deed, Refused, Snap, Verdict, View, decision_aside};
+use wf_names::{CaseId, FlowId, StepId, UserId};
+use wf_talk::{Ask, CaseList, WorkList};
+use wsp_solver::{Outcome, solve};
+
+/// Finds verdicts one after the other, on one thread. For a claim the plan that is kept for the
+/// case decides where it gives the step to the user, else a plan near it where one is valid, and
+/// else a search. An edit or a view goes over the open cases in order.
+pub struct PlainDecider;
+
+impl Decider for PlainDecider {
+    fn decide(&self, alloc: Global, snap: &Snap, ask: &Ask) -> Verdict {
+        match decision_aside(alloc, snap.policy(), snap.cases(), ask) {
+            Ok(deed) => verdict_on(alloc, snap, &deed),
+            Err(refused) => no_verdict(refused),
+        }
+    }
+}
+
+/// None is needed where an earlier check denies what is asked.
+pub(crate) fn no_verdict(_: Refused) -> Verdict
+    ensures { result ≡ Verdict.Nothing }
+{
+    Verdict::Nothing
+}
+
+/// The verdict on a deed that no earlier check denies.
+pub(crate) fn verdict_on(alloc: Global, snap: &Snap, deed: &Deed) -> Verdict
+    requires { IsFound snap.now.policy snap.now.cases.rows deed.now }
+    ensures { DecidesDeed (book_on snap.now) deed.now result }
+{
+    match deed {
+        Deed::Open { flow } => {
+            searched(
+                alloc,
+                snap.policy(),
+                *flow,
+                &Assign::empty(),
+                &StepSet::empty(),
+            )
+        }
+        Deed::Claim {
+            number,
+            case,
+            step,
+            user,
+        } => claim_verdict(alloc, snap, *number, case, *step, *user),
+        Deed::Change { amendment } => edit_verdict(alloc, snap, amendment),
+        Deed::Work { user } => work_verdict(alloc, snap, *user),
+        Deed::WhatIf { amendment } => what_if_verdict(alloc, snap, amendment),
+        _ => Verdict::Nothing,
+    }
+}
+
+// The verdict on a claim, by the plan that is kept for its case.
+fn claim_verdict(
+    alloc: Global,
+    snap: &Snap,
+    number: CaseId,
+    case: &Case,
+    step: StepId,
+    user: UserId,
+) -> Verdict
+    requires { AreFound snap.now.policy snap.now.cases.rows number case.now step user }
+    ensures { DecidesFor (problem_of snap.now.policy case.now.flow) (assigned_with case.now step user)
+        (finished_of case.now) result }
+{
+    let Some(kept) = snap.cases().plan(number) else {
+        unreachable!()
+    };
+    match outcome_with(alloc, snap.policy(), case, &kept, step, user) {
+        Ok(outcome) => verdict_of(outcome),
+        Err(_) => Verdict::NoMemory,
+    }
+}
+
+// The verdict that a search finds.
+fn searched(alloc: Global, p: &Policy, f: FlowId, a: &Assign, done: &StepSet) -> Verdict
+    requires flow { f < length p.now.flows }
+    requires within { IsWithin (problem_of p.now f) a.now }
+    requires assigned { AreAssigned done.now a.now }
+    ensures { DecidesFor (problem_of p.now f) a.now done.now result }
+{
+    match solve(alloc, p, f, a, done) {
+        Ok(outcome) => verdict_of(outcome),
+        Err(_) => Verdict::NoMemory,
+    }
+}
+
+// What was found of an assignment, as a verdict.
+fn verdict_of(outcome: Outcome) -> Verdict
+    ensures { IsVerdictOf outcome result }
+{
+    match outcome {
+        Outcome::Plan(plan) => Verdict::Plan(plan),
+        Outcome::Refuted(tree) => Verdict::Refuted(tree),
+    }
+}
+
+// The verdict on a user's work.
+fn work_verdict(alloc: Global, snap: &Snap, user: UserId) -> Verdict
+    requires { user < length snap.now.policy.roster.users }
+    ensures { DecidesWork (book_on snap.now) user result }
+{
+    work_view(worklist(alloc, snap, user))
+}
+
+/// A work list as a verdict.
+pub(crate) fn work_view(listed: Result<WorkList, AllocError>) -> Verdict
+    ensures { MatchResult listed (λ items. result ≡ Verdict.View (View.Work items))
+        (λ _. result ≡ Verdict.NoMemory) }
+{
+    match listed {
+        Ok(items) => Verdict::View(View::Work(items)),
+        Err(_) => Verdict::NoMemory,
+    }
+}
+
+// The verdict on what a change would strand.
+fn what_if_verdict(alloc: Global, snap: &Snap, a: &Amendment) -> Verdict
+    requires { IsAllowed snap.now.policy a.now }
+    ensures { DecidesWhatIf (book_on snap.now) a.now result }
+{
+    what_if_view(stranded_by(alloc, snap, a))
+}
+
+/// A list of stranded cases as a verdict.
+pub(crate) fn what_if_view(listed: Result<CaseList, AllocError>) -> Verdict
+    ensures { MatchResult listed (λ cases. result ≡ Verdict.View (View.WhatIf cases))
+        (λ _. result ≡ Verdict.NoMemory) }
+{
+    match listed {
+        Ok(cases) => Verdict::View(View::WhatIf(cases)),
+        Err(_) => Verdict::NoMemory,
+    }
+}

@@ -1,0 +1,192 @@
+//! The decider for changes of the policy, on one thread.
+ghost use Rattle.std.specs.Prelude.{◌≡◌, ◌<◌, IfOk, length};
+ghost use Rattle.policy_book.specs.Policies.{problem_of};
+ghost use Rattle.policy_book.specs.Plans.{AreAssigned, IsWithin};
+ghost use Rattle.case_record.specs.Cases.{assigned_of, finished_of};
+ghost use Rattle.admin_edits.specs.Edits.{amended};
+ghost use Rattle.wsp_solver.specs.Searches.{Decides};
+ghost use Rattle.wf_board.specs.Boards.{book_on};
+ghost use Rattle.wf_board.specs.Edited.{IsPlanOf};
+ghost use Rattle.wf_board.specs.Found.{IsAllowed};
+ghost use Rattle.wf_board.specs.Kept.{ArePlanned, IsOfPolicy, IsPlanned};
+ghost use Rattle.case_views.specs.Deciding.{DecidesChange, HasAdded, IsAdded, IsLeft, IsVerdictOn};
+ghost use Rattle.case_views.specs.Listing.{IsLeftAt, open_in};
+
+use crate::found::outcome_near;
+use admin_edits::{Amendment, amended, may_hurt};
+use basics::List;
+use case_record::Case;
+use constraint_forms::{Assign, Plan, StepSet};
+use grant_table::Row;
+use policy_book::Policy;
+use refutation_tree::Tree;
+use std::alloc::{AllocError, Global};
+use std::sync::Arc;
+use wf_board::{Edition, Plans, Snap, Verdict};
+use wf_names::CaseId;
+use wsp_solver::Outcome;
+
+/// What a change leaves the open cases.
+#[derive(Drop)]
+pub(crate) enum Left {
+    /// A plan each, by ascending number.
+    Plans(Plans),
+    /// This one cannot be completed, as the tree shows, and each before it can.
+    Stranded(CaseId, Tree),
+}
+
+/// The verdict on a change. The plan that a case has is kept where it stays valid, and a search is
+/// made for the others, up to the first case that is left without one.
+pub(crate) fn edit_verdict(alloc: Global, snap: &Snap, a: &Amendment) -> Verdict
+    requires { IsAllowed snap.now.policy a.now }
+    ensures { DecidesChange (book_on snap.now) a.now result }
+{
+    match edited(alloc, snap, a) {
+        Ok(verdict) => verdict,
+        Err(_) => Verdict::NoMemory,
+    }
+}
+
+fn edited(alloc: Global, snap: &Snap, a: &Amendment) -> Result<Verdict, AllocError>
+    requires { IsAllowed snap.now.policy a.now }
+    ensures { IfOk result (DecidesChange (book_on snap.now) a.now) }
+{
+    let p = snap.policy();
+    let after = amended(p, *a)?;
+    let left = left_open(alloc, p, a, &after, snap.cases().rows())?;
+    verdict_on(alloc, after, left)
+}
+
+/// What a change leaves the open cases, as a verdict.
+pub(crate) fn verdict_on(alloc: Global, after: Policy, left: Left) -> Result<Verdict, AllocError>
+    ensures { IfOk result (IsVerdictOn after left) }
+{
+    match left {
+        Left::Plans(plans) => Ok(Verdict::Edited(Edition::of(Arc::new(alloc, after)?, plans))),
+        Left::Stranded(number, tree) => Ok(Verdict::Strands(number, tree)),
+    }
+}
+
+// What the changed policy leaves the open cases among these rows.
+fn left_open(
+    alloc: Global,
+    p: &Policy,
+    a: &Amendment,
+    after: &Policy,
+    rows: &[Row],
+) -> Result<Left, AllocError>
+    requires allowed { IsAllowed p.now a.now }
+    requires after { after.now ≡ amended p.now a.now }
+    requires kept { ArePlanned p.now rows.now }
+    ensures { IfOk result (IsLeft after.now (open_in rows.now)) }
+{
+    let mut plans = Vec::new(alloc);
+    plans.reserve(rows.len())?;
+    'rows: for i in 0..rows.len() {
+        let row = &rows[i];
+        if let Some(tree) = add_plan(alloc, p, a, after, row, &mut plans)? {
+            return Ok(Left::Stranded(row.number(), tree));
+        }
+    }
+    Ok(Left::Plans(List::from_vec(plans)))
+}
+
+// Adds a plan under the changed policy for the case of a row, if it is open; or tells why there is
+// none.
+fn add_plan(
+    alloc: Global,
+    p: &Policy,
+    a: &Amendment,
+    after: &Policy,
+    row: &Row,
+    plans: &mut Vec<Plan>,
+) -> Result<Option<Tree>, AllocError>
+    requires allowed { IsAllowed p.now a.now }
+    requires after { after.now ≡ amended p.now a.now }
+    requires known { IsOfPolicy p.now row.now.case }
+    requires planned { IsPlanned p.now row.now.case row.now.plan }
+    ensures { IfOk result (HasAdded after.now row.now plans.old.items plans.new.items) }
+{
+    match left_at(alloc, p, a, after, row)? {
+        Some(outcome) => add_outcome(outcome, plans),
+        None => Ok(None),
+    }
+}
+
+// Adds a plan that was found, or hands on the tree that shows why there is none.
+fn add_outcome(outcome: Outcome, plans: &mut Vec<Plan>) -> Result<Option<Tree>, AllocError>
+    ensures { IfOk result (IsAdded outcome plans.old.items plans.new.items) }
+{
+    match outcome {
+        Outcome::Plan(plan) => {
+            plans.push(plan)?;
+            Ok(None)
+        }
+        Outcome::Refuted(tree) => Ok(Some(tree)),
+    }
+}
+
+/// What the changed policy leaves the case of a row, if it is open.
+pub(crate) fn left_at(
+    alloc: Global,
+    p: &Policy,
+    a: &Amendment,
+    after: &Policy,
+    row: &Row,
+) -> Result<Option<Outcome>, AllocError>
+    requires allowed { IsAllowed p.now a.now }
+    requires after { after.now ≡ amended p.now a.now }
+    requires known { IsOfPolicy p.now row.now.case }
+    requires planned { IsPlanned p.now row.now.case row.now.plan }
+    ensures { IfOk result (IsLeftAt after.now row.now) }
+{
+    match row.plan() {
+        Some(kept) if row.case().phase().is_live() => {
+            Ok(Some(plan_for(alloc, p, a, after, row.case(), kept)?))
+        }
+        _ => Ok(None),
+    }
+}
+
+// A plan for a case under the changed policy: the one that it has, where the change cannot hurt it.
+fn plan_for(
+    alloc: Global,
+    p: &Policy,
+    a: &Amendment,
+    after: &Policy,
+    case: &Case,
+    kept: Plan,
+) -> Result<Outcome, AllocError>
+    requires allowed { IsAllowed p.now a.now }
+    requires after { after.now ≡ amended p.now a.now }
+    requires known { IsOfPolicy p.now case.now }
+    requires valid { IsPlanOf p.now case.now kept }
+    ensures { IfOk result (Decides (problem_of after.now case.now.flow) (assigned_of case.now)
+        (finished_of case.now)) }
+{
+    if may_hurt(p, a, case.flow(), &case.finished(), &kept) {
+        outcome_of(alloc, after, case, &kept)
+    } else {
+        Ok(Outcome::Plan(kept))
+    }
+}
+
+// A plan for a case, near another where one is valid, and else what a search finds.
+fn outcome_of(alloc: Global, p: &Policy, case: &Case, kept: &Plan) -> Result<Outcome, AllocError>
+    requires flow { case.now.flow < length p.now.flows }
+    requires within { IsWithin (problem_of p.now case.now.flow) (assigned_of case.now) }
+    ensures { IfOk result (Decides (problem_of p.now case.now.flow) (assigned_of case.now)
+        (finished_of case.now)) }
+{
+    let (assigned, done) = progress_of(case);
+    outcome_near(alloc, p, case.flow(), &assigned, &done, kept)
+}
+
+// What is assigned in a case, and what of it is finished.
+fn progress_of(case: &Case) -> (Assign, StepSet)
+    ensures assigned { result.0 ≡ assigned_of case.now }
+    ensures finished { result.1 ≡ finished_of case.now }
+    ensures known { AreAssigned result.1 result.0 }
+{
+    (case.assigned(), case.finished())
+}

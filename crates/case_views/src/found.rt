@@ -1,0 +1,73 @@
+//! Whether an assignment can be completed, as the plan kept for its case and then a search tells.
+ghost use Rattle.std.specs.Prelude.{◌≡◌, ◌<◌, length, IfOk};
+ghost use Rattle.policy_book.specs.Policies.{problem_of};
+ghost use Rattle.policy_book.specs.Plans.{AreAssigned, IsWithin};
+ghost use Rattle.wf_names.specs.declared.limits.TheConstants.{STEP_LIMIT};
+ghost use Rattle.case_record.specs.Cases.{assigned_of, finished_of};
+ghost use Rattle.denial_reasons.specs.Causes.{assigned_with};
+ghost use Rattle.wsp_solver.specs.Searches.{Decides};
+ghost use Rattle.wf_board.specs.Edited.{IsPlanOf};
+ghost use Rattle.wf_board.specs.Kept.{IsOfPolicy};
+
+use case_record::Case;
+use constraint_forms::{Assign, Plan, StepSet};
+use policy_book::Policy;
+use std::alloc::{AllocError, Global};
+use wf_names::{FlowId, StepId, UserId};
+use wsp_solver::{Outcome, plan_near, solve};
+
+/// A plan for a case with one of its steps given to a user: the one that is kept for it, where it
+/// gives the user the step.
+pub(crate) fn outcome_with(
+    alloc: Global,
+    p: &Policy,
+    case: &Case,
+    kept: &Plan,
+    step: StepId,
+    user: UserId,
+) -> Result<Outcome, AllocError>
+    requires known { IsOfPolicy p.now case.now }
+    requires valid { IsPlanOf p.now case.now kept.now }
+    requires step { step < length case.now.states }
+    requires user { user < length p.now.roster.users }
+    ensures { IfOk result (Decides (problem_of p.now case.now.flow) (assigned_with case.now step user)
+        (finished_of case.now)) }
+{
+    if kept.at(step) == user {
+        return Ok(Outcome::Plan(*kept));
+    }
+    let assigned = assigned_with(case, step, user);
+    outcome_near(alloc, p, case.flow(), &assigned, &case.finished(), kept)
+}
+
+// What is assigned in a case, with one of its steps given to a user.
+fn assigned_with(case: &Case, step: StepId, user: UserId) -> Assign
+    requires { step < length case.now.states }
+    ensures given { result ≡ assigned_with case.now step user }
+    ensures len { length (assigned_of case.now) ≡ STEP_LIMIT }
+    ensures within { step < STEP_LIMIT }
+{
+    let _ = case.steps();
+    case.assigned().with(step, user)
+}
+
+/// A plan for an assignment: one near the plan that is kept for the case where one is valid, and
+/// else what a search finds.
+pub(crate) fn outcome_near(
+    alloc: Global,
+    p: &Policy,
+    f: FlowId,
+    a: &Assign,
+    done: &StepSet,
+    kept: &Plan,
+) -> Result<Outcome, AllocError>
+    requires flow { f < length p.now.flows }
+    requires within { IsWithin (problem_of p.now f) a.now }
+    requires assigned { AreAssigned done.now a.now }
+    ensures { IfOk result (Decides (problem_of p.now f) a.now done.now) }
+{
+    match plan_near(p, f, a, done, kept) {
+        Some(near) => Ok(Outcome::Plan(near)),
+        None => solve(alloc, p, f, a, done),
+    }
+}

@@ -1,8 +1,0 @@
-use Rattle.std.proofs.Common.{take}
-use Rattle.wf_board.specs.Edited.{ArePlansOf}
-use Rattle.wf_server.proofs.Editing.{open_in}
-use Rattle.wf_server.proofs.edit_decider.left_open.Given as goal
-
--- each open case so far has a plan
-abbrev pub invariant-rows : goal.invariant-rows
-invariant-rows l = ArePlansOf l.after (open_in (take l.i l.rows)) l.plans.items
