@@ -1,10 +1,11 @@
 -- Inside: serving the batches of a trial at a desk.
 use Rattle.std.specs.Prelude.{◌≡◌, ℕ, ◌<◌, List, ◌++◌, length, take}
+use Rattle.std.specs.List.{All}
 use Rattle.wf_talk.specs.declared.entry.Entry.{Entry}
 use Rattle.wf_talk.specs.declared.job.Job.{Job}
 use Rattle.wf_board.specs.Histories.{AreAnsweredOnce, FillsJobs, batch_start}
 use Rattle.wf_desk.specs.BatchLaws.{AnswersBatch, EndAt}
-use Rattle.wf_desk.specs.Desks.{AreOfLanes, DeskShape, IsDone}
+use Rattle.wf_desk.specs.Desks.{DeskShape, IsDone}
 use Rattle.trial_maker.specs.TrialLaws.{AreBatches}
 use Rattle.run_record.specs.Report.{Told}
 use Rattle.trial_command.specs.declared.session.Served.{Served}
@@ -40,5 +41,5 @@ pub record HasServedAll (before after : DeskShape) (jobs : List Job) (batch_ends
 -- these jobs, cut so, can be served
 pub record AreForTrial (jobs : List Job) (batch_ends : List ℕ) : Type 0 where
   pub few : length jobs < 4294967296
-  pub lanes : AreOfLanes LANES jobs
+  pub lanes : All (λ j. j.lane < LANES) jobs
   pub batches : AreBatches (length jobs) batch_ends
