@@ -128,9 +128,9 @@ served_next first d e jobs ends k start stop are lt at from within so_far next =
     let inside : stop ≤ length jobs = let h = end_within_jobs (length jobs) k ends are lt in omega (arith, h, at) in
     let js : take start jobs ++ take (stop - start) (drop start jobs) ≡ take stop jobs = first_more start stop jobs ahead in
     let size : length (take start jobs) + length (take (stop - start) (drop start jobs)) ≡ stop =
-        sym (length-append (take start jobs) (take (stop - start) (drop start jobs))) ∙ ap length js ∙ length-take-le stop jobs inside in
+    sym (length-append (take start jobs) (take (stop - start) (drop start jobs))) ∙ ap length js ∙ length-take-le stop jobs inside in
     let ns : take k ends ++ (length (take start jobs) + length (take (stop - start) (drop start jobs))) ∷ [] ≡ take (k + 1) ends =
-        ap (λ n. take k ends ++ n ∷ []) (size ∙ at) ∙ sym (take_more ends k 0 lt) in
+    ap (λ n. take k ends ++ n ∷ []) (size ∙ at) ∙ sym (take_more ends k 0 lt) in
     subst (λ xs. HasServedAll first e xs (take (k + 1) ends)) js
     (subst (HasServedAll first e (take start jobs ++ take (stop - start) (drop start jobs))) ns
     (served_more first d e (take start jobs) (take (stop - start) (drop start jobs)) (take k ends) so_far next))

@@ -36,8 +36,14 @@ replies_more is_such es i e within is =
 pub counts_more : (es : List Entry) (i : ℕ) (e : Entry) → i < length es → e ≡ get_or es i e
     → counts_of (take (i + 1) es) ≡ with_reply (counts_of (take i es)) e.reply
 counts_more es i e within is =
-    rw (replies_more is_opened es i e within is, replies_more is_granted es i e within is, replies_more is_finished es i e within is,
-    replies_more is_edited es i e within is, replies_more is_denied es i e within is, replies_more is_no_memory es i e within is) refl
+    rw (
+      replies_more is_opened es i e within is,
+      replies_more is_granted es i e within is,
+      replies_more is_finished es i e within is,
+      replies_more is_edited es i e within is,
+      replies_more is_denied es i e within is,
+      replies_more is_no_memory es i e within is,
+    ) refl
 
 pub counts_one : (es : List Entry) (i : ℕ) (e : Entry) (c d : Counts) (r : Reply) → i < length es → e ≡ get_or es i e → c ≡ counts_of (take i es)
     → e.reply ≡ r → d ≡ with_reply c r → d ≡ counts_of (take (i + 1) es)

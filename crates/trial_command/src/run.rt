@@ -14,12 +14,7 @@ use wf_outside::{Sink, put_all};
 
 /// Serves the trial of a seed by turns, and writes its summary. The report has the jobs and the
 /// entries, unless memory was refused: then nothing is written.
-pub fn run_trial<V: Decider, K: Sink>(
-    alloc: Global,
-    decider: &V,
-    seed: u64,
-    sink: &mut K,
-) -> Report
+pub fn run_trial<V: Decider, K: Sink>(alloc: Global, decider: &V, seed: u64, sink: &mut K) -> Report
     requires ready { V.ready decider.now }
     ensures status { result.status ≡ status_of result.fault }
     ensures late { is_before_input result.fault ≡ false }

@@ -50,7 +50,8 @@ fn each_reply_is_counted_once(rt: HostRuntime) -> Result<(), Fail> {
         batch_ends: Ends::new(rt.alloc()),
     };
     let line = summary_of(rt.alloc(), 18_446_744_073_709_551_615, &served)?;
-    let wanted = "trial 18446744073709551615 lines 0 opened 0 granted 0 finished 2 edited 1 denied 3 no_memory 1\n";
+    let wanted =
+        "trial 18446744073709551615 lines 0 opened 0 granted 0 finished 2 edited 1 denied 3 no_memory 1\n";
     assert!(rt; line.as_str() == wanted);
     Ok(())
 }

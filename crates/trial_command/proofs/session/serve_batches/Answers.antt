@@ -12,7 +12,7 @@ slice_bounds-serve_batch-end g c =
 pub serve_batch-requires-clause-lanes : goal.serve_batch-requires-clause-lanes
 serve_batch-requires-clause-lanes g c =
     let stop = slice_index_or c.args.batch_ends.now c.batches.end-index 0 in
-    subst (λ n. AreOfLanes n (take (stop - c.batches.start) (drop c.batches.start c.args.jobs.now))) (sym (c.batches.invariant.served.same.lanes ∙ c.requires.lanes)) 
+    subst (λ n. AreOfLanes n (take (stop - c.batches.start) (drop c.batches.start c.args.jobs.now))) (sym (c.batches.invariant.served.same.lanes ∙ c.requires.lanes))
     (part_of_lanes LANES c.batches.start (stop - c.batches.start) c.args.jobs.now c.requires.jobs.lanes)
 
 pub batches-preserved : goal.batches-preserved
