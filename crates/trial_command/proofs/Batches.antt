@@ -1,0 +1,136 @@
+-- How the entries of a batch follow those before.
+use Rattle.std.proofs.Common.{◌≡◌, ℕ, zero, suc, ◌+◌, ◌-◌, ◌<◌, ◌≤◌, List, [], ◌∷◌, ◌++◌, length, take, drop, get_or, refl, sym, ◌∙◌, ap, subst, arith}
+use Rattle.std.specs.List.{All}
+use Rattle.std.proofs.lemmas.List.Elements.{All-head, All-tail, All-take, All-drop}
+use Rattle.std.proofs.lemmas.List.{length-append, length-take-le, take_more}
+use Rattle.std.proofs.Math.Seq.{drop-append_seam, take-append_seam, take-length, get_or-append_seam}
+use Rattle.wf_talk.specs.declared.entry.Entry.{Entry}
+use Rattle.wf_talk.specs.declared.job.Job.{Job}
+use Rattle.wf_board.specs.Histories.{AreAnsweredOnce, FillsJobs, batch_end, batch_start}
+use Rattle.wf_board.specs.HistoryLaws.{once_all}
+use Rattle.wf_desk.specs.BatchLaws.{AnswersBatch, EndAt, batch_fills}
+use Rattle.wf_desk.specs.Desks.{AreOfLanes, DeskShape, IsDone, IsSoundDesk, with_batch, with_room}
+use Rattle.wf_desk.specs.DocketLaws.{batch_done}
+use Rattle.wf_lanes.specs.Turns.{HasServedOn}
+use Rattle.trial_maker.specs.TrialLaws.{AreBatches}
+use Rattle.trial_command.specs.Serving.{HasServedAll, HasServedBatch, IsSameSession}
+
+-- a batch that was loaded and served by turns
+pub batch_served : (old loaded d : DeskShape) (batch : List Job) (spare cases : ℕ) → loaded ≡ with_room (with_batch old batch) spare cases
+    → HasServedOn loaded d → IsDone d → IsSoundDesk d → HasServedBatch old d batch
+batch_served old loaded d batch spare cases is on done sound = at (subst (λ x. HasServedOn x d) is on)
+  where
+    at : HasServedOn (with_room (with_batch old batch) spare cases) d → HasServedBatch old d batch
+    at on =
+        let new = on.grown.more in
+        let first : take d.start d.entries ≡ old.entries = ap (λ n. take n d.entries) on.grown.start ∙ ap (take (length old.entries)) on.grown.extends ∙ take-append_seam old.entries new in
+        let rest : drop d.start d.entries ≡ new = ap (λ n. drop n d.entries) on.grown.start ∙ ap (drop (length old.entries)) on.grown.extends ∙ drop-append_seam old.entries new in
+        record {
+          same = record { opening = on.grown.opening; lanes = on.grown.lanes; rounds = on.grown.rounds };
+          more = new;
+          extends = on.grown.extends;
+          answers = subst (λ es. AnswersBatch es new batch) first (subst (λ es. AnswersBatch (take d.start d.entries) es batch) rest
+              (subst (AnswersBatch (take d.start d.entries) (drop d.start d.entries)) on.grown.jobs (batch_done d sound done)));
+          once = on.once;
+          done = done;
+        }
+
+-- ---- ends
+
+start_within : (count m k : ℕ) (ends : List ℕ) → AreBatches count ends → k + m ≡ length ends → batch_start ends k ≤ count
+start_within count zero k ends are all =
+    let last : batch_start ends k ≡ count = ap (batch_start ends) (omega (arith, all)) ∙ are.closed in
+    omega (arith, last)
+start_within count (suc m) k ends are all =
+    let below = are.ascend k (omega (arith, all)) in
+    let next = start_within count m (suc k) ends are (omega (arith, all)) in
+    omega (arith, below, next)
+
+-- each end is within the jobs
+pub end_within_jobs : (count k : ℕ) (ends : List ℕ) → AreBatches count ends → k < length ends → batch_end ends k ≤ count
+end_within_jobs count k ends are lt = start_within count (length ends - suc k) (suc k) ends are (omega (arith, lt))
+
+ends_last : (ends : List ℕ) (x : ℕ) → batch_start (ends ++ x ∷ []) (length (ends ++ x ∷ [])) ≡ x
+ends_last ends x =
+    let one_more : length (ends ++ x ∷ []) ≡ suc (length ends) = omega (arith, length-append ends (x ∷ [])) in
+    ap (batch_start (ends ++ x ∷ [])) one_more ∙ get_or-append_seam ends x [] 0
+
+end_within : (ends : List ℕ) (x k n : ℕ) → ((k : ℕ) → k < length ends → batch_end ends k ≤ n) → x ≤ n → k < length (ends ++ x ∷ []) → batch_end (ends ++ x ∷ []) k ≤ n
+end_within [] x zero n within last lt = last
+end_within [] x (suc k) n within last lt = absurd (omega (arith, lt))
+end_within (e ∷ ends) x zero n within last lt = within zero (omega arith)
+end_within (e ∷ ends) x (suc k) n within last lt = end_within ends x k n (λ i below. within (suc i) (omega (arith, below))) last (omega (arith, lt))
+
+-- one more end
+end_more : (ends : List ℕ) (n x : ℕ) → EndAt ends n → n ≤ x → EndAt (ends ++ x ∷ []) x
+end_more ends n x are more = record {
+  within = λ k lt. end_within ends x k x (λ i below. let h = are.within i below in omega (arith, h, more)) (omega arith) lt;
+  closed = ends_last ends x;
+}
+
+-- ---- jobs
+
+-- jobs of lanes, one by one
+pub of_lanes : (lanes : ℕ) (jobs : List Job) → All (λ j. j.lane < lanes) jobs → AreOfLanes lanes jobs
+of_lanes lanes [] all = tt
+of_lanes lanes (j ∷ jobs) all = (All-head (λ (x : Job). x.lane < lanes) j jobs all, of_lanes lanes jobs (All-tail (λ (x : Job). x.lane < lanes) j jobs all))
+
+-- ---- the batches so far
+
+-- with one more batch
+pub served_more : (first d e : DeskShape) (js batch : List Job) (ends : List ℕ) → HasServedAll first d js ends → HasServedBatch d e batch
+    → HasServedAll first e (js ++ batch) (ends ++ (length js + length batch) ∷ [])
+served_more first d e js batch ends so_far next = record {
+  same = record {
+    opening = next.same.opening ∙ so_far.same.opening;
+    lanes = next.same.lanes ∙ so_far.same.lanes;
+    rounds = next.same.rounds ∙ so_far.same.rounds;
+  };
+  done = next.done;
+  fills = subst (λ es. FillsJobs es (js ++ batch) (ends ++ (length js + length batch) ∷ [])) (sym next.extends)
+      (batch_fills d.entries next.more js batch ends so_far.fills so_far.ends next.answers);
+  ends = subst (EndAt (ends ++ (length js + length batch) ∷ [])) (sym (length-append js batch))
+      (end_more ends (length js) (length js + length batch) so_far.ends (omega arith));
+  once = subst AreAnsweredOnce (sym next.extends) (once_all d.entries next.more so_far.once next.once);
+}
+
+-- ---- the jobs in their order
+
+-- a batch begins where the one before ends
+pub next_start : (ends : List ℕ) (k : ℕ) → batch_end ends k ≡ batch_start ends (k + 1)
+next_start ends k = let same : suc k ≡ k + 1 = omega arith in ap (batch_start ends) same
+
+pub part_of_lanes : (lanes start size : ℕ) (jobs : List Job) → All (λ j. j.lane < lanes) jobs → AreOfLanes lanes (take size (drop start jobs))
+part_of_lanes lanes start size jobs all =
+    let P = λ (j : Job). j.lane < lanes in
+    of_lanes lanes (take size (drop start jobs)) (All-take P size (drop start jobs) (All-drop P start jobs all))
+
+-- the first jobs and those after them are more of the first
+first_more : (start stop : ℕ) (jobs : List Job) → start ≤ stop → take start jobs ++ take (stop - start) (drop start jobs) ≡ take stop jobs
+first_more zero stop jobs le = ap (λ n. take n jobs) (omega arith)
+first_more (suc start) zero jobs le = absurd (omega (arith, le))
+first_more (suc start) (suc stop) [] le = none (suc stop - suc start)
+  where
+    none : (n : ℕ) → take {A = Job} n [] ≡ []
+    none zero = refl
+    none (suc n) = refl
+first_more (suc start) (suc stop) (j ∷ jobs) le =
+    let same : suc stop - suc start ≡ stop - start = omega arith in
+    ap (λ n. j ∷ (take start jobs ++ take n (drop start jobs))) same ∙ ap (λ js. j ∷ js) (first_more start stop jobs (omega (arith, le)))
+
+-- and so for the batches
+pub served_next : (first d e : DeskShape) (jobs : List Job) (ends : List ℕ) (k start stop : ℕ) → AreBatches (length jobs) ends → k < length ends
+    → stop ≡ batch_end ends k → start ≡ batch_start ends k → start ≤ length jobs
+    → HasServedAll first d (take start jobs) (take k ends) → HasServedBatch d e (take (stop - start) (drop start jobs))
+    → HasServedAll first e (take stop jobs) (take (k + 1) ends)
+served_next first d e jobs ends k start stop are lt at from within so_far next =
+    let ahead : start ≤ stop = let h = are.ascend k lt in omega (arith, h, at, from) in
+    let inside : stop ≤ length jobs = let h = end_within_jobs (length jobs) k ends are lt in omega (arith, h, at) in
+    let js : take start jobs ++ take (stop - start) (drop start jobs) ≡ take stop jobs = first_more start stop jobs ahead in
+    let size : length (take start jobs) + length (take (stop - start) (drop start jobs)) ≡ stop =
+    sym (length-append (take start jobs) (take (stop - start) (drop start jobs))) ∙ ap length js ∙ length-take-le stop jobs inside in
+    let ns : take k ends ++ (length (take start jobs) + length (take (stop - start) (drop start jobs))) ∷ [] ≡ take (k + 1) ends =
+    ap (λ n. take k ends ++ n ∷ []) (size ∙ at) ∙ sym (take_more ends k 0 lt) in
+    subst (λ xs. HasServedAll first e xs (take (k + 1) ends)) js
+    (subst (HasServedAll first e (take start jobs ++ take (stop - start) (drop start jobs))) ns
+    (served_more first d e (take start jobs) (take (stop - start) (drop start jobs)) (take k ends) so_far next))

@@ -1,0 +1,61 @@
+-- The command `trial`: the jobs of a seed's trial are served, and the replies are counted.
+use Rattle.std.specs.Prelude.{◌≡◌, ℕ, List, ◌++◌, length, Option, codes, decimal}
+use Rattle.wf_outside.specs.Outside.{HasPart, with_bytes}
+use Rattle.wf_board.specs.States.{opening_state}
+use Rattle.wf_board.specs.Histories.{AreAnsweredOnce, FillsJobs, IsLegal}
+use Rattle.trial_maker.specs.TrialPolicy.{trial_policy}
+use Rattle.trial_maker.specs.Trials.{trial_ends, trial_jobs}
+use Rattle.run_record.specs.declared.fault.RunFault.{RunFault}
+use Rattle.run_record.specs.declared.fault.RunFault.TheVariants.{Nothing, Write, NoMemory}
+use Rattle.run_record.specs.Fault.{CountsWrites}
+use Rattle.run_record.specs.Report.{Told, nothing_told}
+use Rattle.trial_command.specs.declared.counts.Counts.{Counts}
+use Rattle.trial_command.specs.declared.session.TheConstants.{CASES}
+use Rattle.trial_command.specs.Counting.{counts_of}
+
+-- a session of the trial of a seed: its entries are a legal history that holds each of the trial's
+-- jobs once, in the order of their batches and lanes, and none is answered again
+pub record IsServedTrial (seed : ℕ) (told : Told) : Type 0 where
+  pub jobs : told.jobs ≡ trial_jobs seed CASES
+  pub ends : told.batch_ends ≡ trial_ends CASES
+  pub legal : IsLegal (opening_state (trial_policy seed)) 0 told.entries
+  pub fills : FillsJobs told.entries told.jobs told.batch_ends
+  pub once : AreAnsweredOnce told.entries
+
+-- the line for a seed, so many jobs and such counts of replies
+abbrev pub summary_line : ℕ → ℕ → Counts → List ℕ
+summary_line seed lines c =
+    codes "trial " ++ decimal seed ++ codes " lines " ++ decimal lines
+    ++ codes " opened " ++ decimal c.opened ++ codes " granted " ++ decimal c.granted
+    ++ codes " finished " ++ decimal c.finished ++ codes " edited " ++ decimal c.edited
+    ++ codes " denied " ++ decimal c.denied ++ codes " no_memory " ++ decimal c.no_memory
+    ++ codes "\n"
+
+-- the summary of a session
+abbrev pub summary : ℕ → Told → List ℕ
+summary seed told = summary_line seed (length told.jobs) (counts_of told.entries)
+
+-- a run that reads nothing: what was written before and after it, where the sink tells, how often
+-- the sink failed, what the report tells, and how the run ended
+pub record TrialRun : Type 0 where
+  pub output : Option (List ℕ)
+  pub output_after : Option (List ℕ)
+  pub faults : ℕ
+  pub faults_after : ℕ
+  pub told : Told
+  pub fault : RunFault
+
+-- by the ending: the trial is told, and its summary written, or only a part of it; without memory
+-- nothing is told or written; and a run ends in no other way
+abbrev pub EndsTrial : ℕ → TrialRun → RunFault → Type 0
+EndsTrial seed r Nothing =
+    IsServedTrial seed r.told × (r.output_after ≡ with_bytes r.output (summary seed r.told))
+EndsTrial seed r Write =
+    IsServedTrial seed r.told × HasPart r.output r.output_after (summary seed r.told)
+EndsTrial seed r NoMemory = (r.told ≡ nothing_told) × (r.output_after ≡ r.output)
+EndsTrial seed r fault = ⊥
+
+-- a run of `trial` with a seed
+pub record RunsTrial (seed : ℕ) (r : TrialRun) : Type 0 where
+  pub ends : EndsTrial seed r r.fault
+  pub writes : CountsWrites r.fault r.faults r.faults_after

@@ -1,0 +1,11 @@
+//! The command `trial`: the jobs of a seed's trial are served, and the replies are counted.
+#![tactic(auto)]
+
+mod counts;
+mod run;
+mod session;
+mod summary;
+#[cfg(test)]
+mod tests;
+
+pub use run::run_trial;
