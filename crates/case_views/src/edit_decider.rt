@@ -108,21 +108,24 @@ fn add_plan(
     ensures { IfOk result (HasAdded after.now row.now plans.old.items plans.new.items) }
 {
     match left_at(alloc, p, a, after, row)? {
-        Some(outcome) => add_outcome(outcome, plans),
+        Some(outcome) => add_outcome(&outcome, plans),
         None => Ok(None),
     }
 }
 
-// Adds a plan that was found, or hands on the tree that shows why there is none.
-fn add_outcome(outcome: Outcome, plans: &mut Vec<Plan>) -> Result<Option<Tree>, AllocError>
-    ensures { IfOk result (IsAdded outcome plans.old.items plans.new.items) }
+/// Adds a plan that was found, or copies the tree that shows why there is none.
+pub(crate) fn add_outcome(
+    outcome: &Outcome,
+    plans: &mut Vec<Plan>,
+) -> Result<Option<Tree>, AllocError>
+    ensures { IfOk result (IsAdded outcome.now plans.old.items plans.new.items) }
 {
     match outcome {
         Outcome::Plan(plan) => {
-            plans.push(plan)?;
+            plans.push(*plan)?;
             Ok(None)
         }
-        Outcome::Refuted(tree) => Ok(Some(tree)),
+        Outcome::Refuted(tree) => Ok(Some(tree.copy()?)),
     }
 }
 

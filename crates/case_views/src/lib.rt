@@ -4,6 +4,7 @@
 mod decider;
 mod edit_decider;
 mod found;
+mod spread_parts;
 mod stranded;
 mod work_lists;
 
