@@ -111,8 +111,9 @@ fn left_of(alloc: Global, rows: &[Row], parts: &[Option<Outcome>]) -> Result<Lef
     let mut plans = Vec::new(alloc);
     plans.reserve(rows.len())?;
     'rows: for i in 0..rows.len() {
+        let row = &rows[i];
         if let Some(tree) = add_part(&parts[i], &mut plans)? {
-            return Ok(Left::Stranded(rows[i].number(), tree));
+            return Ok(Left::Stranded(row.number(), tree));
         }
     }
     Ok(Left::Plans(List::from_vec(plans)))
