@@ -16,7 +16,7 @@ use Rattle.wf_board.specs.Kept.{EachRow, IsPlanned}
 use Rattle.wf_board.specs.States.{Numbered}
 use Rattle.wsp_solver.specs.declared.search.Outcome.{Outcome}
 use Rattle.wsp_solver.specs.declared.search.Outcome.TheVariants as outcome
-use Rattle.case_views.specs.Deciding.{HasAdded, IsAdded}
+use Rattle.case_views.specs.Deciding.{HasAdded, IsPartAdded}
 use Rattle.case_views.specs.Listing.{IsLeftAt, open_in}
 
 -- what is said of a workflow, an assignment and finished steps is said of equal ones
@@ -30,7 +30,7 @@ said_same P p f g a b d e flow assigned done h =
 -- ---- rows
 
 -- with one more row in front
-open_cons : (r : Row) (rs : List Row) → open_in (r ∷ rs) ≡ open_in (r ∷ []) ++ open_in rs
+pub open_cons : (r : Row) (rs : List Row) → open_in (r ∷ rs) ≡ open_in (r ∷ []) ++ open_in rs
 open_cons r rs = elim (bool_cases (is_open r.case)) [
   | inl live ↦ rw live refl
   | inr closed ↦ rw closed refl
@@ -101,12 +101,10 @@ row_at_place P (x ∷ xs) (suc i) r below is each = row_at_place P xs i r (omega
 pub kept_plan_of : (p : PolicyShape) (c d : CaseShape) (o : Option (List ℕ)) (plan : List ℕ) → Some plan ≡ o → d ≡ c → IsPlanned p c o → IsPlanOf p d plan
 kept_plan_of p c d o plan is same planned = subst (λ k. IsPlanOf p k plan) (sym same) (subst (IsPlanned p c) (sym is) planned)
 
--- what was found of an open case is what is added for it
-pub added_of : (p : PolicyShape) (r : Row) (o : Outcome) (t : Option Tree) (before after : List (List ℕ)) → IsLeftAt p r (Some o) → IsAdded o before after t → HasAdded p r before after t
-added_of p r (outcome.Plan plan) t before after left added =
+-- what is left of the case of a row is what is added for it
+pub added_of : (p : PolicyShape) (r : Row) (left : Option Outcome) (tree : Option Tree) (before after : List (List ℕ)) → IsLeftAt p r left → IsPartAdded left before after tree → HasAdded p r before after tree
+added_of p r None tree before after left added =
+    subst (HasAdded p r before after) (sym added.0) ([], (added.1 ∙ sym (append-nil before), no_plan p r left))
+added_of p r (Some (outcome.Plan plan)) tree before after left added =
     subst (HasAdded p r before after) (sym added.0) (plan ∷ [], (added.1, one_plan p r plan left.0 left.1))
-added_of p r (outcome.Refuted tree) t before after left added = subst (HasAdded p r before after) (sym added) (left.0, left.1.refutes)
-
--- and none where it is closed
-pub none_added : (p : PolicyShape) (r : Row) (plans : List (List ℕ)) → IsLeftAt p r None → HasAdded p r plans plans None
-none_added p r plans left = ([], (sym (append-nil plans), no_plan p r left))
+added_of p r (Some (outcome.Refuted shown)) tree before after left added = subst (HasAdded p r before after) (sym added) (left.0, left.1.refutes)

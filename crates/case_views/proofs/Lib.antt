@@ -2,3 +2,4 @@ pub mod Lists
 pub mod Deciding
 pub mod Editing
 pub mod Listing
+pub mod Spreading

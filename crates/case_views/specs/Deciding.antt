@@ -81,8 +81,13 @@ IsVerdictOn p (left.Stranded n tree) v = v ≡ verdict.Strands n tree
 
 -- a plan that was found is added to others, or there is a tree
 abbrev pub IsAdded : Outcome → List (List ℕ) → List (List ℕ) → Option Tree → Type 0
-IsAdded (outcome.Plan plan) before after o = (o ≡ None) × (after ≡ before ++ plan ∷ [])
-IsAdded (outcome.Refuted tree) before after o = o ≡ Some tree
+IsAdded (outcome.Plan plan) before after tree = (tree ≡ None) × (after ≡ before ++ plan ∷ [])
+IsAdded (outcome.Refuted shown) before after tree = tree ≡ Some shown
+
+-- the same of a case that may be closed, for which nothing is added
+abbrev pub IsPartAdded : Option Outcome → List (List ℕ) → List (List ℕ) → Option Tree → Type 0
+IsPartAdded None before after tree = (tree ≡ None) × (after ≡ before)
+IsPartAdded (Some o) before after tree = IsAdded o before after tree
 
 -- a plan for the case of a row is added to others, if the case is open; or there is none, as a tree shows
 abbrev pub HasAdded : PolicyShape → Row → List (List ℕ) → List (List ℕ) → Option Tree → Type 0

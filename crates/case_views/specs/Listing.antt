@@ -9,6 +9,7 @@ use Rattle.wsp_solver.specs.Searches.{Decides}
 use Rattle.wsp_solver.specs.declared.search.Outcome.{Outcome}
 use Rattle.wsp_solver.specs.declared.search.Outcome.TheVariants as outcome
 use Rattle.wf_board.specs.Boards.{numbered}
+use Rattle.wf_board.specs.Kept.{IsOfPolicy, IsPlanned}
 use Rattle.wf_board.specs.States.{Numbered, open_cases}
 use Rattle.wf_board.specs.Views.{AreStranded, AreThose, IsGrantable, Place, item_of, steps_of}
 
@@ -48,3 +49,8 @@ IsLeftAt p r (Some o) =
 abbrev pub is_plan : Outcome → Bool
 is_plan (outcome.Plan plan) = true
 is_plan (outcome.Refuted tree) = false
+
+-- the case of a row is of the policy, and has a valid plan if it is open
+pub record IsKeptRow (p : PolicyShape) (r : Row) : Type 0 where
+  pub known : IsOfPolicy p r.case
+  pub planned : IsPlanned p r.case r.plan

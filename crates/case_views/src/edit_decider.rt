@@ -9,7 +9,7 @@ ghost use Rattle.wf_board.specs.Boards.{book_on};
 ghost use Rattle.wf_board.specs.Edited.{IsPlanOf};
 ghost use Rattle.wf_board.specs.Found.{IsAllowed};
 ghost use Rattle.wf_board.specs.Kept.{ArePlanned, IsOfPolicy, IsPlanned};
-ghost use Rattle.case_views.specs.Deciding.{DecidesChange, HasAdded, IsAdded, IsLeft, IsVerdictOn};
+ghost use Rattle.case_views.specs.Deciding.{DecidesChange, HasAdded, IsAdded, IsLeft, IsPartAdded, IsVerdictOn};
 ghost use Rattle.case_views.specs.Listing.{IsLeftAt, open_in};
 
 use crate::found::outcome_near;
@@ -54,11 +54,11 @@ fn edited(alloc: Global, snap: &Snap, a: &Amendment) -> Result<Verdict, AllocErr
     let p = snap.policy();
     let after = amended(p, *a)?;
     let left = left_open(alloc, p, a, &after, snap.cases().rows())?;
-    verdict_on(alloc, after, left)
+    edition_of(alloc, after, left)
 }
 
 /// What a change leaves the open cases, as a verdict.
-pub(crate) fn verdict_on(alloc: Global, after: Policy, left: Left) -> Result<Verdict, AllocError>
+pub(crate) fn edition_of(alloc: Global, after: Policy, left: Left) -> Result<Verdict, AllocError>
     ensures { IfOk result (IsVerdictOn after left) }
 {
     match left {
@@ -107,22 +107,33 @@ fn add_plan(
     requires planned { IsPlanned p.now row.now.case row.now.plan }
     ensures { IfOk result (HasAdded after.now row.now plans.old.items plans.new.items) }
 {
-    match left_at(alloc, p, a, after, row)? {
+    let left = left_at(alloc, p, a, after, row)?;
+    add_part(&left, plans)
+}
+
+/// Adds a plan that was found for a case that is open, or copies the tree that shows why there is
+/// none.
+pub(crate) fn add_part(
+    left: &Option<Outcome>,
+    plans: &mut Vec<Plan>,
+) -> Result<Option<Tree>, AllocError>
+    ensures { IfOk result (IsPartAdded left.now plans.old.items plans.new.items) }
+{
+    match left {
         Some(outcome) => add_outcome(outcome, plans),
         None => Ok(None),
     }
 }
 
-// Adds a plan that was found, or hands on the tree that shows why there is none.
-fn add_outcome(outcome: Outcome, plans: &mut Vec<Plan>) -> Result<Option<Tree>, AllocError>
-    ensures { IfOk result (IsAdded outcome plans.old.items plans.new.items) }
+fn add_outcome(outcome: &Outcome, plans: &mut Vec<Plan>) -> Result<Option<Tree>, AllocError>
+    ensures { IfOk result (IsAdded outcome.now plans.old.items plans.new.items) }
 {
     match outcome {
         Outcome::Plan(plan) => {
-            plans.push(plan)?;
+            plans.push(*plan)?;
             Ok(None)
         }
-        Outcome::Refuted(tree) => Ok(Some(tree)),
+        Outcome::Refuted(tree) => Ok(Some(tree.copy()?)),
     }
 }
 

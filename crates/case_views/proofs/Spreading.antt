@@ -1,0 +1,97 @@
+-- What a list gives, row by row, where threads share it.
+use Rattle.std.proofs.Common.{◌≡◌, ℕ, zero, suc, ◌+◌, ◌<◌, List, [], ◌∷◌, ◌++◌, length, take, map, get_or, Option, None, Some, Result, Ok, Err, IfOk, MatchResult, refl, sym, ap, subst, ◌∙◌, arith}
+use Rattle.std.specs.Borrow.{Bor}
+use Rattle.std.specs.List.{AllZip, Contains, flat_map}
+use Rattle.std.proofs.lemmas.List.{append-nil}
+use Rattle.std.proofs.lemmas.Grind.{flat_map-append}
+use Rattle.std.proofs.Math.Seq.{take-suc}
+use Rattle.rayon.proofs.ToStd.{slice-AllZip}
+use Rattle.refutation_tree.specs.declared.tree.Tree.{Tree}
+use Rattle.policy_book.specs.Shapes.{PolicyShape}
+use Rattle.grant_table.specs.declared.rows.Row.{Row}
+use Rattle.wf_talk.specs.declared.reply.WorkItem.{WorkItem}
+use Rattle.wsp_solver.specs.declared.search.Outcome.{Outcome}
+use Rattle.wf_board.specs.Edited.{ArePlansOf, IsFirstStranded}
+use Rattle.wf_board.specs.Views.{AreThose, steps_of}
+use Rattle.case_views.specs.Deciding.{IsPartAdded}
+use Rattle.case_views.specs.Listing.{AreGrantable, AreStrandedIn, IsLeftAt, IsWorkIn, list_of, open_in}
+use Rattle.case_views.proofs.Editing.{added_of, open_cons, plans_more, stranded_here}
+use Rattle.case_views.proofs.Listing.{granted_append, kept, stranded}
+use Rattle.case_views.proofs.Lists.{steps_append, those_append}
+
+-- where every result is a value, the values are told as the results are
+values_told : {X Y : Type 0} (E : Type 0) (Q : X → Y → Type 0) (xs : List X) (ys : List Y) → AllZip (λ x (r : Result Y E). IfOk r (Q x)) xs (map Ok ys) → AllZip Q xs ys
+values_told E Q [] [] each = tt
+values_told E Q [] (y ∷ ys) each = absurd each
+values_told E Q (x ∷ xs) [] each = absurd each
+values_told E Q (x ∷ xs) (y ∷ ys) each = (each.0, values_told E Q xs ys each.1)
+
+-- what was collected of a slice
+pub collected : {X Y E V : Type 0} (items : V → List Y) (Q : X → Y → Type 0) (zs : List (Bor X)) (s : List X) (rs : List (Result Y E)) (r : Result V E) →
+    map (λ (z : Bor X). z.now) zs ≡ s → AllZip (λ (z : Bor X) x. IfOk x (Q z.now)) zs rs →
+    MatchResult r (λ v. (ys : List Y) × (rs ≡ map Ok ys) × (items v ≡ ys)) (λ e. Contains rs (Err e)) → IfOk r (λ v. AllZip Q s (items v))
+collected {E} items Q zs s rs (Ok v) shown each made =
+    let told = slice-AllZip zs s shown (λ x r. IfOk r (Q x)) rs each in
+    subst (AllZip Q s) (sym made.2) (values_told E Q s made.0 (subst (AllZip (λ x r. IfOk r (Q x)) s) made.1 told))
+collected items Q zs s rs (Err e) shown each made = tt
+
+-- ---- one row after the other
+
+-- what is said of two lists, place by place
+zip_at : {X Y : Type 0} (Q : X → Y → Type 0) (xs : List X) (ys : List Y) (i : ℕ) (x : X) (y : Y) → i < length xs → x ≡ get_or xs i x → y ≡ get_or ys i y → AllZip Q xs ys → Q x y
+zip_at Q [] ys i x y below one other each = absurd (omega arith)
+zip_at Q (a ∷ xs) [] i x y below one other each = absurd each
+zip_at Q (a ∷ xs) (b ∷ ys) zero x y below one other each = subst (λ z. Q z y) (sym one) (subst (Q a) (sym other) each.0)
+zip_at Q (a ∷ xs) (b ∷ ys) (suc i) x y below one other each = zip_at Q xs ys i x y (omega arith) one other each.1
+
+-- what a list of parts gives so far, with one more
+pub flat_more : {X A : Type 0} (f : X → List A) (xs : List X) (i : ℕ) (x : X) (all next : List A) → i < length xs → x ≡ get_or xs i x →
+    all ≡ flat_map f (take i xs) → next ≡ all ++ f x → next ≡ flat_map f (take (i + 1) xs)
+flat_more f xs i x all next below is so_far same =
+    let one : i + 1 ≡ suc i = omega arith in
+    let taken : take (i + 1) xs ≡ take i xs ++ x ∷ [] = ap (λ (n : ℕ). take n xs) one ∙ take-suc xs i x below ∙ ap (λ z. take i xs ++ z ∷ []) (sym is) in
+    same ∙ ap (λ l. l ++ f x) so_far ∙ ap (λ l. flat_map f (take i xs) ++ l) (sym (append-nil (f x)))
+    ∙ sym (flat_map-append f (take i xs) (x ∷ [])) ∙ ap (flat_map f) (sym taken)
+
+-- ---- views
+
+-- the work in rows is that in one after the other
+pub work_joined : (p : PolicyShape) (u : ℕ) (rows : List Row) (parts : List (List WorkItem)) → AllZip (λ r part. IsWorkIn p u (r ∷ []) part) rows parts →
+    IsWorkIn p u rows (flat_map (λ part. part) parts)
+work_joined p u [] [] each = refl
+work_joined p u [] (part ∷ parts) each = absurd each
+work_joined p u (r ∷ rs) [] each = absurd each
+work_joined p u (r ∷ rs) (part ∷ parts) each =
+    let places : steps_of (open_in (r ∷ rs)) ≡ steps_of (open_in (r ∷ [])) ++ steps_of (open_in rs) =
+    ap steps_of (open_cons r rs) ∙ steps_append (open_in (r ∷ [])) (open_in rs) in
+    subst (λ l. AreGrantable p u l (part ++ flat_map (λ l. l) parts)) (sym places)
+    (granted_append p u (steps_of (open_in (r ∷ []))) (steps_of (open_in rs)) part (flat_map (λ l. l) parts) (part ++ flat_map (λ l. l) parts) each.0 (work_joined p u rs parts each.1) refl)
+
+-- and so are the stranded cases
+pub stranded_joined : (p : PolicyShape) (rows : List Row) (parts : List (Option ℕ)) → AllZip (λ r part. AreStrandedIn p (r ∷ []) (list_of part)) rows parts →
+    AreStrandedIn p rows (flat_map list_of parts)
+stranded_joined p [] [] each = refl
+stranded_joined p [] (part ∷ parts) each = absurd each
+stranded_joined p (r ∷ rs) [] each = absurd each
+stranded_joined p (r ∷ rs) (part ∷ parts) each =
+    subst (λ es. AreThose (stranded p) (kept p) (λ e. e.number) es (list_of part ++ flat_map list_of parts)) (sym (open_cons r rs))
+    (those_append (stranded p) (kept p) (λ e. e.number) (open_in (r ∷ [])) (open_in rs) (list_of part) (flat_map list_of parts) each.0 (stranded_joined p rs parts each.1))
+
+-- ---- edits
+
+-- each open case so far has a plan, under every policy that leaves this
+abbrev pub HavePlans : List Row → List (Option Outcome) → ℕ → List (List ℕ) → Type 0
+HavePlans rows parts i plans = (p : PolicyShape) → AllZip (IsLeftAt p) rows parts → ArePlansOf p (open_in (take i rows)) plans
+
+pub left_more : (rows : List Row) (parts : List (Option Outcome)) (i : ℕ) (r : Row) (part : Option Outcome) (plans all : List (List ℕ)) → i < length rows → r ≡ get_or rows i r → part ≡ get_or parts i part →
+    HavePlans rows parts i plans → IsPartAdded part plans all None → HavePlans rows parts (i + 1) all
+left_more rows parts i r part plans all below row is so_far added p each =
+    let more = added_of p r part None plans all (zip_at (IsLeftAt p) rows parts i r part below row is each) added in
+    plans_more p rows i r plans more.0 all below row (so_far p each) more.1.1 more.1.0
+
+-- or one is the first without
+pub left_here : (rows : List Row) (parts : List (Option Outcome)) (i : ℕ) (r : Row) (part : Option Outcome) (plans all : List (List ℕ)) (tree : Tree) → i < length rows → r ≡ get_or rows i r → part ≡ get_or parts i part →
+    HavePlans rows parts i plans → IsPartAdded part plans all (Some tree) → (p : PolicyShape) → AllZip (IsLeftAt p) rows parts → IsFirstStranded p (open_in rows) r.number r.case.flow tree
+left_here rows parts i r part plans all tree below row is so_far added p each =
+    let none = added_of p r part (Some tree) plans all (zip_at (IsLeftAt p) rows parts i r part below row is each) added in
+    stranded_here p rows i r plans tree below row (so_far p each) none.0 none.1

@@ -1,0 +1,102 @@
+//! What each open case gives to an edit or a view, found in as many threads as are worth it.
+ghost use Rattle.std.specs.Prelude.{◌≡◌, ◌<◌, ◌∷◌, [], length, IfOk};
+ghost use Rattle.std.specs.List.{AllZip};
+ghost use Rattle.admin_edits.specs.Edits.{amended};
+ghost use Rattle.wf_board.specs.Found.{IsAllowed};
+ghost use Rattle.wf_board.specs.Kept.{ArePlanned};
+ghost use Rattle.case_views.specs.Listing.{AreStrandedIn, IsKeptRow, IsLeftAt, IsWorkIn, list_of};
+
+use crate::edit_decider::left_at;
+use crate::stranded::stranded_at;
+use crate::work_lists::work_at;
+use admin_edits::Amendment;
+use grant_table::Row;
+use policy_book::Policy;
+use rayon::prelude::*;
+use std::alloc::{AllocError, Global};
+use std::thread::Threads;
+use wf_names::{CaseId, UserId};
+use wf_talk::WorkList;
+use wsp_solver::Outcome;
+
+/// So few cases stay on one thread.
+const PIECE: usize = 16;
+
+/// The work of a user in the case of each row.
+pub(crate) fn work_parts<R: Threads + Sync>(
+    rt: &R,
+    alloc: Global,
+    p: &Policy,
+    u: UserId,
+    rows: &[Row],
+) -> Result<Vec<WorkList>, AllocError>
+    requires kept { ArePlanned p.now rows.now }
+    requires user { u < length p.now.roster.users }
+    ensures { IfOk result (λ parts. AllZip (λ r part. IsWorkIn p.now u (r ∷ []) part) rows.now parts.items) }
+{
+    let parts: Result<Vec<WorkList>, AllocError> = rows
+        .par_iter()
+        .with_min_len(PIECE)
+        .map(
+            |row: &Row| -> Result<WorkList, AllocError>
+                requires { IsKeptRow p.now row.now × (u < length p.now.roster.users) }
+                ensures { IfOk result (IsWorkIn p.entry.now u (row.now ∷ [])) }
+            { work_at(alloc, p, u, row) },
+        )
+        .collect(rt, alloc)?;
+    parts
+}
+
+/// The number of the case of each row, if it is open and a change would strand it.
+pub(crate) fn stranded_parts<R: Threads + Sync>(
+    rt: &R,
+    alloc: Global,
+    p: &Policy,
+    a: &Amendment,
+    after: &Policy,
+    rows: &[Row],
+) -> Result<Vec<Option<CaseId>>, AllocError>
+    requires allowed { IsAllowed p.now a.now }
+    requires after { after.now ≡ amended p.now a.now }
+    requires kept { ArePlanned p.now rows.now }
+    ensures { IfOk result (λ parts. AllZip (λ r part. AreStrandedIn after.now (r ∷ []) (list_of part)) rows.now parts.items) }
+{
+    let parts: Result<Vec<Option<CaseId>>, AllocError> = rows
+        .par_iter()
+        .with_min_len(PIECE)
+        .map(
+            |row: &Row| -> Result<Option<CaseId>, AllocError>
+                requires { IsKeptRow p.now row.now × IsAllowed p.now a.now × (after.now ≡ amended p.now a.now) }
+                ensures { IfOk result (λ part. AreStrandedIn after.entry.now (row.now ∷ []) (list_of part)) }
+            { stranded_at(alloc, p, a, after, row) },
+        )
+        .collect(rt, alloc)?;
+    parts
+}
+
+/// What a changed policy leaves the case of each row.
+pub(crate) fn left_parts<R: Threads + Sync>(
+    rt: &R,
+    alloc: Global,
+    p: &Policy,
+    a: &Amendment,
+    after: &Policy,
+    rows: &[Row],
+) -> Result<Vec<Option<Outcome>>, AllocError>
+    requires allowed { IsAllowed p.now a.now }
+    requires after { after.now ≡ amended p.now a.now }
+    requires kept { ArePlanned p.now rows.now }
+    ensures { IfOk result (λ parts. AllZip (IsLeftAt after.now) rows.now parts.items) }
+{
+    let parts: Result<Vec<Option<Outcome>>, AllocError> = rows
+        .par_iter()
+        .with_min_len(PIECE)
+        .map(
+            |row: &Row| -> Result<Option<Outcome>, AllocError>
+                requires { IsKeptRow p.now row.now × IsAllowed p.now a.now × (after.now ≡ amended p.now a.now) }
+                ensures { IfOk result (IsLeftAt after.entry.now row.now) }
+            { left_at(alloc, p, a, after, row) },
+        )
+        .collect(rt, alloc)?;
+    parts
+}
