@@ -12,7 +12,7 @@ ghost use Rattle.wf_server.specs.Run.{Does, HasRun, IsWordsEnding};
 
 use crate::serve::run_serve;
 use audit_command::run_audit;
-use case_views::PlainDecider;
+use case_views::{PlainDecider, SpreadDecider};
 use command_words::{Command, read_words};
 use run_record::{Report, RunFault, bare_report};
 use std::alloc::Global;
@@ -67,7 +67,7 @@ pub fn run<R: Threads + Wait + Sync, F: Shelf, S: Source, K: Sink, G: Gate + Syn
             let on_lanes = |desk: Desk| -> Desk
                 requires { (0 < desk.lanes) × AreOfLanes desk.lanes desk.jobs }
                 ensures { HasGrown desk result × IsDone result }
-            { serve_by_lanes(rt, alloc, &PlainDecider, gate, desk) };
+            { serve_by_lanes(rt, alloc, &SpreadDecider::new(rt), gate, desk) };
             run_serve(alloc, &on_lanes, policy, options, shelf, source, sink)
         }
         Ok(other) => run_command(alloc, other, shelf, source, sink),
