@@ -1,10 +1,9 @@
 -- How the entries of a batch follow those before.
-use Rattle.std.proofs.Common.{◌≡◌, ℕ, zero, suc, ◌+◌, ◌-◌, ◌<◌, ◌≤◌, List, [], ◌∷◌, ◌++◌, length, take, drop, get_or, refl, sym, ◌∙◌, ap, subst, arith}
+use Rattle.std.proofs.Common.{◌≡◌, ℕ, zero, suc, ◌+◌, ◌-◌, ◌<◌, ◌≤◌, List, [], ◌∷◌, ◌++◌, length, take, drop, refl, sym, ◌∙◌, ap, subst, arith}
 use Rattle.std.specs.List.{All}
 use Rattle.std.proofs.lemmas.List.Elements.{All-head, All-tail, All-take, All-drop}
 use Rattle.std.proofs.lemmas.List.{length-append, length-take-le, take_more}
-use Rattle.std.proofs.Math.Seq.{drop-append_seam, take-append_seam, take-length, get_or-append_seam}
-use Rattle.wf_talk.specs.declared.entry.Entry.{Entry}
+use Rattle.std.proofs.Math.Seq.{drop-append_seam, take-append_seam, get_or-append_seam}
 use Rattle.wf_talk.specs.declared.job.Job.{Job}
 use Rattle.wf_board.specs.Histories.{AreAnsweredOnce, FillsJobs, batch_end, batch_start}
 use Rattle.wf_board.specs.HistoryLaws.{once_all}
@@ -13,7 +12,7 @@ use Rattle.wf_desk.specs.Desks.{AreOfLanes, DeskShape, IsDone, IsSoundDesk, with
 use Rattle.wf_desk.specs.DocketLaws.{batch_done}
 use Rattle.wf_lanes.specs.Turns.{HasServedOn}
 use Rattle.trial_maker.specs.TrialLaws.{AreBatches}
-use Rattle.trial_command.specs.Serving.{HasServedAll, HasServedBatch, IsSameSession}
+use Rattle.trial_command.specs.Serving.{HasServedAll, HasServedBatch}
 
 -- a batch that was loaded and served by turns
 pub batch_served : (old loaded d : DeskShape) (batch : List Job) (spare cases : ℕ) → loaded ≡ with_room (with_batch old batch) spare cases

@@ -1,6 +1,6 @@
 -- How counts grow with one more entry.
-use Rattle.std.proofs.Common.{◌≡◌, ℕ, ◌+◌, ◌<◌, ◌≤◌, ◌^◌, Bool, true, false, cond, List, length, take, get_or, sym, ◌∙◌, ap, arith, refl}
-use Rattle.std.proofs.lemmas.List.Sums.{sum_by_more, count_by-le-length}
+use Rattle.std.proofs.Common.{◌≡◌, ℕ, ◌+◌, ◌<◌, Bool, true, false, cond, List, length, take, get_or, sym, ◌∙◌, ap, arith, refl}
+use Rattle.std.proofs.lemmas.List.Sums.{sum_by_more}
 use Rattle.wf_talk.specs.declared.entry.Entry.{Entry}
 use Rattle.wf_talk.specs.declared.reply.Reply.{Reply}
 use Rattle.trial_command.specs.declared.counts.Counts.{Counts}

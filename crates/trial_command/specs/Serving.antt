@@ -1,9 +1,9 @@
 -- Inside: serving the batches of a trial at a desk.
-use Rattle.std.specs.Prelude.{◌≡◌, ℕ, ◌<◌, List, ◌++◌, length, take}
+use Rattle.std.specs.Prelude.{◌≡◌, ℕ, ◌<◌, List, ◌++◌, length}
 use Rattle.std.specs.List.{All}
 use Rattle.wf_talk.specs.declared.entry.Entry.{Entry}
 use Rattle.wf_talk.specs.declared.job.Job.{Job}
-use Rattle.wf_board.specs.Histories.{AreAnsweredOnce, FillsJobs, batch_start}
+use Rattle.wf_board.specs.Histories.{AreAnsweredOnce, FillsJobs}
 use Rattle.wf_desk.specs.BatchLaws.{AnswersBatch, EndAt}
 use Rattle.wf_desk.specs.Desks.{DeskShape, IsDone}
 use Rattle.trial_maker.specs.TrialLaws.{AreBatches}

@@ -1,4 +1,4 @@
-use Rattle.std.proofs.Common.{◌≤◌, ◌-◌, arith, drop, refl, slice_index_or, subst, sym, take, ◌∙◌}
+use Rattle.std.proofs.Common.{◌-◌, arith, drop, refl, slice_index_or, subst, sym, take, ◌∙◌}
 use Rattle.wf_desk.specs.Desks.{AreOfLanes}
 use Rattle.trial_command.specs.declared.session.TheConstants.{LANES}
 use Rattle.trial_command.proofs.Batches.{end_within_jobs, next_start, part_of_lanes, served_next}
