@@ -15,6 +15,7 @@ use Rattle.case_record.specs.Cases.{CaseShape, assigned_of, finished_of}
 use Rattle.wf_talk.specs.declared.reply.Face.{Face}
 use Rattle.wf_talk.specs.declared.reply.Denial.{Denial}
 use Rattle.wf_talk.specs.declared.reply.Denial.TheVariants as denial
+use Rattle.wf_talk.specs.declared.reply.WorkItem.{WorkItem}
 use Rattle.wf_talk.specs.declared.reply.Reply.{Reply}
 use Rattle.wf_talk.specs.declared.reply.Reply.TheVariants as reply
 use Rattle.admin_edits.specs.declared.amendment.Amendment.{Amendment}
@@ -30,8 +31,8 @@ use Rattle.wf_board.specs.Steps.{Answers, IsReplyTo, face_of, state_after_decisi
 use Rattle.wf_board.specs.Kept.{IsOfPolicy}
 use Rattle.wire_json.specs.Entries.{named, phase_data, seen_data, single}
 use Rattle.wire_json.specs.Trees.{tree_data}
-use Rattle.wire_json.specs.Replies.{face_data, reply_data, strands_data}
-use Rattle.wf_server.proofs.NamesKept.{IsKnownBelow, keeps_same, plan_same, states_same, tree_same}
+use Rattle.wire_json.specs.Replies.{face_data, reply_data, strands_data, work_data}
+use Rattle.wf_server.proofs.NamesKept.{IsKnownBelow, keeps_same, plan_same, states_same, step_same, tree_same}
 use Rattle.wf_server.proofs.NamesTold.{Fares, IsDeedOf, IsToldAlike, user_known}
 
 -- ---- who holds roles
@@ -128,6 +129,12 @@ face_same p q c keeps of =
     ∙ ap (λ ds. object (member (codes "flow") (named p.flow_names c.flow) (member (codes "phase") (phase_data c.phase) (member (codes "steps") (array (items_of ds)) no_members))))
     (states_same p q c.states keeps (λ t u is. user_known p c t u of is))
 
+work_same : (p q : PolicyShape) (items : List WorkItem) → KeepsNames p q → map (work_data q) items ≡ map (work_data p) items
+work_same p q [] keeps = refl
+work_same p q (i ∷ is) keeps =
+    ap (λ d. array (items_of (number (unsigned i.case) ∷ d ∷ [])) ∷ map (work_data q) is) (step_same p q i.flow i.step keeps)
+    ∙ ap (λ ds. work_data p i ∷ ds) (work_same p q is keeps)
+
 -- the reply to a deed of the policy is written alike
 deed_text : (s : State) (q : PolicyShape) (given : Deed) (answer : Reply) → KeepsNames s.book.policy q → AreMembersBelow (length s.book.policy.roster.users) s.book.policy.roster.members
     → IsDeedOf s.book.policy given → IsReplyTo s given answer → reply_data q answer ≡ reply_data s.book.policy answer
@@ -153,6 +160,9 @@ deed_text s q (deed.Change a) (reply.Denied (denial.Strands n f tree)) keeps mem
     (stranded_same s.book.policy q (amended s.book.policy a) (open_cases s.book.cases) n f tree keeps (amended_below s.book.policy a of members) is)
 deed_text s q (deed.Show c) (reply.Shown face) keeps members of is =
     subst (λ (x : Face). reply_data q (reply.Shown x) ≡ reply_data s.book.policy (reply.Shown x)) (sym is) (ap (single (codes "view")) (face_same s.book.policy q c keeps of))
+deed_text s q (deed.Work u) (reply.Work items) keeps members of is =
+    ap (λ ds. single (codes "worklist") (array (items_of ds))) (work_same s.book.policy q items keeps)
+deed_text s q (deed.WhatIf a) (reply.WhatIf numbers) keeps members of is = refl
 deed_text s q (deed.TurnAway bad) (reply.Bad b) keeps members of is = refl
 deed_text s q given answer keeps members of is = absurd is
 

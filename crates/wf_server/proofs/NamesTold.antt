@@ -24,7 +24,7 @@ use Rattle.admin_edits.proofs.Keeping.{amendment_found}
 use Rattle.wf_board.specs.declared.deed.Deed.{Deed}
 use Rattle.wf_board.specs.declared.deed.Deed.TheVariants as deed
 use Rattle.wf_board.specs.States.{State, case_at, flow_named, step_named, user_named}
-use Rattle.wf_board.specs.Resolved.{changed, edit_denial, on_step, open_case_at, resolve}
+use Rattle.wf_board.specs.Resolved.{edit_denial, on_edit, on_step, open_case_at, resolve}
 use Rattle.wf_board.specs.Decisions.{cause_aside, cause_full, decision_aside, decision_of, unless_denied}
 use Rattle.wf_board.specs.Kept.{IsOfPolicy, IsSoundState}
 use Rattle.wire_json.specs.Entries.{single}
@@ -85,6 +85,8 @@ IsDeedOf p (deed.Release n c t) = IsOfPolicy p c
 IsDeedOf p (deed.Withdraw n) = Unit {0}
 IsDeedOf p (deed.Change a) = edits.IsFound p a
 IsDeedOf p (deed.Show c) = IsOfPolicy p c
+IsDeedOf p (deed.Work u) = Unit {0}
+IsDeedOf p (deed.WhatIf a) = edits.IsFound p a
 IsDeedOf p (deed.TurnAway bad) = Unit {0}
 
 -- a denial is written alike with the names of two policies
@@ -105,9 +107,10 @@ fault_alike p q fault.Full = refl
 fault_alike p q fault.LastAdmin = refl
 fault_alike p q fault.NoMemory = refl
 
-changed_fares : (p q : PolicyShape) (by : List ℕ) (e : Edit) (r : Result Amendment EditFault) → IsSoundPolicy p → amendment_of p by e ≡ r → Fares (IsDeedOf p) (IsToldAlike p q) (changed r)
-changed_fares p q by e (Ok a) sound is = (amendment_found p by e a sound is).0
-changed_fares p q by e (Err why) sound is = fault_alike p q why
+edit_fares : (p q : PolicyShape) (make : Amendment → Deed) (by : List ℕ) (e : Edit) (r : Result Amendment EditFault) → ((a : Amendment) → edits.IsFound p a → IsDeedOf p (make a))
+    → IsSoundPolicy p → amendment_of p by e ≡ r → Fares (IsDeedOf p) (IsToldAlike p q) (on_edit make r)
+edit_fares p q make by e (Ok a) made sound is = made a (amendment_found p by e a sound is).0
+edit_fares p q make by e (Err why) made sound is = fault_alike p q why
 
 -- ---- what a line asks
 
@@ -146,10 +149,14 @@ resolve_fares s q (ask.Request (request.Withdraw by n)) sound =
     let Q = IsToldAlike s.book.policy q in
     then_fares (λ _. Unit {0}) P Q (check (is_admin s.book.policy by) denial.NotAdmin) _ (check_fares Q (is_admin s.book.policy by) denial.NotAdmin refl)
     (λ _ _. then_fares (IsOfPolicy s.book.policy) P Q (open_case_at s.book n) _ (case_fares s q n sound) (λ c of. tt))
-resolve_fares s q (ask.Request (request.Change by e)) sound = changed_fares s.book.policy q by e (amendment_of s.book.policy by e) sound.policy refl
+resolve_fares s q (ask.Request (request.Change by e)) sound = edit_fares s.book.policy q deed.Change by e (amendment_of s.book.policy by e) (λ a found. found) sound.policy refl
 resolve_fares s q (ask.Request (request.Show n)) sound =
     let Q = IsToldAlike s.book.policy q in
     then_fares (λ c. case_at s.book.cases n ≡ Some c) (IsDeedOf s.book.policy) Q (or_fault (case_at s.book.cases n) denial.NoCase) _ (or_fares Q (case_at s.book.cases n) denial.NoCase refl) (λ c is. sound.cases n c is)
+resolve_fares s q (ask.Request (request.Worklist user)) sound =
+    let Q = IsToldAlike s.book.policy q in
+    then_fares (λ u. user_named s.book user ≡ Some u) (IsDeedOf s.book.policy) Q (or_fault (user_named s.book user) denial.NoUser) _ (or_fares Q (user_named s.book user) denial.NoUser refl) (λ u _. tt)
+resolve_fares s q (ask.Request (request.WhatIf by e)) sound = edit_fares s.book.policy q deed.WhatIf by e (amendment_of s.book.policy by e) (λ a found. found) sound.policy refl
 resolve_fares s q (ask.Bad bad) sound = tt
 
 -- ---- causes
@@ -175,6 +182,8 @@ cause_so s q (deed.Release n c t) keeps of = unless_so (IsToldAlike s.book.polic
 cause_so s q (deed.Withdraw n) keeps of = tt
 cause_so s q (deed.Change a) keeps of = tt
 cause_so s q (deed.Show c) keeps of = tt
+cause_so s q (deed.Work u) keeps of = tt
+cause_so s q (deed.WhatIf a) keeps of = tt
 cause_so s q (deed.TurnAway bad) keeps of = tt
 
 full_so : (s : State) (q : PolicyShape) (given : Deed) → IsCauseSo (IsToldAlike s.book.policy q) (cause_full s.book given)
@@ -186,6 +195,8 @@ full_so s q (deed.Release n c t) = tt
 full_so s q (deed.Withdraw n) = tt
 full_so s q (deed.Change a) = tt
 full_so s q (deed.Show c) = tt
+full_so s q (deed.Work u) = tt
+full_so s q (deed.WhatIf a) = tt
 full_so s q (deed.TurnAway bad) = tt
 
 unless_fares : (P : Deed → Type 0) (Q : Denial → Type 0) (given : Deed) (o : Option Denial) → P given → IsCauseSo Q o → Fares P Q (unless_denied given o)
