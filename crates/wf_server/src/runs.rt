@@ -140,7 +140,7 @@ fn run_command<F: Shelf, S: Source, K: Sink>(
     requires { CanServe command }
     ensures status { result.status ≡ status_of result.fault }
     ensures usage { result.fault ≡ RunFault.Usage → ⊥ }
-    ensures does { Does (Some (asked command)) (record {
+    ensures does { Does (Some (asked command.entry)) (record {
       files = F.file shelf.old;
       load_faults = F.faults shelf.old;
       load_faults_after = F.faults shelf.new;
@@ -159,7 +159,7 @@ fn run_command<F: Shelf, S: Source, K: Sink>(
       told = told_by result;
       fault = result.fault;
     }) }
-    ensures untouched { reads_input (Some (asked command)) ≡ false → source.new ≡ source.old }
+    ensures untouched { reads_input (Some (asked command.entry)) ≡ false → source.new ≡ source.old }
     ensures once { AreAnsweredOnce (told_by result).entries }
 {
     match command {
