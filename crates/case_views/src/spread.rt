@@ -70,12 +70,7 @@ fn spread_verdict<R: Threads + Sync>(rt: &R, alloc: Global, snap: &Snap, deed: &
 }
 
 // The verdict on a change.
-fn change_verdict<R: Threads + Sync>(
-    rt: &R,
-    alloc: Global,
-    snap: &Snap,
-    a: &Amendment,
-) -> Verdict
+fn change_verdict<R: Threads + Sync>(rt: &R, alloc: Global, snap: &Snap, a: &Amendment) -> Verdict
     requires { IsAllowed snap.now.policy a.now }
     ensures { DecidesChange (book_on snap.now) a.now result }
 {
@@ -152,12 +147,7 @@ fn joined_work(alloc: Global, parts: &[WorkList]) -> Result<WorkList, AllocError
 }
 
 // The verdict on what a change would strand.
-fn what_if_verdict<R: Threads + Sync>(
-    rt: &R,
-    alloc: Global,
-    snap: &Snap,
-    a: &Amendment,
-) -> Verdict
+fn what_if_verdict<R: Threads + Sync>(rt: &R, alloc: Global, snap: &Snap, a: &Amendment) -> Verdict
     requires { IsAllowed snap.now.policy a.now }
     ensures { DecidesWhatIf (book_on snap.now) a.now result }
 {
