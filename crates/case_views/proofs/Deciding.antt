@@ -23,22 +23,17 @@ use Rattle.wf_board.specs.declared.decision.Refused.{Refused}
 use Rattle.wf_board.specs.declared.decision.Refused.TheVariants as refused
 use Rattle.wf_board.specs.declared.verdict.Verdict.{Verdict}
 use Rattle.wf_board.specs.declared.verdict.Verdict.TheVariants as verdict
-use Rattle.wf_board.specs.Edited.{IsFirstStranded}
-use Rattle.wf_board.specs.States.{Book, open_cases}
+use Rattle.wf_board.specs.States.{Book}
 use Rattle.wf_board.specs.Decisions.{decision_aside, needs_verdict, takes_memory}
 use Rattle.wf_board.specs.Refusals.{denial_in}
 use Rattle.wf_board.specs.Verdicts.{Decides as IsDecided}
 use Rattle.wf_talk.specs.declared.request.Ask.{Ask}
 use Rattle.std.proofs.lemmas.Bool.{false≢true}
 use Rattle.wf_board.specs.Kept.{ArePlanned, EachRow, IsOfPolicy, IsPlanned}
-use Rattle.wf_board.specs.Found.{AreFound}
 use Rattle.wf_board.proofs.Within.{claimed_within, planned_within}
 use Rattle.wf_board.proofs.Exact.{finished_assigned}
-use Rattle.admin_edits.specs.Edits.{amended}
 use Rattle.admin_edits.specs.declared.amendment.Amendment.{Amendment}
-use Rattle.case_views.specs.Deciding.{DecidesChange, DecidesDeed, DecidesFor, DecidesWhatIf, DecidesWork, IsLeft, IsVerdictOf, IsVerdictOn}
-use Rattle.case_views.specs.declared.edit_decider.Left.{Left}
-use Rattle.case_views.specs.declared.edit_decider.Left.TheVariants as left
+use Rattle.case_views.specs.Deciding.{DecidesChange, DecidesDeed, DecidesFor, DecidesWhatIf, DecidesWork, IsVerdictOf}
 
 each_at : (P : Row → Type 0) (n : ℕ) (rows : List Row) (r : Row) → EachRow P rows → row_at n rows ≡ Some r → P r
 each_at P n [] r each is = cc
@@ -158,12 +153,6 @@ decides_change b a (verdict.Plan plan) h = absurd h
 decides_change b a (verdict.Refuted tree) h = absurd h
 decides_change b a (verdict.Edited edition) h = record { fits = h; nothing = λ e. cc; something = λ e same. cc }
 decides_change b a (verdict.Strands n tree) h = record { fits = h; nothing = λ e. cc; something = λ e same. cc }
-
--- what a changed policy leaves the open cases, as a verdict
-pub verdict_change : (b : Book) (a : Amendment) (after : PolicyShape) (l : Left) (v : Verdict) → after ≡ amended b.policy a → IsLeft after (open_cases b.cases) l → IsVerdictOn after l v → DecidesChange b a v
-verdict_change b a after (left.Plans plans) v same given is = subst (DecidesChange b a) (sym is) (same, given)
-verdict_change b a after (left.Stranded n tree) v same given is =
-    subst (DecidesChange b a) (sym is) (given.0, subst (λ q. IsFirstStranded q (open_cases b.cases) n given.0 tree) same given.1)
 
 -- a verdict on a user's work
 pub decides_work : (b : Book) (u : ℕ) (v : Verdict) → DecidesWork b u v → DecidesDeed b (deed.Work u) v

@@ -1,7 +1,6 @@
 -- What views list of rows, one row after the other.
 use Rattle.std.proofs.Common.{◌≡◌, ℕ, ◌+◌, ◌<◌, true, false, Bool, List, [], ◌∷◌, ◌++◌, length, take, get_or, Option, None, Some, refl, sym, ap, subst, ◌∙◌}
 use Rattle.std.specs.Prelude.{MatchBool, is_some, option_map}
-use Rattle.std.proofs.lemmas.Bool.{true≢false}
 use Rattle.std.proofs.lemmas.List.{append-nil}
 use Rattle.wf_names.specs.States.{user_of}
 use Rattle.wf_names.specs.declared.states.StepState.{StepState}
@@ -11,7 +10,7 @@ use Rattle.refutation_tree.specs.Views.{shape_of}
 use Rattle.policy_book.specs.Shapes.{PolicyShape}
 use Rattle.policy_book.specs.Facts.{IsSoundPolicy}
 use Rattle.policy_book.specs.Policies.{problem_of}
-use Rattle.policy_book.specs.Plans.{AreAssigned, IsWellFormed}
+use Rattle.policy_book.specs.Plans.{IsWellFormed}
 use Rattle.certificate_check.proofs.Refuted.{refutes_soundly}
 use Rattle.case_record.specs.Cases.{CaseShape, assigned_of, finished_of, is_open, state_at}
 use Rattle.grant_table.specs.declared.rows.Row.{Row}
@@ -31,12 +30,9 @@ use Rattle.case_views.specs.Listing.{AreGrantable, AreStrandedIn, HasListed, IsL
 use Rattle.case_views.proofs.Editing.{open_append, take_next}
 use Rattle.case_views.proofs.Lists.{none_those, one_those, place, steps_append, steps_more, those_append}
 
--- the one open case of a row, and none
+-- the one open case of a row
 open_alone : (r : Row) → is_open r.case ≡ true → open_in (r ∷ []) ≡ numbered r ∷ []
 open_alone r live = rw live refl
-
-closed_alone : (r : Row) → is_open r.case ≡ false → open_in (r ∷ []) ≡ []
-closed_alone r closed = rw closed refl
 
 -- ---- work lists
 
@@ -62,15 +58,6 @@ work_more p u rows i r ns ms all below is first second same =
     subst (λ l. AreGrantable p u l all) (sym places)
     (granted_append p u (steps_of (open_in (take i rows))) (steps_of (open_in (r ∷ []))) ns ms all first second same)
 
--- the work in one row
-pub work_here : (p : PolicyShape) (u : ℕ) (r : Row) (items : List WorkItem) → is_open r.case ≡ true →
-    AreGrantable p u (steps_from (numbered r) (length r.case.states) 0) items → IsWorkIn p u (r ∷ []) items
-work_here p u r items live work =
-    subst (λ l. AreGrantable p u l items) (sym (ap steps_of (open_alone r live) ∙ append-nil (steps_from (numbered r) (length r.case.states) 0))) work
-
-pub no_work : (p : PolicyShape) (u : ℕ) (r : Row) → is_open r.case ≡ false → IsWorkIn p u (r ∷ []) []
-no_work p u r closed = subst (λ es. AreGrantable p u (steps_of es) []) (sym (closed_alone r closed)) refl
-
 -- a step of which nobody is told to have it is free
 free_of : (x : StepState) (rest : List (Option Denial)) → first_of (option_map Taken (user_of x) ∷ rest) ≡ None → x ≡ Free
 free_of Free rest clear = refl
@@ -84,10 +71,7 @@ told_by p c t u (outcome.Plan plan) well clear found = record { clear = clear; c
 told_by p c t u (outcome.Refuted tree) well clear found = λ grantable.
     refutes_soundly (problem_of p c.flow) (assigned_with c t u) (finished_of c) (shape_of tree) well (claimed_assigned c t u (free_of (state_at c t) _ clear)) found.refutes grantable.completable
 
--- a claim against which there is a cause
-pub refused_for : (p : PolicyShape) (c : CaseShape) (t u : ℕ) → is_some (first_cause p c t u) ≡ true → ¬ IsGrantable p c t u
-refused_for p c t u cause grantable = absurd (true≢false (sym cause ∙ ap is_some grantable.clear))
-
+-- where there is no cause
 pub clear_of : (o : Option Denial) → is_some o ≡ false → o ≡ None
 clear_of None is = refl
 clear_of (Some d) is = cc
@@ -130,7 +114,7 @@ stranded_more p rows i r ns ms all below is first second same =
     (sym (ap open_in (take_next rows i r below is) ∙ open_append (take i rows) (r ∷ [])))
     (those_append (stranded p) (kept p) (λ e. e.number) (open_in (take i rows)) (open_in (r ∷ [])) ns ms first second))
 
--- an open case that a tree refutes, and one that has a plan; a case that is not open
+-- an open case that a tree refutes is stranded
 pub refuted_here : (p : PolicyShape) (r : Row) (tree : Tree) → IsSoundPolicy p → IsLeftAt p r (Some (outcome.Refuted tree)) → AreStrandedIn p (r ∷ []) (r.number ∷ [])
 refuted_here p r tree sound left =
     let c = r.case in
@@ -138,11 +122,3 @@ refuted_here p r tree sound left =
     refutes_soundly (problem_of p c.flow) (assigned_of c) (finished_of c) (shape_of tree) (well_formed_any p c.flow sound) (finished_assigned c) left.1.refutes in
     subst (λ es. AreThose (stranded p) (kept p) (λ e. e.number) es (r.number ∷ [])) (sym (open_alone r left.0))
     (one_those (stranded p) (kept p) (λ e. e.number) (numbered r) cannot)
-
-pub planned_here : (p : PolicyShape) (r : Row) (plan : List ℕ) → IsLeftAt p r (Some (outcome.Plan plan)) → AreStrandedIn p (r ∷ []) []
-planned_here p r plan left =
-    subst (λ es. AreThose (stranded p) (kept p) (λ e. e.number) es []) (sym (open_alone r left.0))
-    (none_those (stranded p) (kept p) (λ e. e.number) (numbered r) (plan, left.1))
-
-pub closed_here : (p : PolicyShape) (r : Row) → is_open r.case ≡ false → AreStrandedIn p (r ∷ []) []
-closed_here p r closed = subst (λ es. AreThose (stranded p) (kept p) (λ e. e.number) es []) (sym (closed_alone r closed)) refl

@@ -2,9 +2,6 @@
 use Rattle.std.proofs.Common.{◌≡◌, ℕ, zero, suc, ◌+◌, ◌<◌, List, [], ◌∷◌, ◌++◌, length, take, map, get_or, Option, None, Some, Result, Ok, Err, IfOk, MatchResult, refl, sym, ap, subst, ◌∙◌, arith}
 use Rattle.std.specs.Borrow.{Bor}
 use Rattle.std.specs.List.{AllZip, Contains, flat_map}
-use Rattle.std.proofs.lemmas.List.{append-nil}
-use Rattle.std.proofs.lemmas.Grind.{flat_map-append}
-use Rattle.std.proofs.Math.Seq.{take-suc}
 use Rattle.rayon.proofs.ToStd.{slice-AllZip}
 use Rattle.refutation_tree.specs.declared.tree.Tree.{Tree}
 use Rattle.policy_book.specs.Shapes.{PolicyShape}
@@ -43,15 +40,6 @@ zip_at Q [] ys i x y below one other each = absurd (omega arith)
 zip_at Q (a ∷ xs) [] i x y below one other each = absurd each
 zip_at Q (a ∷ xs) (b ∷ ys) zero x y below one other each = subst (λ z. Q z y) (sym one) (subst (Q a) (sym other) each.0)
 zip_at Q (a ∷ xs) (b ∷ ys) (suc i) x y below one other each = zip_at Q xs ys i x y (omega arith) one other each.1
-
--- what a list of parts gives so far, with one more
-pub flat_more : {X A : Type 0} (f : X → List A) (xs : List X) (i : ℕ) (x : X) (all next : List A) → i < length xs → x ≡ get_or xs i x →
-    all ≡ flat_map f (take i xs) → next ≡ all ++ f x → next ≡ flat_map f (take (i + 1) xs)
-flat_more f xs i x all next below is so_far same =
-    let one : i + 1 ≡ suc i = omega arith in
-    let taken : take (i + 1) xs ≡ take i xs ++ x ∷ [] = ap (λ (n : ℕ). take n xs) one ∙ take-suc xs i x below ∙ ap (λ z. take i xs ++ z ∷ []) (sym is) in
-    same ∙ ap (λ l. l ++ f x) so_far ∙ ap (λ l. flat_map f (take i xs) ++ l) (sym (append-nil (f x)))
-    ∙ sym (flat_map-append f (take i xs) (x ∷ [])) ∙ ap (flat_map f) (sym taken)
 
 -- ---- views
 

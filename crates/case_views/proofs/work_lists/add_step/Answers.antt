@@ -1,4 +1,4 @@
-use Rattle.std.proofs.Common.{◌≡◌, [], ◌∷◌, ◌++◌, sym, ap, subst, ◌∙◌}
+use Rattle.std.proofs.Common.{[], ◌∷◌, ◌++◌, sym, ap, subst, ◌∙◌}
 use Rattle.case_record.specs.Cases.{CaseShape}
 use Rattle.wf_board.specs.Boards.{numbered}
 use Rattle.wf_board.specs.Edited.{IsPlanOf}
