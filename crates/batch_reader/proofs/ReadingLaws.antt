@@ -193,7 +193,7 @@ finished : (before after : Option (List ℕ)) (ended : Bool) (h : Handed) (r : R
     → HasClosed before after r.room (handed_more h d.jobs) result
 finished before after ended h r d paused result read finishes memory rest at_end reads = elim finishes [
   | inl done ↦ rw done.0 (record { reads = reads done.1 done.2; up = all_up before after ended h r d read done.1 done.2 rest at_end })
-  | inr none ↦ absurd (memory none)
+  | inr none ↦ absurd (memory none.0)
 ]
 
 closed_reads : (before after : Option (List ℕ)) (h : Handed) (r : ReaderShape) (d : Cut) (paused result : Paused)
@@ -204,7 +204,7 @@ closed_reads before after h r d Batch result read pauses closes memory =
       reads = batch_paused before after h r read pauses.1 pauses.2 pauses.3;
       up = up_read before after (handed_more h r.cut.jobs) (record r { cut = emptied r.cut }) (batch_read before after h r read pauses.1);
     })
-closed_reads before after h r d NoMemory result read pauses closes memory = absurd (memory closes)
+closed_reads before after h r d NoMemory result read pauses closes memory = absurd (memory closes.0)
 closed_reads before after h r d End result read pauses closes memory =
     finished before after true h r d End result read closes memory (ap (cut_all r.cut) pauses.1) (λ e. pauses.2)
     (λ is closed. all_read before after true h r d read is closed pauses.1 pauses.0.going (λ e. pauses.2))
@@ -247,6 +247,26 @@ pub closed_none : (before after : Option (List ℕ)) (h : Handed) (r : ReaderSha
     → PausesBy before after h r paused → none ≡ [] → IsReadUp before after (handed_more h none)
 closed_none before after h r none paused read e = up_none before after h r none e (read_by before after h r paused read)
 
+-- closing changes nothing where memory was refused
+closed_same : (c d : Cut) (paused result : Paused) → ClosesAs c d paused result → result ≡ NoMemory → d ≡ c
+closed_same c d Batch result closes e = closes.1
+closed_same c d NoMemory result closes e = closes.1
+closed_same c d End result closes e = elim closes [ inl done ↦ cc | inr none ↦ none.1 ]
+closed_same c d Failed result closes e = elim closes [ inl done ↦ cc | inr none ↦ none.1 ]
+closed_same c d (Stopped stop) result closes e = elim closes [ inl done ↦ cc | inr none ↦ none.1 ]
+
+-- and what was read is kept then
+pub closed_kept : (before after : Option (List ℕ)) (h : Handed) (r t : ReaderShape) (paused result : Paused)
+    → PausesBy before after h r paused → ClosesAs r.cut t.cut paused result → result ≡ NoMemory → t.pending ≡ r.pending → HasRead before after h t
+closed_kept before after h r t paused result read closes e pending =
+    let on = read_by before after h r paused read in
+    record {
+      bytes = on.bytes;
+      taken = subst (λ (p : List ℕ). HasTaken before after (on.bytes ++ p)) (sym pending) on.taken;
+      cut = ap (after_handing h.jobs h.batch_ends) (closed_same r.cut t.cut paused result closes e) ∙ on.cut;
+      closed = on.closed;
+    }
+
 -- only a batch that had ended closes so
 pub closed_batch : (c d : Cut) (paused result : Paused) → ClosesAs c d paused result → result ≡ Batch → (paused ≡ Batch) × (d ≡ c)
 closed_batch c d Batch result closes e = (refl, closes.1)
@@ -265,7 +285,7 @@ batch_going r left (Stopped stop) pauses e = cc
 -- closing counts no fault
 pub closed_counts : (c d : Cut) (paused result : Paused) (before after : ℕ) → ClosesAs c d paused result → CountsAs paused before after → CountsAs result before after
 closed_counts c d Batch result before after closes counts = rw closes.0 counts
-closed_counts c d NoMemory result before after closes counts = rw closes counts
-closed_counts c d End result before after closes counts = elim closes [ inl done ↦ rw done.0 counts | inr none ↦ rw none (omega (arith, counts)) ]
-closed_counts c d Failed result before after closes counts = elim closes [ inl done ↦ rw done.0 counts | inr none ↦ rw none counts.0 ]
-closed_counts c d (Stopped stop) result before after closes counts = elim closes [ inl done ↦ rw done.0 counts | inr none ↦ rw none (omega (arith, counts)) ]
+closed_counts c d NoMemory result before after closes counts = rw closes.0 counts
+closed_counts c d End result before after closes counts = elim closes [ inl done ↦ rw done.0 counts | inr none ↦ rw none.0 (omega (arith, counts)) ]
+closed_counts c d Failed result before after closes counts = elim closes [ inl done ↦ rw done.0 counts | inr none ↦ rw none.0 counts.0 ]
+closed_counts c d (Stopped stop) result before after closes counts = elim closes [ inl done ↦ rw done.0 counts | inr none ↦ rw none.0 (omega (arith, counts)) ]

@@ -50,7 +50,7 @@ StepsAs r s left (Some paused) = PausesAs s left paused
 -- the input is ended, unless memory was refused
 abbrev pub FinishesAs : Cut → Cut → Bool → Paused → Paused → Type 0
 FinishesAs c d ended paused result =
-    ((result ≡ paused) × (d ≡ end_batch (flush ended c)) × IsEnded d) ⊎ (result ≡ NoMemory)
+    ((result ≡ paused) × (d ≡ end_batch (flush ended c)) × IsEnded d) ⊎ ((result ≡ NoMemory) × (d ≡ c))
 
 -- the open batch is ended where reading paused so
 abbrev pub ClosesAs : Cut → Cut → Paused → Paused → Type 0
@@ -58,7 +58,7 @@ ClosesAs c d Batch result = (result ≡ Batch) × (d ≡ c)
 ClosesAs c d End result = FinishesAs c d true End result
 ClosesAs c d Failed result = FinishesAs c d false Failed result
 ClosesAs c d (Stopped stop) result = FinishesAs c d false (Stopped stop) result
-ClosesAs c d NoMemory result = result ≡ NoMemory
+ClosesAs c d NoMemory result = (result ≡ NoMemory) × (d ≡ c)
 
 -- the count of faults of the source over one step
 abbrev pub CountsStep : Option Paused → ℕ → ℕ → Type 0

@@ -74,7 +74,8 @@ impl Reader {
         })
     }
     /// Reads on up to the end of the next batch that has a job, and hands its jobs over. Where the
-    /// input ends, or no more of it can be read, so does the open batch.
+    /// input ends, or no more of it can be read, so does the open batch. Where there is no memory,
+    /// nothing is handed over, and what was read is kept.
     pub fn next_batch<S: Source>(&mut self, source: &mut S) -> Reading
         requires { IsReady self.old }
         ensures reads { (before : Option (List ℕ)) (h : Handed) → HasRead before (S.left source.old) h self.old →
@@ -85,6 +86,9 @@ impl Reader {
             IsReadUp before (S.left source.new) h }
         ensures goes_on { result.paused ≡ Paused.Batch → (before : Option (List ℕ)) (h : Handed) → HasRead before (S.left source.old) h self.old →
             HasRead before (S.left source.new) (handed_more h result.jobs) self.new }
+        ensures kept { result.paused ≡ Paused.NoMemory → (before : Option (List ℕ)) (h : Handed) →
+            HasRead before (S.left source.old) h self.old → HasRead before (S.left source.new) h self.new }
+        ensures none { result.paused ≡ Paused.NoMemory → result.jobs ≡ [] }
         ensures ready { result.paused ≡ Paused.Batch → IsReady self.new }
         ensures less { result.paused ≡ Paused.Batch → left_to_read self.new < left_to_read self.old }
         ensures room { self.new.room ≡ self.old.room }
