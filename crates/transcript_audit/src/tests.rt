@@ -14,7 +14,13 @@ struct Idle;
 impl Decider for Idle {
     fn decide(&self, alloc: Global, snap: &Snap, ask: &Ask) -> Verdict {
         match decision_aside(alloc, snap.policy(), snap.cases(), ask) {
-            Ok(Deed::Open { .. } | Deed::Claim { .. } | Deed::Change { .. }) => Verdict::NoMemory,
+            Ok(
+                Deed::Open { .. }
+                | Deed::Claim { .. }
+                | Deed::Change { .. }
+                | Deed::Work { .. }
+                | Deed::WhatIf { .. },
+            ) => Verdict::NoMemory,
             _ => Verdict::Nothing,
         }
     }
