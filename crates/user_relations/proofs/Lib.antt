@@ -2,3 +2,4 @@ pub mod Numbered
 pub mod Named
 pub mod Sound
 pub mod RowBits
+pub mod RowSets

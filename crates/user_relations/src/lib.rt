@@ -16,6 +16,7 @@ mod blocks;
 mod kinds;
 #[cfg(test)]
 mod tests;
+mod user_pairs;
 
 pub use kinds::{Kind, Relation};
 use pair_set::PairSet;
