@@ -1,3 +1,4 @@
 pub mod Numbered
 pub mod Named
 pub mod Sound
+pub mod RowBits

@@ -12,6 +12,7 @@ ghost use Rattle.user_relations.specs.Soundness.{AreSound};
 ghost use Rattle.user_relations.specs.View.{shapes};
 ghost use Rattle.user_relations.specs.Faults.{relate_fault, unrelate_fault, AnswersFault};
 
+mod blocks;
 mod kinds;
 #[cfg(test)]
 mod tests;
