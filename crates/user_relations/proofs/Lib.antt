@@ -3,3 +3,4 @@ pub mod Named
 pub mod Sound
 pub mod RowBits
 pub mod RowSets
+pub mod Listing

@@ -1,9 +1,11 @@
 //! Rows of bits in blocks. A block that copies share is copied once one of them changes it.
-ghost use Rattle.std.specs.Prelude.{◌≡◌, ◌≢◌, ◌<◌, ◌%◌, ◌==◌, ◌&&◌, ◌||◌, not, ℕ, length, replicate, IfOk, OnOk, OnErr, IsTrue, false};
+ghost use Rattle.std.specs.Prelude.{◌≡◌, ◌≢◌, ◌<◌, ◌≤◌, ◌+◌, ◌%◌, ◌==◌, ◌&&◌, ◌||◌, not, nat_lt, ℕ, [], length, replicate, IfOk, OnOk, OnErr, IsTrue, false};
+ghost use Rattle.std.specs.FinSet as set;
+ghost use Rattle.pair_set.specs.Pairs.{IsAscending};
 ghost use Rattle.wf_names.specs.declared.limits.TheConstants.{USER_LIMIT};
 ghost use Rattle.wf_names.specs.UserSets.{has_user};
 ghost use Rattle.user_relations.specs.declared.blocks.TheConstants.{BLOCKS, BLOCK_ROWS};
-ghost use Rattle.user_relations.specs.Rows.{block_bit, row_bit};
+ghost use Rattle.user_relations.specs.Rows.{block_bit, row_bit, pairs_in, AreListedTo};
 
 use shared_part::{Copied, Shared};
 use std::alloc::{AllocError, Global};
@@ -165,5 +167,42 @@ fn part_blocks(
     let back = behind.edit()?;
     there.rows[u.0 as usize % BLOCK_ROWS].remove(v);
     back.rows[v.0 as usize % BLOCK_ROWS].remove(u);
+    Ok(())
+}
+
+/// The pairs of each row's number and the users of the row, in ascending order.
+pub(crate) fn pairs(
+    blocks: &[Shared<Block>],
+    mut pairs: Vec<(u16, u16)>,
+) -> Result<Vec<(u16, u16)>, AllocError>
+    requires { pairs.items ≡ [] }
+    ensures pairs { IfOk result (λ pairs. set.from_list pairs.items ≡ pairs_in blocks.now) }
+    ensures ascending { IfOk result (λ pairs. IsAscending pairs.items) }
+{
+    let everyone = UserSet::up_to(USER_LIMIT);
+    'rows: for u in 0..USER_LIMIT {
+        let mut users = row(blocks, UserId(u));
+        users.meet(&everyone);
+        add_row(&mut pairs, blocks, u, &users)?;
+    }
+    Ok(pairs)
+}
+
+// Adds the pairs of a row.
+fn add_row(
+    pairs: &mut Vec<(u16, u16)>,
+    blocks: &[Shared<Block>],
+    u: u16,
+    row: &UserSet,
+) -> Result<(), AllocError>
+    requires listed { AreListedTo blocks.now u 0 pairs.old.items }
+    requires row { (v : ℕ) → has_user row.now v ≡ (row_bit blocks.now u v && nat_lt v USER_LIMIT) }
+    ensures { OnOk result (AreListedTo blocks.now (u + 1) 0 pairs.new.items) }
+{
+    let mut from = 0;
+    'users: while let Some(v) = row.next(from) {
+        pairs.push((u, v.0))?;
+        from = v.0 as u32 + 1;
+    }
     Ok(())
 }

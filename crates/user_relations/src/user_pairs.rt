@@ -7,6 +7,7 @@ ghost use Rattle.wf_names.specs.UserSets.{has_user};
 
 use crate::blocks;
 use crate::blocks::Block;
+use crate::masks;
 use shared_part::{Copied, Shared};
 use std::alloc::{AllocError, Global};
 use std::marker::Model;
@@ -92,8 +93,6 @@ impl UserPairs {
     /// Takes the pair `(u, v)` out of the set and answers whether it was there.
     /// A pair that is not there takes no memory.
     pub fn remove(&mut self, u: UserId, v: UserId) -> Result<bool, AllocError>
-        requires first { u < USER_LIMIT }
-        requires second { v < USER_LIMIT }
         ensures removed { OnOk result (self.new ≡ set.remove self.old (u, v)) }
         ensures found { IfOk result (λ found. found ≡ set.contains self.old (u, v)) }
         ensures absent { IfOk result (λ found. found ≡ false → self.new ≡ self.old) }
@@ -106,6 +105,31 @@ impl UserPairs {
         blocks::part(&mut self.ahead, &mut self.behind, u, v)?;
         self.count -= 1;
         Ok(true)
+    }
+
+    /// The users `v` below `users` of pairs `(u, v)`.
+    pub fn after(&self, u: UserId, users: u16) -> UserSet
+        requires { users ≤ USER_LIMIT }
+        ensures { (v : ℕ) → has_user result v ≡ (nat_lt v users && set.contains self.now (u, v)) }
+    {
+        masks::below(users, &blocks::row(&self.ahead, u))
+    }
+
+    /// The users `v` below `users` of pairs `(v, u)`.
+    pub fn ahead(&self, u: UserId, users: u16) -> UserSet
+        requires { users ≤ USER_LIMIT }
+        ensures { (v : ℕ) → has_user result v ≡ (nat_lt v users && set.contains self.now (v, u)) }
+    {
+        masks::below(users, &blocks::row(&self.behind, u))
+    }
+
+    /// The pairs in ascending order, each once.
+    pub fn pairs(&self) -> Result<Vec<(u16, u16)>, AllocError>
+        ensures pairs { IfOk result (λ pairs. set.from_list pairs.items ≡ self.now) }
+        ensures ascending { IfOk result (λ pairs. IsAscending pairs.items) }
+    {
+        let none = Vec::with_capacity(*self.ahead.allocator(), self.count)?;
+        blocks::pairs(&self.ahead, none)
     }
 
     /// A set of the same pairs, which shares all rows.
