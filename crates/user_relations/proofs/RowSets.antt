@@ -1,8 +1,8 @@
 -- The set of pairs that rows of bits stand for, and how it changes with them.
-use Rattle.std.proofs.Common.{◌≡◌, ℕ, ◌+◌, ◌-◌, ◌*◌, ◌<◌, ◌≤◌, ◌/◌, ◌%◌, ◌==◌, ◌&&◌, ◌||◌, not, cond, nat_lt, Bool, true, false, List, [], length, slice_index_or, refl, sym, ap, subst, ◌∙◌, inl, inr, arith}
+use Rattle.std.proofs.Common.{◌≡◌, ℕ, ◌+◌, ◌-◌, ◌*◌, ◌<◌, ◌≤◌, ◌/◌, ◌%◌, ◌==◌, ◌&&◌, ◌||◌, not, cond, nat_lt, Bool, true, false, List, [], length, slice_index_or, refl, sym, ap, subst, ◌∙◌, ◌⊎◌, inl, inr, arith}
 use Rattle.std.specs.Prelude.{IsTrue}
 use Rattle.std.specs.FinSet as set
-use Rattle.std.proofs.lemmas.Bool.{cases_lt, lt-ltb, le-ltb, eqb-true, eq-eqb}
+use Rattle.std.proofs.lemmas.Bool.{cases_lt, lt-ltb, le-ltb, ltb-true, eqb-true, eq-eqb}
 use Rattle.std.proofs.lemmas.List.{get_or_past}
 use Rattle.pair_set.specs.Pairs.{Pairs, pair_cmp}
 use Rattle.pair_set.specs.PairLaws.{pair_cmp_total}
@@ -52,6 +52,14 @@ rows_none blocks whole none = record {
   turned = λ u v. none v u ∙ sym (none u v);
   counted = sym (ap set.len (pairs_none blocks none) ∙ set.len-empty pair_cmp);
 }
+
+and_false : (b : Bool) → (b && false) ≡ false
+and_false true = refl
+and_false false = refl
+
+masked : (p a b : Bool) → (p ≡ true → a ≡ b) → (p && a) ≡ (p && b)
+masked true a b same = same refl
+masked false a b same = refl
 
 and_swap : (a b : Bool) → (a && b) ≡ (b && a)
 and_swap true true = refl
@@ -110,3 +118,55 @@ none_counted s b is = (
   λ yes. set.empty_of_len s (eqb-true (set.len s) 0 (sym is ∙ yes)),
   λ none. is ∙ eq-eqb (set.len s) 0 (ap set.len none ∙ set.len-empty pair_cmp),
 )
+
+inside_both : (p r c : Bool) → p ≡ true → r ≡ true → c ≡ (p && (r && c))
+inside_both p r c first second = sym (λ i. first i && (second i && c))
+
+-- what is read of a row below a number of users
+module _ (blocks : List Block) (u v users : ℕ) (most : users ≤ USER_LIMIT) where
+  is_pair : u < USER_LIMIT → v < USER_LIMIT → row_bit blocks u v ≡ set.contains (pairs_in blocks) (u, v)
+  is_pair first second =
+      inside_both (nat_lt u USER_LIMIT) (nat_lt v USER_LIMIT) (row_bit blocks u v) (lt-ltb u USER_LIMIT first) (lt-ltb v USER_LIMIT second)
+      ∙ sym (contains_set_of (row_bit blocks) USER_LIMIT USER_LIMIT u v)
+
+  no_pair : (USER_LIMIT ≤ u) ⊎ (USER_LIMIT ≤ v) → set.contains (pairs_in blocks) (u, v) ≡ false
+  no_pair (inl past) = contains_set_of (row_bit blocks) USER_LIMIT USER_LIMIT u v ∙ ap (λ b. b && (nat_lt v USER_LIMIT && row_bit blocks u v)) (le-ltb u USER_LIMIT past)
+  no_pair (inr past) = contains_set_of (row_bit blocks) USER_LIMIT USER_LIMIT u v ∙ ap (λ b. nat_lt u USER_LIMIT && (b && row_bit blocks u v)) (le-ltb v USER_LIMIT past) ∙ and_false (nat_lt u USER_LIMIT)
+
+  pub row_told : (USER_LIMIT ≤ u → row_bit blocks u v ≡ false) → (nat_lt v users && row_bit blocks u v) ≡ (nat_lt v users && set.contains (pairs_in blocks) (u, v))
+  row_told none = masked (nat_lt v users) (row_bit blocks u v) (set.contains (pairs_in blocks) (u, v)) (λ e. elim (cases_lt u USER_LIMIT) [
+    | inl first ↦ is_pair first (omega (arith, most, ltb-true v users e))
+    | inr past ↦ none past ∙ sym (no_pair (inl past))
+  ])
+
+  pub column_told : (USER_LIMIT ≤ v → row_bit blocks u v ≡ false) → (nat_lt u users && row_bit blocks u v) ≡ (nat_lt u users && set.contains (pairs_in blocks) (u, v))
+  column_told none = masked (nat_lt u users) (row_bit blocks u v) (set.contains (pairs_in blocks) (u, v)) (λ e. elim (cases_lt v USER_LIMIT) [
+    | inl second ↦ is_pair (omega (arith, most, ltb-true u users e)) second
+    | inr past ↦ none past ∙ sym (no_pair (inr past))
+  ])
+
+-- who is read of the rows ahead and behind
+pub after_told : (ahead behind : List Block) (count u v users : ℕ) → AreRows ahead behind count → users ≤ USER_LIMIT
+    → (nat_lt v users && row_bit ahead u v) ≡ (nat_lt v users && set.contains (pairs_in ahead) (u, v))
+after_told ahead behind count u v users rows most = row_told ahead u v users most (bit_past ahead u v rows.ahead_whole)
+
+pub ahead_told : (ahead behind : List Block) (count u v users : ℕ) → AreRows ahead behind count → users ≤ USER_LIMIT
+    → (nat_lt v users && row_bit behind u v) ≡ (nat_lt v users && set.contains (pairs_in ahead) (v, u))
+ahead_told ahead behind count u v users rows most =
+    ap (λ b. nat_lt v users && b) (rows.turned v u)
+    ∙ column_told ahead v u users most (λ past. sym (rows.turned v u) ∙ bit_past behind u v rows.behind_whole past)
+
+-- a set without pairs
+pub none_told : (s : Pairs) (b : Bool) (q : ℕ × ℕ) → s ≡ set.empty → false ≡ (b && set.contains s q)
+none_told s b q none = sym (ap (λ c. b && c) (ap (λ t. set.contains t q) none ∙ set.contains-empty pair_cmp q) ∙ and_false b)
+
+both_inside : (p r c : Bool) → (p && (r && c)) ≡ true → (p ≡ true) × (r ≡ true)
+both_inside true true c e = (refl, refl)
+both_inside true false c e = cc
+both_inside false r c e = cc
+
+-- the numbers of a pair are within the limit
+pub held_within : (blocks : List Block) (u v : ℕ) → set.contains (pairs_in blocks) (u, v) ≡ true → (u < USER_LIMIT) × (v < USER_LIMIT)
+held_within blocks u v held =
+    let inside = both_inside (nat_lt u USER_LIMIT) (nat_lt v USER_LIMIT) (row_bit blocks u v) (sym (contains_set_of (row_bit blocks) USER_LIMIT USER_LIMIT u v) ∙ held) in
+    (ltb-true u USER_LIMIT inside.0, ltb-true v USER_LIMIT inside.1)

@@ -95,7 +95,21 @@ impl Relations {
     {
         match UserPairs::new(*self.declared.allocator()) {
             Ok(none) => self.add_pairs(name, none),
-            Err(_) => Err(NameFault::NoMemory),
+            Err(_) => Err(self.unlisted(&name)),
+        }
+    }
+
+    // Why a relation is not declared where there is no memory for its pairs.
+    fn unlisted(&self, name: &Name) -> NameFault
+        ensures twice { result ≡ NameFault.Twice ↔ (is_some (place_of (known_names self.now) name.now) ≡ true) }
+        ensures full { result ≡ NameFault.Full ↔ ((is_some (place_of (known_names self.now) name.now) ≡ false) × (length self.now ≡ RELATION_LIMIT)) }
+    {
+        if self.find(name).is_some() {
+            NameFault::Twice
+        } else if self.count() as u16 >= RELATION_LIMIT {
+            NameFault::Full
+        } else {
+            NameFault::NoMemory
         }
     }
 

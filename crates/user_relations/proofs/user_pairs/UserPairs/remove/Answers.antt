@@ -7,11 +7,15 @@ use Rattle.user_relations.specs.declared.blocks.Block.{Block}
 use Rattle.user_relations.specs.Rows.{row_bit, pairs_in, AreRows}
 use Rattle.std.specs.Vec.{with_items}
 use Rattle.std.proofs.lemmas.List.{with_items_is}
-use Rattle.user_relations.proofs.RowSets.{rows_taken, some_pair}
+use Rattle.user_relations.proofs.RowSets.{rows_taken, some_pair, held_within}
 use Rattle.user_relations.proofs.user_pairs.UserPairs.remove.Goals as goal
 
 pub returns-then-not-has-clause-removed : goal.returns-then-not-has-clause-removed
 returns-then-not-has-clause-removed c = sym (remove_absent pair_cmp_total pair_cmp-IsAntisymmetric c.args.self.now (c.args.u, c.args.v) (sym c.has.ensures ∙ c.if-not-has.true))
+
+pub part-requires-clause-users : goal.part-requires-clause-users
+part-requires-clause-users c =
+    held_within c.self.inside.ahead.items c.args.u c.args.v (ap (λ s. set.contains s (c.args.u, c.args.v)) c.self.view_is ∙ sym c.has.ensures ∙ c.if-not-has.false)
 
 pub overflow_sub-self : goal.overflow_sub-self
 overflow_sub-self c =
