@@ -27,18 +27,18 @@ within_first false r c first second = first refl
 pub bit_tells : (blocks : List Block) (u v : ℕ) (b : Bool) → length blocks ≡ BLOCKS → b ≡ row_bit blocks u v → (IsTrue b → v < USER_LIMIT) → b ≡ set.contains (pairs_in blocks) (u, v)
 bit_tells blocks u v b whole is within =
     let none : (nat_lt v USER_LIMIT) ≡ false → row_bit blocks u v ≡ false =
-        λ out. sym is ∙ elim b as (λ c. b ≡ c → c ≡ false) [
-          | true ↦ λ e. let low = within e in let less = lt-ltb v USER_LIMIT low in cc
-          | false ↦ λ e. refl
-        ] refl
+    λ out. sym is ∙ elim b as (λ c. b ≡ c → c ≡ false) [
+      | true ↦ λ e. let low = within e in let less = lt-ltb v USER_LIMIT low in cc
+      | false ↦ λ e. refl
+    ] refl
     in
     is
     ∙ within_first (nat_lt u USER_LIMIT) (nat_lt v USER_LIMIT) (row_bit blocks u v)
-      (λ out. elim (cases_lt u USER_LIMIT) [
-        | inl low ↦ let less = lt-ltb u USER_LIMIT low in cc
-        | inr past ↦ bit_past blocks u v whole past
-      ])
-      none
+    (λ out. elim (cases_lt u USER_LIMIT) [
+      | inl low ↦ let less = lt-ltb u USER_LIMIT low in cc
+      | inr past ↦ bit_past blocks u v whole past
+    ])
+    none
     ∙ sym (contains_set_of (row_bit blocks) USER_LIMIT USER_LIMIT u v)
 
 -- rows without a bit

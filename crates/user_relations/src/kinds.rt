@@ -12,9 +12,8 @@ ghost use Rattle.user_relations.specs.Faults.{relate_fault, unrelate_fault, put_
 ghost use Rattle.user_relations.specs.Places.{IsPlace};
 ghost use Rattle.user_relations.specs.View.{kind_view, relation_view, shapes};
 
-use crate::masks;
 use crate::user_pairs::UserPairs;
-use crate::RelationFault;
+use crate::{RelationFault, masks};
 use shared_part::Shared;
 use std::alloc::{AllocError, Global};
 use wf_names::{Name, PAIR_LIMIT, RELATION_LIMIT, RelId, USER_LIMIT, UserId, UserSet};

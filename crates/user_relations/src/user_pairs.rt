@@ -5,9 +5,8 @@ ghost use Rattle.pair_set.specs.Pairs.{IsAscending};
 ghost use Rattle.wf_names.specs.declared.limits.TheConstants.{USER_LIMIT};
 ghost use Rattle.wf_names.specs.UserSets.{has_user};
 
-use crate::blocks;
 use crate::blocks::Block;
-use crate::masks;
+use crate::{blocks, masks};
 use shared_part::{Copied, Shared};
 use std::alloc::{AllocError, Global};
 use std::marker::Model;

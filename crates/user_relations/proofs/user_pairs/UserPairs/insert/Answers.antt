@@ -26,10 +26,10 @@ invariant_of-self-2 c =
     let new_behind = with_items_is behind c.join.new.behind (c.join.auto.behind ∙ c.deref_mut-2.ensures.len) in
     let free = ap (λ s. set.contains s (u, v)) c.self.view_is ∙ sym c.has.ensures ∙ c.if-has.false in
     let rows = rows_put ahead.items behind.items c.join.new.ahead c.join.new.behind c.self.inside.count u v c.self.invariant
-        (c.join.auto.ahead ∙ ap length c.deref_mut.ensures.value) (c.join.auto.behind ∙ ap length c.deref_mut-2.ensures.value)
-        c.requires.first c.requires.second free
-        (λ x y. c.in_ok-join.ensures.ahead x y ∙ ap (λ bs. (x == u && y == v) || row_bit bs x y) c.deref_mut.ensures.value)
-        (λ y x. c.in_ok-join.ensures.behind y x ∙ ap (λ bs. (y == v && x == u) || row_bit bs y x) c.deref_mut-2.ensures.value)
+    (c.join.auto.ahead ∙ ap length c.deref_mut.ensures.value) (c.join.auto.behind ∙ ap length c.deref_mut-2.ensures.value)
+    c.requires.first c.requires.second free
+    (λ x y. c.in_ok-join.ensures.ahead x y ∙ ap (λ bs. (x == u && y == v) || row_bit bs x y) c.deref_mut.ensures.value)
+    (λ y x. c.in_ok-join.ensures.behind y x ∙ ap (λ bs. (y == v && x == u) || row_bit bs y x) c.deref_mut-2.ensures.value)
     in
     subst (λ (bs : List Block). AreRows bs (with_items behind c.join.new.behind).items (c.self.inside.count + 1)) (sym new_ahead)
     (subst (λ (bs : List Block). AreRows c.join.new.ahead bs (c.self.inside.count + 1)) (sym new_behind) rows)
@@ -40,5 +40,5 @@ returns-clause-added c =
     let v = c.args.v in
     ap pairs_in (with_items_is c.self.inside.ahead c.join.new.ahead (c.join.auto.ahead ∙ c.deref_mut.ensures.len))
     ∙ set_of_insert (row_bit c.self.inside.ahead.items) (row_bit c.join.new.ahead) USER_LIMIT USER_LIMIT u v c.requires.first c.requires.second
-      (λ x y. c.in_ok-join.ensures.ahead x y ∙ ap (λ bs. (x == u && y == v) || row_bit bs x y) c.deref_mut.ensures.value)
+    (λ x y. c.in_ok-join.ensures.ahead x y ∙ ap (λ bs. (x == u && y == v) || row_bit bs x y) c.deref_mut.ensures.value)
     ∙ ap (λ s. set.insert s (u, v)) c.self.view_is

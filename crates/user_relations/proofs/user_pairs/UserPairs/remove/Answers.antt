@@ -33,10 +33,10 @@ invariant_of-self-2 c =
     let new_behind = with_items_is behind c.part.new.behind (c.part.auto.behind ∙ c.deref_mut-2.ensures.len) in
     let here = ap (λ s. set.contains s (u, v)) c.self.view_is ∙ sym c.has.ensures ∙ c.if-not-has.false in
     let rows = rows_taken ahead.items behind.items c.part.new.ahead c.part.new.behind c.self.inside.count u v c.self.invariant
-        (c.part.auto.ahead ∙ ap length c.deref_mut.ensures.value) (c.part.auto.behind ∙ ap length c.deref_mut-2.ensures.value)
-        here
-        (λ x y. c.in_ok-part.ensures.ahead x y ∙ ap (λ bs. not (x == u && y == v) && row_bit bs x y) c.deref_mut.ensures.value)
-        (λ y x. c.in_ok-part.ensures.behind y x ∙ ap (λ bs. not (y == v && x == u) && row_bit bs y x) c.deref_mut-2.ensures.value)
+    (c.part.auto.ahead ∙ ap length c.deref_mut.ensures.value) (c.part.auto.behind ∙ ap length c.deref_mut-2.ensures.value)
+    here
+    (λ x y. c.in_ok-part.ensures.ahead x y ∙ ap (λ bs. not (x == u && y == v) && row_bit bs x y) c.deref_mut.ensures.value)
+    (λ y x. c.in_ok-part.ensures.behind y x ∙ ap (λ bs. not (y == v && x == u) && row_bit bs y x) c.deref_mut-2.ensures.value)
     in
     subst (λ (bs : List Block). AreRows bs (with_items behind c.part.new.behind).items (c.self.inside.count - 1)) (sym new_ahead)
     (subst (λ (bs : List Block). AreRows c.part.new.ahead bs (c.self.inside.count - 1)) (sym new_behind) rows)
@@ -47,5 +47,5 @@ returns-clause-removed c =
     let v = c.args.v in
     ap pairs_in (with_items_is c.self.inside.ahead c.part.new.ahead (c.part.auto.ahead ∙ c.deref_mut.ensures.len))
     ∙ set_of_remove (row_bit c.self.inside.ahead.items) (row_bit c.part.new.ahead) USER_LIMIT USER_LIMIT u v
-      (λ x y. c.in_ok-part.ensures.ahead x y ∙ ap (λ bs. not (x == u && y == v) && row_bit bs x y) c.deref_mut.ensures.value)
+    (λ x y. c.in_ok-part.ensures.ahead x y ∙ ap (λ bs. not (x == u && y == v) && row_bit bs x y) c.deref_mut.ensures.value)
     ∙ ap (λ s. set.remove s (u, v)) c.self.view_is
