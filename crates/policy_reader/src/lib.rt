@@ -5,6 +5,7 @@ mod fault;
 mod file;
 mod flows;
 mod form;
+mod pairs;
 mod parts;
 mod relations;
 mod rosters;

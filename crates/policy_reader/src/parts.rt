@@ -161,7 +161,7 @@ pub(crate) fn next_name(
 }
 
 /// The two texts of an array of two texts.
-fn two_texts(value: &Value) -> Option<(&str, &str)>
+pub(crate) fn two_texts(value: &Value) -> Option<(&str, &str)>
     ensures { option_map (λ p. (p.0.now, p.1.now)) result ≡ parts.two_texts (view value.now) }
 {
     match value.as_array() {

@@ -20,12 +20,12 @@ ghost use Rattle.policy_reader.specs.declared.fault.ReadFault.TheVariants.{NoMem
 ghost use Rattle.first_fault.specs.Reading.{Gives, each};
 
 use crate::fault::{PolicyKind, PolicyPart, ReadFault, refuse, refuse_text};
-use crate::parts::{array_of, at_most, find, is_among, name_of, read_pairs, table_of, text_of};
-use pair_set::PairSet;
+use crate::pairs::read_user_pairs;
+use crate::parts::{array_of, at_most, find, is_among, name_of, table_of, text_of};
 use std::alloc::Global;
 use toml::Value;
 use toml::value::Table;
-use user_relations::{Kind, Relation, Relations};
+use user_relations::{Kind, Relation, Relations, UserPairs};
 use wf_names::{Name, NameTable, PAIR_LIMIT, RELATION_LIMIT, RelId};
 
 /// Reads the pairs of a listed relation.
@@ -35,14 +35,15 @@ fn listed_of(
     users: &NameTable,
     number: u32,
     value: &Value,
-) -> Result<PairSet, ReadFault>
+) -> Result<UserPairs, ReadFault>
+    requires known { length users.now.names ≤ USER_LIMIT }
     ensures read { Gives fault_of (λ pairs. listed pairs) result (spec.listed_in users.now.names number (view value.now)) }
     ensures few { IfOk result (λ pairs. set.len pairs ≤ PAIR_LIMIT) }
     ensures users { IfOk result (AreBelow (length users.now.names)) }
 {
     let items = array_of(value, PolicyPart::Relations, number)?;
     at_most(PAIR_LIMIT, items.len(), PolicyPart::Relations, number)?;
-    read_pairs(alloc, users, items, PolicyPart::Relations, number)
+    read_user_pairs(alloc, users, items, PolicyPart::Relations, number)
 }
 
 /// Whether a value is that of a complement.
@@ -98,6 +99,7 @@ fn kind_of(
     number: u32,
     table: &Table,
 ) -> Result<Kind, ReadFault>
+    requires known { length users.now.names ≤ USER_LIMIT }
     requires few { length all.now.entries ≤ RELATION_LIMIT }
     ensures read { Gives fault_of kind_view result (spec.kind_in users.now.names (table_view all.now) number (table_view table.now)) }
     ensures kept { IfOk result (λ k. IsKept (length users.now.names) (entries (table_view all.now)) (spec.is_complement_table (table_view table.now)) (kind_view k)) }
@@ -141,6 +143,7 @@ fn next_relation(
     key: &str,
     value: &Value,
 ) -> Result<(), ReadFault>
+    requires known { length users.now.names ≤ USER_LIMIT }
     requires few { length all.now.entries ≤ RELATION_LIMIT }
     requires room { length (shapes relations.old.items) < RELATION_LIMIT }
     requires new { parts.is_among (names_of (shapes relations.old.items)) key.now ≡ false }
