@@ -9,10 +9,9 @@ ghost use Rattle.trial_maker.specs.TrialPolicy.{are_peers, peers, trial_relation
 
 use crate::named::named;
 use crate::people::USERS;
-use pair_set::PairSet;
 use std::alloc::{AllocError, Global};
-use user_relations::Relations;
-use wf_names::{Name, NameFault, RelId};
+use user_relations::{Relations, UserPairs};
+use wf_names::{Name, NameFault, RelId, UserId};
 
 /// The relation of users of different teams, and of a user to themselves.
 pub(crate) const APART: RelId = RelId(2);
@@ -27,14 +26,14 @@ pub(crate) fn relations_of(alloc: Global) -> Result<Relations, AllocError>
     ensures { IfOk result (λ r. r ≡ trial_relations) }
 {
     let mut relations = Relations::new(alloc)?;
-    declare(&mut relations, named("apart"), PairSet::new(alloc))?;
+    declare(&mut relations, named("apart"), UserPairs::new(alloc)?)?;
     declare(&mut relations, named("peer"), peers(alloc)?)?;
     relations.make_complement(APART, PEER);
     Ok(relations)
 }
 
 // Declares a listed relation of a new name, where there is room.
-fn declare(relations: &mut Relations, name: Name, pairs: PairSet) -> Result<(), AllocError>
+fn declare(relations: &mut Relations, name: Name, pairs: UserPairs) -> Result<(), AllocError>
     requires few { set.len pairs ≤ PAIR_LIMIT }
     requires users { AllPairs (λ u v. (u < USER_LIMIT) × (v < USER_LIMIT)) pairs }
     requires fresh { is_some (place_of (known_names relations.old) name) ≡ false }
@@ -50,10 +49,10 @@ fn declare(relations: &mut Relations, name: Name, pairs: PairSet) -> Result<(), 
 
 // The pairs of different users of one team.
 #[tactic(auto, using(crate::proofs::Peers::peers_none, crate::proofs::Peers::peers_more, crate::proofs::Peers::peers_all))]
-fn peers(alloc: Global) -> Result<PairSet, AllocError>
+fn peers(alloc: Global) -> Result<UserPairs, AllocError>
     ensures { IfOk result (λ s. s ≡ peers) }
 {
-    let mut pairs = PairSet::new(alloc);
+    let mut pairs = UserPairs::new(alloc)?;
     'pairs: for n in 0..USERS * USERS {
         add_peers(&mut pairs, n / USERS, n % USERS)?;
     }
@@ -61,11 +60,12 @@ fn peers(alloc: Global) -> Result<PairSet, AllocError>
 }
 
 // Puts in a pair of users, if they are different ones of one team.
-fn add_peers(pairs: &mut PairSet, i: u16, j: u16) -> Result<(), AllocError>
+fn add_peers(pairs: &mut UserPairs, i: u16, j: u16) -> Result<(), AllocError>
+    requires users { (i < USER_LIMIT) × (j < USER_LIMIT) }
     ensures { OnOk result (pairs.new ≡ (if are_peers i j then set.insert pairs.old (i, j) else pairs.old)) }
 {
     if i != j && i / TEAM == j / TEAM {
-        pairs.insert(i, j)?;
+        pairs.insert(UserId(i), UserId(j))?;
     }
     Ok(())
 }

@@ -1,14 +1,14 @@
 -- How the bits of rows change with a block.
-use Rattle.std.proofs.Common.{◌≡◌, ℕ, ◌<◌, ◌/◌, ◌%◌, ◌==◌, ◌&&◌, ◌||◌, not, Bool, true, false, List, [], length, slice_index_or, slice_set, replicate, refl, sym, ap, ◌∙◌, inl, inr, arith, get_or-set_same, get_or-set_other}
+use Rattle.std.proofs.Common.{◌≡◌, ℕ, ◌<◌, ◌/◌, ◌%◌, ◌==◌, ◌&&◌, ◌||◌, not, Bool, false, List, [], length, slice_index_or, slice_set, replicate, refl, sym, ap, ◌∙◌, inl, inr, arith, get_or-set_same, get_or-set_other}
 use Rattle.std.specs.Prelude.{Result, Ok, Err, IfOk, OnOk}
 use Rattle.std.proofs.lemmas.Bool.{cases_eq, cases_lt, eq-eqb, ne_eqb}
 use Rattle.std.proofs.lemmas.List.{get_or_default, get_or_past, get_or-replicate, length-replicate}
 use Rattle.std.proofs.lemmas.Result.{on_ok_weaker}
 use Rattle.std.proofs.lemmas.Nat.Bits.{bit_at-zero}
 use Rattle.std.specs.declared.alloc.AllocError.{AllocError}
-use Rattle.wf_names.specs.UserSets.{has_bit, has_user}
+use Rattle.wf_names.specs.UserSets.{has_user}
 use Rattle.user_relations.specs.declared.blocks.Block.{Block}
-use Rattle.user_relations.specs.declared.blocks.TheConstants.{BLOCKS, BLOCK_ROWS}
+use Rattle.user_relations.specs.declared.blocks.TheConstants.{BLOCK_ROWS}
 use Rattle.user_relations.specs.Rows.{block_bit, row_bit}
 
 abbrev no_block : Block

@@ -1,12 +1,12 @@
 -- The set of pairs that rows of bits stand for, and how it changes with them.
-use Rattle.std.proofs.Common.{◌≡◌, ℕ, ◌+◌, ◌-◌, ◌*◌, ◌<◌, ◌≤◌, ◌/◌, ◌%◌, ◌==◌, ◌&&◌, ◌||◌, not, cond, nat_lt, Bool, true, false, List, [], length, slice_index_or, refl, sym, ap, subst, ◌∙◌, ◌⊎◌, inl, inr, arith}
+use Rattle.std.proofs.Common.{◌≡◌, ℕ, ◌+◌, ◌-◌, ◌<◌, ◌≤◌, ◌/◌, ◌%◌, ◌==◌, ◌&&◌, ◌||◌, not, cond, nat_lt, Bool, true, false, List, [], length, refl, sym, ap, ◌∙◌, ◌⊎◌, inl, inr, arith}
 use Rattle.std.specs.Prelude.{IsTrue}
 use Rattle.std.specs.FinSet as set
 use Rattle.std.proofs.lemmas.Bool.{cases_lt, lt-ltb, le-ltb, ltb-true, eqb-true, eq-eqb}
 use Rattle.std.proofs.lemmas.List.{get_or_past}
 use Rattle.pair_set.specs.Pairs.{Pairs, pair_cmp}
 use Rattle.pair_set.specs.PairLaws.{pair_cmp_total}
-use Rattle.pair_set.specs.Tables.{set_of, contains_set_of, set_of_none, set_of_insert, set_of_remove, len_set_of}
+use Rattle.pair_set.specs.Tables.{contains_set_of, set_of_none, set_of_insert, set_of_remove, len_set_of}
 use Rattle.wf_names.specs.declared.limits.TheConstants.{USER_LIMIT}
 use Rattle.user_relations.specs.declared.blocks.Block.{Block}
 use Rattle.user_relations.specs.declared.blocks.TheConstants.{BLOCKS, BLOCK_ROWS}

@@ -1,4 +1,4 @@
--- Where a declared relation is kept.
+-- Inside: where a declared relation is kept.
 use Rattle.std.specs.Prelude.{◌≡◌, ℕ, ◌+◌, ◌<◌}
 
 -- the relation with the number rho stands at i among n declared ones

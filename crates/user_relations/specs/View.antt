@@ -1,4 +1,4 @@
--- The kept relations as contracts see them.
+-- Inside: the kept relations as contracts see them.
 use Rattle.std.specs.Prelude.{List, map}
 use Rattle.user_relations.specs.declared.kinds.Kind.{Kind}
 use Rattle.user_relations.specs.declared.kinds.Kind.TheVariants.{Listed, Complement}

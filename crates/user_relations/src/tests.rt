@@ -120,7 +120,7 @@ fn declare_all(rt: &impl Abort, alloc: Global, relations: &mut Relations) -> Res
 }
 
 fn relate_all(rt: &impl Abort, relations: &mut Relations) {
-    for n in 0..65_536 {
+    for n in 0..65_536u32 {
         let (u, v) = ((n / 1_024) as u16, (n % 1_024) as u16);
         assert!(rt; relations.relate(LAST, UserId(u), UserId(v)) == Ok(()));
     }

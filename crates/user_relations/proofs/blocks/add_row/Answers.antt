@@ -1,4 +1,4 @@
-use Rattle.std.proofs.Common.{ℕ, ◌+◌, List, [], ◌∷◌, ◌++◌, sym, ap, subst, ◌∙◌, arith}
+use Rattle.std.proofs.Common.{◌+◌, [], ◌∷◌, ◌++◌, sym, ap, subst, ◌∙◌, arith}
 use Rattle.user_relations.specs.Rows.{AreListedTo}
 use Rattle.user_relations.proofs.Listing.{found_within, listed_found, listed_end}
 use Rattle.user_relations.proofs.blocks.add_row.Goals as goal

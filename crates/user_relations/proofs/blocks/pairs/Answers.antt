@@ -1,4 +1,4 @@
-use Rattle.std.proofs.Common.{◌≡◌, ℕ, List, sym, subst, arith}
+use Rattle.std.proofs.Common.{◌≡◌, sym, subst, arith}
 use Rattle.wf_names.specs.declared.limits.TheConstants.{USER_LIMIT}
 use Rattle.user_relations.specs.Rows.{AreListedTo}
 use Rattle.user_relations.proofs.Listing.{listed_none, listed_all}

@@ -1,6 +1,5 @@
 use Rattle.std.proofs.Common.{◌∙◌, nat_lt, ap}
-use Rattle.std.specs.Prelude.{Option}
-use Rattle.user_relations.specs.Relations.{RelationKind, listed_pairs}
+use Rattle.user_relations.specs.Relations.{listed_pairs}
 use Rattle.user_relations.proofs.RowSets.{none_told}
 use Rattle.user_relations.proofs.kinds.listed_after.Goals as goal
 

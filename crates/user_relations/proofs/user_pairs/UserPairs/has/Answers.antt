@@ -1,4 +1,4 @@
-use Rattle.std.proofs.Common.{◌∙◌, ap, sym, length}
+use Rattle.std.proofs.Common.{◌∙◌, ap}
 use Rattle.std.specs.FinSet as set
 use Rattle.user_relations.specs.Rows.{row_bit}
 use Rattle.user_relations.proofs.RowSets.{bit_tells}
