@@ -1,5 +1,5 @@
 //! Who is authorised for a step.
-ghost use Rattle.std.specs.Prelude.{◌≡◌, ℕ, ◌&&◌, ◌||◌, length};
+ghost use Rattle.std.specs.Prelude.{◌≡◌, ℕ, ◌<◌, ◌&&◌, ◌||◌, true, length};
 ghost use Rattle.std.specs.FinSet as set;
 ghost use Rattle.wf_names.specs.UserSets.{has_user};
 ghost use Rattle.rbac_state.specs.Rosters.{has_role};
@@ -33,7 +33,8 @@ fn authorises(roster: &Roster, flow: &Flow, s: StepId, u: UserId, r: RoleId) -> 
 
 /// The users who hold a role that is permitted for a step.
 pub(crate) fn holders_of_some(roster: &Roster, flow: &Flow, s: StepId) -> UserSet
-    ensures { (u : ℕ) → has_user result u ≡ any_below (length roster.now.roles) (λ r. has_role roster.now u r && set.contains flow.now.permits (r, s)) }
+    ensures known { (u : ℕ) → has_user result u ≡ true → u < length roster.now.users }
+    ensures held { (u : ℕ) → has_user result u ≡ any_below (length roster.now.roles) (λ r. has_role roster.now u r && set.contains flow.now.permits (r, s)) }
 {
     let mut users = UserSet::empty();
     'roles: for r in 0..roster.roles().len() {

@@ -122,7 +122,7 @@ impl Policy {
     pub fn authorised_users(&self, f: FlowId, s: StepId) -> UserSet
         requires flow { f < length self.now.flows }
         ensures authorised { (u : ℕ) → has_user result u ≡ is_authorised self.now f s u }
-        ensures known { (u : ℕ) → is_authorised self.now f s u ≡ true → u < length self.now.roster.users }
+        ensures known { (u : ℕ) → has_user result u ≡ true → u < length self.now.roster.users }
     {
         holders_of_some(&self.roster, self.flow(f), s)
     }
