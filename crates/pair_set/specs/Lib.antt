@@ -1,3 +1,4 @@
 pub mod Pairs
 pub mod PairLaws
 pub mod Places
+pub mod Tables

@@ -2,3 +2,5 @@ pub mod Padded
 pub mod Names
 pub mod Table
 pub mod States
+pub mod UserSets
+pub mod Words

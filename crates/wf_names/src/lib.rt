@@ -11,6 +11,8 @@ mod stored;
 mod table;
 #[cfg(test)]
 mod tests;
+mod user_set;
+pub mod words;
 
 pub use ids::{CaseId, FlowId, RelId, RoleId, StepId, UserId};
 pub use limits::{
@@ -22,3 +24,4 @@ pub use limits::{
 pub use name::Name;
 pub use states::{Phase, StepState};
 pub use table::{NameFault, NameTable};
+pub use user_set::UserSet;

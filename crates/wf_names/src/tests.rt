@@ -1,6 +1,7 @@
 //! What no clause shows: which texts are names, and that a table's calls succeed while there is memory.
 
-use crate::{Name, NameFault, NameTable};
+use crate::words::{count_words, join_words, meet_words, strike_words};
+use crate::{Name, NameFault, NameTable, UserId, UserSet};
 use std::alloc::AllocError;
 use std::process::Abort;
 use std::test::Fail;
@@ -50,4 +51,87 @@ fn copies_both(table: &NameTable, there: &Name, other: &Name) -> Result<bool, Al
 
 fn read(text: &str) -> Result<Name, Fail> {
     Ok(Name::read(text).ok_or("not a name")?)
+}
+
+#[test]
+fn users_are_put_in_and_taken_out(rt: HostRuntime) {
+    let mut set = UserSet::empty();
+    set.insert(UserId(0));
+    set.insert(UserId(63));
+    set.insert(UserId(64));
+    set.insert(UserId(1_023));
+    set.remove(UserId(64));
+    assert!(rt; set.count() == 3 && set.has(UserId(63)) && !set.has(UserId(64)));
+    assert!(rt; !set.has(UserId(62)) && !set.has(UserId(1_024)) && !set.has(UserId(65_535)));
+    assert!(rt; set.next(0) == Some(UserId(0)) && set.next(1) == Some(UserId(63)));
+    assert!(rt; set.next(64) == Some(UserId(1_023)) && set.next(1_024).is_none());
+    assert!(rt; UserSet::empty().next(0).is_none());
+}
+
+#[test]
+fn sets_are_met_struck_and_joined(rt: HostRuntime) {
+    let (low, high) = (UserSet::up_to(700), of(&[3, 699, 700, 1_023]));
+    let (mut both, mut some, mut rest) = (high, high, high);
+    both.meet(&low);
+    some.join(&low);
+    rest.strike(&low);
+    assert!(rt; low.count() == 700 && UserSet::up_to(1_024).count() == 1_024);
+    assert!(rt; both == of(&[3, 699]) && rest == of(&[700, 1_023]));
+    assert!(rt; some.count() == 702 && some.has(UserId(1_023)) && !some.has(UserId(701)));
+}
+
+// The set of these users.
+fn of(users: &[u16]) -> UserSet {
+    let mut set = UserSet::empty();
+    for u in users {
+        if *u < 1_024 {
+            set.insert(UserId(*u));
+        }
+    }
+    set
+}
+
+// Each kernel beside one word after the other, at every length up to eight vectors and six words.
+#[test]
+fn kernels_do_as_one_word_does(rt: HostRuntime) {
+    let own: [u64; 70] = drawn(1);
+    let by: [u64; 70] = drawn(7);
+    for len in 0..71 {
+        assert!(rt; kernels_agree(&own[..len], &by[..len]), "{len}");
+    }
+}
+
+fn kernels_agree(own: &[u64], by: &[u64]) -> bool {
+    let (mut met, mut struck, mut joined) = ([0; 70], [0; 70], [0; 70]);
+    let len = own.len();
+    if len > 70 || by.len() != len {
+        return false;
+    }
+    met[..len].copy_from_slice(own);
+    struck[..len].copy_from_slice(own);
+    joined[..len].copy_from_slice(own);
+    meet_words(&mut met[..len], by);
+    strike_words(&mut struck[..len], by);
+    join_words(&mut joined[..len], by);
+    let mut ones: u64 = 0;
+    for i in 0..len {
+        ones = ones.wrapping_add(own[i].count_ones() as u64);
+        if met[i] != own[i] & by[i] || struck[i] != own[i] & !by[i] || joined[i] != own[i] | by[i] {
+            return false;
+        }
+    }
+    count_words(own) == ones
+}
+
+// Words drawn from a seed.
+fn drawn(seed: u64) -> [u64; 70] {
+    let mut words = [0; 70];
+    let mut state = seed;
+    for word in &mut words {
+        state = state
+            .wrapping_mul(6_364_136_223_846_793_005)
+            .wrapping_add(1);
+        *word = state ^ state >> 29;
+    }
+    words
 }

@@ -1,0 +1,51 @@
+-- Lists of words mixed place by place, several places at a time and then one by one.
+use Rattle.std.proofs.Common.{◌≡◌, ℕ, ◌+◌, ◌-◌, ◌*◌, ◌<◌, ◌≤◌, List, length, get_or, set, map, slice_index, bit_and, bit_xor, refl, sym, ap, subst, ◌∙◌, inl, inr, arith, length-set, get_or-set_same, get_or-set_other, zero, suc, [], ◌∷◌}
+use Rattle.std.specs.Simd.Lanes.{zip2, chunk, put_chunk}
+use Rattle.std.proofs.lemmas.Simd.{length-zip2, length-chunk, length-put_chunk, get_or-chunk, get_or-zip2, get_or-put_chunk_below, get_or-put_chunk_at, get_or-put_chunk_above}
+use Rattle.std.proofs.lemmas.Grind.{same_number_lists}
+use Rattle.wf_names.specs.Words.{minus, IsMixedUpTo, IsMixedFrom}
+
+-- a vector stored at a place, each of whose lanes is mixed
+stored_mixed : (f : ℕ → ℕ → ℕ) (at : ℕ) (old by ys : List ℕ) → length ys ≡ 8 → at + 8 ≤ length old
+    → ((i : ℕ) → i < 8 → get_or ys i 0 ≡ f (slice_index old (at + i)) (slice_index by (at + i)))
+    → IsMixedFrom f at old by (put_chunk at old ys)
+stored_mixed f at old by ys eight room lanes = record {
+  below = λ i h. get_or-put_chunk_below at old ys i 0 h;
+  mixed = λ i h. get_or-put_chunk_at at old ys i 0 (omega (arith, h, eight)) (omega (arith, room, eight)) ∙ lanes i h;
+  above = λ i h. get_or-put_chunk_above at old ys i 0 (omega (arith, h, eight));
+}
+
+pub vector_mixed : (f : ℕ → ℕ → ℕ) (at : ℕ) (old by : List ℕ) → length old ≡ length by → at + 8 ≤ length by
+    → IsMixedFrom f at old by (put_chunk at old (zip2 f (chunk at 8 old) (chunk at 8 by)))
+vector_mixed f at old by same room =
+    let room' : at + 8 ≤ length old = omega (arith, same, room) in
+    let own = length-chunk at 8 old room' in
+    let other = length-chunk at 8 by room in
+    stored_mixed f at old by _ (length-zip2 f _ _ (own ∙ sym other) ∙ own) room'
+    (λ i h.
+    get_or-zip2 f _ _ i 0 0 0 (omega (arith, h, own)) (omega (arith, h, other))
+    ∙ ap (λ a. f a (get_or (chunk at 8 by) i 0)) (get_or-chunk at 8 old i 0 h)
+    ∙ ap (λ b. f (get_or old (at + i) 0) b) (get_or-chunk at 8 by i 0 h))
+
+pub vector_struck : (at : ℕ) (old by : List ℕ) → length old ≡ length by → at + 8 ≤ length by
+    → IsMixedFrom minus at old by (put_chunk at old (zip2 bit_xor (chunk at 8 old) (zip2 bit_and (chunk at 8 old) (chunk at 8 by))))
+vector_struck at old by same room =
+    let room' : at + 8 ≤ length old = omega (arith, same, room) in
+    let own = length-chunk at 8 old room' in
+    let other = length-chunk at 8 by room in
+    let both = length-zip2 bit_and (chunk at 8 old) (chunk at 8 by) (own ∙ sym other) ∙ own in
+    stored_mixed minus at old by _ (length-zip2 bit_xor _ _ (own ∙ sym both) ∙ own) room'
+    (λ i h.
+    get_or-zip2 bit_xor _ _ i 0 0 0 (omega (arith, h, own)) (omega (arith, h, both))
+    ∙ ap (λ b. bit_xor (get_or (chunk at 8 old) i 0) b) (get_or-zip2 bit_and _ _ i 0 0 0 (omega (arith, h, own)) (omega (arith, h, other)))
+    ∙ ap (λ a. minus a (get_or (chunk at 8 by) i 0)) (get_or-chunk at 8 old i 0 h)
+    ∙ ap (λ b. minus (get_or old (at + i) 0) b) (get_or-chunk at 8 by i 0 h))
+
+pub mixed_all : (f : ℕ → ℕ → ℕ) (n : ℕ) (old by new : List ℕ) → length old ≡ length by → n ≡ length old
+    → IsMixedUpTo f n old by new → new ≡ zip2 f old by
+mixed_all f n old by new same whole m =
+    same_number_lists new (zip2 f old by)
+    (m.whole ∙ sym (length-zip2 f old by same))
+    (λ i h.
+    m.below i (omega (arith, h, m.whole, whole))
+    ∙ sym (get_or-zip2 f old by i 0 0 0 (omega (arith, h, m.whole)) (omega (arith, h, m.whole, same))))

@@ -1,0 +1,24 @@
+use Rattle.std.proofs.Common.{◌≡◌, ℕ, ◌≤◌, ◌*◌, ap, sym, subst, ◌∙◌, arith, take, length, count_ones}
+use Rattle.std.specs.List.{sum_by}
+use Rattle.std.proofs.lemmas.List.{take_all}
+use mir.Val.{Fits}
+use mir.Syntax.{w64}
+use Rattle.wf_names.specs.UserSets.{has_user, count_below}
+use Rattle.wf_names.proofs.Counts.{users_counted, count_within}
+use Rattle.wf_names.proofs.user_set.count_users.Goals as goal
+
+pub returns : goal.returns
+returns c =
+    let words = c.args.words.now in
+    c.count_words.ensures
+    ∙ ap (sum_by count_ones) (sym (take_all 16 words (omega (arith, c.requires))))
+    ∙ users_counted words c.type_inv.words 16 (omega (arith, c.requires))
+
+pub overflow_cast-result : goal.overflow_cast-result
+overflow_cast-result c =
+    let words = c.args.words.now in
+    let is =
+    c.count_words.ensures
+    ∙ ap (sum_by count_ones) (sym (take_all 16 words (omega (arith, c.requires))))
+    ∙ users_counted words c.type_inv.words 16 (omega (arith, c.requires)) in
+    record { fits = omega (arith, is, count_within (64 * 16) (has_user words)) }
