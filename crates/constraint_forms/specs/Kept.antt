@@ -1,5 +1,5 @@
 -- Inside: what a pair of a rule's steps leaves of the users who could be given a step.
-use Rattle.std.specs.Prelude.{◌≡◌, ℕ, ◌<◌, ◌&&◌, Bool, List, Option, Some, slice_set, IsTrue}
+use Rattle.std.specs.Prelude.{ℕ, ◌<◌, Bool, List, Option, Some, slice_set, IsTrue}
 use Rattle.wf_names.specs.UserSets.{has_user}
 use Rattle.constraint_forms.specs.Rules.{Relating, are_unrelated, user_at}
 
