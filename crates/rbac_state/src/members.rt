@@ -34,9 +34,7 @@ impl Members {
     pub(crate) fn none() -> Members
         ensures { result ≡ set.empty }
     {
-        Members {
-            rows: no_rows(),
-        }
+        Members { rows: no_rows() }
     }
 
     /// Whether a user has a role.
