@@ -1,6 +1,6 @@
 -- The set of the pairs that pass a test, and its laws.
 use Rattle.std.specs.Prelude.{◌≡◌, ℕ, ◌<◌, Bool, true, false, not, ◌&&◌, ◌||◌, ◌==◌, nat_lt, if◌then◌else◌}
-use Rattle.std.proofs.Common.{zero, suc, cond, refl, sym, ap, ◌∙◌, inl, inr, arith}
+use Rattle.std.proofs.Common.{zero, suc, ◌+◌, ◌*◌, ◌≤◌, cond, refl, sym, ap, subst, ◌∙◌, inl, inr, arith, suc-mul}
 use Rattle.std.proofs.lemmas.Bool.{cases_lt, lt-ltb, le-ltb, ltb-true, eqb-true}
 use Rattle.std.proofs.lemmas.Bool.Decides.{eqb_tells}
 use Rattle.std.specs.Cmp.{unsigned_tied}
@@ -133,3 +133,54 @@ set_of_remove t u m n a b less = sym (is_set_of (set.remove (set_of t m n) (a, b
     ∙ (λ i. not (pairs_tied x y a b i) && contains_set_of t m n x y i)
     ∙ let_out (x == a && y == b) (nat_lt x m) (nat_lt y n) (t x y)
     ∙ sym (ap (λ c. nat_lt x m && (nat_lt y n && c)) (less x y))))
+
+-- step by step
+pub set_of_first : (t : ℕ → ℕ → Bool) (n : ℕ) → set_of t 0 n ≡ set.empty
+unfolding set_of
+set_of_first t n = refl
+
+pub set_of_next : (t : ℕ → ℕ → Bool) (a n : ℕ) → set_of t (suc a) n ≡ with_row (t a) a n (set_of t a n)
+unfolding set_of
+set_of_next t a n = refl
+
+pub with_row_first : (t : ℕ → Bool) (a : ℕ) (s : Pairs) → with_row t a 0 s ≡ s
+unfolding with_row
+with_row_first t a s = refl
+
+pub with_row_passed : (t : ℕ → Bool) (a b : ℕ) (s : Pairs) → t b ≡ true → with_row t a (suc b) s ≡ set.insert (with_row t a b s) (a, b)
+unfolding with_row
+with_row_passed t a b s pass = ap (λ c. cond c (set.insert (with_row t a b s) (a, b)) (with_row t a b s)) pass
+
+-- numbers that do not pass add nothing
+pub with_row_skipped : (t : ℕ → Bool) (a b c : ℕ) (s : Pairs) → b ≤ c → ((y : ℕ) → b ≤ y → y < c → t y ≡ false) → with_row t a c s ≡ with_row t a b s
+unfolding with_row
+with_row_skipped t a b zero s low none = let same : 0 ≡ b = omega (arith, low) in ap (λ n. with_row t a n s) same
+with_row_skipped t a b (suc c) s low none = elim (cases_lt c b) [
+  | inl less ↦ let same : suc c ≡ b = omega (arith, low, less) in ap (λ n. with_row t a n s) same
+  | inr more ↦
+      let before = with_row t a c s in
+      ap (λ d. cond d (set.insert before (a, c)) before) (none c more (omega arith))
+      ∙ with_row_skipped t a b c s more (λ y from below. none y from (omega (arith, below)))
+]
+
+-- there are at most as many pairs as the bounds leave room for
+len_with_row : (t : ℕ → Bool) (a n : ℕ) (s : Pairs) → set.len (with_row t a n s) ≤ set.len s + n
+unfolding with_row
+len_with_row t a zero s = omega arith
+len_with_row t a (suc b) s =
+    let before = with_row t a b s in
+    let few : set.len before ≤ set.len s + b = len_with_row t a b s in
+    elim (t b) as (λ c. set.len (cond c (set.insert before (a, b)) before) ≤ set.len s + suc b) [
+      | true ↦ subst (λ n. n ≤ set.len s + suc b) (sym (set.len-insert pair_cmp_total before (a, b)))
+        (elim (set.contains before (a, b)) as (λ c. cond c (set.len before) (set.len before + 1) ≤ set.len s + suc b) [ true ↦ omega (arith, few) | false ↦ omega (arith, few) ])
+      | false ↦ omega (arith, few)
+    ]
+
+pub len_set_of : (t : ℕ → ℕ → Bool) (m n : ℕ) → set.len (set_of t m n) ≤ m * n
+unfolding set_of
+len_set_of t zero n = subst (λ k. k ≤ 0 * n) (sym (set.len-empty pair_cmp)) (omega arith)
+len_set_of t (suc a) n =
+    let rest : set.len (set_of t a n) ≤ a * n = len_set_of t a n in
+    let more = len_with_row (t a) a n (set_of t a n) in
+    let next : suc a * n ≡ a * n + n = suc-mul a n in
+    omega (arith, rest, more, next)

@@ -1,25 +1,27 @@
 //! The declared relations as they are kept, and what each call does to them.
-ghost use Rattle.std.specs.Prelude.{◌≡◌, ◌≢◌, ◌<◌, ◌≤◌, ◌+◌, ℕ, List, [], ◌∷◌, ◌++◌, length, IfOk, IfSome, OnOk, OnErr, MatchOption, IsTrue, slice_get, Some, None, position, nat_eq};
+ghost use Rattle.std.specs.Prelude.{◌≡◌, ◌≢◌, ◌<◌, ◌≤◌, ◌+◌, ℕ, List, [], ◌∷◌, ◌++◌, length, IfOk, IfSome, OnOk, OnErr, MatchOption, IsTrue, ◌&&◌, not, nat_lt, true, slice_get, Some, None, position, nat_eq};
 ghost use Rattle.std.specs.Cmp.Lexicographic.{pointwise};
 ghost use Rattle.std.specs.FinSet as set;
 ghost use Rattle.pair_set.specs.Pairs.{IsAscending};
+ghost use Rattle.wf_names.specs.declared.limits.TheConstants.{USER_LIMIT};
 ghost use Rattle.wf_names.specs.Names.{is_name};
 ghost use Rattle.wf_names.specs.Table.{place_of};
+ghost use Rattle.wf_names.specs.UserSets.{has_user};
 ghost use Rattle.user_relations.specs.Relations.{listed, complement, kind_of, kind_holds, listed_pairs, pairs_of, complement_of, known_names, with_kind, has_list};
 ghost use Rattle.user_relations.specs.Faults.{relate_fault, unrelate_fault, put_fault, take_fault, AnswersFault};
 ghost use Rattle.user_relations.specs.Places.{IsPlace};
 ghost use Rattle.user_relations.specs.View.{kind_view, relation_view, shapes};
 
-use crate::RelationFault;
-use pair_set::PairSet;
+use crate::user_pairs::UserPairs;
+use crate::{RelationFault, masks};
 use shared_part::Shared;
 use std::alloc::{AllocError, Global};
-use wf_names::{Name, PAIR_LIMIT, RELATION_LIMIT, RelId, UserId};
+use wf_names::{Name, PAIR_LIMIT, RELATION_LIMIT, RelId, USER_LIMIT, UserId, UserSet};
 
 /// What a declared relation is.
 #[derive(Drop)]
 pub enum Kind {
-    Listed(Shared<PairSet>),
+    Listed(Shared<UserPairs>),
     /// The complement of a listed relation.
     Complement(RelId),
 }
@@ -33,7 +35,7 @@ pub struct Relation {
 
 impl Kind {
     /// A listed relation with these pairs.
-    pub fn of_pairs(alloc: Global, pairs: PairSet) -> Result<Kind, AllocError>
+    pub fn of_pairs(alloc: Global, pairs: UserPairs) -> Result<Kind, AllocError>
         ensures { IfOk result (λ kind. kind_view kind ≡ listed pairs) }
     {
         Ok(Kind::Listed(Shared::new(alloc, pairs)?))
@@ -65,7 +67,7 @@ pub(crate) fn holds(declared: &[Relation], rho: RelId, u: UserId, v: UserId) -> 
 {
     match kind_at(declared, rho) {
         None => false,
-        Some(Kind::Listed(pairs)) => pairs.get().has(u.0, v.0),
+        Some(Kind::Listed(pairs)) => pairs.get().has(u, v),
         Some(Kind::Complement(of)) => !is_in_list(declared, *of, u, v),
     }
 }
@@ -75,19 +77,70 @@ fn is_in_list(declared: &[Relation], rho: RelId, u: UserId, v: UserId) -> bool
 {
     match kind_at(declared, rho) {
         None => false,
-        Some(Kind::Listed(pairs)) => pairs.get().has(u.0, v.0),
+        Some(Kind::Listed(pairs)) => pairs.get().has(u, v),
         Some(Kind::Complement(_)) => false,
     }
 }
 
-pub(crate) fn pairs(declared: &[Relation], rho: RelId) -> &[(u16, u16)]
-    ensures pairs { set.from_list result.now ≡ pairs_of (shapes declared.now) rho }
-    ensures ascending { IsAscending result.now }
+/// The pairs of a listed relation in ascending order.
+pub(crate) fn pairs(
+    alloc: Global,
+    declared: &[Relation],
+    rho: RelId,
+) -> Result<Vec<(u16, u16)>, AllocError>
+    ensures pairs { IfOk result (λ pairs. set.from_list pairs.items ≡ pairs_of (shapes declared.now) rho) }
+    ensures ascending { IfOk result (λ pairs. IsAscending pairs.items) }
 {
     match kind_at(declared, rho) {
-        None => &[],
-        Some(Kind::Listed(pairs)) => pairs.get().as_slice(),
-        Some(Kind::Complement(_)) => &[],
+        None => Ok(Vec::new(alloc)),
+        Some(Kind::Listed(pairs)) => pairs.get().pairs(),
+        Some(Kind::Complement(_)) => Ok(Vec::new(alloc)),
+    }
+}
+
+/// The users below `users` to whom a declared relation relates u.
+pub(crate) fn after(declared: &[Relation], rho: RelId, u: UserId, users: u16) -> UserSet
+    requires { users ≤ USER_LIMIT }
+    ensures { (v : ℕ) → has_user result v ≡ (nat_lt v users && kind_holds (shapes declared.now) (kind_of (shapes declared.now) rho) u v) }
+{
+    match kind_at(declared, rho) {
+        None => UserSet::empty(),
+        Some(Kind::Listed(pairs)) => pairs.get().after(u, users),
+        Some(Kind::Complement(of)) => masks::others(users, &listed_after(declared, *of, u, users)),
+    }
+}
+
+fn listed_after(declared: &[Relation], rho: RelId, u: UserId, users: u16) -> UserSet
+    requires { users ≤ USER_LIMIT }
+    ensures { (v : ℕ) → has_user result v ≡ (nat_lt v users && set.contains (pairs_of (shapes declared.now) rho) (u, v)) }
+{
+    match kind_at(declared, rho) {
+        None => UserSet::empty(),
+        Some(Kind::Listed(pairs)) => pairs.get().after(u, users),
+        Some(Kind::Complement(_)) => UserSet::empty(),
+    }
+}
+
+/// The users below `users` whom a declared relation relates to u.
+pub(crate) fn ahead(declared: &[Relation], rho: RelId, u: UserId, users: u16) -> UserSet
+    requires { users ≤ USER_LIMIT }
+    ensures { (v : ℕ) → has_user result v ≡ (nat_lt v users && kind_holds (shapes declared.now) (kind_of (shapes declared.now) rho) v u) }
+{
+    match kind_at(declared, rho) {
+        None => UserSet::empty(),
+        Some(Kind::Listed(pairs)) => pairs.get().ahead(u, users),
+        Some(Kind::Complement(of)) => masks::others(users, &listed_ahead(declared, *of, u, users)),
+    }
+}
+
+fn listed_ahead(declared: &[Relation], rho: RelId, u: UserId, users: u16) -> UserSet
+    requires { users ≤ USER_LIMIT }
+    ensures { (v : ℕ) → has_user result v ≡ (nat_lt v users && set.contains (pairs_of (shapes declared.now) rho) (v, u)) }
+{
+    match kind_at(declared, rho) {
+        None => UserSet::empty(),
+        Some(Kind::Listed(pairs)) => pairs.get().ahead(u, users),
+        Some(Kind::Complement(_)) => UserSet::empty(),
     }
 }
 
@@ -122,7 +175,7 @@ fn put_fault(kind: &Kind, u: UserId, v: UserId) -> Option<RelationFault>
     match kind {
         Kind::Complement(_) => Some(RelationFault::Fixed),
         Kind::Listed(pairs) => {
-            if pairs.get().has(u.0, v.0) {
+            if pairs.get().has(u, v) {
                 Some(RelationFault::Already)
             } else if pairs.get().len() >= PAIR_LIMIT {
                 Some(RelationFault::Full)
@@ -154,7 +207,7 @@ fn take_fault(kind: &Kind, u: UserId, v: UserId) -> Option<RelationFault>
     match kind {
         Kind::Complement(_) => Some(RelationFault::Fixed),
         Kind::Listed(pairs) => {
-            if !pairs.get().has(u.0, v.0) {
+            if !pairs.get().has(u, v) {
                 Some(RelationFault::Absent)
             } else {
                 None
@@ -167,7 +220,7 @@ fn take_fault(kind: &Kind, u: UserId, v: UserId) -> Option<RelationFault>
 pub(crate) fn push_listed(
     declared: &mut Vec<Relation>,
     name: Name,
-    pairs: PairSet,
+    pairs: UserPairs,
 ) -> Result<(), AllocError>
     ensures pushed { OnOk result (shapes declared.new.items ≡ shapes declared.old.items ++ record { name = name; kind = listed pairs } ∷ []) }
     ensures unchanged { OnErr result (declared.new.items ≡ declared.old.items) }
@@ -193,6 +246,8 @@ pub(crate) fn relate(
     u: UserId,
     v: UserId,
 ) -> Result<(), RelationFault>
+    requires first { u < USER_LIMIT }
+    requires second { v < USER_LIMIT }
     ensures related { OnOk result (shapes declared.new ≡ with_kind (shapes declared.old) rho (listed (set.insert (pairs_of (shapes declared.old) rho) (u, v)))) }
     ensures fault { AnswersFault (relate_fault (shapes declared.old) rho u v) result }
     ensures unchanged { OnErr result (shapes declared.new ≡ shapes declared.old) }
@@ -205,6 +260,8 @@ pub(crate) fn relate(
 }
 
 fn put_pair(kind: &mut Kind, u: UserId, v: UserId) -> Result<(), RelationFault>
+    requires first { u < USER_LIMIT }
+    requires second { v < USER_LIMIT }
     ensures related { OnOk result (kind_view kind.new ≡ listed (set.insert (listed_pairs (Some (kind_view kind.old))) (u, v))) }
     ensures fault { AnswersFault (put_fault (Some (kind_view kind.old)) u v) result }
     ensures unchanged { OnErr result (kind_view kind.new ≡ kind_view kind.old) }
@@ -222,12 +279,14 @@ fn put_pair(kind: &mut Kind, u: UserId, v: UserId) -> Result<(), RelationFault>
 }
 
 // Puts a pair in, where others may have a share of the pairs.
-fn insert_into(pairs: &mut Shared<PairSet>, u: UserId, v: UserId) -> Result<(), AllocError>
+fn insert_into(pairs: &mut Shared<UserPairs>, u: UserId, v: UserId) -> Result<(), AllocError>
+    requires first { u < USER_LIMIT }
+    requires second { v < USER_LIMIT }
     ensures inserted { OnOk result (pairs.new ≡ set.insert pairs.old (u, v)) }
     ensures unchanged { OnErr result (pairs.new ≡ pairs.old) }
 {
     let own = pairs.edit()?;
-    own.insert(u.0, v.0)?;
+    own.insert(u, v)?;
     Ok(())
 }
 
@@ -266,12 +325,12 @@ fn take_pair(kind: &mut Kind, u: UserId, v: UserId) -> Result<(), RelationFault>
 }
 
 // Takes a pair out, where others may have a share of the pairs.
-fn remove_from(pairs: &mut Shared<PairSet>, u: UserId, v: UserId) -> Result<(), AllocError>
+fn remove_from(pairs: &mut Shared<UserPairs>, u: UserId, v: UserId) -> Result<(), AllocError>
     ensures removed { OnOk result (pairs.new ≡ set.remove pairs.old (u, v)) }
     ensures unchanged { OnErr result (pairs.new ≡ pairs.old) }
 {
     let own = pairs.edit()?;
-    own.remove(u.0, v.0);
+    own.remove(u, v)?;
     Ok(())
 }
 

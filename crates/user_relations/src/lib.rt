@@ -2,25 +2,29 @@
 //! built-in `same` and `other`.
 #![tactic(auto)]
 
-ghost use Rattle.std.specs.Prelude.{◌≡◌, ◌≢◌, ◌<◌, ◌≤◌, ◌+◌, ◌↔◌, ℕ, List, [], ◌∷◌, ◌++◌, length, is_some, IfOk, IfSome, OnOk, OnErr, IsErrOf, true, false, slice_get, Some};
+ghost use Rattle.std.specs.Prelude.{◌≡◌, ◌≢◌, ◌<◌, ◌≤◌, ◌+◌, ◌↔◌, ℕ, List, [], ◌∷◌, ◌++◌, length, is_some, IfOk, IfSome, OnOk, OnErr, IsErrOf, true, false, ◌==◌, ◌&&◌, not, nat_lt, slice_get, Some};
 ghost use Rattle.std.specs.FinSet as set;
 ghost use Rattle.pair_set.specs.Pairs.{AllPairs, IsAscending};
 ghost use Rattle.wf_names.specs.declared.limits.TheConstants.{PAIR_LIMIT, RELATION_LIMIT, USER_LIMIT};
 ghost use Rattle.wf_names.specs.Table.{place_of};
+ghost use Rattle.wf_names.specs.UserSets.{has_user};
 ghost use Rattle.user_relations.specs.Relations.{RelationShape, listed, complement, kind_of, pairs_of, is_listed, complement_of, is_related, known_names, with_kind};
 ghost use Rattle.user_relations.specs.Soundness.{AreSound};
 ghost use Rattle.user_relations.specs.View.{shapes};
 ghost use Rattle.user_relations.specs.Faults.{relate_fault, unrelate_fault, AnswersFault};
 
+mod blocks;
 mod kinds;
+mod masks;
 #[cfg(test)]
 mod tests;
+mod user_pairs;
 
 pub use kinds::{Kind, Relation};
-use pair_set::PairSet;
 use std::alloc::{AllocError, Global};
 use std::marker::Model;
-use wf_names::{Name, NameFault, RELATION_LIMIT, RelId, USER_LIMIT, UserId};
+pub use user_pairs::UserPairs;
+use wf_names::{Name, NameFault, RELATION_LIMIT, RelId, USER_LIMIT, UserId, UserSet};
 
 /// Why a pair was not put into a relation or not taken out of it.
 #[derive(Clone, Copy, Debug, PartialEq, Eq)]
@@ -89,12 +93,28 @@ impl Relations {
         ensures full { IsErrOf result NameFault.Full ↔ ((is_some (place_of (known_names self.old) name) ≡ false) × (length self.old ≡ RELATION_LIMIT)) }
         ensures unchanged { OnErr result (self.new ≡ self.old) }
     {
-        let none = PairSet::new(*self.declared.allocator());
-        self.add_pairs(name, none)
+        match UserPairs::new(*self.declared.allocator()) {
+            Ok(none) => self.add_pairs(name, none),
+            Err(_) => Err(self.unlisted(&name)),
+        }
+    }
+
+    // Why a relation is not declared where there is no memory for its pairs.
+    fn unlisted(&self, name: &Name) -> NameFault
+        ensures twice { result ≡ NameFault.Twice ↔ (is_some (place_of (known_names self.now) name.now) ≡ true) }
+        ensures full { result ≡ NameFault.Full ↔ ((is_some (place_of (known_names self.now) name.now) ≡ false) × (length self.now ≡ RELATION_LIMIT)) }
+    {
+        if self.find(name).is_some() {
+            NameFault::Twice
+        } else if self.count() as u16 >= RELATION_LIMIT {
+            NameFault::Full
+        } else {
+            NameFault::NoMemory
+        }
     }
 
     /// Declares a listed relation with these pairs, and answers its number.
-    pub fn add_pairs(&mut self, name: Name, pairs: PairSet) -> Result<RelId, NameFault>
+    pub fn add_pairs(&mut self, name: Name, pairs: UserPairs) -> Result<RelId, NameFault>
         requires few { set.len pairs ≤ PAIR_LIMIT }
         requires users { AllPairs (λ u v. (u < USER_LIMIT) × (v < USER_LIMIT)) pairs }
         ensures number { IfOk result (λ rho. rho ≡ length self.old + 2) }
@@ -139,6 +159,30 @@ impl Relations {
             0 => u == v,
             1 => u != v,
             _ => kinds::holds(&self.declared, rho, u, v),
+        }
+    }
+
+    /// The users `v` below `users` of whom the relation holds with u before them. Takes no memory.
+    pub fn after(&self, rho: RelId, u: UserId, users: u16) -> UserSet
+        requires { users ≤ USER_LIMIT }
+        ensures { (v : ℕ) → has_user result v ≡ (nat_lt v users && is_related self.now rho u v) }
+    {
+        match rho.0 {
+            0 => masks::alone(users, u),
+            1 => masks::all_but(users, u),
+            _ => kinds::after(&self.declared, rho, u, users),
+        }
+    }
+
+    /// The users `v` below `users` of whom the relation holds with u after them. Takes no memory.
+    pub fn ahead(&self, rho: RelId, u: UserId, users: u16) -> UserSet
+        requires { users ≤ USER_LIMIT }
+        ensures { (v : ℕ) → has_user result v ≡ (nat_lt v users && is_related self.now rho v u) }
+    {
+        match rho.0 {
+            0 => masks::alone(users, u),
+            1 => masks::all_but(users, u),
+            _ => kinds::ahead(&self.declared, rho, u, users),
         }
     }
 
@@ -213,8 +257,7 @@ impl Relations {
         ensures pairs { IfOk result (λ pairs. set.from_list pairs.items ≡ pairs_of self.now rho) }
         ensures ascending { IfOk result (λ pairs. IsAscending pairs.items) }
     {
-        let pairs = kinds::pairs(&self.declared, rho);
-        Vec::from_slice(*self.declared.allocator(), pairs)
+        kinds::pairs(*self.declared.allocator(), &self.declared, rho)
     }
 
     /// The same relations.

@@ -1,150 +1,226 @@
-//! What no clause shows: that the calls succeed while there is memory, up to the limits.
+//! What no clause shows: that the calls succeed while there is memory, up to the limits; and rows
+//! of bits beside a plain list of pairs.
 ghost use Rattle.std.specs.Prelude.{◌≡◌, ◌+◌, ◌++◌, ◌∷◌, [], IfOk, OnOk, length};
 ghost use Rattle.std.specs.FinSet as set;
 ghost use Rattle.user_relations.specs.Relations.{RelationShape, listed};
 
-use crate::{RelationFault, Relations};
+use crate::{RelationFault, Relations, UserPairs};
+use std::alloc::{AllocError, Global};
+use std::process::Abort;
 use std::test::Fail;
-use wf_names::{Name, NameFault, RelId, UserId};
+use wf_names::{Name, NameFault, RelId, UserId, UserSet};
+
+const ANN: UserId = UserId(0);
+
+const BOB: UserId = UserId(1);
+
+const CYD: UserId = UserId(2);
+/// The first declared relation, the second and the last there may be.
+const FIRST: RelId = RelId(2);
+
+const SECOND: RelId = RelId(3);
+
+const LAST: RelId = RelId(33);
 
 #[test]
 fn pairs_are_related(rt: HostRuntime) -> Result<(), Fail> {
     let mut relations = Relations::new(rt.alloc())?;
-    let mentor = declare(&mut relations, "mentor")?;
-    let (ann, bob, cyd) = (UserId(0), UserId(1), UserId(2));
-    let related = [
-        relations.relate(mentor, ann, bob),
-        relations.relate(mentor, ann, bob),
-        relations.relate(mentor, bob, cyd),
-        relations.relate(RelId::OTHER, ann, bob),
-    ];
-    let copy = relations.copy()?;
-    let unrelated = [
-        relations.unrelate(mentor, ann, bob),
-        relations.unrelate(mentor, bob, ann),
-        relations.unrelate(RelId::SAME, ann, ann),
-    ];
-    assert_eq!(rt;
-        (related, unrelated),
-        (
-            [
-                Ok(()),
-                Err(RelationFault::Already),
-                Ok(()),
-                Err(RelationFault::Fixed)
-            ],
-            [
-                Ok(()),
-                Err(RelationFault::Absent),
-                Err(RelationFault::Fixed)
-            ]
-        )
-    );
-    assert_eq!(rt;
-        (
-            [
-                relations.holds(mentor, ann, bob),
-                relations.holds(mentor, bob, cyd),
-                relations.holds(mentor, cyd, bob)
-            ],
-            [
-                copy.holds(mentor, ann, bob),
-                copy.holds(RelId::SAME, ann, ann),
-                copy.holds(RelId::OTHER, ann, ann)
-            ]
-        ),
-        ([false, true, false], [true, true, false])
-    );
-    let listed = copy.pairs(mentor)?;
-    assert_eq!(rt; listed.as_slice(), [(0, 1), (1, 2)].as_slice());
+    relate_mentors(&rt, &mut relations)?;
+    assert!(rt; a_copy_has_both(&relations)?);
+    unrelate_mentors(&rt, &mut relations);
     Ok(())
+}
+
+fn relate_mentors(rt: &impl Abort, relations: &mut Relations) -> Result<(), Fail> {
+    assert!(rt; relations.add_listed(read("mentor")?) == Ok(FIRST));
+    assert!(rt; relations.relate(FIRST, ANN, BOB) == Ok(()));
+    assert!(rt; relations.relate(FIRST, ANN, BOB) == Err(RelationFault::Already));
+    assert!(rt; relations.relate(FIRST, BOB, CYD) == Ok(()));
+    assert!(rt; relations.relate(RelId::OTHER, ANN, BOB) == Err(RelationFault::Fixed));
+    Ok(())
+}
+
+fn unrelate_mentors(rt: &impl Abort, relations: &mut Relations) {
+    assert!(rt; relations.unrelate(FIRST, ANN, BOB) == Ok(()));
+    assert!(rt; relations.unrelate(FIRST, BOB, ANN) == Err(RelationFault::Absent));
+    assert!(rt; relations.unrelate(RelId::SAME, ANN, ANN) == Err(RelationFault::Fixed));
+    assert!(rt; !relations.holds(FIRST, ANN, BOB) && relations.holds(FIRST, BOB, CYD));
+    assert!(rt; relations.after(FIRST, BOB, 3) == of(&[2]));
+    assert!(rt; relations.ahead(FIRST, CYD, 3) == of(&[1]));
+    assert!(rt; relations.after(RelId::OTHER, BOB, 3) == of(&[0, 2]));
+    assert!(rt; relations.ahead(RelId::SAME, BOB, 3) == of(&[1]));
+}
+
+fn a_copy_has_both(relations: &Relations) -> Result<bool, AllocError> {
+    let copy = relations.copy()?;
+    Ok(copy.holds(FIRST, ANN, BOB) && !copy.holds(FIRST, CYD, BOB) && lists_both(&copy)?)
+}
+
+fn lists_both(relations: &Relations) -> Result<bool, AllocError> {
+    let pairs = relations.pairs(FIRST)?;
+    Ok(pairs.as_slice() == [(0, 1), (1, 2)].as_slice())
 }
 
 #[test]
 fn a_complement_may_come_before_its_relation(rt: HostRuntime) -> Result<(), Fail> {
     let mut relations = Relations::new(rt.alloc())?;
-    let clear = declare(&mut relations, "clear")?;
-    let conflict = declare(&mut relations, "conflict")?;
-    let again = [
-        relations.add_listed(read("clear")?),
-        relations.add_listed(read("same")?),
-    ];
+    clear_of_conflict(&mut relations)?;
+    relate_conflict(&rt, &mut relations)?;
+    known_by_names(&rt, &relations)?;
+    Ok(())
+}
+
+fn clear_of_conflict(relations: &mut Relations) -> Result<(), Fail>
+    requires { relations.old ≡ [] }
+{
+    let clear = declare(relations, "clear")?;
+    let conflict = declare(relations, "conflict")?;
     relations.make_complement(clear, conflict);
-    let (ann, bob) = (UserId(0), UserId(1));
-    let before = relations.holds(clear, ann, bob);
-    let related = [
-        relations.relate(conflict, ann, bob),
-        relations.relate(clear, ann, bob),
-        relations.unrelate(clear, ann, bob),
-    ];
-    let copy = relations.copy()?;
-    assert_eq!(rt;
-        (again, related, before),
-        (
-            [Err(NameFault::Twice), Err(NameFault::Twice)],
-            [Ok(()), Err(RelationFault::Fixed), Err(RelationFault::Fixed)],
-            true
-        )
-    );
-    assert_eq!(rt;
-        (
-            [copy.holds(clear, ann, bob), copy.holds(clear, bob, ann)],
-            [copy.complement_of(clear), copy.complement_of(conflict)],
-            [
-                copy.find(&read("conflict")?),
-                copy.find(&read("other")?),
-                copy.find(&read("mentor")?)
-            ],
-            copy.name(RelId::OTHER) == read("other")?,
-            copy.count()
-        ),
-        (
-            [false, true],
-            [Some(conflict), None],
-            [Some(conflict), Some(RelId::OTHER), None],
-            true,
-            2
-        )
-    );
+    Ok(())
+}
+
+fn relate_conflict(rt: &impl Abort, relations: &mut Relations) -> Result<(), Fail> {
+    assert!(rt; relations.add_listed(read("clear")?) == Err(NameFault::Twice));
+    assert!(rt; relations.add_listed(read("same")?) == Err(NameFault::Twice));
+    assert!(rt; relations.holds(FIRST, ANN, BOB));
+    assert!(rt; relations.relate(SECOND, ANN, BOB) == Ok(()));
+    assert!(rt; relations.relate(FIRST, ANN, BOB) == Err(RelationFault::Fixed));
+    assert!(rt; relations.unrelate(FIRST, ANN, BOB) == Err(RelationFault::Fixed));
+    assert!(rt; !relations.holds(FIRST, ANN, BOB) && relations.holds(FIRST, BOB, ANN));
+    assert!(rt; relations.after(FIRST, ANN, 3) == of(&[0, 2]));
+    assert!(rt; relations.ahead(FIRST, ANN, 3) == of(&[0, 1, 2]));
+    Ok(())
+}
+
+fn known_by_names(rt: &impl Abort, relations: &Relations) -> Result<(), Fail> {
+    assert!(rt; relations.complement_of(FIRST) == Some(SECOND));
+    assert!(rt; relations.complement_of(SECOND).is_none() && relations.count() == 2);
+    assert!(rt; relations.find(&read("conflict")?) == Some(SECOND));
+    assert!(rt; relations.find(&read("mentor")?).is_none());
+    assert!(rt; relations.name(RelId::OTHER) == read("other")?);
     Ok(())
 }
 
 #[test]
 fn the_limits_are_met(rt: HostRuntime) -> Result<(), Fail> {
     let mut relations = Relations::new(rt.alloc())?;
+    declare_all(&rt, rt.alloc(), &mut relations)?;
+    relate_all(&rt, &mut relations);
+    Ok(())
+}
+
+fn declare_all(rt: &impl Abort, alloc: Global, relations: &mut Relations) -> Result<(), Fail> {
     for n in 0..32 {
-        let name = format!(in rt.alloc(); "r{n}")?;
-        assert_eq!(rt; relations.add_listed(read(&name)?), Ok(RelId(n + 2)));
+        let name = format!(in alloc; "r{n}")?;
+        assert!(rt; relations.add_listed(read(&name)?) == Ok(RelId(n + 2)));
     }
-    let full = [
-        relations.add_listed(read("r32")?),
-        relations.add_listed(read("r31")?),
-    ];
-    let last = RelId(33);
-    for u in 0..64 {
-        for v in 0..1_024 {
-            assert_eq!(rt; relations.relate(last, UserId(u), UserId(v)), Ok(()));
+    assert!(rt; relations.add_listed(read("r32")?) == Err(NameFault::Full));
+    assert!(rt; relations.add_listed(read("r31")?) == Err(NameFault::Twice));
+    Ok(())
+}
+
+fn relate_all(rt: &impl Abort, relations: &mut Relations) {
+    for n in 0..65_536 {
+        let (u, v) = ((n / 1_024) as u16, (n % 1_024) as u16);
+        assert!(rt; relations.relate(LAST, UserId(u), UserId(v)) == Ok(()));
+    }
+    let (last, next) = (UserId(1_023), UserId(64));
+    assert!(rt; relations.relate(LAST, UserId(63), last) == Err(RelationFault::Already));
+    assert!(rt; relations.relate(LAST, next, ANN) == Err(RelationFault::Full));
+    assert!(rt; relations.unrelate(LAST, ANN, ANN) == Ok(()));
+    assert!(rt; relations.relate(LAST, next, ANN) == Ok(()));
+    assert!(rt; relations.ahead(LAST, ANN, 1_024).count() == 64);
+    assert!(rt; relations.after(LAST, ANN, 1_000).count() == 999);
+}
+
+// Rows beside a list, over changes that are drawn.
+#[test]
+fn rows_do_as_a_list_does(rt: HostRuntime) -> Result<(), Fail> {
+    let mut pairs = UserPairs::new(rt.alloc())?;
+    let mut list = Vec::new(rt.alloc());
+    assert!(rt; changes_agree(&mut pairs, &mut list)?);
+    assert!(rt; lists_agree(&pairs, &mut list)? && rows_agree(&pairs, &list));
+    Ok(())
+}
+
+fn changes_agree(pairs: &mut UserPairs, list: &mut Vec<(u16, u16)>) -> Result<bool, AllocError> {
+    let mut state: u64 = 1;
+    let mut agree = true;
+    for _ in 0..5_000 {
+        state = state
+            .wrapping_mul(6_364_136_223_846_793_005)
+            .wrapping_add(1);
+        agree &= change_agrees(pairs, list, state)?;
+    }
+    Ok(agree)
+}
+
+// Puts a pair into both or takes it out of both, and tells whether both say the same of it.
+fn change_agrees(
+    pairs: &mut UserPairs,
+    list: &mut Vec<(u16, u16)>,
+    drawn: u64,
+) -> Result<bool, AllocError> {
+    let u = ((drawn >> 24) % 39 * 26 + 3) as u16;
+    let v = ((drawn >> 40) % 39 * 26 + 29) as u16;
+    let place = list.iter().position(|pair| *pair == (u, v));
+    if drawn >> 63 == 0 {
+        if place.is_none() {
+            list.push((u, v))?;
+        }
+        Ok(pairs.insert(UserId(u), UserId(v))? == place.is_none())
+    } else {
+        if let Some(place) = place {
+            list.swap_remove(place);
+        }
+        Ok(pairs.remove(UserId(u), UserId(v))? == place.is_some())
+    }
+}
+
+fn lists_agree(pairs: &UserPairs, list: &mut Vec<(u16, u16)>) -> Result<bool, AllocError> {
+    list.sort()?;
+    let listed = pairs.pairs()?;
+    Ok(list.len() > 500 && pairs.len() == list.len() && listed.as_slice() == list.as_slice())
+}
+
+fn rows_agree(pairs: &UserPairs, list: &[(u16, u16)]) -> bool {
+    let mut agree = true;
+    for u in 0..1_024 {
+        agree &= pairs.after(UserId(u), 700) == seconds_of(list, u);
+        agree &= pairs.ahead(UserId(u), 700) == firsts_of(list, u);
+    }
+    agree
+}
+
+fn seconds_of(list: &[(u16, u16)], u: u16) -> UserSet {
+    let mut users = UserSet::empty();
+    for (first, second) in list {
+        if *first == u && *second < 700 {
+            users.insert(UserId(*second));
         }
     }
-    let related = [
-        relations.relate(last, UserId(63), UserId(1_023)),
-        relations.relate(last, UserId(64), UserId(0)),
-        relations.unrelate(last, UserId(0), UserId(0)),
-        relations.relate(last, UserId(64), UserId(0)),
-    ];
-    assert_eq!(rt;
-        (full, related),
-        (
-            [Err(NameFault::Full), Err(NameFault::Twice)],
-            [
-                Err(RelationFault::Already),
-                Err(RelationFault::Full),
-                Ok(()),
-                Ok(())
-            ]
-        )
-    );
-    Ok(())
+    users
+}
+
+fn firsts_of(list: &[(u16, u16)], v: u16) -> UserSet {
+    let mut users = UserSet::empty();
+    for (first, second) in list {
+        if *second == v && *first < 700 {
+            users.insert(UserId(*first));
+        }
+    }
+    users
+}
+
+// The set of these users.
+fn of(users: &[u16]) -> UserSet {
+    let mut set = UserSet::empty();
+    for u in users {
+        if *u < 1_024 {
+            set.insert(UserId(*u));
+        }
+    }
+    set
 }
 
 fn declare(relations: &mut Relations, name: &str) -> Result<RelId, Fail>

@@ -5,7 +5,7 @@ use Rattle.pair_set.specs.PairLaws.{all_empty}
 use Rattle.user_relations.proofs.Relations.add_listed.Goals as goal
 
 pub add_pairs-requires-clause-few : goal.add_pairs-requires-clause-few
-add_pairs-requires-clause-few c = rw (c.new-none.ensures, set.len-empty pair_cmp) (omega arith)
+add_pairs-requires-clause-few c = rw (c.in-Ok.ensures, set.len-empty pair_cmp) (omega arith)
 
 pub add_pairs-requires-clause-users : goal.add_pairs-requires-clause-users
-add_pairs-requires-clause-users c = rw c.new-none.ensures (all_empty _)
+add_pairs-requires-clause-users c = rw c.in-Ok.ensures (all_empty _)

@@ -1,0 +1,44 @@
+use Rattle.std.proofs.Common.{◌≡◌, ◌∙◌, ◌==◌, ◌&&◌, ◌||◌, ◌+◌, ℕ, false, ap, sym, subst, length, List, arith}
+use Rattle.std.specs.FinSet as set
+use Rattle.pair_set.specs.PairLaws.{pair_cmp_total, pair_cmp-IsAntisymmetric, insert_held}
+use Rattle.pair_set.specs.Tables.{set_of_insert}
+use Rattle.wf_names.specs.declared.limits.TheConstants.{USER_LIMIT}
+use Rattle.user_relations.specs.declared.blocks.Block.{Block}
+use Rattle.user_relations.specs.Rows.{row_bit, pairs_in, AreRows}
+use Rattle.std.specs.Vec.{with_items}
+use Rattle.std.proofs.lemmas.List.{with_items_is}
+use Rattle.user_relations.proofs.RowSets.{rows_put, few_pairs}
+use Rattle.user_relations.proofs.user_pairs.UserPairs.insert.Goals as goal
+
+pub returns-then-has-clause-added : goal.returns-then-has-clause-added
+returns-then-has-clause-added c = sym (insert_held pair_cmp_total pair_cmp-IsAntisymmetric c.args.self.now (c.args.u, c.args.v) (sym c.has.ensures ∙ c.if-has.true))
+
+pub overflow_add-self : goal.overflow_add-self
+overflow_add-self c = let few = few_pairs _ _ _ c.self.invariant in omega (arith, few)
+
+pub invariant_of-self-2 : goal.invariant_of-self-2
+invariant_of-self-2 c =
+    let u = c.args.u in
+    let v = c.args.v in
+    let ahead = c.self.inside.ahead in
+    let behind = c.self.inside.behind in
+    let new_ahead = with_items_is ahead c.join.new.ahead (c.join.auto.ahead ∙ c.deref_mut.ensures.len) in
+    let new_behind = with_items_is behind c.join.new.behind (c.join.auto.behind ∙ c.deref_mut-2.ensures.len) in
+    let free = ap (λ s. set.contains s (u, v)) c.self.view_is ∙ sym c.has.ensures ∙ c.if-has.false in
+    let rows = rows_put ahead.items behind.items c.join.new.ahead c.join.new.behind c.self.inside.count u v c.self.invariant
+    (c.join.auto.ahead ∙ ap length c.deref_mut.ensures.value) (c.join.auto.behind ∙ ap length c.deref_mut-2.ensures.value)
+    c.requires.first c.requires.second free
+    (λ x y. c.in_ok-join.ensures.ahead x y ∙ ap (λ bs. (x == u && y == v) || row_bit bs x y) c.deref_mut.ensures.value)
+    (λ y x. c.in_ok-join.ensures.behind y x ∙ ap (λ bs. (y == v && x == u) || row_bit bs y x) c.deref_mut-2.ensures.value)
+    in
+    subst (λ (bs : List Block). AreRows bs (with_items behind c.join.new.behind).items (c.self.inside.count + 1)) (sym new_ahead)
+    (subst (λ (bs : List Block). AreRows c.join.new.ahead bs (c.self.inside.count + 1)) (sym new_behind) rows)
+
+pub returns-clause-added : goal.returns-clause-added
+returns-clause-added c =
+    let u = c.args.u in
+    let v = c.args.v in
+    ap pairs_in (with_items_is c.self.inside.ahead c.join.new.ahead (c.join.auto.ahead ∙ c.deref_mut.ensures.len))
+    ∙ set_of_insert (row_bit c.self.inside.ahead.items) (row_bit c.join.new.ahead) USER_LIMIT USER_LIMIT u v c.requires.first c.requires.second
+    (λ x y. c.in_ok-join.ensures.ahead x y ∙ ap (λ bs. (x == u && y == v) || row_bit bs x y) c.deref_mut.ensures.value)
+    ∙ ap (λ s. set.insert s (u, v)) c.self.view_is

@@ -1,0 +1,157 @@
+//! Sets of pairs of users, kept as rows of bits both ways.
+ghost use Rattle.std.specs.Prelude.{◌≡◌, ◌<◌, ◌≤◌, ◌↔◌, ◌&&◌, not, true, false, nat_lt, ℕ, IfOk, OnOk, OnErr, IsTrue};
+ghost use Rattle.std.specs.FinSet as set;
+ghost use Rattle.pair_set.specs.Pairs.{IsAscending};
+ghost use Rattle.wf_names.specs.declared.limits.TheConstants.{USER_LIMIT};
+ghost use Rattle.wf_names.specs.UserSets.{has_user};
+
+use crate::blocks::Block;
+use crate::{blocks, masks};
+use shared_part::{Copied, Shared};
+use std::alloc::{AllocError, Global};
+use std::marker::Model;
+use wf_names::{USER_LIMIT, UserId, UserSet};
+
+/// A finite set of pairs of users. A look-up reads one bit. A copy shares all rows, and a change
+/// after it copies 64 of them each way.
+#[derive(Drop)]
+pub struct UserPairs {
+    // For each first user the second ones, and for each second user the first ones.
+    ahead: Vec<Shared<Block>>,
+    behind: Vec<Shared<Block>>,
+    count: usize,
+}
+
+impl Model for UserPairs {
+    ghost use Rattle.pair_set.specs.Pairs.{Pairs, pairs_code};
+    ghost use Rattle.user_relations.specs.Rows.{pairs_in, AreRows};
+
+    ghost Value = { Pairs };
+
+    ghost coded = { pairs_code };
+
+    ghost view = { λ p. pairs_in p.ahead.items };
+
+    ghost invariant = { λ p. AreRows p.ahead.items p.behind.items p.count };
+}
+
+impl UserPairs {
+    /// The empty set.
+    pub fn new(alloc: Global) -> Result<UserPairs, AllocError>
+        ensures { IfOk result (λ pairs. pairs ≡ set.empty) }
+    {
+        let ahead = blocks::no_bits(alloc)?;
+        let behind = blocks::copy(alloc, &ahead)?;
+        Ok(UserPairs {
+            ahead,
+            behind,
+            count: 0,
+        })
+    }
+
+    /// Whether the pair `(u, v)` is in the set.
+    pub fn has(&self, u: UserId, v: UserId) -> bool
+        ensures { result ≡ set.contains self.now (u, v) }
+    {
+        blocks::has(&self.ahead, u, v)
+    }
+
+    /// The number of pairs.
+    pub fn len(&self) -> usize
+        ensures { result ≡ set.len self.now }
+    {
+        self.count
+    }
+
+    /// Whether the set has no pair.
+    pub fn is_empty(&self) -> bool
+        ensures { IsTrue result ↔ (self.now ≡ set.empty) }
+    {
+        self.len() == 0
+    }
+
+    /// Puts the pair `(u, v)` into the set and answers whether it is new there.
+    /// A pair that is there takes no memory.
+    pub fn insert(&mut self, u: UserId, v: UserId) -> Result<bool, AllocError>
+        requires first { u < USER_LIMIT }
+        requires second { v < USER_LIMIT }
+        ensures added { OnOk result (self.new ≡ set.insert self.old (u, v)) }
+        ensures fresh { IfOk result (λ fresh. fresh ≡ not (set.contains self.old (u, v))) }
+        ensures present { IfOk result (λ fresh. fresh ≡ false → self.new ≡ self.old) }
+        ensures absent { OnErr result (set.contains self.old (u, v) ≡ false) }
+        ensures unchanged { OnErr result (self.new ≡ self.old) }
+    {
+        if self.has(u, v) {
+            return Ok(false);
+        }
+        blocks::join(&mut self.ahead, &mut self.behind, u, v)?;
+        self.count += 1;
+        Ok(true)
+    }
+
+    /// Takes the pair `(u, v)` out of the set and answers whether it was there.
+    /// A pair that is not there takes no memory.
+    pub fn remove(&mut self, u: UserId, v: UserId) -> Result<bool, AllocError>
+        ensures removed { OnOk result (self.new ≡ set.remove self.old (u, v)) }
+        ensures found { IfOk result (λ found. found ≡ set.contains self.old (u, v)) }
+        ensures absent { IfOk result (λ found. found ≡ false → self.new ≡ self.old) }
+        ensures present { OnErr result (set.contains self.old (u, v) ≡ true) }
+        ensures unchanged { OnErr result (self.new ≡ self.old) }
+    {
+        if !self.has(u, v) {
+            return Ok(false);
+        }
+        blocks::part(&mut self.ahead, &mut self.behind, u, v)?;
+        self.count -= 1;
+        Ok(true)
+    }
+
+    /// The users `v` below `users` of pairs `(u, v)`.
+    pub fn after(&self, u: UserId, users: u16) -> UserSet
+        requires { users ≤ USER_LIMIT }
+        ensures { (v : ℕ) → has_user result v ≡ (nat_lt v users && set.contains self.now (u, v)) }
+    {
+        masks::below(users, &blocks::row(&self.ahead, u))
+    }
+
+    /// The users `v` below `users` of pairs `(v, u)`.
+    pub fn ahead(&self, u: UserId, users: u16) -> UserSet
+        requires { users ≤ USER_LIMIT }
+        ensures { (v : ℕ) → has_user result v ≡ (nat_lt v users && set.contains self.now (v, u)) }
+    {
+        masks::below(users, &blocks::row(&self.behind, u))
+    }
+
+    /// The pairs in ascending order, each once.
+    pub fn pairs(&self) -> Result<Vec<(u16, u16)>, AllocError>
+        ensures pairs { IfOk result (λ pairs. set.from_list pairs.items ≡ self.now) }
+        ensures ascending { IfOk result (λ pairs. IsAscending pairs.items) }
+    {
+        let none = Vec::with_capacity(*self.ahead.allocator(), self.count)?;
+        blocks::pairs(&self.ahead, none)
+    }
+
+    /// A set of the same pairs, which shares all rows.
+    pub fn copy(&self) -> Result<UserPairs, AllocError>
+        ensures { IfOk result (λ copy. copy ≡ self.now) }
+    {
+        let alloc = *self.ahead.allocator();
+        Ok(UserPairs {
+            ahead: blocks::copy(alloc, &self.ahead)?,
+            behind: blocks::copy(alloc, &self.behind)?,
+            count: self.count,
+        })
+    }
+}
+
+impl Clone for UserPairs {
+    ghost is_clone = { λ x y. y ≡ x };
+
+    fn clone(&self) -> Result<UserPairs, AllocError> {
+        self.copy()
+    }
+}
+
+impl Copied for UserPairs {
+    ghost equal = { λ x y h. h };
+}
