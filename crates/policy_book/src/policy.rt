@@ -16,7 +16,7 @@ ghost use Rattle.policy_book.specs.Facts.{AreOfUsers, AreSoundRules, IsSoundPoli
 use crate::authority::{holders_of_some, some_role};
 use crate::candidates::keep_unbroken;
 use crate::workflow::Workflow;
-use constraint_forms::{Assign, Holds, Rules};
+use constraint_forms::{Assign, Rules};
 use rbac_state::{Roster, RosterFault};
 use std::alloc::{AllocError, Global};
 use std::marker::Model;
@@ -336,16 +336,6 @@ impl Policy {
     {
         let retiring = &mut self.flows[f.0 as usize];
         retiring.retired = true;
-    }
-}
-
-impl Holds for Policy {
-    ghost use Rattle.user_relations.specs.Relations.{is_related};
-
-    ghost related = { λ p. is_related p.relations };
-
-    fn holds(&self, rho: RelId, u: UserId, v: UserId) -> bool {
-        self.relations.holds(rho, u, v)
     }
 }
 
