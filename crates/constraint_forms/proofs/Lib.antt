@@ -2,3 +2,4 @@ pub mod Bits
 pub mod SamePlans
 pub mod RuleLaws
 pub mod Exchanges
+pub mod Leaving

@@ -1,4 +1,5 @@
 pub mod Assigned
 pub mod Flags
 pub mod Rules
+pub mod Kept
 pub mod Laws

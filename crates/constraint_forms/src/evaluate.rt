@@ -30,8 +30,13 @@ pub fn satisfied<H: Holds>(rule: &Rule, h: &H, plan: &Plan) -> bool
     }
 }
 
-// Whether both users are there and are unrelated.
-fn is_unrelated<H: Holds>(h: &H, rho: RelId, u: Option<UserId>, v: Option<UserId>) -> bool
+/// Whether both users are there and are unrelated.
+pub(crate) fn is_unrelated<H: Holds>(
+    h: &H,
+    rho: RelId,
+    u: Option<UserId>,
+    v: Option<UserId>,
+) -> bool
     ensures { result ≡ are_unrelated (H.related h.now) rho u v }
 {
     match (u, v) {

@@ -4,6 +4,7 @@
 
 mod assign;
 mod evaluate;
+mod kept;
 pub mod laws;
 mod plan;
 mod rule;
@@ -14,6 +15,7 @@ mod tests;
 
 pub use assign::Assign;
 pub use evaluate::{falsified, satisfied};
+pub use kept::{RelatedRows, keep_unfalsified};
 pub use plan::Plan;
 pub use rule::{Holds, Rule};
 pub use rules::Rules;

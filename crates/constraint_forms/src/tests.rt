@@ -1,9 +1,13 @@
 //! Rules of example policies, whose verdicts were worked out by hand, and each call once.
-ghost use Rattle.std.specs.Prelude.{◌==◌, ◌&&◌, true, not, if◌then◌else◌};
+ghost use Rattle.std.specs.Prelude.{◌≡◌, ℕ, ◌==◌, ◌&&◌, ◌<◌, ◌≤◌, nat_lt, true, not, if◌then◌else◌};
+ghost use Rattle.wf_names.specs.UserSets.{has_user};
+ghost use Rattle.wf_names.specs.declared.limits.TheConstants.{STEP_LIMIT, USER_LIMIT};
 
-use crate::{Assign, Holds, Plan, Rule, Rules, StepSet, falsified, satisfied};
+use crate::{
+    Assign, Holds, Plan, RelatedRows, Rule, Rules, StepSet, falsified, keep_unfalsified, satisfied,
+};
 use std::test::Fail;
-use wf_names::{RelId, StepId, UserId};
+use wf_names::{RelId, StepId, UserId, UserSet};
 
 const KIM: UserId = UserId(0);
 
@@ -34,6 +38,50 @@ impl Holds for Mentors {
             _ => u == UserId(0) && v == UserId(1),
         }
     }
+}
+
+impl RelatedRows for Mentors {
+    fn after(&self, rho: RelId, u: UserId, users: u16) -> UserSet {
+        match rho.0 {
+            0 => one_below(u, users),
+            1 => all_but(u, users),
+            _ => if_is(u, KIM, one_below(LEE, users)),
+        }
+    }
+
+    fn ahead(&self, rho: RelId, u: UserId, users: u16) -> UserSet {
+        match rho.0 {
+            0 => one_below(u, users),
+            1 => all_but(u, users),
+            _ => if_is(u, LEE, one_below(KIM, users)),
+        }
+    }
+}
+
+fn one_below(u: UserId, users: u16) -> UserSet
+    requires { users ≤ USER_LIMIT }
+    ensures { (v : ℕ) → has_user result v ≡ (nat_lt v users && v == u) }
+{
+    let mut one = UserSet::empty();
+    if u.0 < users {
+        one.insert(u);
+    }
+    one
+}
+
+fn all_but(u: UserId, users: u16) -> UserSet
+    requires { users ≤ USER_LIMIT }
+    ensures { (v : ℕ) → has_user result v ≡ (nat_lt v users && not (v == u)) }
+{
+    let mut others = UserSet::up_to(users);
+    others.strike(&one_below(u, users));
+    others
+}
+
+fn if_is(u: UserId, v: UserId, set: UserSet) -> UserSet
+    ensures { (w : ℕ) → has_user result w ≡ (u == v && has_user set w) }
+{
+    if u == v { set } else { UserSet::empty() }
 }
 
 // The complement of a relation without pairs.
@@ -174,4 +222,150 @@ fn cells_hold_what_is_put_in(rt: HostRuntime) {
     let plan = Plan::of(&[MAX, LEE]);
     assert!(rt; plan.len() == 2 && plan.at(A) == MAX && plan.at(B) == LEE);
     assert!(rt; plan != Plan::of(&[MAX]));
+}
+
+#[test]
+fn rules_leave_the_users_who_do_not_falsify_them(rt: HostRuntime) {
+    let (rho, group, step) = (LISTED, StepSet::empty().with(A).with(B), C);
+    let some = Rule::SomeOf { rho, group, step };
+    let all = Rule::AllOf { rho, group, step };
+    let pair = Rule::Pair {
+        rho,
+        first: A,
+        second: C,
+    };
+    let rows = [
+        (
+            "k--",
+            C,
+            [true, true, true],
+            [false, true, false],
+            [false, true, false],
+        ),
+        (
+            "km-",
+            C,
+            [false, true, false],
+            [false, false, false],
+            [false, true, false],
+        ),
+        (
+            "-ml",
+            A,
+            [true, false, false],
+            [false, false, false],
+            [true, false, false],
+        ),
+        (
+            "-kl",
+            A,
+            [true, true, true],
+            [true, false, false],
+            [true, false, false],
+        ),
+        (
+            "--l",
+            A,
+            [true, true, true],
+            [true, false, false],
+            [true, false, false],
+        ),
+        (
+            "-m-",
+            A,
+            [true, true, true],
+            [true, true, true],
+            [true, true, true],
+        ),
+    ];
+    for (row, s, by_some, by_all, by_pair) in rows {
+        let a = assigned(row);
+        assert!(rt; left(&some, &a, s) == by_some, "{row}");
+        assert!(rt; left(&all, &a, s) == by_all, "{row}");
+        assert!(rt; left(&pair, &a, s) == by_pair, "{row}");
+    }
+}
+
+// Which of the three users a rule leaves for a step.
+fn left(rule: &Rule, a: &Assign, s: StepId) -> [bool; 3]
+    requires { s < STEP_LIMIT }
+{
+    let mut set = UserSet::up_to(3);
+    keep_unfalsified(rule, &Mentors, a, s, 3, &mut set);
+    [set.has(KIM), set.has(LEE), set.has(MAX)]
+}
+
+#[test]
+fn every_form_leaves_those_by_whom_it_is_not_falsified(rt: HostRuntime) {
+    for row in 0..64u8 {
+        for groups in 0..8u8 {
+            assert!(rt;
+                leaves_as_falsified(&row_of(row), &group_of(groups)),
+                "{row} {groups}"
+            );
+        }
+    }
+}
+
+// The assignment of a number: two bits a step, 3 for a free one.
+fn row_of(row: u8) -> Assign {
+    let mut given = Assign::empty();
+    for step in 0..3u8 {
+        let user = row >> (2 * step) & 3;
+        if user < 3 {
+            given = given.with(StepId(step), UserId(user as u16));
+        }
+    }
+    given
+}
+
+// The set of a number: one bit a step.
+fn group_of(bits: u8) -> StepSet {
+    let mut group = StepSet::empty();
+    for step in 0..3u8 {
+        if bits >> step & 1 == 1 {
+            group = group.with(StepId(step));
+        }
+    }
+    group
+}
+
+// Whether each form over each relation leaves the users with whom it is not falsified.
+fn leaves_as_falsified(a: &Assign, group: &StepSet) -> bool {
+    for rho in 0..3u8 {
+        for step in 0..3u8 {
+            let (rho, group, step) = (RelId(rho), *group, StepId(step));
+            let some = Rule::SomeOf { rho, group, step };
+            let all = Rule::AllOf { rho, group, step };
+            if !leaves_right(&some, a)
+                || !leaves_right(&all, a)
+                || !pairs_leave_right(rho, step, a)
+            {
+                return false;
+            }
+        }
+    }
+    true
+}
+
+fn pairs_leave_right(rho: RelId, first: StepId, a: &Assign) -> bool {
+    for second in 0..3u8 {
+        let second = StepId(second);
+        if !leaves_right(&Rule::Pair { rho, first, second }, a) {
+            return false;
+        }
+    }
+    true
+}
+
+fn leaves_right(rule: &Rule, a: &Assign) -> bool {
+    for s in 0..3u8 {
+        let left = left(rule, a, StepId(s));
+        for u in 0..3u16 {
+            if left[u as usize] == falsified(rule, &Mentors, &a.with(StepId(s), UserId(u))) {
+                return false;
+            }
+        }
+    }
+    true
 }

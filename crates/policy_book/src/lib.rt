@@ -1,12 +1,15 @@
 //! The policy: who holds which role, who is related to whom, and the workflows with their rules.
 #![tactic(auto)]
 
+mod authority;
+mod candidates;
 mod policy;
+mod related;
 #[cfg(test)]
 mod tests;
 mod workflow;
 
-pub use constraint_forms::{Assign, Holds, Plan, Rule, Rules, StepSet};
+pub use constraint_forms::{Assign, Holds, Plan, RelatedRows, Rule, Rules, StepSet};
 pub use policy::Policy;
 pub use rbac_state::{Roster, RosterFault};
 pub use user_relations::{RelationFault, Relations};

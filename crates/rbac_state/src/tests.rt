@@ -14,6 +14,11 @@ const CLERK: RoleId = RoleId(0);
 
 const ADMIN: RoleId = RoleId(1);
 
+// More users than a word has bits.
+const USERS: u16 = 70;
+
+const ROLES: u8 = 2;
+
 #[test]
 fn users_are_added(rt: HostRuntime) -> Result<(), Fail> {
     let mut roster = two_roles(rt.alloc())?;
@@ -51,6 +56,114 @@ fn a_copy_keeps_the_roles(rt: HostRuntime) -> Result<(), Fail> {
     Ok(())
 }
 
+#[test]
+fn the_holders_of_a_role_are_known(rt: HostRuntime) -> Result<(), Fail> {
+    let mut roster = two_roles(rt.alloc())?;
+    add_two(&mut roster)?;
+    let enrolled = roster.enrol(BOB, CLERK);
+    assert!(rt; enrolled == Ok(()) && holds_alone(&roster, CLERK, BOB));
+    assert!(rt; roster.holders(ADMIN).count() == 0 && roster.holders(RoleId(64)).count() == 0);
+    Ok(())
+}
+
+fn holds_alone(roster: &Roster, r: RoleId, u: UserId) -> bool {
+    let holders = roster.holders(r);
+    holders.count() == 1 && holders.has(u)
+}
+
+#[test]
+fn rows_agree_with_a_list_of_pairs(rt: HostRuntime) -> Result<(), Fail> {
+    let mut roster = crowd(rt.alloc())?;
+    assert!(rt; changes_agree(rt.alloc(), &mut roster)?);
+    Ok(())
+}
+
+// Whether a roster answers as a list of pairs does, through random changes of both.
+fn changes_agree(alloc: Global, roster: &mut Roster) -> Result<bool, Fail> {
+    let mut pairs = Vec::new(alloc);
+    let mut state = 1;
+    for _ in 0..1_500 {
+        state = next_state(state);
+        if !change_agrees(roster, &mut pairs, state)? {
+            return Ok(false);
+        }
+    }
+    Ok(pairs.len() > 40 && all_agree(roster, &pairs))
+}
+
+fn next_state(state: u64) -> u64 {
+    state
+        .wrapping_mul(6_364_136_223_846_793_005)
+        .wrapping_add(1_442_695_040_888_963_407)
+}
+
+fn change_agrees(
+    roster: &mut Roster,
+    pairs: &mut Vec<(u16, u8)>,
+    state: u64,
+) -> Result<bool, Fail> {
+    let u = (state >> 33) % USERS as u64;
+    let r = (state >> 50) % ROLES as u64;
+    if state >> 63 == 0 {
+        enrolled_alike(roster, pairs, u as u16, r as u8)
+    } else {
+        dismissed_alike(roster, pairs, u as u16, r as u8)
+    }
+}
+
+fn enrolled_alike(
+    roster: &mut Roster,
+    pairs: &mut Vec<(u16, u8)>,
+    u: u16,
+    r: u8,
+) -> Result<bool, Fail> {
+    if u >= roster.users().len() || r as u16 >= roster.roles().len() {
+        return Ok(false);
+    }
+    let answer = roster.enrol(UserId(u), RoleId(r));
+    if pairs.contains(&(u, r)) {
+        return Ok(answer == Err(RosterFault::Already));
+    }
+    pairs.push((u, r))?;
+    Ok(answer == Ok(()))
+}
+
+fn dismissed_alike(
+    roster: &mut Roster,
+    pairs: &mut Vec<(u16, u8)>,
+    u: u16,
+    r: u8,
+) -> Result<bool, Fail> {
+    let answer = roster.dismiss(UserId(u), RoleId(r));
+    match pairs.iter().position(|pair| *pair == (u, r)) {
+        Some(place) => {
+            pairs.swap_remove(place);
+            Ok(answer == Ok(()))
+        }
+        None => Ok(answer == Err(RosterFault::Absent)),
+    }
+}
+
+fn all_agree(roster: &Roster, pairs: &[(u16, u8)]) -> bool {
+    for r in 0..ROLES {
+        if !row_agrees(roster, pairs, r) {
+            return false;
+        }
+    }
+    true
+}
+
+fn row_agrees(roster: &Roster, pairs: &[(u16, u8)], r: u8) -> bool {
+    let holders = roster.holders(RoleId(r));
+    for u in 0..USERS {
+        let listed = pairs.contains(&(u, r));
+        if roster.has(UserId(u), RoleId(r)) != listed || holders.has(UserId(u)) != listed {
+            return false;
+        }
+    }
+    true
+}
+
 fn copies_the_roles(roster: &Roster) -> Result<bool, Fail> {
     let copy = roster.copy()?;
     Ok(copy.has(BOB, CLERK) && !copy.has(BOB, ADMIN))
@@ -72,6 +185,25 @@ fn add_roles(roles: &mut NameTable) -> Result<(), Fail>
     roles.add(read("clerk")?).ok().ok_or("no room")?;
     roles.add(read("admin")?).ok().ok_or("no room")?;
     Ok(())
+}
+
+// A roster of two roles and of more users than a word has bits.
+fn crowd(alloc: Global) -> Result<Roster, Fail> {
+    let mut roster = two_roles(alloc)?;
+    add_users(alloc, &mut roster)?;
+    Ok(roster)
+}
+
+fn add_users(alloc: Global, roster: &mut Roster) -> Result<(), Fail> {
+    for u in 0..USERS {
+        let user = roster.add_user(numbered(alloc, u)?);
+        user.ok().ok_or("no room")?;
+    }
+    Ok(())
+}
+
+fn numbered(alloc: Global, n: u16) -> Result<Name, Fail> {
+    read(&format!(in alloc; "n{n}")?)
 }
 
 // Adds ann and bob, whose numbers are 0 and 1.

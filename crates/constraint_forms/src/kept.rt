@@ -1,0 +1,203 @@
+//! What a rule leaves of a set of users who could be given a free step.
+ghost use Rattle.std.specs.Prelude.{◌≡◌, ◌&&◌, ℕ, ◌<◌, ◌≤◌, IsTrue, List, Option, Some, length, nat_lt, not, slice_set};
+ghost use Rattle.wf_names.specs.declared.limits.TheConstants.{STEP_LIMIT, USER_LIMIT};
+ghost use Rattle.wf_names.specs.UserSets.{has_user};
+ghost use Rattle.constraint_forms.specs.Assigned.{user_at};
+ghost use Rattle.constraint_forms.specs.Kept.{are_unrelated_with, IsBelow};
+ghost use Rattle.constraint_forms.specs.Rules.{all_from, any_from, are_unrelated, is_falsified};
+ghost use Rattle.constraint_forms.specs.declared.rule.Rule.TheVariants.{SomeOf};
+
+use crate::evaluate::is_unrelated;
+use crate::{Assign, Holds, Rule, StepSet};
+use wf_names::{RelId, StepId, UserId, UserSet};
+
+/// What tells which users are related, and gives those related to one user as a set.
+pub trait RelatedRows: Holds {
+    /// The users below a number to whom a user is related.
+    fn after(&self, rho: RelId, u: UserId, users: u16) -> UserSet
+        requires { users ≤ USER_LIMIT }
+        ensures { (v : ℕ) → has_user result v ≡ (nat_lt v users && Self.related self.now rho u v) };
+
+    /// The users below a number who are related to a user.
+    fn ahead(&self, rho: RelId, u: UserId, users: u16) -> UserSet
+        requires { users ≤ USER_LIMIT }
+        ensures { (v : ℕ) → has_user result v ≡ (nat_lt v users && Self.related self.now rho v u) };
+}
+
+/// Keeps the users of a set who may be given a step: those with whom there the rule is not falsified.
+pub fn keep_unfalsified<R: RelatedRows>(
+    rule: &Rule,
+    rows: &R,
+    a: &Assign,
+    s: StepId,
+    users: u16,
+    set: &mut UserSet,
+)
+    requires step { s < STEP_LIMIT }
+    requires users { users ≤ USER_LIMIT }
+    requires below { IsBelow users set.old }
+    ensures { (u : ℕ) → has_user set.new u ≡ (has_user set.old u && not (is_falsified (R.related rows.now) rule.now (user_at (slice_set a.now s (Some u))))) }
+{
+    match *rule {
+        Rule::Pair { rho, first, second } => {
+            keep_related(rows, rho, a, first, second, s, users, set)
+        }
+        Rule::SomeOf { rho, group, step } => {
+            keep_related_to_some(rows, rho, a, &group, step, s, users, set)
+        }
+        Rule::AllOf { rho, group, step } => {
+            keep_related_to_all(rows, rho, a, &group, step, s, users, set)
+        }
+    }
+}
+
+// Keeps the users with whom some member is free or related to the step, or the step is free.
+fn keep_related_to_some<R: RelatedRows>(
+    rows: &R,
+    rho: RelId,
+    a: &Assign,
+    group: &StepSet,
+    step: StepId,
+    s: StepId,
+    users: u16,
+    set: &mut UserSet,
+)
+    requires step { s < STEP_LIMIT }
+    requires users { users ≤ USER_LIMIT }
+    requires below { IsBelow users set.old }
+    ensures { (u : ℕ) → has_user set.new u ≡ (has_user set.old u && not (is_falsified (R.related rows.now) (SomeOf rho group.now step) (user_at (slice_set a.now s (Some u))))) }
+{
+    if a.at(step).is_some() || s == step {
+        keep_related_to_member(rows, rho, a, group, step, s, users, set);
+    }
+}
+
+// Keeps the users with whom some member is free or related to the step, which is no free one then.
+fn keep_related_to_member<R: RelatedRows>(
+    rows: &R,
+    rho: RelId,
+    a: &Assign,
+    group: &StepSet,
+    step: StepId,
+    s: StepId,
+    users: u16,
+    set: &mut UserSet,
+)
+    requires step { s < STEP_LIMIT }
+    requires users { users ≤ USER_LIMIT }
+    requires below { IsBelow users set.old }
+    ensures { (u : ℕ) → has_user set.new u ≡ (has_user set.old u && not (all_from 0 group.now (λ x. are_unrelated_with (R.related rows.now) rho a.now x step s u))) }
+{
+    let limit = group.limit();
+    let mut kept = UserSet::empty();
+    'members: for x in 0..limit {
+        let member = StepId(x as u8);
+        if group.has(member) {
+            let mut related = *set;
+            keep_related(rows, rho, a, member, step, s, users, &mut related);
+            kept.join(&related);
+        }
+    }
+    *set = kept;
+}
+
+// Keeps the users with whom every member is free or related to the step, or the step is free.
+fn keep_related_to_all<R: RelatedRows>(
+    rows: &R,
+    rho: RelId,
+    a: &Assign,
+    group: &StepSet,
+    step: StepId,
+    s: StepId,
+    users: u16,
+    set: &mut UserSet,
+)
+    requires step { s < STEP_LIMIT }
+    requires users { users ≤ USER_LIMIT }
+    requires below { IsBelow users set.old }
+    ensures { (u : ℕ) → has_user set.new u ≡ (has_user set.old u && not (any_from 0 group.now (λ x. are_unrelated_with (R.related rows.now) rho a.now x step s u))) }
+{
+    let limit = group.limit();
+    'members: for x in 0..limit {
+        let member = StepId(x as u8);
+        if group.has(member) {
+            keep_related(rows, rho, a, member, step, s, users, set);
+        }
+    }
+}
+
+// Keeps the users with whom the steps x and y are not both assigned, or are related.
+fn keep_related<R: RelatedRows>(
+    rows: &R,
+    rho: RelId,
+    a: &Assign,
+    x: StepId,
+    y: StepId,
+    s: StepId,
+    users: u16,
+    set: &mut UserSet,
+)
+    requires step { s < STEP_LIMIT }
+    requires users { users ≤ USER_LIMIT }
+    requires below { IsBelow users set.old }
+    ensures { (u : ℕ) → has_user set.new u ≡ (has_user set.old u && not (are_unrelated_with (R.related rows.now) rho a.now x y s u)) }
+{
+    let (u, v) = (a.at(x), a.at(y));
+    match (x == s, y == s) {
+        (true, true) => keep_related_to_self(rows, rho, users, set),
+        (true, false) => keep_ahead(rows, rho, v, users, set),
+        (false, true) => keep_after(rows, rho, u, users, set),
+        (false, false) => {
+            if is_unrelated(rows, rho, u, v) {
+                *set = UserSet::empty();
+            }
+        }
+    }
+}
+
+// Keeps the users who are related to a user, if there is one.
+fn keep_ahead<R: RelatedRows>(
+    rows: &R,
+    rho: RelId,
+    v: Option<UserId>,
+    users: u16,
+    set: &mut UserSet,
+)
+    requires users { users ≤ USER_LIMIT }
+    requires below { IsBelow users set.old }
+    ensures { (u : ℕ) → has_user set.new u ≡ (has_user set.old u && not (are_unrelated (R.related rows.now) rho (Some u) v)) }
+{
+    if let Some(v) = v {
+        set.meet(&rows.ahead(rho, v, users));
+    }
+}
+
+// Keeps the users to whom a user is related, if there is one.
+fn keep_after<R: RelatedRows>(
+    rows: &R,
+    rho: RelId,
+    v: Option<UserId>,
+    users: u16,
+    set: &mut UserSet,
+)
+    requires users { users ≤ USER_LIMIT }
+    requires below { IsBelow users set.old }
+    ensures { (u : ℕ) → has_user set.new u ≡ (has_user set.old u && not (are_unrelated (R.related rows.now) rho v (Some u))) }
+{
+    if let Some(v) = v {
+        set.meet(&rows.after(rho, v, users));
+    }
+}
+
+// Keeps the users who are related to themselves.
+fn keep_related_to_self<R: RelatedRows>(rows: &R, rho: RelId, users: u16, set: &mut UserSet)
+    requires users { users ≤ USER_LIMIT }
+    requires below { IsBelow users set.old }
+    ensures { (u : ℕ) → has_user set.new u ≡ (has_user set.old u && R.related rows.now rho u u) }
+{
+    'users: for u in 0..users {
+        if set.has(UserId(u)) && !rows.holds(rho, UserId(u), UserId(u)) {
+            set.remove(UserId(u));
+        }
+    }
+}
