@@ -162,7 +162,7 @@ impl Relations {
         }
     }
 
-    /// The users `v` below `users` of whom the relation holds with u before them. Takes no memory.
+    /// The users `v` below `users` such that the relation holds of u and v. Takes no memory.
     pub fn after(&self, rho: RelId, u: UserId, users: u16) -> UserSet
         requires { users ≤ USER_LIMIT }
         ensures { (v : ℕ) → has_user result v ≡ (nat_lt v users && is_related self.now rho u v) }
@@ -174,7 +174,7 @@ impl Relations {
         }
     }
 
-    /// The users `v` below `users` of whom the relation holds with u after them. Takes no memory.
+    /// The users `v` below `users` such that the relation holds of v and u. Takes no memory.
     pub fn ahead(&self, rho: RelId, u: UserId, users: u16) -> UserSet
         requires { users ≤ USER_LIMIT }
         ensures { (v : ℕ) → has_user result v ≡ (nat_lt v users && is_related self.now rho v u) }
