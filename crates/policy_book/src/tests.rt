@@ -1,5 +1,30 @@
-//! What no clause shows: that a policy may be lent to threads and handed from one to another.
-use crate::Policy;
+//! What no clause shows: that a policy may be lent to threads and handed from one to another, and
+//! that it answers while there is memory.
+ghost use Rattle.std.specs.Prelude.{◌≡◌, ◌<◌, ◌+◌, ℕ, ◌∷◌, [], IfOk, IsTrue, OnOk, length};
+ghost use Rattle.std.specs.FinSet as set;
+ghost use Rattle.constraint_forms.specs.declared.rule.Rule.TheVariants.{Pair};
+ghost use Rattle.policy_book.specs.Policies.{flow_at, problem_of};
+ghost use Rattle.policy_book.specs.Refuting.{is_unassigned};
+
+use crate::{Assign, Flow, Policy, RelatedRows, Relations, Roster, Rule, Rules};
+use constraint_forms::falsified;
+use std::alloc::Global;
+use std::test::Fail;
+use wf_names::{FlowId, Name, NameTable, RelId, RoleId, StepId, UserId};
+
+const CLERK: RoleId = RoleId(0);
+
+const PAY: FlowId = FlowId(0);
+
+const A: StepId = StepId(0);
+
+const B: StepId = StepId(1);
+
+const ANN: UserId = UserId(0);
+
+const BOB: UserId = UserId(1);
+
+const USERS: u16 = 3;
 
 fn is_shared<T: Send + Sync>() -> bool {
     true
@@ -8,4 +33,168 @@ fn is_shared<T: Send + Sync>() -> bool {
 #[test]
 fn policies_are_shared(rt: HostRuntime) {
     assert!(rt; is_shared::<Policy>());
+}
+
+// Ann and bob are clerks, cyd is none; clerks may do both steps, which one user may not do both.
+#[test]
+fn candidates_are_clerks_who_have_not_done_the_other_step(rt: HostRuntime) -> Result<(), Fail> {
+    let mut p = policy(rt.alloc())?;
+    assert!(rt; is_staffed(&mut p) && candidates_are_right(&p) && rows_are_right(&p));
+    Ok(())
+}
+
+// Makes ann and bob clerks, and permits both steps to clerks.
+fn is_staffed(p: &mut Policy) -> bool {
+    is_made_clerk(p, ANN)
+        && is_made_clerk(p, BOB)
+        && is_permitted_to_clerks(p, A)
+        && is_permitted_to_clerks(p, B)
+}
+
+fn is_made_clerk(p: &mut Policy, u: UserId) -> bool {
+    if u.0 >= p.roster().users().len() || p.roster().roles().len() == 0 {
+        return false;
+    }
+    p.enrol(u, CLERK) == Ok(())
+}
+
+fn is_permitted_to_clerks(p: &mut Policy, s: StepId) -> bool {
+    if !has_step(p, s) || p.roster().roles().len() == 0 {
+        return false;
+    }
+    p.permit(PAY, CLERK, s)
+}
+
+fn has_step(p: &Policy, s: StepId) -> bool
+    ensures flow { IsTrue result → 0 < length p.now.flows }
+    ensures step { IsTrue result → s < length (flow_at p.now 0).flow.steps }
+{
+    p.flows().len() != 0 && (s.0 as u16) < p.flow(PAY).steps().len()
+}
+
+fn candidates_are_right(p: &Policy) -> bool {
+    let empty = Assign::empty();
+    let given = empty.with(A, ANN);
+    are_candidates(p, B, &empty, [true, true, false])
+        && are_candidates(p, B, &given, [false, true, false])
+        && agree_with_tests(p, B, &given)
+}
+
+fn are_candidates(p: &Policy, s: StepId, a: &Assign, wanted: [bool; 3]) -> bool {
+    if !is_free(p, s, a) {
+        return false;
+    }
+    let found = p.candidates(PAY, s, a);
+    [found.has(ANN), found.has(BOB), found.has(UserId(2))] == wanted
+}
+
+fn is_free(p: &Policy, s: StepId, a: &Assign) -> bool
+    ensures flow { IsTrue result → 0 < length p.now.flows }
+    ensures free { IsTrue result → IsTrue (is_unassigned (problem_of p.now 0) a.now s) }
+{
+    p.flows().len() != 0 && (s.0 as u16) < p.flow(PAY).steps().len() && a.at(s).is_none()
+}
+
+// Whether the candidates are those who pass each test alone.
+fn agree_with_tests(p: &Policy, s: StepId, a: &Assign) -> bool {
+    if !is_free(p, s, a) || p.roster().users().len() != USERS || s.0 > 1 {
+        return false;
+    }
+    let found = p.candidates(PAY, s, a);
+    let authorised = p.authorised_users(PAY, s);
+    for u in 0..USERS {
+        let passes = p.authorised(PAY, s, UserId(u));
+        let breaks = is_broken(p, &a.with(s, UserId(u)));
+        if authorised.has(UserId(u)) != passes || found.has(UserId(u)) != (passes && !breaks) {
+            return false;
+        }
+    }
+    true
+}
+
+fn is_broken(p: &Policy, a: &Assign) -> bool
+    requires { 0 < length p.now.flows }
+{
+    match p.rules(PAY).as_slice().first() {
+        Some(rule) => falsified(rule, p, a),
+        None => true,
+    }
+}
+
+fn rows_are_right(p: &Policy) -> bool {
+    let others = p.after(RelId::OTHER, ANN, USERS);
+    let same = p.ahead(RelId::SAME, ANN, USERS);
+    others.count() == 2 && !others.has(ANN) && same.count() == 1 && same.has(ANN)
+}
+
+fn policy(alloc: Global) -> Result<Policy, Fail> {
+    let roster = roster(alloc)?;
+    start(alloc, roster, flow(alloc)?)
+}
+
+#[tactic(auto, using(crate::proofs::Apart::apart_is_sound))]
+fn start(alloc: Global, roster: Roster, flow: Flow) -> Result<Policy, Fail>
+    requires steps { length flow.steps ≡ 2 }
+    requires permits { flow.permits ≡ set.empty }
+{
+    if roster.roles().len() == 0 {
+        return Err("no roles")?;
+    }
+    let rules = apart(alloc)?;
+    let mut p = Policy::start(alloc, roster, Relations::new(alloc)?, CLERK)?;
+    p.add_flow(read("pay")?, flow, rules).ok().ok_or("no flow")?;
+    Ok(p)
+}
+
+fn roster(alloc: Global) -> Result<Roster, Fail> {
+    let mut roles = NameTable::new(alloc, 4)?;
+    roles.add(read("clerk")?).ok().ok_or("no room")?;
+    if roles.len() > 4 {
+        return Err("too many roles")?;
+    }
+    let mut roster = Roster::new(alloc, roles)?;
+    add_users(&mut roster)?;
+    Ok(roster)
+}
+
+fn add_users(roster: &mut Roster) -> Result<(), Fail> {
+    for name in ["ann", "bob", "cyd"] {
+        roster.add_user(read(name)?).ok().ok_or("no room")?;
+    }
+    Ok(())
+}
+
+fn flow(alloc: Global) -> Result<Flow, Fail>
+    ensures steps { IfOk result (λ f. length f.steps ≡ 2) }
+    ensures permits { IfOk result (λ f. f.permits ≡ set.empty) }
+{
+    let mut steps = NameTable::new(alloc, 4)?;
+    add_steps(&mut steps)?;
+    Ok(Flow::build(alloc, steps, &[], &[]).ok().ok_or("no flow")?)
+}
+
+fn add_steps(steps: &mut NameTable) -> Result<(), Fail>
+    ensures { OnOk result (length steps.new.names ≡ length steps.old.names + 2) }
+{
+    steps.add(read("a")?).ok().ok_or("no room")?;
+    steps.add(read("b")?).ok().ok_or("no room")?;
+    Ok(())
+}
+
+// The rule that different users do the two steps.
+fn apart(alloc: Global) -> Result<Rules, Fail>
+    ensures { IfOk result (λ rules. rules ≡ Pair 1 0 1 ∷ []) }
+{
+    let mut rules = Rules::new(alloc);
+    let different = Rule::Pair {
+        rho: RelId::OTHER,
+        first: A,
+        second: B,
+    };
+    rules.push(different)?;
+    Ok(rules)
+}
+
+fn read(text: &str) -> Result<Name, Fail> {
+    Ok(Name::read(text).ok_or("not a name")?)
 }
