@@ -7,6 +7,7 @@ use Rattle.std.specs.Ordering.{eq_by_cmp}
 use Rattle.std.specs.declared.cmp.Ordering.TheVariants.{Less}
 use Rattle.std.specs.FinSet as set
 use Rattle.std.proofs.lemmas.Map.Keys.{sorted_head, sorted_tail}
+use Rattle.basics.proofs.Booleans.{not_true, or_right}
 use Rattle.wf_names.specs.declared.limits.TheConstants.{STEP_LIMIT}
 use Rattle.pair_set.specs.Pairs.{Pairs, pair_cmp, IsAscending}
 use Rattle.pair_set.specs.PairLaws.{pair_cmp_total, pair_cmp-IsAntisymmetric, all_insert, contains_inserted}
@@ -24,10 +25,6 @@ pub once_each : (ps : List (ℕ × ℕ)) → IsAscending ps → has_twice ps ≡
 once_each [] s = refl
 once_each (p ∷ ps) s =
     rw (set.contains-from_list pair_cmp_total ps p ∙ none_above p ps (sorted_head pair_cmp p ps s)) (once_each ps (sorted_tail pair_cmp p ps s))
-
-not_true : (a : Bool) → (a ≡ true → ⊥) → a ≡ false
-not_true true h = absurd (h refl)
-not_true false h = refl
 
 -- the least number that passes
 pub least_none : (n : ℕ) (test : ℕ → Bool) → ((t : ℕ) → t < n → test t ≡ false) → least_below n test ≡ None
@@ -101,15 +98,11 @@ cycle_within n order s within h = first_below n order s s within h.cycle
 pub permits_insert : (n : ℕ) (permits : Pairs) (r s : ℕ) → ((a b : ℕ) → set.contains permits (a, b) ≡ true → a < n) → r < n → (a b : ℕ) → set.contains (set.insert permits (r, s)) (a, b) ≡ true → a < n
 permits_insert n permits r s old here = (all_insert (λ a b. a < n) permits r s here (record { each = old })).each
 
-or_true : (a : Bool) → (a || true) ≡ true
-or_true true = refl
-or_true false = refl
-
 below_each : (n : ℕ) (ps : List (ℕ × ℕ)) → AreBelow n (set.from_list ps) → AllByRecursion (λ p. (p.0 < n) × (p.1 < n)) ps
 below_each n [] h = tt
 below_each n (p ∷ ps) h = (
   h.each p.0 p.1 (contains_inserted pair_cmp_total pair_cmp-IsAntisymmetric (set.from_list ps) p),
-  below_each n ps (record { each = λ a b here. h.each a b (set.contains-insert pair_cmp_total (set.from_list ps) p (a, b) ∙ ap (λ x. eq_by_cmp pair_cmp (a, b) p || x) here ∙ or_true _) }),
+  below_each n ps (record { each = λ a b here. h.each a b (set.contains-insert pair_cmp_total (set.from_list ps) p (a, b) ∙ or_right (eq_by_cmp pair_cmp (a, b) p) _ here) }),
 )
 
 -- the pairs of a list whose set is below n

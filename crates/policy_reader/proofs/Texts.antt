@@ -1,12 +1,9 @@
 -- Bytes that are UTF-8.
 use Rattle.std.proofs.Common.{◌≡◌, ℕ, List, length, true, ◌==◌, refl, arith}
 use Rattle.std.specs.Prelude.{IsUtf8}
-use Rattle.std.proofs.lemmas.Bool.Decides.{nat_tests}
+use Rattle.basics.proofs.Booleans.{eq_same}
 use Rattle.std.proofs.lemmas.Str.{utf8_valid_len-IsUtf8}
 use Rattle.policy_reader.specs.Files.{document_in, document_in_text}
-
-eq_same : (n : ℕ) → (n == n) ≡ true
-eq_same n = grind (arith, nat_tests)
 
 pub document_in-utf8 : (bytes : List ℕ) → IsUtf8 bytes → document_in bytes ≡ document_in_text bytes
 unfolding document_in

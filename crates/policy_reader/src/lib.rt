@@ -5,6 +5,7 @@ mod fault;
 mod file;
 mod flows;
 mod form;
+mod format;
 mod parts;
 mod relations;
 mod rosters;
@@ -14,6 +15,7 @@ mod workflows;
 pub use fault::{PolicyFault, PolicyKind, PolicyPart, ReadFault};
 pub use file::read;
 pub use form::Form;
+pub use format::Format;
 
 #[cfg(test)]
 mod tests;
