@@ -1,11 +1,7 @@
-pub mod Texts
 pub mod Writing
-pub mod Rows
 pub mod Plain
 pub mod Readings
-pub mod Lines
 pub mod Tabled
-pub mod Sorted
 pub mod NamesAgain
 pub mod PairsAgain
 pub mod UsersAgain
@@ -14,3 +10,5 @@ pub mod RulesAgain
 pub mod RelationsAgain
 pub mod FlowsAgain
 pub mod Again
+pub mod Sets
+pub mod Rows

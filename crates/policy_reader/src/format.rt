@@ -31,7 +31,11 @@ impl Format {
     pub(crate) fn with(number: i64) -> Option<Format>
         ensures { result ≡ spec.format_with number }
     {
-        if number == 1 { Some(Format::First) } else { None }
+        if number == 1 {
+            Some(Format::First)
+        } else {
+            None
+        }
     }
 
     /// The keys of the file.
