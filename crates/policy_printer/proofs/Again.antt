@@ -33,52 +33,34 @@ module _ (decided : IsDecided) (p : PolicyShape) (h : IsNamedPolicy p) (is : IsP
   abbrev doc : Members
   doc = document_of p
 
-  format_back : format_of doc ≡ Ok written_format
-  unfolding format_of value_at document_of
-  format_back = refl
-
   admin_back : admin_of doc ≡ Ok (name_at p.roster.roles p.admin)
   unfolding admin_of value_at text_in name_in document_of
   admin_back = rw (form_at p.roster.roles p.admin h.roles h.sound.admin) refl
 
-  known_keys : no_others File 0 (file_keys written_format) doc ≡ Ok tt
-  unfolding no_others known_key document_of
-  known_keys = refl
-
-  users_there : get_member (codes "users") doc ≡ Some (users_data p.roster)
-  unfolding document_of
-  users_there = refl
-
-  roles_there : get_member (codes "roles") doc ≡ Some (names_data p.roster.roles)
-  unfolding document_of
-  roles_there = refl
-
-  relations_there : get_member (codes "relations") doc ≡ Some (relations_data p.roster.users p.relations)
-  unfolding document_of
-  relations_there = refl
-
-  flows_there : get_member (codes "flows") doc ≡ Some (flows_data p)
-  unfolding document_of
-  flows_there = refl
+  -- what stands at the keys
+  written : (format_of doc ≡ Ok written_format) × (no_others File 0 (file_keys written_format) doc ≡ Ok tt) × (get_member (codes "users") doc ≡ Some (users_data p.roster))
+      × (get_member (codes "roles") doc ≡ Some (names_data p.roster.roles)) × (get_member (codes "relations") doc ≡ Some (relations_data p.roster.users p.relations)) × (get_member (codes "flows") doc ≡ Some (flows_data p))
+  unfolding format_of value_at no_others known_key document_of
+  written = (refl, refl, refl, refl, refl, refl)
 
   start_back : start_of doc ≡ Ok (record p { flow_names = []; flows = [] })
   unfolding start_of start_with start_over
   start_back = rw (
     admin_back,
-    roles_back doc p.roster.roles h.roles (omega (arith, h.sound.admin)) h.sound.roles roles_there,
+    roles_back doc p.roster.roles h.roles (omega (arith, h.sound.admin)) h.sound.roles written.3,
     number_back File 0 p.roster.roles p.admin h.roles h.sound.admin,
-    roster_back p.roster h.roster h.roles h.users doc is.begun.users (some_user (length p.roster.users) _ is.begun.admin) users_there,
+    roster_back p.roster h.roster h.roles h.users doc is.begun.users (some_user (length p.roster.users) _ is.begun.admin) written.2,
     is.begun.admin,
-    relations_back p.roster.users p.relations h.users h.relations h.sound.related h.related doc is.begun.relations relations_there,
+    relations_back p.roster.users p.relations h.users h.relations h.sound.related h.related doc is.begun.relations written.4,
   ) refl
 
   policy_back : policy_in doc ≡ Ok p
   unfolding policy_in rest_of
   policy_back = rw (
-    format_back,
+    written.0,
     start_back,
-    flows_back decided p h.roles h.related h.flow_names h.sound.named h.flows h.sound.flows (λ f lt. active_at p.flows f is.active lt) doc is.flows is.some h.sound.few flows_there,
-    known_keys,
+    flows_back decided p h.roles h.related h.flow_names h.sound.named h.flows h.sound.flows (λ f lt. active_at p.flows f is.active lt) doc is.flows is.some h.sound.few written.5,
+    written.1,
   ) refl
 
   -- a policy that can be printed is read from what it is written as

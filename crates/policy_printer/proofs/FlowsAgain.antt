@@ -22,7 +22,7 @@ use Rattle.policy_reader.specs.Printable.{Ascend}
 use Rattle.policy_printer.specs.Documents.{names_data, pair_data, pairs_data, permits_data, rules_data, rows, workflow_members, flow_entry, flows_data}
 use Rattle.policy_printer.specs.Named.{IsNamedWorkflow}
 use Rattle.policy_printer.proofs.NamesAgain.{steps_back}
-use Rattle.policy_printer.proofs.PairsAgain.{pairs_back}
+use Rattle.policy_printer.proofs.Rows.{pairs_back}
 use Rattle.policy_printer.proofs.PermitsAgain.{permits_back}
 use Rattle.policy_printer.proofs.RulesAgain.{rules_back}
 use Rattle.policy_printer.proofs.Readings.{count_back, upto, upto_length, take_next, items_back, form_at, at_least-ok, at_most-ok}
@@ -58,38 +58,28 @@ module _ (decided : IsDecided) (f : ℕ) (roles : List (List ℕ)) (relations : 
   unfolding ordered_in pairs_of workflow_members
   ordered_again = rw (order_again, no_cycle-again) refl
 
-  steps_there : get_member (codes "steps") written ≡ Some (names_data steps)
-  unfolding workflow_members
-  steps_there = refl
-
-  permits_there : get_member (codes "permit") written ≡ Some (permits_data roles w.flow)
-  unfolding workflow_members
-  permits_there = refl
-
-  rules_there : get_member (codes "rules") written ≡ Some (rules_data relations steps w.rules)
-  unfolding workflow_members
-  rules_there = refl
-
-  known_keys : no_others Flows f (codes "order" ∷ codes "permit" ∷ codes "rules" ∷ codes "steps" ∷ []) written ≡ Ok tt
+  -- what stands at the keys
+  there : (get_member (codes "steps") written ≡ Some (names_data steps)) × (get_member (codes "permit") written ≡ Some (permits_data roles w.flow)) × (get_member (codes "rules") written ≡ Some (rules_data relations steps w.rules))
+      × (no_others Flows f (codes "order" ∷ codes "permit" ∷ codes "rules" ∷ codes "steps" ∷ []) written ≡ Ok tt)
   unfolding no_others known_key workflow_members
-  known_keys = refl
+  there = (refl, refl, refl, refl)
 
   permitted : AllPairs (λ r s. (r < length roles) × (s < length steps)) w.flow.permits
   permitted = record { each = λ r s k. (sound.permitted r s k, (h.kept.permitted.each r s k).1) }
 
   flow_again : flow_in f roles written ≡ Ok w.flow
   unfolding flow_in
-  flow_again = rw (steps_back f written steps h.steps (lt_back 0 (length steps) (and_both _ _ h.kept.counted).0) few steps_there, ordered_again) (permits_back f roles w.flow named h.steps permitted written permits_there)
+  flow_again = rw (steps_back f written steps h.steps (lt_back 0 (length steps) (and_both _ _ h.kept.counted).0) few there.0, ordered_again) (permits_back f roles w.flow named h.steps permitted written there.1)
 
   pub rules_again : rules_of f relations steps written ≡ Ok w.rules
-  rules_again = rules_back f steps h.steps relations related written w.rules sound.ruled h.flags sound.few rules_there
+  rules_again = rules_back f steps h.steps relations related written w.rules sound.ruled h.flags sound.few there.2
 
 workflow_again : IsDecided → (p : PolicyShape) → AreNames p.roster.roles → AreNames (known_names p.relations) → (w : WorkflowShape) → IsNamedWorkflow w
     → IsSoundWorkflow (length p.roster.roles) (length p.relations) w → w.retired ≡ false → workflow_in p (workflow_members p.roster.roles p.relations w) ≡ Ok w
 unfolding workflow_in
 workflow_again decided p named related w h sound active =
     let f = length p.flows in
-    rw (known_keys decided f p.roster.roles p.relations named related w h sound, flow_again decided f p.roster.roles p.relations named related w h sound, rules_again decided f p.roster.roles p.relations named related w h sound)
+    rw ((there decided f p.roster.roles p.relations named related w h sound).3, flow_again decided f p.roster.roles p.relations named related w h sound, rules_again decided f p.roster.roles p.relations named related w h sound)
     (λ i. Ok (record { flow = w.flow; rules = w.rules; retired = sym active i }))
 
 -- ---- all workflows

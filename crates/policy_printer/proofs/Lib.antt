@@ -3,7 +3,6 @@ pub mod Plain
 pub mod Readings
 pub mod Tabled
 pub mod NamesAgain
-pub mod PairsAgain
 pub mod UsersAgain
 pub mod PermitsAgain
 pub mod RulesAgain

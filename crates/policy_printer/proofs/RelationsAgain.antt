@@ -18,7 +18,7 @@ use Rattle.policy_reader.specs.Parts.{entries, array_in, table_in, text_in, name
 use Rattle.policy_reader.specs.Relations.{first_declared, names_of, is_built_in, is_complement, entry_of, listed_in, complement_in, kind_in, next_relation, relations_in, relations_of}
 use Rattle.policy_reader.specs.Printable.{Ascend}
 use Rattle.policy_printer.specs.Documents.{name_at, pair_data, pairs_data, rows, table_below, kind_members, relation_entry, relations_data}
-use Rattle.policy_printer.proofs.PairsAgain.{pairs_back, pairs_count}
+use Rattle.policy_printer.proofs.Rows.{pairs_back, pairs_count}
 use Rattle.policy_printer.proofs.Readings.{list_back, items_back, upto_map, got_middle, at_most-ok}
 use Rattle.policy_printer.proofs.Tabled.{tabled_in_order}
 

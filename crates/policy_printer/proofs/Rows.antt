@@ -1,9 +1,9 @@
 -- The pairs of a set, row by row: they ascend, and are those of the set.
-use Rattle.std.proofs.Common.{◌≡◌, ℕ, zero, suc, ◌<◌, Bool, true, false, ◌||◌, ◌&&◌, cond, List, [], ◌∷◌, ◌++◌, length, map, Less, Equal, refl, sym, ap, ◌∙◌, append_assoc, arith}
-use Rattle.std.specs.Prelude.{if◌then◌else◌, Option, Some, None, T}
+use Rattle.std.proofs.Common.{◌≡◌, ℕ, zero, suc, ◌<◌, Bool, true, false, ◌||◌, ◌&&◌, cond, List, [], ◌∷◌, ◌++◌, map, Less, Equal, refl, sym, ap, subst, ◌∙◌, append_assoc, arith, length}
+use Rattle.std.specs.Prelude.{if◌then◌else◌, Option, Some, None, T, Ok}
 use Rattle.std.specs.Ordering.{eq_by_cmp, nat_cmp, ordering_then}
-use Rattle.std.specs.Cmp.{nat_cmp_is}
-use Rattle.std.specs.List.{list_any, AllByRecursion}
+use Rattle.std.specs.Cmp.{nat_cmp_is, eq_by_cmp_equiv}
+use Rattle.std.specs.List.{list_any, AllByRecursion, IsDistinct}
 use Rattle.std.specs.List.Sorted.{IsStrictlySortedBy}
 use Rattle.std.specs.FinSet as set
 use Rattle.std.specs.FinMap.{find, is_sorted}
@@ -11,92 +11,76 @@ use Rattle.std.specs.FinMap.Entries.{below_all, same_entries}
 use Rattle.std.proofs.lemmas.List.{append-nil}
 use Rattle.pair_set.specs.Pairs.{Pairs, pair_cmp, IsAscending, AllPairs}
 use Rattle.pair_set.specs.PairLaws.{pair_cmp_total, pair_cmp-IsAntisymmetric}
-use Rattle.policy_printer.specs.Documents.{row, rows}
+use Rattle.policy_printer.specs.Documents.{row, rows, pair_data}
 use Rattle.policy_printer.specs.Named.{rows_below}
 use Rattle.policy_printer.proofs.Writing.{row_of, no_rows, all_rows, row_begins, row_up, row_same, row_end}
+use Rattle.std.proofs.lemmas.Map.Keys.{IsDistinct-from_sorted}
+use Rattle.wf_names.specs.Table.{AreNames}
+use Rattle.pair_set.proofs.SetOfList.{len-from_list}
+use Rattle.first_fault.specs.Reading.{each}
+use Rattle.policy_reader.specs.declared.fault.PolicyPart.{PolicyPart}
+use Rattle.policy_reader.specs.Parts.{once, next_pair}
+use Rattle.policy_printer.proofs.Readings.{list_back, middle, new_middle, number_back}
+use Rattle.policy_printer.proofs.Sets.{itself}
 
--- ---- lists that ascend
-
-all_append : {X : Type 0} (P : X → Type 0) (xs ys : List X) → AllByRecursion P xs → AllByRecursion P ys → AllByRecursion P (xs ++ ys)
-all_append P [] ys a b = b
-all_append P (x ∷ xs) ys a b = (a.0, all_append P xs ys a.1 b)
+-- ---- one pair more
 
 pair_below : (x y : ℕ × ℕ) → x.0 < y.0 → pair_cmp x y ≡ Less
 pair_below x y lt = ap (λ o. ordering_then o (nat_cmp x.1 y.1)) (sym (nat_cmp_is x.0 y.0 Less lt))
 
-pair_after : (x y : ℕ × ℕ) → x.0 ≡ y.0 → x.1 < y.1 → pair_cmp x y ≡ Less
-pair_after x y same lt = ap (λ o. ordering_then o (nat_cmp x.1 y.1)) (sym (nat_cmp_is x.0 y.0 Equal same)) ∙ sym (nat_cmp_is x.1 y.1 Less lt)
+pair_next : (s t : ℕ) → pair_cmp (s, t) (s, suc t) ≡ Less
+pair_next s t = ap (λ o. ordering_then o (nat_cmp t (suc t))) (sym (nat_cmp_is s s Equal refl)) ∙ sym (nat_cmp_is t (suc t) Less (omega arith))
 
-all_of : {X : Type 0} (P Q : X → Type 0) (xs : List X) → ((x : X) → P x → Q x) → AllByRecursion P xs → AllByRecursion Q xs
-all_of P Q [] f h = tt
-all_of P Q (x ∷ xs) f h = (f x h.0, all_of P Q xs f h.1)
+push_all : {X : Type 0} (P : X → Type 0) (xs : List X) (y : X) → AllByRecursion P xs → P y → AllByRecursion P (xs ++ y ∷ [])
+push_all P [] y h here = (here, tt)
+push_all P (x ∷ xs) y h here = (h.0, push_all P xs y h.1 here)
 
-ascend_append : (xs ys : List (ℕ × ℕ)) → IsAscending xs → IsAscending ys → AllByRecursion (λ x. AllByRecursion (λ y. pair_cmp x y ≡ Less) ys) xs → IsAscending (xs ++ ys)
+push_ascend : (ps : List (ℕ × ℕ)) (q : ℕ × ℕ) → IsAscending ps → AllByRecursion (λ p. pair_cmp p q ≡ Less) ps → IsAscending (ps ++ q ∷ [])
 unfolding IsStrictlySortedBy
-ascend_append [] ys a b h = b
-ascend_append (x ∷ xs) ys a b h = (all_append (λ y. pair_cmp x y ≡ Less) xs ys a.0 h.0, ascend_append xs ys a.1 b h.1)
+push_ascend [] q a h = (tt, tt)
+push_ascend (p ∷ ps) q a h = (push_all (λ r. pair_cmp p r ≡ Less) ps q a.0 h.0, push_ascend ps q a.1 h.1)
+
+further : (q r : ℕ × ℕ) (ps : List (ℕ × ℕ)) → pair_cmp q r ≡ Less → AllByRecursion (λ p. pair_cmp p q ≡ Less) ps → AllByRecursion (λ p. pair_cmp p r ≡ Less) ps
+further q r [] lt h = tt
+further q r (p ∷ ps) lt h = (pair_cmp_total.trans p q r h.0 lt, further q r ps lt h.1)
+
+-- the pairs of a set before (s, t), ascending
+record IsReached (pairs : Pairs) (s t : ℕ) (ps : List (ℕ × ℕ)) : Type 0 where
+  whole : set.from_list ps ≡ row_of s t pairs
+  ascend : IsAscending ps
+  below : AllByRecursion (λ p. pair_cmp p (s, t) ≡ Less) ps
+
+reached_row : (pairs : Pairs) (s : ℕ) (before : List (ℕ × ℕ)) → IsReached pairs s 0 before → (t : ℕ) → IsReached pairs s t (before ++ row s t pairs)
+reached_row pairs s before h zero = subst (IsReached pairs s 0) (sym (append-nil before)) h
+reached_row pairs s before h (suc t) =
+    let so_far = reached_row pairs s before h t in
+    let ps : List (ℕ × ℕ) = before ++ row s t pairs in
+    elim (set.contains pairs (s, t)) as (λ b. set.contains pairs (s, t) ≡ b → IsReached pairs s (suc t) (before ++ (if b then row s t pairs ++ (s, t) ∷ [] else row s t pairs))) [
+      | true ↦ λ here. subst (IsReached pairs s (suc t)) (append_assoc before (row s t pairs) ((s, t) ∷ [])) (record {
+        whole = set.from_list_push pair_cmp_total pair_cmp-IsAntisymmetric ps (s, t) ∙ ap (λ some. set.insert some (s, t)) so_far.whole ∙ sym (row_up s t pairs here);
+        ascend = push_ascend ps (s, t) so_far.ascend so_far.below;
+        below = push_all (λ p. pair_cmp p (s, suc t) ≡ Less) ps (s, t) (further (s, t) (s, suc t) ps (pair_next s t) so_far.below) (pair_next s t);
+      })
+      | false ↦ λ none. record { whole = so_far.whole ∙ sym (row_same s t pairs none); ascend = so_far.ascend; below = further (s, t) (s, suc t) ps (pair_next s t) so_far.below }
+    ] refl
 
 none_ascend : IsAscending []
 unfolding IsStrictlySortedBy
 none_ascend = tt
 
-one_ascends : (p : ℕ × ℕ) → IsAscending (p ∷ [])
-unfolding IsStrictlySortedBy
-one_ascends p = (tt, tt)
-
-later : (s n : ℕ) (p : ℕ × ℕ) → (p.0 ≡ s) × (p.1 < n) → (p.0 ≡ s) × (p.1 < suc n)
-later s n p h = (h.0, omega (arith, h.1))
-
-in_row_step : (s n : ℕ) (pairs : Pairs) (b : Bool) → AllByRecursion (λ p. (p.0 ≡ s) × (p.1 < suc n)) (row s n pairs)
-    → AllByRecursion (λ p. (p.0 ≡ s) × (p.1 < suc n)) (if b then row s n pairs ++ (s, n) ∷ [] else row s n pairs)
-in_row_step s n pairs true h = all_append (λ (p : ℕ × ℕ). (p.0 ≡ s) × (p.1 < suc n)) (row s n pairs) ((s, n) ∷ []) h ((refl, omega arith), tt)
-in_row_step s n pairs false h = h
-
-row_in : (s n : ℕ) (pairs : Pairs) → AllByRecursion (λ p. (p.0 ≡ s) × (p.1 < n)) (row s n pairs)
-row_in s zero pairs = tt
-row_in s (suc n) pairs = in_row_step s n pairs (set.contains pairs (s, n)) (all_of (λ (p : ℕ × ℕ). (p.0 ≡ s) × (p.1 < n)) (λ (p : ℕ × ℕ). (p.0 ≡ s) × (p.1 < suc n)) (row s n pairs) (later s n) (row_in s n pairs))
-
-rows_in : (m n : ℕ) (pairs : Pairs) → AllByRecursion (λ p. p.0 < m) (rows m n pairs)
-rows_in zero n pairs = tt
-rows_in (suc m) n pairs = all_append (λ (p : ℕ × ℕ). p.0 < suc m) (rows m n pairs) (row m n pairs)
-    (all_of (λ (p : ℕ × ℕ). p.0 < m) (λ (p : ℕ × ℕ). p.0 < suc m) (rows m n pairs) (λ p h. omega (arith, h)) (rows_in m n pairs))
-    (all_of (λ (p : ℕ × ℕ). (p.0 ≡ m) × (p.1 < n)) (λ (p : ℕ × ℕ). p.0 < suc m) (row m n pairs) (λ p h. omega (arith, h.0)) (row_in m n pairs))
-
-row_ascend_step : (s n : ℕ) (pairs : Pairs) (b : Bool) → IsAscending (row s n pairs) → IsAscending (if b then row s n pairs ++ (s, n) ∷ [] else row s n pairs)
-row_ascend_step s n pairs true h = ascend_append (row s n pairs) ((s, n) ∷ []) h (one_ascends (s, n))
-    (all_of (λ (p : ℕ × ℕ). (p.0 ≡ s) × (p.1 < n)) (λ p. AllByRecursion (λ q. pair_cmp p q ≡ Less) ((s, n) ∷ [])) (row s n pairs) (λ p k. (pair_after p (s, n) k.0 k.1, tt)) (row_in s n pairs))
-row_ascend_step s n pairs false h = h
-
-row_ascend : (s n : ℕ) (pairs : Pairs) → IsAscending (row s n pairs)
-row_ascend s zero pairs = none_ascend
-row_ascend s (suc n) pairs = row_ascend_step s n pairs (set.contains pairs (s, n)) (row_ascend s n pairs)
-
--- the pairs ascend
-pub rows_ascend : (m n : ℕ) (pairs : Pairs) → IsAscending (rows m n pairs)
-rows_ascend zero n pairs = none_ascend
-rows_ascend (suc m) n pairs = ascend_append (rows m n pairs) (row m n pairs) (rows_ascend m n pairs) (row_ascend m n pairs)
-    (all_of (λ (p : ℕ × ℕ). p.0 < m) (λ p. AllByRecursion (λ q. pair_cmp p q ≡ Less) (row m n pairs)) (rows m n pairs)
-    (λ p lt. all_of (λ (q : ℕ × ℕ). (q.0 ≡ m) × (q.1 < n)) (λ q. pair_cmp p q ≡ Less) (row m n pairs) (λ q k. pair_below p q (omega (arith, lt, k.0))) (row_in m n pairs))
-    (rows_in m n pairs))
-
--- ---- the set of the rows
-
-grown_row : (s : ℕ) (before : List (ℕ × ℕ)) (pairs : Pairs) → set.from_list before ≡ rows_below s pairs → (t : ℕ) → set.from_list (before ++ row s t pairs) ≡ row_of s t pairs
-grown_row s before pairs e zero = ap (λ ps. set.from_list {R = pair_cmp} ps) (append-nil before) ∙ e ∙ row_begins s pairs
-grown_row s before pairs e (suc t) = elim (set.contains pairs (s, t)) as (λ b. set.contains pairs (s, t) ≡ b → set.from_list (before ++ (if b then row s t pairs ++ (s, t) ∷ [] else row s t pairs)) ≡ row_of s (suc t) pairs) [
-  | true ↦ λ here. ap (λ ps. set.from_list {R = pair_cmp} ps) (sym (append_assoc before (row s t pairs) ((s, t) ∷ []))) ∙ set.from_list_push pair_cmp_total pair_cmp-IsAntisymmetric (before ++ row s t pairs) (s, t)
-      ∙ ap (λ some. set.insert some (s, t)) (grown_row s before pairs e t) ∙ sym (row_up s t pairs here)
-  | false ↦ λ none. grown_row s before pairs e t ∙ sym (row_same s t pairs none)
-] refl
-
 module _ (n : ℕ) (pairs : Pairs) (within : AllPairs (λ a b. (a < n) × (b < n)) pairs) where
-  grown_rows : (m : ℕ) → set.from_list (rows m n pairs) ≡ rows_below m pairs
-  grown_rows zero = sym (no_rows pairs)
-  grown_rows (suc m) = grown_row m (rows m n pairs) pairs (grown_rows m) n ∙ row_end m n pairs within
+  reached : (m : ℕ) → IsReached pairs m 0 (rows m n pairs)
+  reached zero = record { whole = sym (no_rows pairs) ∙ row_begins 0 pairs; ascend = none_ascend; below = tt }
+  reached (suc m) =
+      let row = reached_row pairs m (rows m n pairs) (reached m) n in
+      record { whole = row.whole ∙ row_end m n pairs within ∙ row_begins (suc m) pairs; ascend = row.ascend; below = further (m, n) (suc m, 0) _ (pair_below (m, n) (suc m, 0) (omega arith)) row.below }
 
-  -- the rows are the whole
+  -- the pairs ascend, and are the whole
+  pub rows_ascend : IsAscending (rows n n pairs)
+  rows_ascend = (reached n).ascend
+
   pub rows_whole : set.from_list (rows n n pairs) ≡ pairs
-  rows_whole = grown_rows n ∙ all_rows n pairs within
+  rows_whole = (reached n).whole ∙ sym (row_begins n pairs) ∙ all_rows n pairs within
 
 -- ---- lists that ascend and have the same pairs are the same
 
@@ -127,6 +111,30 @@ unpaired (p ∷ ps) = ap (λ qs. p ∷ qs) (unpaired ps)
 -- an ascending list of the pairs of a set is the one row by row
 pub listed_rows : (n : ℕ) (pairs : Pairs) (ps : List (ℕ × ℕ)) → IsAscending ps → set.from_list ps ≡ pairs → AllPairs (λ a b. (a < n) × (b < n)) pairs → ps ≡ rows n n pairs
 listed_rows n pairs ps ascend all within =
-    let same : paired ps ≡ paired (rows n n pairs) = same_entries pair_cmp pair_cmp_total pair_cmp-IsAntisymmetric (paired ps) (paired (rows n n pairs)) (sorted_paired ps ascend) (sorted_paired (rows n n pairs) (rows_ascend n n pairs))
+    let same : paired ps ≡ paired (rows n n pairs) = same_entries pair_cmp pair_cmp_total pair_cmp-IsAntisymmetric (paired ps) (paired (rows n n pairs)) (sorted_paired ps ascend) (sorted_paired (rows n n pairs) (rows_ascend n pairs within))
     (λ q. find_paired q ps ∙ ap (λ b. cond b (Some tt) None) (sym (set.contains-from_list pair_cmp_total ps q) ∙ ap (λ (s : Pairs). set.contains s q) (all ∙ sym (rows_whole n pairs within)) ∙ set.contains-from_list pair_cmp_total (rows n n pairs) q) ∙ sym (find_paired q (rows n n pairs))) in
     sym (unpaired ps) ∙ ap (map (λ e. e.0)) same ∙ unpaired (rows n n pairs)
+
+-- ---- pairs are read from what they are written as
+
+module _ (t : PolicyPart) (f : ℕ) (names : List (List ℕ)) (whole : Pairs) (named : AreNames names) (within : AllPairs (λ a b. (a < length names) × (b < length names)) whole) where
+  abbrev all : List (ℕ × ℕ)
+  all = rows (length names) (length names) whole
+
+  pair_again : (some : Pairs) (p : ℕ × ℕ) → set.contains whole p ≡ true → set.contains some p ≡ false → next_pair t f names some (pair_data names p) ≡ Ok (set.insert some p)
+  unfolding next_pair once
+  pair_again some p here fresh = let both = within.each p.0 p.1 here in rw (number_back t f names p.0 named both.0, number_back t f names p.1 named both.1, fresh) refl
+
+  step : (before : List (ℕ × ℕ)) (p : ℕ × ℕ) (after : List (ℕ × ℕ)) → all ≡ before ++ p ∷ after → next_pair t f names (set.from_list before) (pair_data names p) ≡ Ok (set.from_list (before ++ p ∷ []))
+  step before p after e =
+      let here = ap (λ (s : Pairs). set.contains s p) (sym (rows_whole (length names) whole within)) ∙ set.contains-from_list pair_cmp_total all p ∙ ap (list_any (eq_by_cmp pair_cmp p)) e ∙ middle (eq_by_cmp pair_cmp) before p after (itself p) in
+      let distinct = subst (IsDistinct (eq_by_cmp pair_cmp)) e (IsDistinct-from_sorted pair_cmp all (rows_ascend (length names) whole within)) in
+      pair_again (set.from_list before) p here (set.contains-from_list pair_cmp_total before p ∙ new_middle (eq_by_cmp pair_cmp) (λ p q. (eq_by_cmp_equiv pair_cmp_total).symm p q) before p after distinct)
+      ∙ ap Ok (sym (set.from_list_push pair_cmp_total pair_cmp-IsAntisymmetric before p))
+
+  -- pairs are read from what they are written as
+  pub pairs_back : each (next_pair t f names) set.empty (map (pair_data names) all) ≡ Ok whole
+  pairs_back = list_back (next_pair t f names) (pair_data names) (λ ps. set.from_list ps) all step ∙ ap Ok (rows_whole (length names) whole within)
+
+  pub pairs_count : length all ≡ set.len whole
+  pairs_count = sym (len-from_list pair_cmp_total pair_cmp-IsAntisymmetric all (rows_ascend (length names) whole within)) ∙ ap set.len (rows_whole (length names) whole within)

@@ -1,5 +1,5 @@
 -- The last check of a document.
-use Rattle.std.proofs.Common.{◌≡◌, Option, None, Some, Result, Ok, Err, refl}
+use Rattle.std.proofs.Common.{◌≡◌, Option, None, Some, Result, Ok, Err, refl, ℕ, List, length, true, ◌==◌, arith}
 use Rattle.toml.specs.Data.{Members}
 use Rattle.policy_book.specs.Shapes.{PolicyShape}
 use Rattle.first_fault.specs.Reading.{Gives, Fails}
@@ -11,7 +11,10 @@ use Rattle.policy_reader.specs.Parts.{no_others}
 use Rattle.policy_reader.specs.Flows.{flows_of}
 use Rattle.policy_reader.specs.Formats.{file_keys}
 use Rattle.policy_reader.specs.declared.format.Format.{Format}
-use Rattle.policy_reader.specs.Files.{rest_of}
+use Rattle.policy_reader.specs.Files.{rest_of, document_in, document_in_text}
+use Rattle.std.specs.Prelude.{IsUtf8}
+use Rattle.basics.proofs.Booleans.{eq_same}
+use Rattle.std.proofs.lemmas.Str.{utf8_valid_len-IsUtf8}
 
 fails : (format : Format) (p q : PolicyShape) (file : Members) (fault : Option PolicyFault) → flows_of p file ≡ Ok q → Fails fault (no_others File 0 (file_keys format) file) → Fails fault (rest_of format p file)
 unfolding rest_of
@@ -23,3 +26,9 @@ pub rest_gives : (result : Result (Unit {0}) ReadFault) (format : Format) (p q :
 unfolding rest_of
 rest_gives (Ok u) format p q file read h = rw (read, h) refl
 rest_gives (Err e) format p q file read h = fails format p q file (fault_of e) read h
+
+-- ---- bytes that are UTF-8
+
+pub document_in-utf8 : (bytes : List ℕ) → IsUtf8 bytes → document_in bytes ≡ document_in_text bytes
+unfolding document_in
+document_in-utf8 bytes h = rw (utf8_valid_len-IsUtf8 bytes h, eq_same (length bytes)) refl

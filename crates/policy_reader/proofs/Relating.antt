@@ -27,6 +27,7 @@ use Rattle.policy_reader.specs.Faults.{Reading}
 use Rattle.policy_reader.specs.Parts.{entries}
 use Rattle.policy_reader.specs.Relations.{names_of}
 use Rattle.policy_reader.proofs.Counts.{count_entries}
+use Rattle.policy_reader.proofs.Orders.{below_limit}
 use Rattle.policy_reader.proofs.Fresh.{Entry, texts_count, IsLeft}
 use Rattle.policy_reader.specs.Kinds.{is_marked, IsTarget, IsKept, AreKept}
 
@@ -106,16 +107,13 @@ is_list users all marked None other some kept = absurd (some refl)
 is_list users all marked (Some (listed pairs)) other some kept = refl
 is_list users all marked (Some (complement m)) other some kept = let no : true ≡ false = sym (kept (complement m) refl).0 ∙ other in cc
 
-wider : (users : ℕ) (pairs : Pairs) → users ≤ USER_LIMIT → AreBelow users pairs → AllPairs (λ u v. (u < USER_LIMIT) × (v < USER_LIMIT)) pairs
-wider users pairs le h = record { each = λ u v k. let both = h.each u v k in (omega (arith, le, both.0), omega (arith, le, both.1)) }
-
 -- all relations of a table were read
 pub sound_of : (users : ℕ) (all : List (List ℕ × Data)) (rs : List RelationShape) → AreKept users all rs → users ≤ USER_LIMIT → length rs ≡ length all → length all ≤ RELATION_LIMIT → AreSound rs
 sound_of users all rs h le same few = record {
   count = omega (arith, same, few);
   names = h.names;
   few = λ rho pairs e. (h.kinds rho (listed pairs) e).0;
-  users = λ rho pairs e. wider users pairs le (h.kinds rho (listed pairs) e).1;
+  users = λ rho pairs e. below_limit users USER_LIMIT pairs le (h.kinds rho (listed pairs) e).1;
   complements = λ rho n e.
       let t = (h.kinds rho (complement n) e).1 in
       is_list users all (is_marked first_declared all n) (kind_of rs n) t.other (there rs n t.declared (omega (arith, t.within, same))) (h.kinds n);
