@@ -1,41 +1,24 @@
 -- A policy is read from the document that it is written as.
 use Rattle.std.proofs.Common.{◌≡◌, ℕ, zero, suc, ◌+◌, ◌<◌, Bool, true, false, List, [], ◌∷◌, length, map, refl, ap, subst, ◌∙◌, arith}
-use Rattle.std.specs.Prelude.{codes, Some, Ok, slice_index_or, nat_eq, position}
-use Rattle.std.specs.Cmp.Lexicographic.{pointwise}
-use Rattle.std.proofs.lemmas.Grind.{common_steps}
-use Rattle.wf_names.specs.Names.{is_name}
+use Rattle.std.specs.Prelude.{codes, Some, Ok, slice_index_or}
 use Rattle.std.specs.List.{AllByRecursion}
 use Rattle.toml.specs.Data.{Members, get_member}
-use Rattle.user_relations.specs.Relations.{RelationShape, known_names}
 use Rattle.workflow_schema.specs.Laws.{IsDecided}
 use Rattle.policy_book.specs.Shapes.{PolicyShape, WorkflowShape}
 use Rattle.policy_book.specs.Policies.{no_workflow, any_below}
 use Rattle.first_fault.specs.Reading.{◌>>=◌}
 use Rattle.policy_reader.specs.declared.fault.PolicyPart.TheVariants.{File}
 use Rattle.policy_reader.specs.Parts.{value_at, text_in, name_in, no_others, known_key}
-use Rattle.policy_reader.specs.Relations.{first_declared}
-use Rattle.policy_reader.specs.Files.{document_in, format_of, admin_of, file_keys, start_over, start_with, start_of, rest_of, policy_in, policy_of_file}
+use Rattle.policy_reader.specs.Files.{document_in, format_of, admin_of, start_over, start_with, start_of, rest_of, policy_in, policy_of_file}
+use Rattle.policy_reader.specs.Formats.{written_format, file_keys}
 use Rattle.policy_reader.specs.Printable.{IsPrintable}
 use Rattle.policy_printer.specs.Documents.{name_at, names_data, users_data, relations_data, flows_data, document_of}
-use Rattle.policy_printer.specs.Named.{IsNamed, IsNamedPolicy}
-use Rattle.policy_printer.proofs.Readings.{number_back}
+use Rattle.policy_printer.specs.Named.{IsNamedPolicy}
+use Rattle.policy_printer.proofs.Readings.{form_at, number_back}
 use Rattle.policy_printer.proofs.NamesAgain.{roles_back}
 use Rattle.policy_printer.proofs.UsersAgain.{roster_back}
 use Rattle.policy_printer.proofs.RelationsAgain.{relations_back}
 use Rattle.policy_printer.proofs.FlowsAgain.{flows_back}
-
-place_first : {X : Type 0} (p : X → Bool) (x : X) (xs : List X) → p x ≡ true → position p (x ∷ xs) ≡ Some 0
-place_first p x xs here = grind (arith, common_steps, here)
-
-place_second : {X : Type 0} (p : X → Bool) (x y : X) (xs : List X) → p x ≡ false → p y ≡ true → position p (x ∷ y ∷ xs) ≡ Some 1
-place_second p x y xs one two = grind (arith, common_steps, one, two)
-
--- the built-in relations are named too
-all_related : (relations : List RelationShape) → ((n : ℕ) → n < length relations → IsNamed (known_names relations) (first_declared + n)) → (rho : ℕ) → rho < length relations + 2 → IsNamed (known_names relations) rho
-unfolding is_name
-all_related relations h zero lt = record { form = refl; place = place_first (pointwise nat_eq (codes "same")) (codes "same") (codes "other" ∷ map (λ r. r.name) relations) refl; within = omega arith }
-all_related relations h (suc zero) lt = record { form = refl; place = place_second (pointwise nat_eq (codes "other")) (codes "same") (codes "other") (map (λ r. r.name) relations) refl refl; within = omega arith }
-all_related relations h (suc (suc n)) lt = let same : first_declared + n ≡ suc (suc n) = omega arith in subst (IsNamed (known_names relations)) same (h n (omega (arith, lt)))
 
 active_at : (ws : List WorkflowShape) (f : ℕ) → AllByRecursion (λ w. w.retired ≡ false) ws → f < length ws → (slice_index_or ws f no_workflow).retired ≡ false
 active_at [] f h lt = absurd (omega (arith, lt))
@@ -50,52 +33,34 @@ module _ (decided : IsDecided) (p : PolicyShape) (h : IsNamedPolicy p) (is : IsP
   abbrev doc : Members
   doc = document_of p
 
-  format_back : format_of doc ≡ Ok tt
-  unfolding format_of value_at document_of
-  format_back = refl
-
   admin_back : admin_of doc ≡ Ok (name_at p.roster.roles p.admin)
   unfolding admin_of value_at text_in name_in document_of
-  admin_back = rw ((h.roles p.admin h.sound.admin).form) refl
+  admin_back = rw (form_at p.roster.roles p.admin h.roles h.sound.admin) refl
 
-  known_keys : no_others File 0 file_keys doc ≡ Ok tt
-  unfolding no_others known_key document_of
-  known_keys = refl
-
-  users_there : get_member (codes "users") doc ≡ Some (users_data p.roster)
-  unfolding document_of
-  users_there = refl
-
-  roles_there : get_member (codes "roles") doc ≡ Some (names_data p.roster.roles)
-  unfolding document_of
-  roles_there = refl
-
-  relations_there : get_member (codes "relations") doc ≡ Some (relations_data p.roster.users p.relations)
-  unfolding document_of
-  relations_there = refl
-
-  flows_there : get_member (codes "flows") doc ≡ Some (flows_data p)
-  unfolding document_of
-  flows_there = refl
+  -- what stands at the keys
+  written : (format_of doc ≡ Ok written_format) × (no_others File 0 (file_keys written_format) doc ≡ Ok tt) × (get_member (codes "users") doc ≡ Some (users_data p.roster))
+      × (get_member (codes "roles") doc ≡ Some (names_data p.roster.roles)) × (get_member (codes "relations") doc ≡ Some (relations_data p.roster.users p.relations)) × (get_member (codes "flows") doc ≡ Some (flows_data p))
+  unfolding format_of value_at no_others known_key document_of
+  written = (refl, refl, refl, refl, refl, refl)
 
   start_back : start_of doc ≡ Ok (record p { flow_names = []; flows = [] })
   unfolding start_of start_with start_over
   start_back = rw (
-    format_back,
     admin_back,
-    roles_back doc p.roster.roles h.roles (omega (arith, h.sound.admin)) h.sound.roles roles_there,
-    number_back File 0 p.roster.roles p.admin (h.roles p.admin h.sound.admin),
-    roster_back p.roster h.roster h.roles (λ n lt. (h.users n lt).form) doc is.begun.users (some_user (length p.roster.users) _ is.begun.admin) users_there,
+    roles_back doc p.roster.roles h.roles (omega (arith, h.sound.admin)) h.sound.roles written.3,
+    number_back File 0 p.roster.roles p.admin h.roles h.sound.admin,
+    roster_back p.roster h.roster h.roles h.users doc is.begun.users (some_user (length p.roster.users) _ is.begun.admin) written.2,
     is.begun.admin,
-    relations_back p.roster.users p.relations h.users h.relations h.sound.related h.related doc is.begun.relations relations_there,
+    relations_back p.roster.users p.relations h.users h.relations h.sound.related h.related doc is.begun.relations written.4,
   ) refl
 
   policy_back : policy_in doc ≡ Ok p
   unfolding policy_in rest_of
   policy_back = rw (
+    written.0,
     start_back,
-    flows_back decided p h.roles (all_related p.relations h.related) h.flow_names h.sound.named h.flows h.sound.flows (λ f lt. active_at p.flows f is.active lt) doc is.flows is.some h.sound.few flows_there,
-    known_keys,
+    flows_back decided p h.roles h.related h.flow_names h.sound.named h.flows h.sound.flows (λ f lt. active_at p.flows f is.active lt) doc is.flows is.some h.sound.few written.5,
+    written.1,
   ) refl
 
   -- a policy that can be printed is read from what it is written as

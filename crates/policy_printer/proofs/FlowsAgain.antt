@@ -2,12 +2,14 @@
 use Rattle.std.proofs.Common.{◌≡◌, ℕ, zero, suc, ◌+◌, ◌<◌, ◌≤◌, Bool, true, false, List, [], ◌∷◌, length, map, take, refl, sym, ap, ◌∙◌, arith}
 use Rattle.std.specs.Prelude.{codes, Some, None, Ok}
 use Rattle.std.specs.FinSet as set
-use Rattle.std.proofs.lemmas.Bool.Decides.{nat_tests}
+use Rattle.std.proofs.lemmas.List.{length-map, take_all}
+use Rattle.basics.proofs.Booleans.{not_true, and_both, lt_back, le_back}
+use Rattle.wf_names.specs.Table.{AreNames}
 use Rattle.toml.specs.Data.{Members, get_member}
 use Rattle.wf_names.specs.declared.limits.TheConstants.{STEP_LIMIT, FLOW_LIMIT}
 use Rattle.pair_set.specs.Pairs.{AllPairs}
 use Rattle.user_relations.specs.Relations.{RelationShape, known_names}
-use Rattle.workflow_schema.specs.Flows.{is_before, is_count}
+use Rattle.workflow_schema.specs.Flows.{is_before}
 use Rattle.workflow_schema.specs.Laws.{IsDecided}
 use Rattle.policy_book.specs.Shapes.{PolicyShape, WorkflowShape}
 use Rattle.policy_book.specs.Facts.{IsSoundWorkflow}
@@ -18,32 +20,21 @@ use Rattle.policy_reader.specs.Rules.{rules_of}
 use Rattle.policy_reader.specs.Flows.{order_in, pairs_of, least_below, cycle_at, no_cycle, ordered_in, flow_in, workflow_in, next_flow, flows_of}
 use Rattle.policy_reader.specs.Printable.{Ascend}
 use Rattle.policy_printer.specs.Documents.{names_data, pair_data, pairs_data, permits_data, rules_data, rows, workflow_members, flow_entry, flows_data}
-use Rattle.policy_printer.specs.Named.{IsNamed, AreNamed, HaveForm, IsNamedWorkflow}
-use Rattle.policy_printer.proofs.NamesAgain.{steps_back, at_least-ok, at_most-ok}
-use Rattle.policy_printer.proofs.PairsAgain.{named_pairs, pairs_back}
+use Rattle.policy_printer.specs.Named.{IsNamedWorkflow}
+use Rattle.policy_printer.proofs.NamesAgain.{steps_back}
+use Rattle.policy_printer.proofs.Rows.{pairs_back}
 use Rattle.policy_printer.proofs.PermitsAgain.{permits_back}
 use Rattle.policy_printer.proofs.RulesAgain.{rules_back}
-use Rattle.policy_printer.proofs.Readings.{count_back, upto, upto_length, map_length, take_next, take_all, items_back}
-use Rattle.policy_printer.proofs.Sorted.{ascend_at}
+use Rattle.policy_printer.proofs.Readings.{count_back, upto, upto_length, take_next, items_back, form_at, at_least-ok, at_most-ok}
 use Rattle.policy_printer.proofs.Tabled.{tabled_in_order}
 
 -- ---- the order
-
-not_true : (b : Bool) → (b ≡ true → ⊥) → b ≡ false
-not_true true h = absurd (h refl)
-not_true false h = refl
 
 least_none : (n : ℕ) (test : ℕ → Bool) → ((s : ℕ) → test s ≡ false) → least_below n test ≡ None
 least_none zero test h = refl
 least_none (suc n) test h = rw (least_none n test h, h n) refl
 
-some_steps : (n : ℕ) → is_count n ≡ true → 0 < n
-some_steps n h = grind (arith, nat_tests, h)
-
-few_steps : (n : ℕ) → is_count n ≡ true → n ≤ STEP_LIMIT
-few_steps n h = grind (arith, nat_tests, h)
-
-module _ (decided : IsDecided) (f : ℕ) (roles : List (List ℕ)) (relations : List RelationShape) (named : AreNamed roles) (related : (rho : ℕ) → rho < length relations + 2 → IsNamed (known_names relations) rho)
+module _ (decided : IsDecided) (f : ℕ) (roles : List (List ℕ)) (relations : List RelationShape) (named : AreNames roles) (related : AreNames (known_names relations))
     (w : WorkflowShape) (h : IsNamedWorkflow w) (sound : IsSoundWorkflow (length roles) (length relations) w) where
   abbrev steps : List (List ℕ)
   steps = w.flow.steps
@@ -52,7 +43,7 @@ module _ (decided : IsDecided) (f : ℕ) (roles : List (List ℕ)) (relations : 
   written = workflow_members roles relations w
 
   few : length steps ≤ STEP_LIMIT
-  few = few_steps (length steps) h.kept.counted
+  few = le_back (length steps) STEP_LIMIT (and_both _ _ h.kept.counted).1
 
   no_cycle-again : no_cycle f steps w.flow.order ≡ Ok tt
   unfolding no_cycle
@@ -61,50 +52,40 @@ module _ (decided : IsDecided) (f : ℕ) (roles : List (List ℕ)) (relations : 
 
   order_again : order_in f steps (pairs_data steps w.flow.order) ≡ Ok w.flow.order
   unfolding order_in array_in
-  order_again = rw (items_back (map (pair_data steps) (rows (length steps) (length steps) w.flow.order))) (pairs_back Flows f steps w.flow.order (named_pairs steps w.flow.order h.steps h.kept.orders))
+  order_again = rw (items_back (map (pair_data steps) (rows (length steps) (length steps) w.flow.order))) (pairs_back Flows f steps w.flow.order h.steps h.kept.orders)
 
   ordered_again : ordered_in f steps written ≡ Ok (record { steps = steps; order = w.flow.order; permits = set.empty })
   unfolding ordered_in pairs_of workflow_members
   ordered_again = rw (order_again, no_cycle-again) refl
 
-  steps_there : get_member (codes "steps") written ≡ Some (names_data steps)
-  unfolding workflow_members
-  steps_there = refl
-
-  permits_there : get_member (codes "permit") written ≡ Some (permits_data roles w.flow)
-  unfolding workflow_members
-  permits_there = refl
-
-  rules_there : get_member (codes "rules") written ≡ Some (rules_data relations steps w.rules)
-  unfolding workflow_members
-  rules_there = refl
-
-  known_keys : no_others Flows f (codes "order" ∷ codes "permit" ∷ codes "rules" ∷ codes "steps" ∷ []) written ≡ Ok tt
+  -- what stands at the keys
+  there : (get_member (codes "steps") written ≡ Some (names_data steps)) × (get_member (codes "permit") written ≡ Some (permits_data roles w.flow)) × (get_member (codes "rules") written ≡ Some (rules_data relations steps w.rules))
+      × (no_others Flows f (codes "order" ∷ codes "permit" ∷ codes "rules" ∷ codes "steps" ∷ []) written ≡ Ok tt)
   unfolding no_others known_key workflow_members
-  known_keys = refl
+  there = (refl, refl, refl, refl)
 
   permitted : AllPairs (λ r s. (r < length roles) × (s < length steps)) w.flow.permits
   permitted = record { each = λ r s k. (sound.permitted r s k, (h.kept.permitted.each r s k).1) }
 
   flow_again : flow_in f roles written ≡ Ok w.flow
   unfolding flow_in
-  flow_again = rw (steps_back f written steps h.steps (some_steps (length steps) h.kept.counted) few steps_there, ordered_again) (permits_back f roles w.flow named h.steps permitted written permits_there)
+  flow_again = rw (steps_back f written steps h.steps (lt_back 0 (length steps) (and_both _ _ h.kept.counted).0) few there.0, ordered_again) (permits_back f roles w.flow named h.steps permitted written there.1)
 
   pub rules_again : rules_of f relations steps written ≡ Ok w.rules
-  rules_again = rules_back f steps h.steps relations related written w.rules sound.ruled h.flags sound.few rules_there
+  rules_again = rules_back f steps h.steps relations related written w.rules sound.ruled h.flags sound.few there.2
 
-workflow_again : IsDecided → (p : PolicyShape) → AreNamed p.roster.roles → ((rho : ℕ) → rho < length p.relations + 2 → IsNamed (known_names p.relations) rho) → (w : WorkflowShape) → IsNamedWorkflow w
+workflow_again : IsDecided → (p : PolicyShape) → AreNames p.roster.roles → AreNames (known_names p.relations) → (w : WorkflowShape) → IsNamedWorkflow w
     → IsSoundWorkflow (length p.roster.roles) (length p.relations) w → w.retired ≡ false → workflow_in p (workflow_members p.roster.roles p.relations w) ≡ Ok w
 unfolding workflow_in
 workflow_again decided p named related w h sound active =
     let f = length p.flows in
-    rw (known_keys decided f p.roster.roles p.relations named related w h sound, flow_again decided f p.roster.roles p.relations named related w h sound, rules_again decided f p.roster.roles p.relations named related w h sound)
+    rw ((there decided f p.roster.roles p.relations named related w h sound).3, flow_again decided f p.roster.roles p.relations named related w h sound, rules_again decided f p.roster.roles p.relations named related w h sound)
     (λ i. Ok (record { flow = w.flow; rules = w.rules; retired = sym active i }))
 
 -- ---- all workflows
 
-module _ (decided : IsDecided) (p : PolicyShape) (named : AreNamed p.roster.roles) (related : (rho : ℕ) → rho < length p.relations + 2 → IsNamed (known_names p.relations) rho)
-    (names : HaveForm p.flow_names) (count : length p.flow_names ≡ length p.flows) (each_one : (f : ℕ) → f < length p.flows → IsNamedWorkflow (flow_at p f))
+module _ (decided : IsDecided) (p : PolicyShape) (named : AreNames p.roster.roles) (related : AreNames (known_names p.relations))
+    (names : AreNames p.flow_names) (count : length p.flow_names ≡ length p.flows) (each_one : (f : ℕ) → f < length p.flows → IsNamedWorkflow (flow_at p f))
     (sound : (f : ℕ) → f < length p.flows → IsSoundWorkflow (length p.roster.roles) (length p.relations) (flow_at p f)) (active : (f : ℕ) → f < length p.flows → (flow_at p f).retired ≡ false) where
   abbrev state : ℕ → PolicyShape
   state f = record p { flow_names = take f p.flow_names; flows = take f p.flows }
@@ -113,11 +94,8 @@ module _ (decided : IsDecided) (p : PolicyShape) (named : AreNamed p.roster.role
   unfolding next_flow name_in table_in
   step f lt =
       let lt' : f < length p.flow_names = omega (arith, lt, count) in
-      rw (names f lt', workflow_again decided (state f) named related (flow_at p f) (each_one f lt) (sound f lt) (active f lt))
+      rw (form_at p.flow_names f names lt', workflow_again decided (state f) named related (flow_at p f) (each_one f lt) (sound f lt) (active f lt))
       (λ i. Ok (record p { flow_names = take_next p.flow_names f [] lt' i; flows = take_next p.flows f no_workflow lt i }))
-
-  names_all : take (length p.flows) p.flow_names ≡ p.flow_names
-  names_all = ap (λ n. take n p.flow_names) (sym count) ∙ take_all p.flow_names
 
   -- the workflows are read from what they are written as
   pub flows_back : (again : Members) → Ascend p.flow_names → 0 < length p.flow_names → length p.flows ≤ FLOW_LIMIT → get_member (codes "flows") again ≡ Some (flows_data p)
@@ -125,6 +103,6 @@ module _ (decided : IsDecided) (p : PolicyShape) (named : AreNamed p.roster.role
   unfolding flows_of value_at table_in
   flows_back again ascend some few there =
       let n = length p.flows in
-      let tabled = tabled_in_order (flow_entry p) n (λ i j lt within. ascend_at p.flow_names ascend i j lt (omega (arith, within, count))) in
-      rw (there, tabled, map_length (flow_entry p) (upto n), upto_length n, at_least-ok Flows 0 n (omega (arith, some, count)), at_most-ok Flows 0 n FLOW_LIMIT few)
-      (count_back next_flow (flow_entry p) state n step n (omega arith) ∙ (λ i. Ok (record p { flow_names = names_all i; flows = take_all p.flows i })))
+      let tabled = tabled_in_order (flow_entry p) p.flow_names n ascend (λ f. refl) (omega (arith, count)) in
+      rw (there, tabled, length-map (upto n) (flow_entry p), upto_length n, at_least-ok Flows 0 n (omega (arith, some, count)), at_most-ok Flows 0 n FLOW_LIMIT few)
+      (count_back next_flow (flow_entry p) state n step ∙ (λ i. Ok (record p { flow_names = take_all n p.flow_names (omega (arith, count)) i; flows = take_all n p.flows (omega arith) i })))

@@ -1,51 +1,42 @@
 -- The permissions of a workflow are read from what they are written as.
-use Rattle.std.proofs.Common.{◌≡◌, ℕ, ◌<◌, true, false, List, [], ◌∷◌, ◌++◌, length, map, Equal, refl, sym, ap, subst, ◌∙◌, arith}
+use Rattle.std.proofs.Common.{◌≡◌, ℕ, ◌<◌, Bool, true, false, nat_eq, nat_lt, ◌||◌, List, [], ◌∷◌, ◌++◌, length, map, Equal, refl, sym, ap, subst, ◌∙◌, arith}
 use Rattle.std.specs.Prelude.{codes, Option, Some, None, Ok}
-use Rattle.std.specs.List.{AllByRecursion}
+use Rattle.std.specs.List.{IsDistinct, list_any}
+use Rattle.std.specs.Cmp.{nat_eq_equiv}
 use Rattle.std.specs.FinSet as set
 use Rattle.std.specs.FinMap.{slice_cmp-IsAntisymmetric, nat_cmp-IsAntisymmetric}
+use Rattle.std.proofs.lemmas.List.Folds.{list_any-append}
+use Rattle.basics.proofs.Booleans.{eq_same, or-false, lt_back, lt_yes}
 use Rattle.toml.specs.Data.{Members, get_member}
-use Rattle.wf_names.specs.Table.{place_of}
+use Rattle.wf_names.specs.Table.{place_of, AreNames}
 use Rattle.pair_set.specs.Pairs.{Pairs, AllPairs}
 use Rattle.workflow_schema.specs.Flows.{FlowShape}
-use Rattle.first_fault.specs.Reading.{each}
 use Rattle.policy_reader.specs.declared.fault.PolicyPart.TheVariants.{Flows}
 use Rattle.policy_reader.specs.Parts.{value_at, array_in, table_in, text_in, once}
 use Rattle.policy_reader.specs.Flows.{permits_of, next_permit, next_permitted}
 use Rattle.policy_printer.specs.Documents.{name_at, chosen, permit_entry, permits_data}
-use Rattle.policy_printer.specs.Named.{IsNamed, AreNamed}
-use Rattle.policy_printer.proofs.Readings.{list_back, among, items_back, text_at, number_back}
-use Rattle.policy_printer.proofs.Lines.{Lacks, Differ, differ_before, chosen_all, chosen_differ, IsChosen, by_second, at, lines, so_far, line_none, line_all, line_push, line_fresh, IsCovered, lines_whole}
-use Rattle.policy_printer.proofs.Tabled.{key_cmp, numbers, numbers_below, numbers_differ, numbers_have, tabled}
+use Rattle.policy_printer.proofs.Readings.{list_back, middle, new_middle, items_back, text_at, place_at, number_back}
+use Rattle.policy_printer.proofs.Sets.{by_second, at, lines, line_back, same_part, whole_part, no_part}
+use Rattle.policy_printer.proofs.Tabled.{Apart, numbers, numbers_among, numbers_distinct, tabled}
 
 abbrev number_or : ℕ → Option ℕ → ℕ
 number_or n None = n
 number_or n (Some m) = m
 
-module _ (f : ℕ) (roles : List (List ℕ)) (whole : FlowShape) (named : AreNamed roles) (steps : AreNamed whole.steps) (within : AllPairs (λ r s. (r < length roles) × (s < length whole.steps)) whole.permits) where
-  abbrev count : ℕ
-  count = length roles
+module _ (f : ℕ) (roles : List (List ℕ)) (whole : FlowShape) (named : AreNames roles) (steps : AreNames whole.steps) (within : AllPairs (λ r s. (r < length roles) × (s < length whole.steps)) whole.permits) where
+  abbrev with_permits : Pairs → FlowShape
+  with_permits permits = record { steps = whole.steps; order = whole.order; permits = permits }
 
-  abbrev permitted : ℕ → List ℕ
-  permitted s = chosen count (at by_second count whole.permits s)
+  -- what was read with the steps so far
+  abbrev is_done : List ℕ → ℕ → Bool
+  is_done ss m = list_any (nat_eq m) ss
 
   abbrev state : List ℕ → FlowShape
-  state ss = record { steps = whole.steps; order = whole.order; permits = set.from_list (lines by_second count whole.permits ss) }
+  state ss = with_permits (lines by_second whole.permits (is_done ss))
 
-  abbrev in_line : List ℕ → ℕ → List ℕ → FlowShape
-  in_line ss s rs = record { steps = whole.steps; order = whole.order; permits = so_far by_second count whole.permits ss s rs }
-
-  permitted_again : (s r : ℕ) (flow : FlowShape) → IsNamed roles r → set.contains flow.permits (r, s) ≡ false → next_permitted f roles s flow (text_at roles r) ≡ Ok (record flow { permits = set.insert flow.permits (r, s) })
+  permitted_again : (s r : ℕ) (some : Pairs) → r < length roles → set.contains some (r, s) ≡ false → next_permitted f roles s (with_permits some) (text_at roles r) ≡ Ok (with_permits (set.insert some (r, s)))
   unfolding next_permitted once text_in
-  permitted_again s r flow here fresh = rw (number_back Flows f roles r here, fresh) refl
-
-  role_step : (ss : List ℕ) (s : ℕ) → Lacks s ss → (before : List ℕ) (r : ℕ) (after : List ℕ) → permitted s ≡ before ++ r ∷ after → next_permitted f roles s (in_line ss s before) (text_at roles r) ≡ Ok (in_line ss s (before ++ r ∷ []))
-  role_step ss s other before r after e =
-      let test = at by_second count whole.permits s in
-      let here = among (IsChosen count test) before r after (subst (AllByRecursion (IsChosen count test)) e (chosen_all count test)) in
-      let lacks = differ_before before r after (subst Differ e (chosen_differ count test)) in
-      permitted_again s r (in_line ss s before) (named r here.within) (line_fresh by_second count whole.permits ss s before r other lacks)
-      ∙ ap (λ (ps : Pairs). Ok (record (in_line ss s before) { permits = ps })) (sym (line_push by_second count whole.permits ss s before r))
+  permitted_again s r some lt fresh = rw (number_back Flows f roles r named lt, fresh) refl
 
   abbrev total : ℕ
   total = length whole.steps
@@ -53,28 +44,30 @@ module _ (f : ℕ) (roles : List (List ℕ)) (whole : FlowShape) (named : AreNam
   abbrev order : List ℕ
   order = numbers (permit_entry roles whole) total
 
-  step_step : (ss : List ℕ) (s : ℕ) (after : List ℕ) → order ≡ ss ++ s ∷ after → next_permit f roles (state ss) (permit_entry roles whole s) ≡ Ok (state (ss ++ s ∷ []))
-  unfolding next_permit array_in
-  step_step ss s after e =
-      let lt = among (λ n. n < total) ss s after (subst (AllByRecursion (λ n. n < total)) e (numbers_below (permit_entry roles whole) total)) in
-      let other = differ_before ss s after (subst Differ e (numbers_differ (permit_entry roles whole) total)) in
-      rw (number_back Flows f whole.steps s (steps s lt), items_back (map (text_at roles) (permitted s)))
-      (ap (λ (ps : Pairs). each (next_permitted f roles s) (record (state ss) { permits = ps }) (map (text_at roles) (permitted s))) (sym (line_none by_second count whole.permits ss s))
-      ∙ list_back (next_permitted f roles s) (text_at roles) (in_line ss s) (permitted s) (role_step ss s other)
-      ∙ ap (λ (ps : Pairs). Ok (record (state ss) { permits = ps })) (line_all by_second count whole.permits ss s))
-
-  same_names : (i j : ℕ) → i < j → j < total → key_cmp (name_at whole.steps j) (name_at whole.steps i) ≡ Equal → ⊥
-  same_names i j lt below e =
+  apart : (i j : ℕ) → i < j → j < total → Apart (permit_entry roles whole) j i
+  apart i j lt below e =
       let same : name_at whole.steps j ≡ name_at whole.steps i = slice_cmp-IsAntisymmetric nat_cmp-IsAntisymmetric _ _ e in
-      let places : Some j ≡ Some i = sym (steps j below).place ∙ ap (place_of whole.steps) same ∙ (steps i (omega (arith, lt, below))).place in
+      let places : Some j ≡ Some i = sym (place_at whole.steps j steps below) ∙ ap (place_of whole.steps) same ∙ place_at whole.steps i steps (omega (arith, lt, below)) in
       let equal : j ≡ i = ap (number_or i) places in
       omega (arith, lt, equal)
 
+  among : (m : ℕ) → list_any (nat_eq m) order ≡ nat_lt m total
+  among m = numbers_among (permit_entry roles whole) total apart total m (omega arith)
+
+  step : (ss : List ℕ) (s : ℕ) (after : List ℕ) → order ≡ ss ++ s ∷ after → next_permit f roles (state ss) (permit_entry roles whole s) ≡ Ok (state (ss ++ s ∷ []))
+  unfolding next_permit array_in
+  step ss s after e =
+      let lt : s < total = lt_back s total (sym (among s) ∙ ap (list_any (nat_eq s)) e ∙ middle nat_eq ss s after (eq_same s)) in
+      let new = new_middle nat_eq (λ x y. nat_eq_equiv.symm x y) ss s after (subst (IsDistinct nat_eq) e (numbers_distinct (permit_entry roles whole) total apart total (omega arith))) in
+      rw (number_back Flows f whole.steps s steps lt, items_back (map (text_at roles) (chosen (length roles) (at by_second whole.permits s))))
+      (line_back by_second whole.permits (is_done ss) s new (length roles) (λ q h. (within.each q.0 q.1 h).0) (next_permitted f roles s) (text_at roles) with_permits (permitted_again s)
+      ∙ ap (λ some. Ok (with_permits some)) (same_part whole.permits (λ q. is_done ss q.1 || nat_eq q.1 s) (λ q. is_done (ss ++ s ∷ []) q.1)
+      (λ q h. ap (λ b. is_done ss q.1 || b) (sym (or-false (nat_eq q.1 s))) ∙ sym (list_any-append (nat_eq q.1) ss (s ∷ [])))))
+
   -- the permissions are read from what they are written as
-  pub permits_back : (again : Members) → get_member (codes "permit") again ≡ Some (permits_data roles whole) → permits_of f roles (record { steps = whole.steps; order = whole.order; permits = set.empty }) again ≡ Ok whole
+  pub permits_back : (again : Members) → get_member (codes "permit") again ≡ Some (permits_data roles whole) → permits_of f roles (with_permits set.empty) again ≡ Ok whole
   unfolding permits_of value_at table_in
   permits_back again there =
-      let covered : (q : ℕ × ℕ) → set.contains whole.permits q ≡ true → IsCovered by_second count whole.permits order q =
-      λ q h. (let both = within.each q.0 q.1 h in record { is = refl; line = numbers_have (permit_entry roles whole) total total same_names (omega arith) q.1 both.1; within = both.0 }) in
-      rw (there, tabled (permit_entry roles whole) total)
-      (list_back (next_permit f roles) (permit_entry roles whole) state order step_step ∙ ap (λ (ps : Pairs). Ok (record whole { permits = ps })) (lines_whole by_second count whole.permits order covered))
+      let none = no_part whole.permits (λ q. false) (λ q. refl) in
+      let all = whole_part whole.permits (λ q. is_done order q.1) (λ q h. among q.1 ∙ lt_yes q.1 total (within.each q.0 q.1 h).1) in
+      rw (there, tabled (permit_entry roles whole) total, ← none) (list_back (next_permit f roles) (permit_entry roles whole) state order step ∙ ap (λ some. Ok (with_permits some)) all)

@@ -1,15 +1,18 @@
 -- Lists that are read back from what they are written as.
-use Rattle.std.proofs.Common.{◌≡◌, ℕ, zero, suc, ◌<◌, ◌≤◌, List, [], ◌∷◌, ◌++◌, length, map, take, refl, sym, ap, ◌∙◌, append_assoc, arith}
-use Rattle.std.specs.Prelude.{Result, Ok, Err, slice_get, slice_index_or, Some}
-use Rattle.std.specs.List.{AllByRecursion}
-use Rattle.std.proofs.lemmas.List.{append-nil, map-append, length-append}
+use Rattle.std.proofs.Common.{◌≡◌, ℕ, zero, suc, ◌+◌, ◌<◌, ◌≤◌, Bool, true, false, List, [], ◌∷◌, ◌++◌, length, map, take, refl, sym, ap, ◌∙◌, append_assoc, arith}
+use Rattle.std.specs.Prelude.{Result, Ok, Err, slice_get, slice_index_or, Some, if◌then◌else◌}
+use Rattle.std.specs.List.{AllByRecursion, IsDistinct, list_any}
+use Rattle.std.proofs.lemmas.List.{append-nil, map-append, length-append, take_more}
+use Rattle.std.proofs.lemmas.Option.{slice_get-get_or}
+use Rattle.basics.proofs.Booleans.{or_left, or_right, eq_above, le_yes}
 use Rattle.toml.specs.Data.{Data, string}
 use Rattle.toml.specs.View.{items_of}
 use Rattle.first_fault.specs.Reading.{◌>>=◌, each}
 use Rattle.policy_reader.specs.declared.fault.PolicyPart.{PolicyPart}
-use Rattle.policy_reader.specs.Parts.{items, number_in}
-use Rattle.policy_printer.specs.Documents.{name_at}
-use Rattle.policy_printer.specs.Named.{IsNamed}
+use Rattle.policy_reader.specs.Parts.{items, number_in, at_least_one, at_most}
+use Rattle.policy_printer.specs.Documents.{name_at, chosen}
+use Rattle.wf_names.specs.Names.{is_name}
+use Rattle.wf_names.specs.Table.{place_of, AreNames}
 
 -- a list is read back: what was read so far is told by the items before the next
 module _ {X S D F : Type 0} (read : S → D → Result S F) (write : X → D) (state : List X → S) (whole : List X)
@@ -23,40 +26,40 @@ module _ {X S D F : Type 0} (read : S → D → Result S F) (write : X → D) (s
 
 -- the numbers below n
 abbrev pub upto : ℕ → List ℕ
-upto zero = []
-upto (suc n) = upto n ++ n ∷ []
+upto n = chosen n (λ _. true)
 
-then_assoc : {S D F : Type 0} (read : S → D → Result S F) (r : Result S F) (xs ys : List D)
-    → ((t : S) → each read t (xs ++ ys) ≡ (each read t xs >>= (λ u. each read u ys)))
-    → (r >>= (λ t. each read t (xs ++ ys))) ≡ ((r >>= (λ t. each read t xs)) >>= (λ u. each read u ys))
-then_assoc read (Ok t) xs ys h = h t
-then_assoc read (Err f) xs ys h = refl
+-- reading one item more
+each_push : {S D F : Type 0} (read : S → D → Result S F) (s : S) (xs : List D) (y : D) → each read s (xs ++ y ∷ []) ≡ (each read s xs >>= (λ t. each read t (y ∷ [])))
+each_push read s [] y = refl
+each_push read s (x ∷ xs) y = elim (read s x) as (λ r. (r >>= (λ t. each read t (xs ++ y ∷ []))) ≡ ((r >>= (λ t. each read t xs)) >>= (λ t. each read t (y ∷ [])))) [
+  | Ok t ↦ each_push read t xs y
+  | Err f ↦ refl
+]
 
--- reading two lists one after the other
-each_append : {S D F : Type 0} (read : S → D → Result S F) (s : S) (xs ys : List D) → each read s (xs ++ ys) ≡ (each read s xs >>= (λ u. each read u ys))
-each_append read s [] ys = refl
-each_append read s (x ∷ xs) ys = then_assoc read (read s x) xs ys (λ t. each_append read t xs ys)
+-- the same of what is written by the numbers that pass a test
+module _ {S D F : Type 0} (read : S → D → Result S F) (write : ℕ → D) (state : ℕ → S) (test : ℕ → Bool) (bound : ℕ)
+    (step : (n : ℕ) → n < bound → test n ≡ true → read (state n) (write n) ≡ Ok (state (suc n)))
+    (skip : (n : ℕ) → n < bound → test n ≡ false → state n ≡ state (suc n)) where
+  pub chosen_back : (n : ℕ) → n ≤ bound → each read (state 0) (map write (chosen n test)) ≡ Ok (state n)
+  chosen_back zero le = refl
+  chosen_back (suc n) le =
+      let before = chosen_back n (omega (arith, le)) in
+      elim (test n) as (λ b. test n ≡ b → each read (state 0) (map write (if b then chosen n test ++ n ∷ [] else chosen n test)) ≡ Ok (state (suc n))) [
+        | true ↦ λ e. ap (each read (state 0)) (map-append write (chosen n test) (n ∷ [])) ∙ each_push read (state 0) (map write (chosen n test)) (write n)
+            ∙ ap (λ r. r >>= (λ t. each read t (write n ∷ []))) before ∙ ap (λ r. r >>= (λ t. Ok t)) (step n (omega (arith, le)) e)
+        | false ↦ λ e. before ∙ ap Ok (skip n (omega (arith, le)) e)
+      ] refl
 
-each_push : {S D F : Type 0} (read : S → D → Result S F) (s t u : S) (xs : List D) (y : D) → each read s xs ≡ Ok t → read t y ≡ Ok u → each read s (xs ++ y ∷ []) ≡ Ok u
-each_push read s t u xs y first last = each_append read s xs (y ∷ []) ∙ ap (λ r. r >>= (λ v. each read v (y ∷ []))) first ∙ ap (λ r. r >>= (λ next. Ok next)) last
-
--- the same of what is written by numbers
-module _ {S D F : Type 0} (read : S → D → Result S F) (write : ℕ → D) (state : ℕ → S) (bound : ℕ) (step : (n : ℕ) → n < bound → read (state n) (write n) ≡ Ok (state (suc n))) where
-  pub count_back : (n : ℕ) → n ≤ bound → each read (state 0) (map write (upto n)) ≡ Ok (state n)
-  count_back zero le = refl
-  count_back (suc n) le =
-      ap (each read (state 0)) (map-append write (upto n) (n ∷ []))
-      ∙ each_push read (state 0) (state n) (state (suc n)) (map write (upto n)) (write n) (count_back n (omega (arith, le))) (step n (omega (arith, le)))
+-- the same of what is written by all numbers
+pub count_back : {S D F : Type 0} (read : S → D → Result S F) (write : ℕ → D) (state : ℕ → S) (bound : ℕ) → ((n : ℕ) → n < bound → read (state n) (write n) ≡ Ok (state (suc n)))
+    → each read (state 0) (map write (upto bound)) ≡ Ok (state bound)
+count_back read write state bound step = chosen_back read write state (λ _. true) bound (λ n lt e. step n lt) (λ n lt e. cc) bound (omega arith)
 
 -- ---- lists
 
 pub among : {X : Type 0} (P : X → Type 0) (xs : List X) (y : X) (ys : List X) → AllByRecursion P (xs ++ y ∷ ys) → P y
 among P [] y ys h = h.0
 among P (x ∷ xs) y ys h = among P xs y ys h.1
-
-pub map_length : {X Y : Type 0} (g : X → Y) (xs : List X) → length (map g xs) ≡ length xs
-map_length g [] = refl
-map_length g (x ∷ xs) = ap suc (map_length g xs)
 
 pub upto_length : (n : ℕ) → length (upto n) ≡ n
 upto_length zero = refl
@@ -73,29 +76,46 @@ upto_map [] f g h = refl
 upto_map (x ∷ xs) f g h = let rest = upto_map xs (λ i. f (suc i)) g (λ i y e. h (suc i) y e) in first_number (length xs) f ∙ (λ i. h 0 x refl i ∷ rest i)
 
 pub take_next : {X : Type 0} (xs : List X) (n : ℕ) (d : X) → n < length xs → take n xs ++ slice_index_or xs n d ∷ [] ≡ take (suc n) xs
-take_next [] n d lt = absurd (omega (arith, lt))
-take_next (x ∷ xs) zero d lt = refl
-take_next (x ∷ xs) (suc n) d lt = ap (λ ys. x ∷ ys) (take_next xs n d (omega (arith, lt)))
+take_next xs n d lt = let one : n + 1 ≡ suc n = omega arith in sym (take_more xs n d lt) ∙ ap (λ k. take k xs) one
 
-pub take_count : {X : Type 0} (n : ℕ) (xs : List X) → n ≤ length xs → length (take n xs) ≡ n
-take_count zero xs le = refl
-take_count (suc n) [] le = absurd (omega (arith, le))
-take_count (suc n) (x ∷ xs) le = ap suc (take_count n xs (omega (arith, le)))
+-- an item in the middle is found, and where all differ it is none of those before it
+pub middle : {X : Type 0} (same : X → X → Bool) (before : List X) (x : X) (after : List X) → same x x ≡ true → list_any (same x) (before ++ x ∷ after) ≡ true
+middle same [] x after e = or_left (same x x) _ e
+middle same (y ∷ before) x after e = or_right (same x y) _ (middle same before x after e)
 
-pub take_all : {X : Type 0} (xs : List X) → take (length xs) xs ≡ xs
-take_all [] = refl
-take_all (x ∷ xs) = ap (λ ys. x ∷ ys) (take_all xs)
+pub new_middle : {X : Type 0} (same : X → X → Bool) → ((x y : X) → same x y ≡ same y x) → (before : List X) (x : X) (after : List X) → IsDistinct same (before ++ x ∷ after) → list_any (same x) before ≡ false
+unfolding IsDistinct
+new_middle same flips [] x after h = refl
+new_middle same flips (y ∷ before) x after h = rw (flips x y, among (λ z. same y z ≡ false) before x after h.0) (new_middle same flips before x after h.1)
+
+pub got_middle : {X : Type 0} (before : List X) (x : X) (after : List X) → slice_get (before ++ x ∷ after) (length before) ≡ Some x
+got_middle [] x after = refl
+got_middle (y ∷ before) x after = got_middle before x after
 
 pub items_back : (ds : List Data) → items (items_of ds) ≡ ds
 items_back [] = refl
 items_back (d ∷ ds) = ap (λ es. d ∷ es) (items_back ds)
 
--- ---- names
+-- ---- checks and names
+
+pub at_least-ok : (t : PolicyPart) (f n : ℕ) → 0 < n → at_least_one t f n ≡ Ok tt
+unfolding at_least_one
+at_least-ok t f n lt = rw (eq_above n 0 lt) refl
+
+pub at_most-ok : (t : PolicyPart) (f n m : ℕ) → n ≤ m → at_most t f m n ≡ Ok tt
+unfolding at_most
+at_most-ok t f n m le = rw (le_yes n m le) refl
 
 abbrev pub text_at : List (List ℕ) → ℕ → Data
 text_at names n = string (name_at names n)
 
+pub form_at : (names : List (List ℕ)) (n : ℕ) → AreNames names → n < length names → is_name (name_at names n) ≡ true
+form_at names n h lt = h.form n (name_at names n) (slice_get-get_or names n [] lt)
+
+pub place_at : (names : List (List ℕ)) (n : ℕ) → AreNames names → n < length names → place_of names (name_at names n) ≡ Some n
+place_at names n h lt = h.alone n (name_at names n) (slice_get-get_or names n [] lt)
+
 -- the name of a number is read as that number
-pub number_back : (t : PolicyPart) (f : ℕ) (names : List (List ℕ)) (n : ℕ) → IsNamed names n → number_in t f names (name_at names n) ≡ Ok n
+pub number_back : (t : PolicyPart) (f : ℕ) (names : List (List ℕ)) (n : ℕ) → AreNames names → n < length names → number_in t f names (name_at names n) ≡ Ok n
 unfolding number_in
-number_back t f names n h = rw (h.form, h.place) refl
+number_back t f names n h lt = rw (form_at names n h lt, place_at names n h lt) refl

@@ -3,9 +3,10 @@ use Rattle.std.proofs.Common.{◌≡◌, ℕ, zero, suc, ◌+◌, ◌<◌, true,
 use Rattle.std.specs.Prelude.{codes, Option, Some, None, option_map, Ok, slice_get}
 use Rattle.std.specs.List.{AllByRecursion, IsDistinct}
 use Rattle.std.specs.Cmp.Lexicographic.{pointwise, nat_list_eq_equiv}
-use Rattle.std.proofs.lemmas.Option.{slice_get_within}
+use Rattle.std.proofs.lemmas.Option.{slice_get-map, get_or_from_slice_get}
+use Rattle.std.proofs.lemmas.List.{length-map}
 use Rattle.toml.specs.Data.{Data, string, table, Members, no_members, member, get_member}
-use Rattle.wf_names.specs.Names.{is_name}
+use Rattle.wf_names.specs.Table.{AreNames}
 use Rattle.wf_names.specs.declared.limits.TheConstants.{RELATION_LIMIT, PAIR_LIMIT}
 use Rattle.pair_set.specs.Pairs.{Pairs}
 use Rattle.user_relations.specs.Relations.{RelationKind, listed, complement, RelationShape, known_names, complement_of, kind_of, complemented, has_list, is_listed, listed_pairs}
@@ -17,21 +18,9 @@ use Rattle.policy_reader.specs.Parts.{entries, array_in, table_in, text_in, name
 use Rattle.policy_reader.specs.Relations.{first_declared, names_of, is_built_in, is_complement, entry_of, listed_in, complement_in, kind_in, next_relation, relations_in, relations_of}
 use Rattle.policy_reader.specs.Printable.{Ascend}
 use Rattle.policy_printer.specs.Documents.{name_at, pair_data, pairs_data, rows, table_below, kind_members, relation_entry, relations_data}
-use Rattle.policy_printer.specs.Named.{IsNamed, AreNamed}
-use Rattle.policy_printer.proofs.NamesAgain.{at_most-ok}
-use Rattle.policy_printer.proofs.PairsAgain.{named_pairs, pairs_back, pairs_count}
-use Rattle.policy_printer.proofs.Readings.{list_back, items_back, map_length, upto_map}
-use Rattle.policy_printer.proofs.Sorted.{ascend_at}
-use Rattle.policy_printer.proofs.Tabled.{tabled_in_order, key_cmp}
-
-abbrev name_or : List ℕ → Option RelationShape → List ℕ
-name_or name None = name
-name_or name (Some r) = r.name
-
-name_of_get : (rs : List RelationShape) (i : ℕ) (r : RelationShape) → slice_get rs i ≡ Some r → name_at (names_of rs) i ≡ r.name
-name_of_get [] i r e = cc
-name_of_get (x ∷ rs) zero r e = ap (name_or x.name) e
-name_of_get (x ∷ rs) (suc i) r e = name_of_get rs i r e
+use Rattle.policy_printer.proofs.Rows.{pairs_back, pairs_count}
+use Rattle.policy_printer.proofs.Readings.{list_back, items_back, upto_map, got_middle, at_most-ok}
+use Rattle.policy_printer.proofs.Tabled.{tabled_in_order}
 
 two_more : (i : ℕ) → first_declared + i ≡ suc (suc i)
 two_more i = omega arith
@@ -41,12 +30,8 @@ itself name = nat_list_eq_equiv.refl name
 
 all_at : (P : List ℕ → Type 0) (rs : List RelationShape) (i : ℕ) (r : RelationShape) → slice_get rs i ≡ Some r → AllByRecursion P (names_of rs) → P r.name
 all_at P [] i r e h = cc
-all_at P (x ∷ rs) zero r e h = subst P (ap (name_or x.name) e) h.0
+all_at P (x ∷ rs) zero r e h = let same : x ≡ r = cc in subst (λ y. P y.name) same h.0
 all_at P (x ∷ rs) (suc i) r e h = all_at P rs i r e h.1
-
-got_here : (before : List RelationShape) (r : RelationShape) (after : List RelationShape) → slice_get (before ++ r ∷ after) (length before) ≡ Some r
-got_here [] r after = refl
-got_here (x ∷ before) r after = got_here before r after
 
 module _ (users : List (List ℕ)) (whole : List RelationShape) where
   abbrev kind_table : RelationKind → Members
@@ -61,12 +46,18 @@ module _ (users : List (List ℕ)) (whole : List RelationShape) where
   members_by rho (listed pairs) e = ap (λ o. kind_members users whole rho (complemented o)) e ∙ ap (λ o. member (codes "pairs") (pairs_data users (listed_pairs o)) no_members) e
   members_by rho (complement m) e = ap (λ o. kind_members users whole rho (complemented o)) e
 
+  name_got : (i : ℕ) (r : RelationShape) → slice_get whole i ≡ Some r → slice_get (known_names whole) (suc (suc i)) ≡ Some r.name
+  name_got i r e = slice_get-map (λ (x : RelationShape). x.name) whole i ∙ ap (option_map (λ (x : RelationShape). x.name)) e
+
+  name_is : (i : ℕ) (r : RelationShape) → slice_get whole i ≡ Some r → name_at (known_names whole) (suc (suc i)) ≡ r.name
+  name_is i r e = get_or_from_slice_get (known_names whole) (suc (suc i)) r.name [] (name_got i r e)
+
   kind_got : (i : ℕ) (r : RelationShape) → slice_get whole i ≡ Some r → kind_of whole (suc (suc i)) ≡ Some r.kind
   kind_got i r e = ap (option_map (λ x. x.kind)) e
 
   entry_same : (i : ℕ) (r : RelationShape) → slice_get whole i ≡ Some r → relation_entry users whole (first_declared + i) ≡ entry' r
   entry_same i r e =
-      let named : name_at (known_names whole) (first_declared + i) ≡ r.name = ap (name_at (known_names whole)) (two_more i) ∙ name_of_get whole i r e in
+      let named : name_at (known_names whole) (first_declared + i) ≡ r.name = ap (name_at (known_names whole)) (two_more i) ∙ name_is i r e in
       let is : kind_of whole (first_declared + i) ≡ Some r.kind = ap (kind_of whole) (two_more i) ∙ kind_got i r e in
       λ j. (named j, table (members_by (first_declared + i) r.kind is j))
 
@@ -104,7 +95,7 @@ module _ (users : List (List ℕ)) (whole : List RelationShape) where
   target_of (suc zero) h = cc
   target_of (suc (suc i)) h = target_at i (slice_get whole i) refl h
 
-  module _ (named : AreNamed users) (sound : AreSound whole) (related : AreOfUsers (length users) whole) (known : (n : ℕ) → n < length whole → IsNamed (known_names whole) (first_declared + n)) where
+  module _ (named : AreNames users) (sound : AreSound whole) (related : AreOfUsers (length users) whole) (known : AreNames (known_names whole)) where
     names_apart : IsDistinct (pointwise nat_eq) (codes "same" ∷ codes "other" ∷ names_of whole) → IsDistinct (pointwise nat_eq) (names_of whole)
     unfolding IsDistinct
     names_apart d = d.1.1
@@ -116,19 +107,15 @@ module _ (users : List (List ℕ)) (whole : List RelationShape) where
         let two : pointwise nat_eq r.name (codes "other") ≡ false = nat_list_eq_equiv.symm r.name (codes "other") ∙ all_at (λ y. pointwise nat_eq (codes "other") y ≡ false) whole i r e d.1.0 in
         rw (one, two) refl
 
-    form_of : (i : ℕ) (r : RelationShape) → slice_get whole i ≡ Some r → is_name r.name ≡ true
-    form_of i r e = ap is_name (sym (ap (name_at (known_names whole)) (two_more i) ∙ name_of_get whole i r e)) ∙ (known i (slice_get_within whole i r e)).form
-
     listed_again : (n rho : ℕ) (pairs : Pairs) → kind_of whole rho ≡ Some (listed pairs) → listed_in users n (pairs_data users pairs) ≡ Ok (listed pairs)
     unfolding listed_in array_in
     listed_again n rho pairs e =
-        let all = named_pairs users pairs named (related rho pairs e) in
-        let size = pairs_count Relations n users pairs all in
+        let all = rows (length users) (length users) pairs in
         rw (
-          items_back (map (pair_data users) (rows (length users) (length users) pairs)),
-          map_length (pair_data users) (rows (length users) (length users) pairs),
-          at_most-ok Relations n (length (rows (length users) (length users) pairs)) PAIR_LIMIT (omega (arith, size, sound.few rho pairs e)),
-          pairs_back Relations n users pairs all,
+          items_back (map (pair_data users) all),
+          length-map all (pair_data users),
+          at_most-ok Relations n (length all) PAIR_LIMIT (omega (arith, pairs_count Relations n users pairs named (related rho pairs e), sound.few rho pairs e)),
+          pairs_back Relations n users pairs named (related rho pairs e),
         ) refl
 
     module _ (again : Members) (are : entries again ≡ map entry' whole) where
@@ -136,10 +123,10 @@ module _ (users : List (List ℕ)) (whole : List RelationShape) where
       unfolding complement_in text_in
       complement_again n m h =
           let t = target_of m h in
-          let is : name_at (known_names whole) m ≡ t.r.name = ap (name_at (known_names whole)) t.place ∙ name_of_get whole t.i t.r t.got in
+          let is : name_at (known_names whole) m ≡ t.r.name = ap (name_at (known_names whole)) t.place ∙ name_is t.i t.r t.got in
           let place : first_declared + t.i ≡ m = two_more t.i ∙ sym t.place in
           let found : entry_of first_declared t.r.name (entries again) ≡ Some (m, false) = ap (entry_of first_declared t.r.name) are ∙ entry_found first_declared whole t.i t.r t.got (names_apart sound.names) ∙ (λ j. Some (place j, t.plain j)) in
-          rw (is, form_of t.i t.r t.got, found) refl
+          rw (is, known.form (suc (suc t.i)) t.r.name (name_got t.i t.r t.got), found) refl
 
       kind_again : (n rho : ℕ) (kind : RelationKind) → kind_of whole rho ≡ Some kind → kind_in users again n (kind_table kind) ≡ Ok kind
       unfolding kind_in
@@ -150,18 +137,17 @@ module _ (users : List (List ℕ)) (whole : List RelationShape) where
       unfolding next_relation name_in table_in
       step before r after e =
           let i = length before in
-          let got : slice_get whole i ≡ Some r = ap (λ rs. slice_get rs i) e ∙ got_here before r after in
-          rw (form_of i r got, not_built_in i r got sound.names, kind_again (first_declared + i) (suc (suc i)) r.kind (kind_got i r got)) refl
+          let got : slice_get whole i ≡ Some r = ap (λ rs. slice_get rs i) e ∙ got_middle before r after in
+          rw (known.form (suc (suc i)) r.name (name_got i r got), not_built_in i r got sound.names, kind_again (first_declared + i) (suc (suc i)) r.kind (kind_got i r got)) refl
 
     in_again : Ascend (names_of whole) → relations_in users (relations_data users whole) ≡ Ok whole
     unfolding relations_in table_in
     in_again ascend =
         let all = table_below (length whole) (λ n. relation_entry users whole (first_declared + n)) in
         let at : (i : ℕ) → name_at (known_names whole) (first_declared + i) ≡ name_at (names_of whole) i = λ i. ap (name_at (known_names whole)) (two_more i) in
-        let are : entries all ≡ map entry' whole = tabled_in_order (λ n. relation_entry users whole (first_declared + n)) (length whole)
-        (λ i j lt within. (λ k. key_cmp (at j k) (at i k)) ∙ ascend_at (names_of whole) ascend i j lt (omega (arith, within, map_length (λ (r : RelationShape). r.name) whole)))
+        let are : entries all ≡ map entry' whole = tabled_in_order (λ n. relation_entry users whole (first_declared + n)) (names_of whole) (length whole) ascend at (omega (arith, length-map whole (λ (r : RelationShape). r.name)))
         ∙ upto_map whole (λ n. relation_entry users whole (first_declared + n)) entry' entry_same in
-        rw (are, map_length entry' whole, at_most-ok Relations 0 (length whole) RELATION_LIMIT sound.count)
+        rw (are, length-map whole entry', at_most-ok Relations 0 (length whole) RELATION_LIMIT sound.count)
         (list_back (next_relation users all) entry' (λ rs. rs) whole (step all are))
 
     abbrev or_none : Option Data → Reading (List RelationShape)

@@ -1,18 +1,29 @@
 -- The entries of a table that was put together by numbers.
-use Rattle.std.proofs.Common.{◌≡◌, ℕ, zero, suc, ◌<◌, ◌≤◌, List, [], ◌∷◌, ◌++◌, map, Ordering, Less, Equal, Greater, nat_cmp, refl, sym, ap, subst, ◌∙◌, inl, inr, arith}
-use Rattle.std.specs.List.{AllByRecursion}
-use Rattle.std.specs.Ordering.{match_ordering}
-use Rattle.std.specs.Cmp.Lexicographic.{slice_cmp}
+use Rattle.std.proofs.Common.{◌≡◌, ℕ, zero, suc, ◌<◌, ◌≤◌, ◌+◌, Bool, true, false, ◌||◌, nat_eq, nat_lt, List, [], ◌∷◌, ◌++◌, length, map, Ordering, Less, Equal, Greater, nat_cmp, refl, sym, ap, ◌∙◌, arith}
+use Rattle.std.specs.Prelude.{IsPermutation}
+use Rattle.std.specs.List.{AllByRecursion, IsDistinct, list_any}
+use Rattle.std.specs.Ordering.{match_ordering, ordering_reverse}
+use Rattle.std.specs.Cmp.{nat_eq_equiv}
+use Rattle.std.specs.Cmp.Lexicographic.{slice_cmp, nat_list_cmp_total}
 use Rattle.std.specs.FinMap.{slice_cmp-IsAntisymmetric, nat_cmp-IsAntisymmetric}
-use Rattle.std.proofs.lemmas.Bool.{cases_lt}
+use Rattle.std.proofs.lemmas.List.Sorted.{IsPermutation-refl, IsPermutation-cons, IsPermutation-trans, IsPermutation-middle, list_any-IsPermutation}
+use Rattle.std.proofs.lemmas.Map.Keys.{Less-from_sorted, IsDistinct-cons, IsDistinct-IsPermutation}
+use Rattle.basics.proofs.Booleans.{or_left, or_right, eq_same, eq_above, lt_back, lt_no}
 use Rattle.toml.specs.Data.{Data, Members, no_members, member}
 use Rattle.policy_reader.specs.Parts.{entries}
-use Rattle.policy_printer.specs.Documents.{with_member, table_below}
+use Rattle.policy_reader.specs.Printable.{Ascend}
+use Rattle.policy_printer.specs.Documents.{with_member, table_below, name_at}
 use Rattle.policy_printer.proofs.Readings.{upto}
-use Rattle.policy_printer.proofs.Lines.{Has, Lacks, Differ}
 
 abbrev pub key_cmp : List ℕ → List ℕ → Ordering
 key_cmp k l = slice_cmp nat_cmp k l
+
+each_of : (P : ℕ → Type 0) (ns : List ℕ) → ((m : ℕ) → list_any (nat_eq m) ns ≡ true → P m) → AllByRecursion P ns
+each_of P [] h = tt
+each_of P (n ∷ ns) h = (h n (or_left (nat_eq n n) _ (eq_same n)), each_of P ns (λ m e. h m (or_right (nat_eq m n) _ e)))
+
+one_more : (m n : ℕ) → (nat_eq m n || nat_lt m n) ≡ nat_lt m (suc n)
+one_more m n = grind arith
 
 module _ (entry : ℕ → List ℕ × Data) where
   -- the numbers with one more, by the order of their keys
@@ -28,113 +39,77 @@ module _ (entry : ℕ → List ℕ × Data) where
   members_of [] = no_members
   members_of (m ∷ ms) = member (entry m).0 (entry m).1 (members_of ms)
 
-  placed_one : (o : Ordering) (n m : ℕ) (ms : List ℕ) (rest : Members) (more : List ℕ) → key_cmp (entry n).0 (entry m).0 ≡ o → rest ≡ members_of more
-      → match_ordering o (member (entry n).0 (entry n).1 (member (entry m).0 (entry m).1 (members_of ms))) (member (entry m).0 (entry n).1 (members_of ms)) (member (entry m).0 (entry m).1 rest)
-      ≡ members_of (match_ordering o (n ∷ m ∷ ms) (n ∷ ms) (m ∷ more))
-  placed_one Less n m ms rest more e same = refl
-  placed_one Equal n m ms rest more e same = ap (λ k. member k (entry n).1 (members_of ms)) (sym (slice_cmp-IsAntisymmetric nat_cmp-IsAntisymmetric (entry n).0 (entry m).0 e))
-  placed_one Greater n m ms rest more e same = ap (member (entry m).0 (entry m).1) same
-
   with_placed : (n : ℕ) (ns : List ℕ) → with_member (entry n).0 (entry n).1 (members_of ns) ≡ members_of (placed n ns)
   with_placed n [] = refl
-  with_placed n (m ∷ ms) = placed_one (key_cmp (entry n).0 (entry m).0) n m ms _ (placed n ms) refl (with_placed n ms)
-
-  entries_are : (ns : List ℕ) → entries (members_of ns) ≡ map entry ns
-  entries_are [] = refl
-  entries_are (n ∷ ns) = ap (λ es. entry n ∷ es) (entries_are ns)
+  with_placed n (m ∷ ms) =
+      elim (key_cmp (entry n).0 (entry m).0) as (λ o. key_cmp (entry n).0 (entry m).0 ≡ o
+      → match_ordering o (member (entry n).0 (entry n).1 (members_of (m ∷ ms))) (member (entry m).0 (entry n).1 (members_of ms)) (member (entry m).0 (entry m).1 (with_member (entry n).0 (entry n).1 (members_of ms)))
+      ≡ members_of (match_ordering o (n ∷ m ∷ ms) (n ∷ ms) (m ∷ placed n ms))) [
+        | Less ↦ λ e. refl
+        | Equal ↦ λ e. ap (λ k. member k (entry n).1 (members_of ms)) (sym (slice_cmp-IsAntisymmetric nat_cmp-IsAntisymmetric (entry n).0 (entry m).0 e))
+        | Greater ↦ λ e. ap (member (entry m).0 (entry m).1) (with_placed n ms)
+      ] refl
 
   table_is : (n : ℕ) → table_below n entry ≡ members_of (numbers n)
   table_is zero = refl
   table_is (suc n) = ap (with_member (entry n).0 (entry n).1) (table_is n) ∙ with_placed n (numbers n)
 
+  entries_are : (ns : List ℕ) → entries (members_of ns) ≡ map entry ns
+  entries_are [] = refl
+  entries_are (n ∷ ns) = ap (λ es. entry n ∷ es) (entries_are ns)
+
   -- the entries of a table, by the order of their keys
   pub tabled : (n : ℕ) → entries (table_below n entry) ≡ map entry (numbers n)
   tabled n = ap entries (table_is n) ∙ entries_are (numbers n)
 
-  -- ---- keys that ascend with their numbers
+  -- ---- keys that differ
 
-  placed_last : (o : Ordering) (n m : ℕ) (ms more : List ℕ) → o ≡ Greater → more ≡ ms ++ n ∷ [] → match_ordering o (n ∷ m ∷ ms) (n ∷ ms) (m ∷ more) ≡ m ∷ ms ++ n ∷ []
-  placed_last Less n m ms more e same = cc
-  placed_last Equal n m ms more e same = cc
-  placed_last Greater n m ms more e same = ap (λ ns. m ∷ ns) same
+  abbrev pub Apart : ℕ → ℕ → Type 0
+  Apart n m = key_cmp (entry n).0 (entry m).0 ≡ Equal → ⊥
+
+  placed_moved : (n : ℕ) (ns : List ℕ) → AllByRecursion (Apart n) ns → IsPermutation (n ∷ ns) (placed n ns)
+  placed_moved n [] h = IsPermutation-refl (n ∷ [])
+  placed_moved n (m ∷ ms) h = elim (key_cmp (entry n).0 (entry m).0) as (λ o. (o ≡ Equal → ⊥) → IsPermutation (n ∷ m ∷ ms) (match_ordering o (n ∷ m ∷ ms) (n ∷ ms) (m ∷ placed n ms))) [
+    | Less ↦ λ no. IsPermutation-refl (n ∷ m ∷ ms)
+    | Equal ↦ λ no. absurd (no refl)
+    | Greater ↦ λ no. IsPermutation-trans (n ∷ m ∷ ms) (m ∷ n ∷ ms) (m ∷ placed n ms) (IsPermutation-middle (n ∷ []) m ms) (IsPermutation-cons m (n ∷ ms) (placed n ms) (placed_moved n ms h.1))
+  ] h.0
+
+  module _ (bound : ℕ) (apart : (i j : ℕ) → i < j → j < bound → Apart j i) where
+    all_apart : (n : ℕ) → n < bound → ((m : ℕ) → list_any (nat_eq m) (numbers n) ≡ nat_lt m n) → AllByRecursion (Apart n) (numbers n)
+    all_apart n lt are = each_of (Apart n) (numbers n) (λ m e. apart m n (lt_back m n (sym (are m) ∙ e)) lt)
+
+    pub numbers_among : (n m : ℕ) → n ≤ bound → list_any (nat_eq m) (numbers n) ≡ nat_lt m n
+    numbers_among zero m le = sym (lt_no m 0 (omega arith))
+    numbers_among (suc n) m le =
+        let moved = placed_moved n (numbers n) (all_apart n (omega (arith, le)) (λ k. numbers_among n k (omega (arith, le)))) in
+        sym (list_any-IsPermutation (nat_eq m) (n ∷ numbers n) (placed n (numbers n)) moved) ∙ ap (λ b. nat_eq m n || b) (numbers_among n m (omega (arith, le))) ∙ one_more m n
+
+    pub numbers_distinct : (n : ℕ) → n ≤ bound → IsDistinct nat_eq (numbers n)
+    unfolding IsDistinct
+    numbers_distinct zero le = tt
+    numbers_distinct (suc n) le =
+        let are : (m : ℕ) → list_any (nat_eq m) (numbers n) ≡ nat_lt m n = λ m. numbers_among n m (omega (arith, le)) in
+        IsDistinct-IsPermutation nat_eq (λ x y. nat_eq_equiv.symm x y) (n ∷ numbers n) (placed n (numbers n)) (placed_moved n (numbers n) (all_apart n (omega (arith, le)) are))
+        (IsDistinct-cons nat_eq n (numbers n) (each_of (λ m. nat_eq n m ≡ false) (numbers n) (λ m e. eq_above n m (lt_back m n (sym (are m) ∙ e)))) (numbers_distinct n (omega (arith, le))))
+
+  -- ---- keys that ascend with their numbers
 
   placed_end : (n : ℕ) (ns : List ℕ) → AllByRecursion (λ m. key_cmp (entry n).0 (entry m).0 ≡ Greater) ns → placed n ns ≡ ns ++ n ∷ []
   placed_end n [] h = refl
-  placed_end n (m ∷ ms) h = placed_last (key_cmp (entry n).0 (entry m).0) n m ms (placed n ms) h.0 (placed_end n ms h.1)
+  placed_end n (m ∷ ms) h = rw h.0 (ap (λ ns. m ∷ ns) (placed_end n ms h.1))
 
-  all_push : {X : Type 0} (P : X → Type 0) (xs : List X) (x : X) → AllByRecursion P xs → P x → AllByRecursion P (xs ++ x ∷ [])
-  all_push P [] x h here = (here, tt)
-  all_push P (y ∷ xs) x h here = (h.0, all_push P xs x h.1 here)
+  module _ (names : List (List ℕ)) (bound : ℕ) (ascend : Ascend names) (keys : (n : ℕ) → (entry n).0 ≡ name_at names n) (within : bound ≤ length names) where
+    above : (i j : ℕ) → i < j → j < bound → key_cmp (entry j).0 (entry i).0 ≡ Greater
+    above i j lt below = (λ k. key_cmp (keys j k) (keys i k)) ∙ nat_list_cmp_total.antisymm (name_at names j) (name_at names i) ∙ ap ordering_reverse (Less-from_sorted (slice_cmp nat_cmp) names i j [] ascend lt (omega (arith, below, within)))
 
-  upto_all : (P : ℕ → Type 0) (n : ℕ) → ((m : ℕ) → m < n → P m) → AllByRecursion P (upto n)
-  upto_all P zero h = tt
-  upto_all P (suc n) h = all_push P (upto n) n (upto_all P n (λ m lt. h m (omega (arith, lt)))) (h n (omega arith))
-
-  module _ (bound : ℕ) (ascend : (i j : ℕ) → i < j → j < bound → key_cmp (entry j).0 (entry i).0 ≡ Greater) where
     numbers_upto : (n : ℕ) → n ≤ bound → numbers n ≡ upto n
     numbers_upto zero le = refl
-    numbers_upto (suc n) le = ap (placed n) (numbers_upto n (omega (arith, le))) ∙ placed_end n (upto n) (upto_all (λ m. key_cmp (entry n).0 (entry m).0 ≡ Greater) n (λ m lt. ascend m n lt (omega (arith, le))))
+    numbers_upto (suc n) le =
+        placed_end n (numbers n) (each_of (λ m. key_cmp (entry n).0 (entry m).0 ≡ Greater) (numbers n)
+        (λ m e. above m n (lt_back m n (sym (numbers_among bound (λ i j lt below e'. let no = sym (above i j lt below) ∙ e' in cc) n m (omega (arith, le))) ∙ e)) (omega (arith, le))))
+        ∙ ap (λ ns. ns ++ n ∷ []) (numbers_upto n (omega (arith, le)))
 
     -- a table whose keys ascend has its entries in the order of their numbers
     pub tabled_in_order : entries (table_below bound entry) ≡ map entry (upto bound)
     tabled_in_order = tabled bound ∙ ap (map entry) (numbers_upto bound (omega arith))
-
-  -- ---- keys that differ
-
-  placed_step : (P : ℕ → Type 0) (o : Ordering) (n m : ℕ) (ms more : List ℕ) → AllByRecursion P (m ∷ ms) → P n → AllByRecursion P more → AllByRecursion P (match_ordering o (n ∷ m ∷ ms) (n ∷ ms) (m ∷ more))
-  placed_step P Less n m ms more h here rest = (here, h)
-  placed_step P Equal n m ms more h here rest = (here, h.1)
-  placed_step P Greater n m ms more h here rest = (h.0, rest)
-
-  placed_all : (P : ℕ → Type 0) (n : ℕ) (ns : List ℕ) → AllByRecursion P ns → P n → AllByRecursion P (placed n ns)
-  placed_all P n [] h here = (here, tt)
-  placed_all P n (m ∷ ms) h here = placed_step P (key_cmp (entry n).0 (entry m).0) n m ms (placed n ms) h here (placed_all P n ms h.1 here)
-
-  differ_step : (o : Ordering) (n m : ℕ) (ms more : List ℕ) → Differ (m ∷ ms) → Lacks n (m ∷ ms) → Lacks m more → Differ more → Differ (match_ordering o (n ∷ m ∷ ms) (n ∷ ms) (m ∷ more))
-  differ_step Less n m ms more h lacks apart rest = (lacks, h)
-  differ_step Equal n m ms more h lacks apart rest = (lacks.1, h.1)
-  differ_step Greater n m ms more h lacks apart rest = (apart, rest)
-
-  placed_differ : (n : ℕ) (ns : List ℕ) → Differ ns → Lacks n ns → Differ (placed n ns)
-  placed_differ n [] h lacks = (tt, tt)
-  placed_differ n (m ∷ ms) h lacks =
-      differ_step (key_cmp (entry n).0 (entry m).0) n m ms (placed n ms) h lacks (placed_all (λ k. k ≡ m → ⊥) n ms h.0 (λ e. lacks.0 (sym e))) (placed_differ n ms h.1 lacks.1)
-
-  new_step : (o : Ordering) (n m : ℕ) (ms more : List ℕ) → Has n more → Has n (match_ordering o (n ∷ m ∷ ms) (n ∷ ms) (m ∷ more))
-  new_step Less n m ms more h = inl refl
-  new_step Equal n m ms more h = inl refl
-  new_step Greater n m ms more h = inr h
-
-  placed_new : (n : ℕ) (ns : List ℕ) → Has n (placed n ns)
-  placed_new n [] = inl refl
-  placed_new n (m ∷ ms) = new_step (key_cmp (entry n).0 (entry m).0) n m ms (placed n ms) (placed_new n ms)
-
-  old_step : (o : Ordering) (s n m : ℕ) (ms more : List ℕ) → (o ≡ Equal → ⊥) → Has s (m ∷ ms) → (Has s ms → Has s more) → Has s (match_ordering o (n ∷ m ∷ ms) (n ∷ ms) (m ∷ more))
-  old_step Less s n m ms more apart h rest = inr h
-  old_step Equal s n m ms more apart h rest = absurd (apart refl)
-  old_step Greater s n m ms more apart (inl e) rest = inl e
-  old_step Greater s n m ms more apart (inr old) rest = inr (rest old)
-
-  placed_old : (s n : ℕ) (ns : List ℕ) → AllByRecursion (λ m. key_cmp (entry n).0 (entry m).0 ≡ Equal → ⊥) ns → Has s ns → Has s (placed n ns)
-  placed_old s n [] apart h = absurd h
-  placed_old s n (m ∷ ms) apart h = old_step (key_cmp (entry n).0 (entry m).0) s n m ms (placed n ms) apart.0 h (placed_old s n ms apart.1)
-
-  weaken : (P Q : ℕ → Type 0) (ns : List ℕ) → ((m : ℕ) → P m → Q m) → AllByRecursion P ns → AllByRecursion Q ns
-  weaken P Q [] f h = tt
-  weaken P Q (m ∷ ns) f h = (f m h.0, weaken P Q ns f h.1)
-
-  -- all numbers are below n
-  pub numbers_below : (n : ℕ) → AllByRecursion (λ m. m < n) (numbers n)
-  numbers_below zero = tt
-  numbers_below (suc n) = placed_all (λ m. m < suc n) n (numbers n) (weaken (λ m. m < n) (λ m. m < suc n) (numbers n) (λ m lt. omega (arith, lt)) (numbers_below n)) (omega arith)
-
-  pub numbers_differ : (n : ℕ) → Differ (numbers n)
-  numbers_differ zero = tt
-  numbers_differ (suc n) = placed_differ n (numbers n) (numbers_differ n) (weaken (λ m. m < n) (λ m. m ≡ n → ⊥) (numbers n) (λ m lt e. absurd (omega (arith, lt, e))) (numbers_below n))
-
-  pub numbers_have : (bound n : ℕ) → ((i j : ℕ) → i < j → j < bound → key_cmp (entry j).0 (entry i).0 ≡ Equal → ⊥) → n ≤ bound → (s : ℕ) → s < n → Has s (numbers n)
-  numbers_have bound zero apart le s lt = absurd (omega (arith, lt))
-  numbers_have bound (suc n) apart le s lt = elim (cases_lt s n) [
-    | inl less ↦ placed_old s n (numbers n) (weaken (λ m. m < n) (λ m. key_cmp (entry n).0 (entry m).0 ≡ Equal → ⊥) (numbers n) (λ m k. apart m n k (omega (arith, le))) (numbers_below n)) (numbers_have bound n apart (omega (arith, le)) s less)
-    | inr above ↦ let same : n ≡ s = omega (arith, lt, above) in subst (λ k. Has k (placed n (numbers n))) same (placed_new n (numbers n))
-  ]

@@ -1,20 +1,22 @@
 -- Values and tables as they are built.
-use Rattle.std.proofs.Common.{◌≡◌, ℕ, suc, ◌+◌, ◌<◌, Bool, true, false, List, [], ◌∷◌, ◌++◌, length, map, take, get_or, append_assoc, ◌||◌, ◌==◌, String, Global, Ordering, Less, Equal, Greater, string_bytes, refl, sym, ap, ◌∙◌, arith}
-use Rattle.std.specs.Prelude.{Result, Ok, Err, OnOk, slice_get, Option, Some, None, option_map, zero, if◌then◌else◌}
-use Rattle.std.specs.List.{AllByRecursion, All}
-use Rattle.std.proofs.lemmas.List.Elements.{All-from_recursion}
-use Rattle.std.proofs.lemmas.Option.{get_or_from_slice_get, slice_get_within}
+use Rattle.std.proofs.Common.{◌≡◌, ℕ, suc, ◌+◌, ◌<◌, Bool, true, false, List, [], ◌∷◌, ◌++◌, length, map, take, get_or, nat_eq, nat_lt, IsTrue, String, Global, Ordering, Less, Equal, Greater, string_bytes, refl, sym, ap, ◌∙◌, arith}
+use Rattle.std.specs.Prelude.{Result, Ok, Err, OnOk, slice_get, Option, Some, None, option_map, zero}
+use Rattle.std.specs.List.{All}
+use Rattle.std.proofs.lemmas.Option.{get_or_from_slice_get, slice_get_past, slice_get_within}
 use Rattle.std.proofs.lemmas.Bool.{cases_lt}
 use Rattle.std.proofs.Common.{subst, inl, inr}
+use Rattle.basics.proofs.Booleans.{or_left, or_right, eq_same, lt_yes, lt_no}
 use Rattle.wf_names.specs.Names.{is_name}
-use Rattle.wf_names.specs.Table.{place_of}
-use Rattle.policy_printer.specs.Named.{IsNamed}
+use Rattle.wf_names.specs.Table.{AreNames}
+use Rattle.wf_names.proofs.Places.{are_names}
+use Rattle.policy_reader.specs.Relations.{first_declared}
+use Rattle.policy_printer.specs.Named.{rows_below}
+use Rattle.policy_printer.proofs.Sets.{by_first, row, row_none, row_more, row_skip, row_all, no_part, whole_part, next_line}
 use Rattle.wf_names.specs.declared.limits.TheConstants.{RELATION_LIMIT}
 use Rattle.pair_set.specs.Pairs.{Pairs, AllPairs}
-use Rattle.user_relations.specs.Relations.{RelationShape, RelationKind, listed, complement, kind_of, has_list, is_listed, complemented, complement_of, listed_pairs, pairs_of}
+use Rattle.user_relations.specs.Relations.{RelationShape, RelationKind, listed, complement, kind_of, known_names, has_list, is_listed, complemented, complement_of, listed_pairs, pairs_of}
 use Rattle.pair_set.specs.PairLaws.{all_empty}
 use Rattle.policy_book.specs.Facts.{AreOfUsers, IsSoundRule}
-use Rattle.std.proofs.lemmas.Bool.Decides.{nat_tests}
 use Rattle.constraint_forms.specs.Assigned.{is_member}
 use Rattle.constraint_forms.specs.declared.rule.Rule.TheVariants.{Pair, SomeOf, AllOf}
 use Rattle.user_relations.specs.Soundness.{AreSound}
@@ -22,11 +24,11 @@ use Rattle.std.specs.BTreeMap.{insert_entry}
 use Rattle.std.specs.String.{string_cmp}
 use Rattle.std.specs.Ordering.{match_ordering}
 use Rattle.std.specs.FinSet as set
-use Rattle.std.proofs.lemmas.List.{map-append, take_more}
+use Rattle.std.proofs.lemmas.List.{get_or_default, length-map, map-append, take_more}
 use Rattle.toml.specs.declared.value.Value.{Value}
 use Rattle.toml.specs.Data.{Data, Members, member}
 use Rattle.toml.specs.View.{view, members_view}
-use Rattle.policy_printer.specs.Documents.{with_member, table_below, chosen, row, rows, name_at}
+use Rattle.policy_printer.specs.Documents.{with_member, table_below, chosen, name_at}
 
 abbrev Entry : Type 0
 Entry = String Global × Value
@@ -63,47 +65,50 @@ map_take_more f xs n d lt = ap (map f) (take_more xs n d lt) ∙ map-append f (t
 pub map_take_got : {X Y : Type 0} (f : X → Y) (xs : List X) (n : ℕ) (x : X) → slice_get xs n ≡ Some x → map f (take (n + 1) xs) ≡ map f (take n xs) ++ f x ∷ []
 map_take_got f xs n x e = map_take_more f xs n x (slice_get_within xs n x e) ∙ ap (λ y. map f (take n xs) ++ f y ∷ []) (get_or_from_slice_get xs n x x e)
 
--- pairs of a set, row by row
-pub row_more : (s t : ℕ) (before : List (ℕ × ℕ)) (pairs : Pairs) → set.contains pairs (s, t) ≡ true → before ++ row s (t + 1) pairs ≡ (before ++ row s t pairs) ++ (s, t) ∷ []
-row_more s t before pairs here = rw (one_more t, here) (sym (append_assoc before (row s t pairs) ((s, t) ∷ [])))
+-- ---- the pairs of an order
 
-pub row_skip : (s t : ℕ) (before : List (ℕ × ℕ)) (pairs : Pairs) → set.contains pairs (s, t) ≡ false → before ++ row s (t + 1) pairs ≡ before ++ row s t pairs
-row_skip s t before pairs none = rw (one_more t, none) refl
+pub no_rows : (pairs : Pairs) → rows_below 0 pairs ≡ set.empty
+unfolding rows_below
+no_rows pairs = no_part pairs (λ q. nat_lt q.0 0) (λ q. lt_no q.0 0 (omega arith))
 
-pub rows_more : (m n : ℕ) (pairs : Pairs) → rows (m + 1) n pairs ≡ rows m n pairs ++ row m n pairs
-rows_more m n pairs = rw (one_more m) refl
+pub all_rows : (n : ℕ) (pairs : Pairs) → AllPairs (λ s t. (s < n) × (t < n)) pairs → rows_below n pairs ≡ pairs
+unfolding rows_below
+all_rows n pairs h = whole_part pairs (λ q. nat_lt q.0 n) (λ q here. lt_yes q.0 n (h.each q.0 q.1 here).0)
 
-pub all_append : {X : Type 0} (P : X → Type 0) (xs ys : List X) → AllByRecursion P xs → AllByRecursion P ys → AllByRecursion P (xs ++ ys)
-all_append P [] ys a b = b
-all_append P (x ∷ xs) ys a b = (a.0, all_append P xs ys a.1 b)
+-- the rows below s, and of its row the places below t
+unfoldable pub row_of : ℕ → ℕ → Pairs → Pairs
+row_of s t pairs = row by_first pairs (λ m. nat_lt m s) s (lt_no s s (omega arith)) t
 
-row_step : (P : ℕ × ℕ → Type 0) (s n : ℕ) (pairs : Pairs) (b : Bool) → (b ≡ true → P (s, n)) → AllByRecursion P (row s n pairs) → AllByRecursion P (if b then row s n pairs ++ (s, n) ∷ [] else row s n pairs)
-row_step P s n pairs true new old = all_append P (row s n pairs) ((s, n) ∷ []) old (new refl, tt)
-row_step P s n pairs false new old = old
+pub row_begins : (s : ℕ) (pairs : Pairs) → rows_below s pairs ≡ row_of s 0 pairs
+unfolding rows_below row_of
+row_begins s pairs = row_none by_first pairs (λ m. nat_lt m s) s (lt_no s s (omega arith))
 
-pub row_all : (P : ℕ × ℕ → Type 0) (s n : ℕ) (pairs : Pairs) → AllPairs (λ a b. P (a, b)) pairs → AllByRecursion P (row s n pairs)
-row_all P s zero pairs h = tt
-row_all P s (suc n) pairs h = row_step P s n pairs (set.contains pairs (s, n)) (h.each s n) (row_all P s n pairs h)
+pub row_up : (s t : ℕ) (pairs : Pairs) → set.contains pairs (s, t) ≡ true → row_of s (suc t) pairs ≡ set.insert (row_of s t pairs) (s, t)
+unfolding row_of
+row_up s t pairs here = row_more by_first pairs (λ m. nat_lt m s) s (lt_no s s (omega arith)) t here
 
-pub rows_all : (P : ℕ × ℕ → Type 0) (m n : ℕ) (pairs : Pairs) → AllPairs (λ a b. P (a, b)) pairs → AllByRecursion P (rows m n pairs)
-rows_all P zero n pairs h = tt
-rows_all P (suc m) n pairs h = all_append P (rows m n pairs) (row m n pairs) (rows_all P m n pairs h) (row_all P m n pairs h)
+pub row_same : (s t : ℕ) (pairs : Pairs) → set.contains pairs (s, t) ≡ false → row_of s (suc t) pairs ≡ row_of s t pairs
+unfolding row_of
+row_same s t pairs none = sym (row_skip by_first pairs (λ m. nat_lt m s) s (lt_no s s (omega arith)) t none)
 
-pub rows_within : (k m n : ℕ) (pairs : Pairs) → AllPairs (λ a b. (a < k) × (b < k)) pairs → All (λ p. (p.0 < k) × (p.1 < k)) (rows m n pairs)
-rows_within k m n pairs h = All-from_recursion (λ (p : ℕ × ℕ). (p.0 < k) × (p.1 < k)) (rows m n pairs) (rows_all (λ p. (p.0 < k) × (p.1 < k)) m n pairs h)
+pub row_end : (s n : ℕ) (pairs : Pairs) → AllPairs (λ a b. (a < n) × (b < n)) pairs → row_of s n pairs ≡ rows_below (suc s) pairs
+unfolding rows_below row_of
+row_end s n pairs h = row_all by_first pairs (λ m. nat_lt m s) s (lt_no s s (omega arith)) n (λ q here. (h.each q.0 q.1 here).1) ∙ next_line pairs s
+
+-- the same in the words of a loop
+pub row_grows : (s t : ℕ) (pairs : Pairs) → set.contains pairs (s, t) ≡ true → row_of s (t + 1) pairs ≡ set.insert (row_of s t pairs) (s, t)
+row_grows s t pairs here = rw (one_more t) (row_up s t pairs here)
+
+pub row_stays : (s t : ℕ) (pairs : Pairs) → set.contains pairs (s, t) ≡ false → row_of s (t + 1) pairs ≡ row_of s t pairs
+row_stays s t pairs none = rw (one_more t) (row_same s t pairs none)
+
+pub row_ends : (s n : ℕ) (pairs : Pairs) → AllPairs (λ a b. (a < n) × (b < n)) pairs → rows_below (s + 1) pairs ≡ row_of s n pairs
+row_ends s n pairs h = rw (one_more s) (sym (row_end s n pairs h))
 
 -- ---- names
 
 pub name_found : (names : List (List ℕ)) (n : ℕ) (name : List ℕ) → slice_get names n ≡ Some name → name_at names n ≡ name
 name_found names n name h = get_or_from_slice_get names n name [] h
-
-pub named_of : (names : List (List ℕ)) (n : ℕ) (name : List ℕ) → slice_get names n ≡ Some name → is_name name ≡ true → place_of names name ≡ Some n → IsNamed names n
-named_of names n name got form place =
-    let is = name_found names n name got in
-    record { form = ap is_name is ∙ form; place = ap (place_of names) is ∙ place; within = slice_get_within names n name got }
-
-pub related_of : (names : List (List ℕ)) (n : ℕ) (name : List ℕ) → name ≡ name_at names n → is_name name ≡ true → place_of names name ≡ Some n → n < length names → IsNamed names n
-related_of names n name is form place within = record { form = ap is_name (sym is) ∙ form; place = ap (place_of names) (sym is) ∙ place; within = within }
 
 -- what is true is true where a call succeeds
 pub on_ok : {A E : Type 0} (result : Result A E) (P : Type 0) → P → OnOk result P
@@ -119,6 +124,18 @@ one_further P n h here m lt = elim (cases_lt m n) [
 
 -- ---- relations
 
+-- the names of the built-in relations and of the declared ones
+pub known_named : (relations : List RelationShape) → AreSound relations → ((n : ℕ) → n < length relations → is_name (name_at (known_names relations) (first_declared + n)) ≡ true) → AreNames (known_names relations)
+unfolding is_name
+known_named relations sound h = are_names (known_names relations) sound.names all
+  where
+    all : All (λ name. IsTrue (is_name name)) (known_names relations)
+    all zero d lt = refl
+    all (suc zero) d lt = refl
+    all (suc (suc n)) d lt =
+        let same : first_declared + n ≡ suc (suc n) = omega arith in
+        ap is_name (get_or_default (known_names relations) (suc (suc n)) d [] lt) ∙ ap (λ k. is_name (name_at (known_names relations) k)) (sym same) ∙ h n (omega (arith, lt, length-map relations (λ r. r.name)))
+
 pub number_fits : (relations : List RelationShape) (n : ℕ) → AreSound relations → n < length relations → n < RELATION_LIMIT
 number_fits relations n sound lt = omega (arith, sound.count, lt)
 
@@ -127,21 +144,13 @@ complement_kind None n e = cc
 complement_kind (Some (listed pairs)) n e = cc
 complement_kind (Some (complement m)) n e = ap (λ o. option_map complement o) e
 
-map_none : (r : Option RelationShape) → has_list (option_map (λ x. x.kind) r) ≡ true → (r ≡ None → ⊥)
-map_none None e none = cc
-map_none (Some r) e none = cc
-
-got_within : {X : Type 0} (xs : List X) (n : ℕ) (o : Option X) → slice_get xs n ≡ o → (o ≡ None → ⊥) → n < length xs
-got_within xs n None e h = absurd (h refl)
-got_within xs n (Some x) e h = slice_get_within xs n x e
-
-some_within : {X : Type 0} (xs : List X) (n : ℕ) → (slice_get xs n ≡ None → ⊥) → n < length xs
-some_within xs n h = got_within xs n (slice_get xs n) refl h
-
 listed_within : (relations : List RelationShape) (n : ℕ) → is_listed relations n ≡ true → n < length relations + 2
 listed_within relations zero e = cc
 listed_within relations (suc zero) e = cc
-listed_within relations (suc (suc n)) e = let lt = some_within relations n (map_none (slice_get relations n) e) in omega (arith, lt)
+listed_within relations (suc (suc n)) e = elim (cases_lt n (length relations)) [
+  | inl lt ↦ omega (arith, lt)
+  | inr past ↦ let none = ap (λ o. has_list (option_map (λ (r : RelationShape). r.kind) o)) (slice_get_past relations n past) in let no : true ≡ false = sym e ∙ none in cc
+]
 
 -- the relation whose complement one is, is there
 pub other_within : (relations : List RelationShape) (rho n : ℕ) → AreSound relations → complement_of relations rho ≡ Some n → n < length relations + 2
@@ -158,21 +167,14 @@ pairs_of_users users rho relations h = listed_of_users (kind_of relations rho) u
 
 -- ---- rules
 
-same_eq : (n : ℕ) → (n == n) ≡ true
-same_eq n = grind (arith, nat_tests)
-
-or_right : (a : Bool) → (a || true) ≡ true
-or_right true = refl
-or_right false = refl
-
 pub first_in : (steps relations rho s t : ℕ) → IsSoundRule steps relations (Pair rho s t) → s < steps
-first_in steps relations rho s t h = h.names s (ap (λ b. b || (s == t)) (same_eq s))
+first_in steps relations rho s t h = h.names s (or_left (nat_eq s s) _ (eq_same s))
 
 pub second_in : (steps relations rho s t : ℕ) → IsSoundRule steps relations (Pair rho s t) → t < steps
-second_in steps relations rho s t h = h.names t (ap (λ b. (t == s) || b) (same_eq t) ∙ or_right (t == s))
+second_in steps relations rho s t h = h.names t (or_right (nat_eq t s) _ (eq_same t))
 
 pub some_step_in : (steps relations rho s : ℕ) (group : List Bool) → IsSoundRule steps relations (SomeOf rho group s) → s < steps
-some_step_in steps relations rho s group h = h.names s (ap (λ b. b || is_member group s) (same_eq s))
+some_step_in steps relations rho s group h = h.names s (or_left (nat_eq s s) _ (eq_same s))
 
 pub all_step_in : (steps relations rho s : ℕ) (group : List Bool) → IsSoundRule steps relations (AllOf rho group s) → s < steps
-all_step_in steps relations rho s group h = h.names s (ap (λ b. b || is_member group s) (same_eq s))
+all_step_in steps relations rho s group h = h.names s (or_left (nat_eq s s) _ (eq_same s))

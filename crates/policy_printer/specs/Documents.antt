@@ -16,6 +16,7 @@ use Rattle.policy_book.specs.Shapes.{PolicyShape, WorkflowShape}
 use Rattle.policy_book.specs.Policies.{flow_at}
 use Rattle.policy_reader.specs.declared.form.Form.{Form}
 use Rattle.policy_reader.specs.declared.form.Form.TheVariants as form
+use Rattle.policy_reader.specs.Formats.{format_number, written_format}
 use Rattle.policy_reader.specs.Forms.{form_word}
 use Rattle.policy_reader.specs.Relations.{first_declared}
 
@@ -144,7 +145,7 @@ unfoldable pub document_of : PolicyShape → Members
 document_of p = table_of (
     (codes "admin", string (name_at p.roster.roles p.admin))
     ∷ (codes "flows", flows_data p)
-    ∷ (codes "format", integer (pos 1))
+    ∷ (codes "format", integer (pos (format_number written_format)))
     ∷ (codes "relations", relations_data p.roster.users p.relations)
     ∷ (codes "roles", names_data p.roster.roles)
     ∷ (codes "users", users_data p.roster)

@@ -1,7 +1,8 @@
--- Inside: what is known of a policy whose names were written one by one.
-use Rattle.std.specs.Prelude.{◌≡◌, ℕ, ◌+◌, ◌<◌, true, List, length, Some, slice_get}
-use Rattle.wf_names.specs.Names.{is_name}
-use Rattle.wf_names.specs.Table.{place_of}
+-- Inside: what is known of a policy that was written.
+use Rattle.std.specs.Prelude.{◌≡◌, ℕ, ◌<◌, nat_lt, List, length, Some, slice_get}
+use Rattle.std.specs.FinSet as set
+use Rattle.pair_set.specs.Pairs.{Pairs}
+use Rattle.wf_names.specs.Table.{AreNames}
 use Rattle.wf_names.specs.declared.limits.TheConstants.{STEP_LIMIT}
 use Rattle.rbac_state.specs.Rosters.{IsSoundRoster}
 use Rattle.user_relations.specs.Relations.{known_names}
@@ -12,21 +13,6 @@ use Rattle.constraint_forms.specs.declared.rule.Rule.TheVariants.{Pair, SomeOf, 
 use Rattle.policy_book.specs.Shapes.{PolicyShape, WorkflowShape}
 use Rattle.policy_book.specs.Facts.{IsSoundPolicy}
 use Rattle.policy_book.specs.Policies.{flow_at}
-use Rattle.policy_reader.specs.Relations.{first_declared}
-use Rattle.policy_printer.specs.Documents.{name_at}
-
--- the name with this number is of a name's form, and its number is this
-pub record IsNamed (names : List (List ℕ)) (n : ℕ) : Type 0 where
-  pub form : is_name (name_at names n) ≡ true
-  pub place : place_of names (name_at names n) ≡ Some n
-  pub within : n < length names
-
-abbrev pub AreNamed : List (List ℕ) → Type 0
-AreNamed names = (n : ℕ) → n < length names → IsNamed names n
-
--- all are of a name's form
-abbrev pub HaveForm : List (List ℕ) → Type 0
-HaveForm names = (n : ℕ) → n < length names → is_name (name_at names n) ≡ true
 
 -- a group has a flag for each step that there may be
 abbrev pub HasFlags : Rule → Type 0
@@ -39,15 +25,19 @@ HaveFlags rules = (k : ℕ) (rule : Rule) → slice_get rules k ≡ Some rule �
 
 pub record IsNamedWorkflow (w : WorkflowShape) : Type 0 where
   pub kept : IsFlow w.flow
-  pub steps : AreNamed w.flow.steps
+  pub steps : AreNames w.flow.steps
   pub flags : HaveFlags w.rules
 
 pub record IsNamedPolicy (p : PolicyShape) : Type 0 where
   pub sound : IsSoundPolicy p
   pub roster : IsSoundRoster p.roster
-  pub roles : AreNamed p.roster.roles
-  pub users : AreNamed p.roster.users
+  pub roles : AreNames p.roster.roles
+  pub users : AreNames p.roster.users
   pub relations : AreSound p.relations
-  pub related : (n : ℕ) → n < length p.relations → IsNamed (known_names p.relations) (first_declared + n)
-  pub flow_names : HaveForm p.flow_names
+  pub related : AreNames (known_names p.relations)
+  pub flow_names : AreNames p.flow_names
   pub flows : (f : ℕ) → f < length p.flows → IsNamedWorkflow (flow_at p f)
+
+-- the pairs of a set whose first number is below s
+unfoldable pub rows_below : ℕ → Pairs → Pairs
+rows_below s pairs = set.retain pairs (λ q. nat_lt q.0 s)

@@ -8,14 +8,15 @@ ghost use Rattle.policy_book.specs.Policies.{flow_at};
 ghost use Rattle.toml.specs.View.{table_view};
 ghost use Rattle.policy_printer.specs.Documents as spec;
 ghost use Rattle.policy_reader.specs.Files.{document_in, policy_of_file};
-ghost use Rattle.policy_reader.specs.Relations.{first_declared};
+ghost use Rattle.wf_names.specs.Table.{AreNames};
 ghost use Rattle.policy_reader.specs.Printable.{IsPrintable};
-ghost use Rattle.policy_printer.specs.Named.{AreNamed, HaveForm, IsNamed, IsNamedPolicy, IsNamedWorkflow};
+ghost use Rattle.policy_printer.specs.Named.{IsNamedPolicy, IsNamedWorkflow};
 
 use crate::flows::flows_value;
 use crate::parts::{names_value, numbered, put};
 use crate::rosters::{relations_value, users_value};
 use policy_book::Policy;
+use policy_reader::Format;
 use rbac_state::Roster;
 use std::alloc::{AllocError, Global};
 use toml::Value;
@@ -26,7 +27,7 @@ use workflow_schema::laws::order_is_chained;
 
 fn put_users(alloc: Global, table: &mut Table, roster: &Roster) -> Result<(), AllocError>
     ensures put { OnOk result (table_view table.new ≡ spec.with_member (codes "users") (spec.users_data roster.now) (table_view table.old)) }
-    ensures named { OnOk result (AreNamed roster.now.users) }
+    ensures named { AreNames roster.now.users }
 {
     let users = users_value(alloc, roster)?;
     put(alloc, table, "users", users)
@@ -34,7 +35,7 @@ fn put_users(alloc: Global, table: &mut Table, roster: &Roster) -> Result<(), Al
 
 fn put_roles(alloc: Global, table: &mut Table, roles: &NameTable) -> Result<(), AllocError>
     ensures put { OnOk result (table_view table.new ≡ spec.with_member (codes "roles") (spec.names_data roles.now.names) (table_view table.old)) }
-    ensures named { OnOk result (AreNamed roles.now.names) }
+    ensures named { AreNames roles.now.names }
 {
     let roles = names_value(alloc, roles)?;
     put(alloc, table, "roles", roles)
@@ -42,7 +43,7 @@ fn put_roles(alloc: Global, table: &mut Table, roles: &NameTable) -> Result<(), 
 
 fn put_relations(alloc: Global, table: &mut Table, policy: &Policy) -> Result<(), AllocError>
     ensures put { OnOk result (table_view table.new ≡ spec.with_member (codes "relations") (spec.relations_data policy.now.roster.users policy.now.relations) (table_view table.old)) }
-    ensures named { OnOk result ((n : ℕ) → n < length policy.now.relations → IsNamed (known_names policy.now.relations) (first_declared + n)) }
+    ensures named { OnOk result (AreNames (known_names policy.now.relations)) }
     ensures sound { AreSound policy.now.relations }
 {
     let relations = relations_value(alloc, policy.roster().users(), policy.relations())?;
@@ -51,7 +52,7 @@ fn put_relations(alloc: Global, table: &mut Table, policy: &Policy) -> Result<()
 
 fn put_flows(alloc: Global, table: &mut Table, policy: &Policy) -> Result<(), AllocError>
     ensures put { OnOk result (table_view table.new ≡ spec.with_member (codes "flows") (spec.flows_data policy.now) (table_view table.old)) }
-    ensures forms { OnOk result (HaveForm policy.now.flow_names) }
+    ensures names { AreNames policy.now.flow_names }
     ensures named { OnOk result ((f : ℕ) → f < length policy.now.flows → IsNamedWorkflow (flow_at policy.now f)) }
 {
     let flows = flows_value(alloc, policy)?;
@@ -77,7 +78,12 @@ fn fill(alloc: Global, table: &mut Table, policy: &Policy) -> Result<(), AllocEr
     put_users(alloc, table, roster)?;
     put_roles(alloc, table, roster.roles())?;
     put_relations(alloc, table, policy)?;
-    put(alloc, table, "format", Value::Integer(1))?;
+    put(
+        alloc,
+        table,
+        "format",
+        Value::Integer(Format::written().number()),
+    )?;
     put_flows(alloc, table, policy)?;
     put_admin(alloc, table, policy)
 }

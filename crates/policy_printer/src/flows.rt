@@ -6,13 +6,14 @@ ghost use Rattle.policy_book.specs.Policies.{flow_at};
 ghost use Rattle.wf_names.specs.declared.limits.TheConstants.{ROLE_LIMIT, STEP_LIMIT};
 ghost use Rattle.constraint_forms.specs.Assigned.{is_member};
 ghost use Rattle.toml.specs.View.{view, table_view};
-ghost use Rattle.wf_names.specs.Names.{is_name};
+ghost use Rattle.wf_names.specs.Table.{AreNames};
 ghost use Rattle.policy_printer.specs.Documents as spec;
-ghost use Rattle.policy_printer.specs.Named.{HasFlags, HaveFlags, HaveForm, IsNamedWorkflow};
+ghost use Rattle.policy_printer.specs.Named.{HasFlags, HaveFlags, IsNamedWorkflow, rows_below};
 
 use crate::parts::{names_value, numbered, pairs_value, push, push_name, put};
 use crate::rosters::relation_value;
 use constraint_forms::{Rule, Rules, StepSet};
+use pair_set::PairSet;
 use policy_book::Policy;
 use policy_reader::Form;
 use std::alloc::{AllocError, Global};
@@ -22,28 +23,29 @@ use user_relations::Relations;
 use wf_names::{FlowId, Name, NameTable, RelId, RoleId, StepId};
 use workflow_schema::Flow;
 
-/// The pairs of a workflow's order, ascending.
-#[tactic(auto, using(crate::proofs::Writing::rows_more))]
-fn order_pairs(alloc: Global, flow: &Flow) -> Result<Vec<(u16, u16)>, AllocError>
-    ensures { IfOk result (λ pairs. pairs.items ≡ spec.rows (length flow.now.steps) (length flow.now.steps) flow.now.order) }
+/// The pairs of a workflow's order.
+#[tactic(auto, using(crate::proofs::Writing::no_rows, crate::proofs::Writing::all_rows))]
+fn order_pairs(alloc: Global, flow: &Flow) -> Result<PairSet, AllocError>
+    ensures { IfOk result (λ pairs. pairs ≡ flow.now.order) }
 {
-    let mut pairs = Vec::new(alloc);
+    let mut pairs = PairSet::new(alloc);
     'steps: for s in 0..flow.steps().len() {
-        if push_row(&mut pairs, flow, s).is_err() {
+        if put_row(&mut pairs, flow, s).is_err() {
             return Err(AllocError);
         }
     }
     Ok(pairs)
 }
 
-/// Appends the pairs of a step with each that comes right after it.
-#[tactic(auto, using(crate::proofs::Writing::row_more, crate::proofs::Writing::row_skip))]
-fn push_row(pairs: &mut Vec<(u16, u16)>, flow: &Flow, s: u16) -> Result<(), AllocError>
-    requires { s < length flow.now.steps }
-    ensures { OnOk result (pairs.new.items ≡ pairs.old.items ++ spec.row s (length flow.now.steps) flow.now.order) }
+/// Adds the pairs of a step with each that comes right after it.
+#[tactic(auto, using(crate::proofs::Writing::row_begins, crate::proofs::Writing::row_grows, crate::proofs::Writing::row_stays, crate::proofs::Writing::row_ends))]
+fn put_row(pairs: &mut PairSet, flow: &Flow, s: u16) -> Result<(), AllocError>
+    requires step { s < length flow.now.steps }
+    requires before { pairs.old ≡ rows_below s flow.now.order }
+    ensures { OnOk result (pairs.new ≡ rows_below (s + 1) flow.now.order) }
 {
     'steps: for t in 0..flow.steps().len() {
-        if flow.ordered(StepId(s as u8), StepId(t as u8)) && pairs.push((s, t)).is_err() {
+        if flow.ordered(StepId(s as u8), StepId(t as u8)) && pairs.insert(s, t).is_err() {
             return Err(AllocError);
         }
     }
@@ -55,7 +57,7 @@ fn order_value(alloc: Global, flow: &Flow) -> Result<Value, AllocError>
     ensures { IfOk result (λ v. view v ≡ spec.pairs_data flow.now.steps flow.now.order) }
 {
     let pairs = order_pairs(alloc, flow)?;
-    pairs_value(alloc, flow.steps(), &pairs)
+    pairs_value(alloc, flow.steps(), pairs.as_slice())
 }
 
 /// An array of the roles that a step is permitted to.
@@ -305,7 +307,6 @@ fn flow_name(policy: &Policy, f: FlowId) -> Name
 
 fn put_flow(alloc: Global, table: &mut Table, policy: &Policy, f: FlowId) -> Result<(), AllocError>
     requires { f < length policy.now.flows }
-    ensures form { OnOk result (is_name (spec.name_at policy.now.flow_names f) ≡ true) }
     ensures named { OnOk result (IsNamedWorkflow (flow_at policy.now f)) }
     ensures put { OnOk result (table_view table.new ≡ spec.with_member (spec.flow_entry policy.now f).0 (spec.flow_entry policy.now f).1 (table_view table.old)) }
 {
@@ -318,7 +319,7 @@ fn put_flow(alloc: Global, table: &mut Table, policy: &Policy, f: FlowId) -> Res
 #[tactic(auto, using(crate::proofs::Writing::table_more, crate::proofs::Writing::one_further))]
 pub(crate) fn flows_value(alloc: Global, policy: &Policy) -> Result<Value, AllocError>
     ensures value { IfOk result (λ v. view v ≡ spec.flows_data policy.now) }
-    ensures forms { IfOk result (λ _. HaveForm policy.now.flow_names) }
+    ensures names { AreNames policy.now.flow_names }
     ensures named { IfOk result (λ _. (f : ℕ) → f < length policy.now.flows → IsNamedWorkflow (flow_at policy.now f)) }
 {
     let mut table = Table::new(alloc);

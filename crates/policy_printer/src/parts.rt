@@ -5,7 +5,7 @@ ghost use Rattle.toml.specs.View.{view, table_view};
 ghost use Rattle.std.specs.List.{All};
 ghost use Rattle.wf_names.specs.Names.{is_name};
 ghost use Rattle.policy_printer.specs.Documents as spec;
-ghost use Rattle.policy_printer.specs.Named.{IsNamed, AreNamed};
+ghost use Rattle.wf_names.specs.Table.{AreNames};
 
 use std::alloc::{AllocError, Global};
 use toml::Value;
@@ -21,11 +21,10 @@ pub(crate) fn name_value(alloc: Global, name: &Name) -> Result<Value, AllocError
 }
 
 /// The text of the name with a number.
-#[tactic(auto, using(crate::proofs::Writing::named_of))]
+#[tactic(auto, using(crate::proofs::Writing::name_found))]
 pub(crate) fn numbered(alloc: Global, names: &NameTable, n: u16) -> Result<Value, AllocError>
     requires { n < length names.now.names }
-    ensures value { IfOk result (λ v. view v ≡ string (spec.name_at names.now.names n)) }
-    ensures named { IsNamed names.now.names n }
+    ensures { IfOk result (λ v. view v ≡ string (spec.name_at names.now.names n)) }
 {
     name_value(alloc, &names.name(n))
 }
@@ -55,8 +54,7 @@ pub(crate) fn push_name(
     n: u16,
 ) -> Result<(), AllocError>
     requires { n < length names.now.names }
-    ensures pushed { OnOk result (map view values.new.items ≡ map view values.old.items ++ string (spec.name_at names.now.names n) ∷ []) }
-    ensures named { IsNamed names.now.names n }
+    ensures { OnOk result (map view values.new.items ≡ map view values.old.items ++ string (spec.name_at names.now.names n) ∷ []) }
 {
     let value = numbered(alloc, names, n)?;
     push(values, value)
@@ -73,10 +71,10 @@ pub(crate) fn push(values: &mut Vec<Value>, value: Value) -> Result<(), AllocErr
 }
 
 /// An array of all names of a table.
-#[tactic(auto, using(crate::proofs::Writing::map_take_more, crate::proofs::Writing::one_further))]
+#[tactic(auto, using(crate::proofs::Writing::map_take_more))]
 pub(crate) fn names_value(alloc: Global, names: &NameTable) -> Result<Value, AllocError>
     ensures value { IfOk result (λ v. view v ≡ spec.names_data names.now.names) }
-    ensures named { IfOk result (λ _. AreNamed names.now.names) }
+    ensures named { AreNames names.now.names }
 {
     let mut values = Vec::new(alloc);
     'names: for n in 0..names.len() {

@@ -1,15 +1,15 @@
 //! Writes the users with their roles, and the relations between them.
-ghost use Rattle.std.specs.Prelude.{◌≡◌, ◌<◌, ◌+◌, ℕ, length, IfOk, OnOk, Some, None};
+ghost use Rattle.std.specs.Prelude.{◌≡◌, ◌<◌, ◌+◌, ℕ, length, true, IfOk, OnOk, Some, None};
 ghost use Rattle.rbac_state.specs.Rosters.{has_role};
 ghost use Rattle.policy_book.specs.Facts.{AreOfUsers};
 ghost use Rattle.user_relations.specs.Relations.{complement_of, known_names, pairs_of};
 ghost use Rattle.toml.specs.Data.{string};
 ghost use Rattle.user_relations.specs.Soundness.{AreSound};
 ghost use Rattle.toml.specs.View.{view, table_view};
-ghost use Rattle.wf_names.specs.Table.{place_of};
+ghost use Rattle.wf_names.specs.Names.{is_name};
+ghost use Rattle.wf_names.specs.Table.{AreNames};
 ghost use Rattle.policy_reader.specs.Relations.{first_declared};
 ghost use Rattle.policy_printer.specs.Documents as spec;
-ghost use Rattle.policy_printer.specs.Named.{IsNamed, AreNamed};
 
 use crate::parts::{name_value, pairs_value, push_name, put};
 use rbac_state::Roster;
@@ -36,10 +36,10 @@ fn held_value(alloc: Global, roster: &Roster, u: UserId) -> Result<Value, AllocE
 }
 
 /// A table of the users with their roles.
-#[tactic(auto, using(crate::proofs::Writing::table_more, crate::proofs::Writing::one_further))]
+#[tactic(auto, using(crate::proofs::Writing::table_more))]
 pub(crate) fn users_value(alloc: Global, roster: &Roster) -> Result<Value, AllocError>
     ensures value { IfOk result (λ v. view v ≡ spec.users_data roster.now) }
-    ensures named { IfOk result (λ _. AreNamed roster.now.users) }
+    ensures named { AreNames roster.now.users }
 {
     let mut table = Table::new(alloc);
     'users: for u in 0..roster.users().len() {
@@ -50,11 +50,10 @@ pub(crate) fn users_value(alloc: Global, roster: &Roster) -> Result<Value, Alloc
     Ok(Value::Table(table))
 }
 
-#[tactic(auto, using(crate::proofs::Writing::named_of))]
+#[tactic(auto, using(crate::proofs::Writing::name_found))]
 fn put_user(alloc: Global, table: &mut Table, roster: &Roster, u: UserId) -> Result<(), AllocError>
     requires { u < length roster.now.users }
-    ensures named { OnOk result (IsNamed roster.now.users u) }
-    ensures put { OnOk result (table_view table.new ≡ spec.with_member (spec.user_entry roster.now u).0 (spec.user_entry roster.now u).1 (table_view table.old)) }
+    ensures { OnOk result (table_view table.new ≡ spec.with_member (spec.user_entry roster.now u).0 (spec.user_entry roster.now u).1 (table_view table.old)) }
 {
     let held = held_value(alloc, roster, u)?;
     let name = roster.users().name(u.0);
@@ -65,8 +64,7 @@ fn put_user(alloc: Global, table: &mut Table, roster: &Roster, u: UserId) -> Res
 #[tactic(auto, using(crate::proofs::Writing::name_found))]
 fn relation_name(relations: &Relations, rho: RelId) -> Name
     requires { rho < length relations.now + 2 }
-    ensures name { result ≡ spec.name_at (known_names relations.now) rho }
-    ensures alone { place_of (known_names relations.now) result ≡ Some rho }
+    ensures { result ≡ spec.name_at (known_names relations.now) rho }
 {
     relations.name(rho)
 }
@@ -147,7 +145,6 @@ fn kind_table(
     }
 }
 
-#[tactic(auto, using(crate::proofs::Writing::related_of))]
 fn put_relation(
     alloc: Global,
     table: &mut Table,
@@ -158,7 +155,7 @@ fn put_relation(
     requires users { AreOfUsers (length users.now.names) relations.now }
     requires sound { AreSound relations.now }
     requires within { rho < length relations.now + 2 }
-    ensures named { OnOk result (IsNamed (known_names relations.now) rho) }
+    ensures form { OnOk result (is_name (spec.name_at (known_names relations.now) rho) ≡ true) }
     ensures put { OnOk result (table_view table.new ≡ spec.with_member (spec.relation_entry users.now.names relations.now rho).0 (spec.relation_entry users.now.names relations.now rho).1 (table_view table.old)) }
 {
     let kind = kind_table(alloc, users, relations, rho)?;
@@ -175,7 +172,7 @@ pub(crate) fn relations_value(
 ) -> Result<Value, AllocError>
     requires { AreOfUsers (length users.now.names) relations.now }
     ensures value { IfOk result (λ v. view v ≡ spec.relations_data users.now.names relations.now) }
-    ensures named { IfOk result (λ _. (n : ℕ) → n < length relations.now → IsNamed (known_names relations.now) (first_declared + n)) }
+    ensures named { IfOk result (λ _. AreNames (known_names relations.now)) }
     ensures sound { AreSound relations.now }
 {
     let mut table = Table::new(alloc);

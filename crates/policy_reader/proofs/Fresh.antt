@@ -1,7 +1,7 @@
 -- A loop over a table: its keys ascend, so none is among the names that were read from those before it.
 use Rattle.std.proofs.Common.{◌≡◌, ℕ, suc, Bool, false, List, [], ◌∷◌, ◌++◌, map, String, Global, string_bytes, refl, sym, ap, ◌∙◌, ◌<◌, length, Ok, subst, append_assoc, arith, nat_cmp, is_eq}
 use Rattle.std.proofs.lemmas.Grind.{common_steps}
-use Rattle.std.proofs.lemmas.List.{length-append, map-append, append-nil}
+use Rattle.std.proofs.lemmas.List.{length-map, length-append, map-append, append-nil}
 use Rattle.std.specs.Prelude.{is_some, nat_eq, position}
 use Rattle.std.specs.declared.cmp.Ordering.TheVariants.{Less}
 use Rattle.std.specs.Ordering.{ordering_reverse}
@@ -67,8 +67,7 @@ pub record IsLeft {S : Type 0} (read : S → List ℕ × Data → Reading S) (na
   pub reads : each read so_far (entries (members_view es)) ≡ whole
 
 pub texts_count : (es : List Entry) → length (texts es) ≡ length es
-texts_count [] = refl
-texts_count (e ∷ es) = ap suc (texts_count es)
+texts_count es = length-map es (λ (e : Entry). string_bytes e.0)
 
 module _ {S : Type 0} (read : S → List ℕ × Data → Reading S) (names : S → List (List ℕ)) (all : List Entry) (whole : Reading S) where
   pub left_next : (s t : S) (left : List Entry) (e : Entry) (es : List Entry) → left ≡ e ∷ es → IsLeft read names all whole s left → read s (string_bytes e.0, view e.1) ≡ Ok t

@@ -1,21 +1,24 @@
 -- Whether some number below n passes, found one by one.
-use Rattle.std.proofs.Common.{◌≡◌, ℕ, zero, suc, ◌+◌, ◌<◌, Bool, true, false, ◌||◌, refl, ap, subst, ◌∙◌, inl, inr, arith}
+use Rattle.std.proofs.Common.{◌≡◌, ℕ, zero, suc, ◌+◌, ◌<◌, Bool, true, false, refl, subst, inl, inr, arith, ◌&&◌, List, [], ◌∷◌, length}
 use Rattle.std.proofs.lemmas.Bool.{cases_lt}
+use Rattle.basics.proofs.Booleans.{or_left, or_right}
 use Rattle.policy_book.specs.Policies.{any_below}
-
-or_true : (a : Bool) → (a || true) ≡ true
-or_true true = refl
-or_true false = refl
-
-or_false : (a b : Bool) → a ≡ false → b ≡ false → (a || b) ≡ false
-or_false a b e f = rw (e, f) refl
+use Rattle.std.specs.Prelude.{slice_set}
+use Rattle.constraint_forms.specs.Rules.{any_from}
 
 pub any_none : (n : ℕ) (test : ℕ → Bool) → any_below n test ≡ false → test n ≡ false → any_below (n + 1) test ≡ false
-any_none n test none here = let same : n + 1 ≡ suc n = omega arith in rw same (or_false (any_below n test) (test n) none here)
+any_none n test none here = let same : n + 1 ≡ suc n = omega arith in rw (same, none, here) refl
 
 pub any_at : (n : ℕ) (test : ℕ → Bool) (u : ℕ) → u < n → test u ≡ true → any_below n test ≡ true
 any_at zero test u lt here = absurd (omega (arith, lt))
 any_at (suc n) test u lt here = elim (cases_lt u n) [
-  | inl below ↦ ap (λ b. b || test n) (any_at n test u below here)
-  | inr above ↦ let same : u ≡ n = omega (arith, lt, above) in ap (λ b. any_below n test || b) (subst (λ k. test k ≡ true) same here) ∙ or_true (any_below n test)
+  | inl below ↦ or_left _ (test n) (any_at n test u below here)
+  | inr above ↦ let same : u ≡ n = omega (arith, lt, above) in or_right (any_below n test) _ (subst (λ k. test k ≡ true) same here)
 ]
+
+-- ---- a group with one more step has some step
+
+pub any_set : (k s : ℕ) (group : List Bool) → s < length group → any_from k (slice_set group s true) (λ _. true) ≡ true
+any_set k s [] within = absurd (omega (arith, within))
+any_set k zero (b ∷ bs) within = refl
+any_set k (suc s) (b ∷ bs) within = or_right (b && true) _ (any_set (k + 1) s bs (omega (arith, within)))

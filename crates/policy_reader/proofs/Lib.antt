@@ -1,14 +1,9 @@
 pub mod Counts
 pub mod Fresh
-pub mod Sets
 pub mod PairLists
-pub mod Groups
 pub mod RuleLists
 pub mod Orders
-pub mod Cycles
 pub mod Relating
 pub mod Held
 pub mod Grown
-pub mod Permitted
-pub mod Texts
 pub mod Ends

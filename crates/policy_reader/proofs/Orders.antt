@@ -1,5 +1,5 @@
 -- The order of a workflow, read as a set of pairs: the list of its pairs, and the least step before itself.
-use Rattle.std.proofs.Common.{◌≡◌, ℕ, zero, suc, ◌<◌, ◌≤◌, Bool, true, false, ◌||◌, List, [], ◌∷◌, Option, None, Some, refl, ap, subst, ◌∙◌, inl, inr, arith}
+use Rattle.std.proofs.Common.{◌≡◌, ℕ, zero, suc, ◌<◌, ◌≤◌, Bool, true, false, ◌||◌, List, [], ◌∷◌, Option, None, Some, refl, ap, subst, ◌∙◌, inl, inr, arith, length, Ok, Err}
 use Rattle.std.proofs.lemmas.Bool.{cases_lt}
 use Rattle.std.specs.List.{list_any, All, AllByRecursion}
 use Rattle.std.proofs.lemmas.List.Elements.{All-from_recursion}
@@ -7,13 +7,24 @@ use Rattle.std.specs.Ordering.{eq_by_cmp}
 use Rattle.std.specs.declared.cmp.Ordering.TheVariants.{Less}
 use Rattle.std.specs.FinSet as set
 use Rattle.std.proofs.lemmas.Map.Keys.{sorted_head, sorted_tail}
+use Rattle.basics.proofs.Booleans.{not_true, or_right}
 use Rattle.wf_names.specs.declared.limits.TheConstants.{STEP_LIMIT}
 use Rattle.pair_set.specs.Pairs.{Pairs, pair_cmp, IsAscending}
 use Rattle.pair_set.specs.PairLaws.{pair_cmp_total, pair_cmp-IsAntisymmetric, all_insert, contains_inserted}
 use Rattle.workflow_schema.specs.Flows.{Precedes, next, through, is_before, IsLeastCycle, has_twice}
 use Rattle.workflow_schema.specs.Laws.{IsDecided}
 use Rattle.policy_reader.specs.Bounds.{AreBelow}
-use Rattle.policy_reader.specs.Flows.{least_below, found_or}
+use Rattle.policy_reader.specs.Flows.{least_below, found_or, no_cycle, cycle_at}
+use Rattle.std.specs.Prelude.{slice_index_or}
+use Rattle.workflow_schema.specs.declared.fault.FlowFault.{FlowFault}
+use Rattle.workflow_schema.specs.declared.fault.FlowFault.TheVariants.{TooMany, Twice, Cycle, NoMemory}
+use Rattle.first_fault.specs.Reading.{Fails}
+use Rattle.policy_reader.specs.declared.fault.ReadFault.{ReadFault}
+use Rattle.policy_reader.specs.declared.fault.ReadFault.TheVariants as read
+use Rattle.policy_reader.specs.declared.fault.PolicyPart.TheVariants.{Flows}
+use Rattle.policy_reader.specs.declared.fault.PolicyKind.TheVariants as kind
+use Rattle.policy_reader.specs.Faults.{fault_of, fault_about}
+use Rattle.policy_reader.specs.Kept.{IsCycleOrMemory}
 
 none_above : (x : ℕ × ℕ) (ys : List (ℕ × ℕ)) → AllByRecursion (λ y. pair_cmp x y ≡ Less) ys → list_any (eq_by_cmp pair_cmp x) ys ≡ false
 none_above x [] all = refl
@@ -24,10 +35,6 @@ pub once_each : (ps : List (ℕ × ℕ)) → IsAscending ps → has_twice ps ≡
 once_each [] s = refl
 once_each (p ∷ ps) s =
     rw (set.contains-from_list pair_cmp_total ps p ∙ none_above p ps (sorted_head pair_cmp p ps s)) (once_each ps (sorted_tail pair_cmp p ps s))
-
-not_true : (a : Bool) → (a ≡ true → ⊥) → a ≡ false
-not_true true h = absurd (h refl)
-not_true false h = refl
 
 -- the least number that passes
 pub least_none : (n : ℕ) (test : ℕ → Bool) → ((t : ℕ) → t < n → test t ≡ false) → least_below n test ≡ None
@@ -101,15 +108,11 @@ cycle_within n order s within h = first_below n order s s within h.cycle
 pub permits_insert : (n : ℕ) (permits : Pairs) (r s : ℕ) → ((a b : ℕ) → set.contains permits (a, b) ≡ true → a < n) → r < n → (a b : ℕ) → set.contains (set.insert permits (r, s)) (a, b) ≡ true → a < n
 permits_insert n permits r s old here = (all_insert (λ a b. a < n) permits r s here (record { each = old })).each
 
-or_true : (a : Bool) → (a || true) ≡ true
-or_true true = refl
-or_true false = refl
-
 below_each : (n : ℕ) (ps : List (ℕ × ℕ)) → AreBelow n (set.from_list ps) → AllByRecursion (λ p. (p.0 < n) × (p.1 < n)) ps
 below_each n [] h = tt
 below_each n (p ∷ ps) h = (
   h.each p.0 p.1 (contains_inserted pair_cmp_total pair_cmp-IsAntisymmetric (set.from_list ps) p),
-  below_each n ps (record { each = λ a b here. h.each a b (set.contains-insert pair_cmp_total (set.from_list ps) p (a, b) ∙ ap (λ x. eq_by_cmp pair_cmp (a, b) p || x) here ∙ or_true _) }),
+  below_each n ps (record { each = λ a b here. h.each a b (set.contains-insert pair_cmp_total (set.from_list ps) p (a, b) ∙ or_right (eq_by_cmp pair_cmp (a, b) p) _ here) }),
 )
 
 -- the pairs of a list whose set is below n
@@ -118,3 +121,24 @@ all_below n ps h = All-from_recursion (λ (p : ℕ × ℕ). (p.0 < n) × (p.1 < 
 
 pub below_limit : (n m : ℕ) (pairs : Pairs) → n ≤ m → AreBelow n pairs → AreBelow m pairs
 below_limit n m pairs le h = record { each = λ a b here. let both = h.each a b here in (omega (arith, le, both.0), omega (arith, le, both.1)) }
+
+-- ---- what a workflow that was refused tells of its order
+
+pub no_cycle-ok : (f : ℕ) (steps : List (List ℕ)) (order : Pairs) → least_below (length steps) (λ s. is_before order s s) ≡ None → no_cycle f steps order ≡ Ok tt
+unfolding no_cycle
+no_cycle-ok f steps order e = ap (cycle_at f steps) e
+
+no_cycle-err : (f : ℕ) (steps : List (List ℕ)) (order : Pairs) (s : ℕ) → least_below (length steps) (λ t. is_before order t t) ≡ Some s
+    → no_cycle f steps order ≡ Err (fault_about kind.Cycle Flows f (slice_index_or steps s []))
+unfolding no_cycle
+no_cycle-err f steps order s e = ap (cycle_at f steps) e
+
+pub refused : (fault : FlowFault) (result : ReadFault) (f : ℕ) (steps : List (List ℕ)) (order : Pairs) → IsCycleOrMemory fault
+    → ((s : ℕ) → fault ≡ Cycle s → result ≡ read.Policy (fault_about kind.Cycle Flows f (slice_index_or steps s [])))
+    → (fault ≡ NoMemory → result ≡ read.NoMemory)
+    → ((s : ℕ) → fault ≡ Cycle s → least_below (length steps) (λ t. is_before order t t) ≡ Some s)
+    → Fails (fault_of result) (no_cycle f steps order)
+refused TooMany result f steps order known told memory least = absurd known
+refused Twice result f steps order known told memory least = absurd known
+refused (Cycle s) result f steps order known told memory least = rw (told s refl) (no_cycle-err f steps order s (least s refl))
+refused NoMemory result f steps order known told memory least = rw (memory refl) tt

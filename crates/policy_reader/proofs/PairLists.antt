@@ -1,5 +1,5 @@
 -- Sets of pairs and lists of them.
-use Rattle.std.proofs.Common.{◌≡◌, ℕ, suc, ◌+◌, Bool, true, false, ◌||◌, ◌&&◌, List, [], ◌∷◌, ◌++◌, nat_eq, not, cond, refl, sym, ap, subst, ◌∙◌, arith}
+use Rattle.std.proofs.Common.{◌≡◌, ℕ, suc, ◌+◌, Bool, true, false, ◌||◌, ◌&&◌, List, [], ◌∷◌, ◌++◌, nat_eq, not, cond, refl, sym, ap, subst, ◌∙◌, arith, ◌≤◌}
 use Rattle.std.specs.Prelude.{IsPermutation, slice_index_or}
 use Rattle.std.specs.List.{list_any, IsDistinct, AllByRecursion}
 use Rattle.std.specs.List.Sorted.{IsSorted, IsStrictlySortedBy}
@@ -13,6 +13,8 @@ use Rattle.std.proofs.lemmas.Map.Keys.{IsDistinct-IsPermutation}
 use Rattle.pair_set.specs.Pairs.{Pairs, pair_cmp, IsAscending}
 use Rattle.pair_set.specs.PairLaws.{pair_cmp_total, pair_cmp-IsAntisymmetric}
 use Rattle.policy_reader.specs.Bounds.{is_same_pair}
+use Rattle.workflow_schema.specs.Flows.{FlowShape}
+use Rattle.policy_book.specs.Facts.{PermitsRolesBelow}
 
 -- a set is known by what it has
 same : (s t : Pairs) → ((q : ℕ × ℕ) → set.contains s q ≡ set.contains t q) → s ≡ t
@@ -77,3 +79,13 @@ ascending (p ∷ q ∷ ps) s d =
     subst (λ n. is_lt (pair_cmp (slice_index_or (p ∷ q ∷ ps) n e) (slice_index_or (p ∷ q ∷ ps) (suc k) e)) ≡ false) one (s (suc k) e (omega arith) (omega (arith, within)))) in
     let rest = ascending (q ∷ ps) later d.1 in
     ((less, above_all p q ps less rest.0), rest)
+
+-- ---- how many pairs a set has
+
+pub len_insert : (s : Pairs) (p : ℕ × ℕ) → set.len (set.insert s p) ≤ set.len s + 1
+len_insert s p = grind (arith, set.len-insert pair_cmp_total s p)
+
+-- ---- a workflow that permits nothing
+
+pub none_permitted : (n : ℕ) (flow : FlowShape) → flow.permits ≡ set.empty → PermitsRolesBelow n flow
+none_permitted n flow e = rw e (λ r s here. let none = set.contains-empty pair_cmp (r, s) in cc)

@@ -3,8 +3,8 @@ use Rattle.std.proofs.Common.{◌≡◌, ℕ, zero, suc, ◌+◌, ◌<◌, ◌�
 use Rattle.std.specs.Prelude.{Option, Some, None, option_map, slice_get, nat_eq, codes, Ok}
 use Rattle.std.specs.List.{IsDistinct, list_any}
 use Rattle.std.specs.Cmp.Lexicographic.{pointwise, nat_list_eq_equiv}
-use Rattle.std.proofs.lemmas.Bool.Decides.{nat_tests}
-use Rattle.std.proofs.lemmas.List.{map-append}
+use Rattle.basics.proofs.Booleans.{or_false, eq_same, eq_below}
+use Rattle.std.proofs.lemmas.List.{length-map, map-append}
 use Rattle.std.proofs.lemmas.Map.Keys.{IsDistinct-push}
 use Rattle.toml.specs.Data.{Data, Members, as_table}
 use Rattle.wf_names.specs.declared.limits.TheConstants.{RELATION_LIMIT, USER_LIMIT}
@@ -27,21 +27,17 @@ use Rattle.policy_reader.specs.Faults.{Reading}
 use Rattle.policy_reader.specs.Parts.{entries}
 use Rattle.policy_reader.specs.Relations.{names_of}
 use Rattle.policy_reader.proofs.Counts.{count_entries}
+use Rattle.policy_reader.proofs.Orders.{below_limit}
 use Rattle.policy_reader.proofs.Fresh.{Entry, texts_count, IsLeft}
 use Rattle.policy_reader.specs.Kinds.{is_marked, IsTarget, IsKept, AreKept}
 
 -- ---- one relation more
 
-or_none : (a b : Bool) → (a || (b || false)) ≡ false → (a ≡ false) × (b ≡ false)
-or_none true b e = cc
-or_none false true e = cc
-or_none false false e = (refl, refl)
-
 -- a name that is neither built in nor declared is unknown
 unknown_name : (rs : List RelationShape) (key : List ℕ) → is_among (codes "same" ∷ codes "other" ∷ []) key ≡ false → is_among (names_of rs) key ≡ false → list_any (pointwise nat_eq key) (known_names rs) ≡ false
 unknown_name rs key free new =
-    let apart = or_none (pointwise nat_eq key (codes "same")) (pointwise nat_eq key (codes "other")) free in
-    rw (apart.0, apart.1) new
+    let apart = or_false (pointwise nat_eq key (codes "same")) _ free in
+    rw (apart.0, (or_false (pointwise nat_eq key (codes "other")) false apart.1).0) new
 
 pub names_push : (rs : List RelationShape) (r : RelationShape) → map (λ x. x.name) (rs ++ r ∷ []) ≡ map (λ x. x.name) rs ++ r.name ∷ []
 names_push rs r = map-append (λ (x : RelationShape). x.name) rs (r ∷ [])
@@ -111,28 +107,19 @@ is_list users all marked None other some kept = absurd (some refl)
 is_list users all marked (Some (listed pairs)) other some kept = refl
 is_list users all marked (Some (complement m)) other some kept = let no : true ≡ false = sym (kept (complement m) refl).0 ∙ other in cc
 
-wider : (users : ℕ) (pairs : Pairs) → users ≤ USER_LIMIT → AreBelow users pairs → AllPairs (λ u v. (u < USER_LIMIT) × (v < USER_LIMIT)) pairs
-wider users pairs le h = record { each = λ u v k. let both = h.each u v k in (omega (arith, le, both.0), omega (arith, le, both.1)) }
-
 -- all relations of a table were read
 pub sound_of : (users : ℕ) (all : List (List ℕ × Data)) (rs : List RelationShape) → AreKept users all rs → users ≤ USER_LIMIT → length rs ≡ length all → length all ≤ RELATION_LIMIT → AreSound rs
 sound_of users all rs h le same few = record {
   count = omega (arith, same, few);
   names = h.names;
   few = λ rho pairs e. (h.kinds rho (listed pairs) e).0;
-  users = λ rho pairs e. wider users pairs le (h.kinds rho (listed pairs) e).1;
+  users = λ rho pairs e. below_limit users USER_LIMIT pairs le (h.kinds rho (listed pairs) e).1;
   complements = λ rho n e.
       let t = (h.kinds rho (complement n) e).1 in
       is_list users all (is_marked first_declared all n) (kind_of rs n) t.other (there rs n t.declared (omega (arith, t.within, same))) (h.kinds n);
 }
 
 -- ---- numbers of entries
-
-eq_same : (n : ℕ) → nat_eq n n ≡ true
-eq_same n = grind (arith, nat_tests)
-
-differs : (n m : ℕ) → n < m → nat_eq n m ≡ false
-differs n m lt = grind (arith, nat_tests, lt)
 
 same_some : {X : Type 0} (x y : X) → Some x ≡ Some y → x ≡ y
 same_some x y e = cc
@@ -149,7 +136,7 @@ entry_target n key (x ∷ es) m b e =
           (subst (λ k. cond (nat_eq n k) (is_complement x.1) (is_marked (n + 1) es k) ≡ b) number (rw (eq_same n) told), omega (arith, number), omega (arith, number))
       | false ↦ λ found.
           let later = entry_target (n + 1) key es m b found in
-          (rw (differs n m (omega (arith, later.1))) later.0, omega (arith, later.1), omega (arith, later.2))
+          (rw (eq_below n m (omega (arith, later.1))) later.0, omega (arith, later.1), omega (arith, later.2))
     ] e
 
 pub target_of : (key : List ℕ) (all : List (List ℕ × Data)) (m : ℕ) → entry_of first_declared key all ≡ Some (m, false) → IsTarget all m
@@ -160,15 +147,14 @@ pub marked_at : (n : ℕ) (before : List (List ℕ × Data)) (x : List ℕ × Da
 marked_at n [] x rest = let same : n + 0 ≡ n = omega arith in rw (same, eq_same n) refl
 marked_at n (y ∷ before) x rest =
     let same : (n + 1) + length before ≡ n + suc (length before) = omega arith in
-    rw (differs n (n + suc (length before)) (omega arith)) (subst (λ m. is_marked (n + 1) (before ++ x ∷ rest) m ≡ is_complement x.1) same (marked_at (n + 1) before x rest))
+    rw (eq_below n (n + suc (length before)) (omega arith)) (subst (λ m. is_marked (n + 1) (before ++ x ∷ rest) m ≡ is_complement x.1) same (marked_at (n + 1) before x rest))
 
 entries_append : (xs ys : List Entry) → entries (members_view (xs ++ ys)) ≡ entries (members_view xs) ++ entries (members_view ys)
 entries_append [] ys = refl
 entries_append (x ∷ xs) ys = ap (λ es. (string_bytes x.0, view x.1) ∷ es) (entries_append xs ys)
 
 pub names_count : (rs : List RelationShape) → length (names_of rs) ≡ length rs
-names_count [] = refl
-names_count (r ∷ rs) = ap suc (names_count rs)
+names_count rs = length-map rs (λ (r : RelationShape). r.name)
 
 -- the entry that is read next has the mark of the next relation
 pub marked_next : (read : List RelationShape → List ℕ × Data → Reading (List RelationShape)) (whole : Reading (List RelationShape)) (all left : List Entry) (e : Entry) (es : List Entry) (rs : List RelationShape)

@@ -1,5 +1,5 @@
 -- The policy that a file is.
-use Rattle.std.specs.Prelude.{codes, ℕ, ℤ, pos, negsuc, Bool, false, ◌==◌, List, [], ◌∷◌, length, if◌then◌else◌, Ok, Err}
+use Rattle.std.specs.Prelude.{codes, ℕ, ◌==◌, List, [], length, if◌then◌else◌, Ok, Err}
 use Rattle.std.specs.Str.Lossy.{utf8_valid_len}
 use Rattle.toml.specs.Data.{Members, as_integer}
 use Rattle.toml.specs.Parse.{parse_document}
@@ -9,6 +9,8 @@ use Rattle.first_fault.specs.Reading.{◌>>=◌, or_fault, check}
 use Rattle.policy_reader.specs.declared.fault.PolicyPart.TheVariants.{File, Users}
 use Rattle.policy_reader.specs.declared.fault.PolicyKind.TheVariants as kind
 use Rattle.policy_reader.specs.Faults.{Reading, fault}
+use Rattle.policy_reader.specs.declared.format.Format.{Format}
+use Rattle.policy_reader.specs.Formats.{format_with, file_keys}
 use Rattle.policy_reader.specs.Parts.{value_at, text_in, name_in, number_in, no_others}
 use Rattle.policy_reader.specs.Rosters.{roles_of, roster_of, is_held}
 use Rattle.policy_reader.specs.Relations.{relations_of}
@@ -22,16 +24,12 @@ document_in_text text = or_fault (parse_document text) (fault kind.Syntax File 0
 unfoldable pub document_in : List ℕ → Reading Members
 document_in bytes = if utf8_valid_len bytes == length bytes then document_in_text bytes else Err (fault kind.Syntax File 0)
 
--- the only format
-abbrev pub is_known_format : ℤ → Bool
-is_known_format (pos n) = n == 1
-is_known_format (negsuc n) = false
-
-unfoldable pub format_of : Members → Reading (Unit {0})
+-- the format that a file names
+unfoldable pub format_of : Members → Reading Format
 format_of file = do
   d ← value_at File 0 (codes "format") file
-  version ← or_fault (as_integer d) (fault kind.Shape File 0)
-  check (is_known_format version) (fault kind.Version File 0)
+  number ← or_fault (as_integer d) (fault kind.Shape File 0)
+  or_fault (format_with number) (fault kind.Version File 0)
 
 -- the name of the admin role
 unfoldable pub admin_of : Members → Reading (List ℕ)
@@ -40,10 +38,6 @@ admin_of file = do
   text ← text_in File 0 d
   _ ← name_in File 0 text
   Ok text
-
--- the keys of the file
-abbrev pub file_keys : List (List ℕ)
-file_keys = codes "admin" ∷ codes "flows" ∷ codes "format" ∷ codes "relations" ∷ codes "roles" ∷ codes "users" ∷ []
 
 -- a policy without workflows, some of whose users hold the admin role
 unfoldable pub start_over : RosterShape → ℕ → Members → Reading PolicyShape
@@ -59,26 +53,26 @@ start_with roles name file = do
   roster ← roster_of roles file
   start_over roster admin file
 
--- what a document says before its workflows
+-- what a document says after its format and before its workflows
 unfoldable pub start_of : Members → Reading PolicyShape
 start_of file = do
-  _ ← format_of file
   name ← admin_of file
   roles ← roles_of file
   start_with roles name file
 
--- the workflows, and no other key
-unfoldable pub rest_of : PolicyShape → Members → Reading PolicyShape
-rest_of start file = do
+-- the workflows, and no other key than those of the format
+unfoldable pub rest_of : Format → PolicyShape → Members → Reading PolicyShape
+rest_of format start file = do
   policy ← flows_of start file
-  _ ← no_others File 0 file_keys file
+  _ ← no_others File 0 (file_keys format) file
   Ok policy
 
 -- the policy in a document
 unfoldable pub policy_in : Members → Reading PolicyShape
 policy_in file = do
+  format ← format_of file
   start ← start_of file
-  rest_of start file
+  rest_of format start file
 
 -- the policy that the bytes of a file are, or their first fault
 unfoldable pub policy_of_file : List ℕ → Reading PolicyShape

@@ -7,6 +7,7 @@ pub mod Rosters
 pub mod Relations
 pub mod Kinds
 pub mod Printable
+pub mod Formats
 pub mod Forms
 pub mod Rules
 pub mod Flows

@@ -11,7 +11,7 @@ use Rattle.policy_reader.specs.declared.fault.PolicyPart.TheVariants.{Flows}
 use Rattle.policy_reader.specs.declared.fault.PolicyKind.TheVariants as kind
 use Rattle.policy_reader.specs.declared.form.Form.{Form}
 use Rattle.policy_reader.specs.declared.form.Form.TheVariants as form
-use Rattle.policy_reader.specs.Forms.{form_of_word}
+use Rattle.policy_reader.specs.Forms.{form_keys, form_of_word}
 use Rattle.policy_reader.specs.Faults.{Reading, fault}
 use Rattle.policy_reader.specs.Parts.{items, value_at, text_in, array_in, table_in, at_most, at_least_one, number_in, once, no_others}
 
@@ -48,19 +48,19 @@ pair_in f relations steps ms = do
   relation ← value_at Flows f (codes "relation") ms
   first ← value_at Flows f (codes "first") ms
   second ← value_at Flows f (codes "second") ms
-  _ ← no_others Flows f (codes "first" ∷ codes "form" ∷ codes "relation" ∷ codes "second" ∷ []) ms
+  _ ← no_others Flows f (form_keys form.Pair) ms
   rho ← relation_in f relations relation
   s ← step_in f steps first
   t ← step_in f steps second
   Ok (rule.Pair rho s t)
 
--- a relation, a group of steps and a step
-unfoldable pub grouped_in : ℕ → List RelationShape → List (List ℕ) → Members → Reading (ℕ × (List Bool × ℕ))
-grouped_in f relations steps ms = do
+-- a relation, a group of steps and a step, in a rule of a form
+unfoldable pub grouped_in : Form → ℕ → List RelationShape → List (List ℕ) → Members → Reading (ℕ × (List Bool × ℕ))
+grouped_in rule_form f relations steps ms = do
   relation ← value_at Flows f (codes "relation") ms
   group ← value_at Flows f (codes "group") ms
   step ← value_at Flows f (codes "step") ms
-  _ ← no_others Flows f (codes "form" ∷ codes "group" ∷ codes "relation" ∷ codes "step" ∷ []) ms
+  _ ← no_others Flows f (form_keys rule_form) ms
   rho ← relation_in f relations relation
   s ← step_in f steps step
   members ← group_in f steps group
@@ -69,8 +69,8 @@ grouped_in f relations steps ms = do
 -- the rule of a form
 unfoldable pub rule_of_form : Form → ℕ → List RelationShape → List (List ℕ) → Members → Reading Rule
 rule_of_form form.Pair f relations steps ms = pair_in f relations steps ms
-rule_of_form form.SomeOf f relations steps ms = grouped_in f relations steps ms >>= (λ g. Ok (rule.SomeOf g.0 g.1.0 g.1.1))
-rule_of_form form.AllOf f relations steps ms = grouped_in f relations steps ms >>= (λ g. Ok (rule.AllOf g.0 g.1.0 g.1.1))
+rule_of_form form.SomeOf f relations steps ms = grouped_in form.SomeOf f relations steps ms >>= (λ g. Ok (rule.SomeOf g.0 g.1.0 g.1.1))
+rule_of_form form.AllOf f relations steps ms = grouped_in form.AllOf f relations steps ms >>= (λ g. Ok (rule.AllOf g.0 g.1.0 g.1.1))
 
 -- the form that a value names
 unfoldable pub form_in : ℕ → Data → Reading Form

@@ -12,6 +12,7 @@ ghost use Rattle.first_fault.specs.Reading.{Gives};
 
 use crate::fault::{PolicyKind, PolicyPart, ReadFault, refuse};
 use crate::flows::read_flows;
+use crate::format::Format;
 use crate::parts::{name_of, no_others, number_of, text_of, value_at};
 use crate::relations::read_relations;
 use crate::rosters::{read_roles, read_roster};
@@ -63,8 +64,9 @@ fn policy_in(alloc: Global, file: &Table) -> Result<Policy, ReadFault>
     ensures read { Gives fault_of (λ p. p) result (spec.policy_in (table_view file.now)) }
     ensures printable { IfOk result IsPrintable }
 {
+    let format = read_format(file)?;
     let mut policy = read_start(alloc, file)?;
-    match read_rest(alloc, &mut policy, file) {
+    match read_rest(alloc, format, &mut policy, file) {
         Ok(()) => Ok(policy),
         Err(fault) => Err(fault),
     }
@@ -72,25 +74,25 @@ fn policy_in(alloc: Global, file: &Table) -> Result<Policy, ReadFault>
 
 /// Reads the workflows, after which there is no other key.
 #[tactic(auto, unfolding(crate::specs::Files::rest_of))]
-fn read_rest(alloc: Global, policy: &mut Policy, file: &Table) -> Result<(), ReadFault>
+fn read_rest(
+    alloc: Global,
+    format: Format,
+    policy: &mut Policy,
+    file: &Table,
+) -> Result<(), ReadFault>
     requires none { policy.old.flow_names ≡ [] }
     requires bare { policy.old.flows ≡ [] }
     requires begun { IsBegun policy.old }
-    ensures read { Gives fault_of (λ _. policy.new) result (spec.rest_of policy.old (table_view file.now)) }
+    ensures read { Gives fault_of (λ _. policy.new) result (spec.rest_of format policy.old (table_view file.now)) }
     ensures printable { OnOk result (IsPrintable policy.new) }
 {
     if let Err(fault) = read_flows(alloc, policy, file) {
         return Err(fault);
     }
-    no_others(
-        file,
-        &["admin", "flows", "format", "relations", "roles", "users"],
-        PolicyPart::File,
-        0,
-    )
+    no_others(file, format.file_keys(), PolicyPart::File, 0)
 }
 
-/// Reads what a document says before its workflows.
+/// Reads what a document says after its format and before its workflows.
 #[tactic(auto, unfolding(crate::specs::Files::start_of))]
 fn read_start(alloc: Global, file: &Table) -> Result<Policy, ReadFault>
     ensures read { Gives fault_of (λ p. p) result (spec.start_of (table_view file.now)) }
@@ -98,7 +100,6 @@ fn read_start(alloc: Global, file: &Table) -> Result<Policy, ReadFault>
     ensures bare { IfOk result (λ p. p.flows ≡ []) }
     ensures begun { IfOk result IsBegun }
 {
-    read_format(file)?;
     let name = read_admin(file)?;
     let roles = read_roles(alloc, file)?;
     start_with(alloc, roles, &name, file)
@@ -146,17 +147,17 @@ fn start_over(
 }
 
 #[tactic(auto, unfolding(crate::specs::Files::format_of))]
-fn read_format(file: &Table) -> Result<(), ReadFault>
-    ensures { Gives fault_of (λ u. u) result (spec.format_of (table_view file.now)) }
+fn read_format(file: &Table) -> Result<Format, ReadFault>
+    ensures { Gives fault_of (λ f. f) result (spec.format_of (table_view file.now)) }
 {
     let value = value_at(file, "format", PolicyPart::File, 0)?;
-    let Some(version) = value.as_integer() else {
+    let Some(number) = value.as_integer() else {
         return Err(refuse(PolicyKind::Shape, PolicyPart::File, 0));
     };
-    if version != 1 {
-        return Err(refuse(PolicyKind::Version, PolicyPart::File, 0));
+    match Format::with(number) {
+        Some(format) => Ok(format),
+        None => Err(refuse(PolicyKind::Version, PolicyPart::File, 0)),
     }
-    Ok(())
 }
 
 #[tactic(auto, unfolding(crate::specs::Files::admin_of))]

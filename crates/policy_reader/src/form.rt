@@ -26,6 +26,17 @@ impl Form {
         }
     }
 
+    /// The keys of a rule of the form.
+    pub(crate) fn keys(&self) -> &'static [&'static str]
+        ensures { map (λ k. k.now) result.now ≡ spec.form_keys self.now }
+    {
+        match self {
+            Form::Pair => &["first", "form", "relation", "second"],
+            Form::SomeOf => &["form", "group", "relation", "step"],
+            Form::AllOf => &["form", "group", "relation", "step"],
+        }
+    }
+
     /// The form with a word.
     pub(crate) fn read(text: &str) -> Option<Form>
         ensures { result ≡ spec.form_of_word text.now }

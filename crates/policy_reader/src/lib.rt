@@ -5,6 +5,7 @@ mod fault;
 mod file;
 mod flows;
 mod form;
+mod format;
 mod pairs;
 mod parts;
 mod relations;
@@ -15,6 +16,7 @@ mod workflows;
 pub use fault::{PolicyFault, PolicyKind, PolicyPart, ReadFault};
 pub use file::read;
 pub use form::Form;
+pub use format::Format;
 
 #[cfg(test)]
 mod tests;

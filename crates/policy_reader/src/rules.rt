@@ -120,12 +120,7 @@ fn pair_of(
     let relation = value_at(table, "relation", PolicyPart::Flows, flow)?;
     let first = value_at(table, "first", PolicyPart::Flows, flow)?;
     let second = value_at(table, "second", PolicyPart::Flows, flow)?;
-    no_others(
-        table,
-        &["first", "form", "relation", "second"],
-        PolicyPart::Flows,
-        flow,
-    )?;
+    no_others(table, Form::Pair.keys(), PolicyPart::Flows, flow)?;
     let rho = relation_of(relations, relation, flow)?;
     let first = step_of(steps, first, flow)?;
     let second = step_of(steps, second, flow)?;
@@ -143,13 +138,14 @@ struct Grouped {
 /// The relation, the group of steps and the step in a table.
 #[tactic(auto, unfolding(crate::specs::Rules::grouped_in))]
 fn grouped_of(
+    form: Form,
     table: &Table,
     relations: &Relations,
     steps: &NameTable,
     flow: u32,
 ) -> Result<Grouped, ReadFault>
     requires few { length steps.now.names ≤ STEP_LIMIT }
-    ensures read { Gives fault_of (λ g. (g.rho, (g.group, g.step))) result (spec.grouped_in flow relations.now steps.now.names (table_view table.now)) }
+    ensures read { Gives fault_of (λ g. (g.rho, (g.group, g.step))) result (spec.grouped_in form flow relations.now steps.now.names (table_view table.now)) }
     ensures relation { IfOk result (λ g. g.rho < length relations.now + 2) }
     ensures step { IfOk result (λ g. g.step < length steps.now.names) }
     ensures within { IfOk result (λ g. HasStepsBelow (length steps.now.names) g.group) }
@@ -158,12 +154,7 @@ fn grouped_of(
     let relation = value_at(table, "relation", PolicyPart::Flows, flow)?;
     let group = value_at(table, "group", PolicyPart::Flows, flow)?;
     let step = value_at(table, "step", PolicyPart::Flows, flow)?;
-    no_others(
-        table,
-        &["form", "group", "relation", "step"],
-        PolicyPart::Flows,
-        flow,
-    )?;
+    no_others(table, form.keys(), PolicyPart::Flows, flow)?;
     let rho = relation_of(relations, relation, flow)?;
     let step = step_of(steps, step, flow)?;
     let group = group_of(steps, group, flow)?;
@@ -185,11 +176,11 @@ fn rule_of_form(
 {
     match form {
         Form::Pair => pair_of(table, relations, steps, flow),
-        Form::SomeOf => match grouped_of(table, relations, steps, flow) {
+        Form::SomeOf => match grouped_of(Form::SomeOf, table, relations, steps, flow) {
             Ok(Grouped { rho, group, step }) => Ok(Rule::SomeOf { rho, group, step }),
             Err(fault) => Err(fault),
         },
-        Form::AllOf => match grouped_of(table, relations, steps, flow) {
+        Form::AllOf => match grouped_of(Form::AllOf, table, relations, steps, flow) {
             Ok(Grouped { rho, group, step }) => Ok(Rule::AllOf { rho, group, step }),
             Err(fault) => Err(fault),
         },

@@ -1,6 +1,6 @@
 use Rattle.std.proofs.Common.{subst, ap, ◌∙◌}
 use Rattle.rbac_state.specs.Rosters.{RosterShape, IsSoundRoster}
-use Rattle.policy_printer.specs.Named.{AreNamed}
+use Rattle.wf_names.specs.Table.{AreNames}
 use Rattle.policy_printer.proofs.Writing.{on_ok}
 use Rattle.policy_printer.proofs.document.fill.Goals as goal
 
@@ -10,10 +10,10 @@ returns-clause-named c =
     on_ok c.put_admin.result _ (record {
       sound = c.put_admin.ensures.sound;
       roster = subst IsSoundRoster same c.roles.ensures.sound;
-      roles = subst AreNamed (c.roles.ensures.names ∙ ap (λ (r : RosterShape). r.roles) same) c.in_ok-put_roles.ensures.named;
-      users = subst (λ (r : RosterShape). AreNamed r.users) same c.in_ok-put_users.ensures.named;
+      roles = subst AreNames (c.roles.ensures.names ∙ ap (λ (r : RosterShape). r.roles) same) c.in_ok-put_roles.ensures.named;
+      users = subst (λ (r : RosterShape). AreNames r.users) same c.in_ok-put_users.ensures.named;
       relations = c.in_ok-put_relations.ensures.sound;
       related = c.in_ok-put_relations.ensures.named;
-      flow_names = c.in_ok-put_flows.ensures.forms;
+      flow_names = c.in_ok-put_flows.ensures.names;
       flows = c.in_ok-put_flows.ensures.named;
     })

@@ -5,7 +5,7 @@ use Rattle.toml.specs.Data.{members_have_valid_dates}
 use Rattle.policy_printer.specs.Documents.{document_of}
 use Rattle.policy_printer.proofs.Plain.{document_plain}
 use Rattle.policy_printer.proofs.Again.{file_back}
-use Rattle.policy_printer.proofs.Texts.{document_in-utf8}
+use Rattle.policy_reader.proofs.Ends.{document_in-utf8}
 use Rattle.policy_printer.proofs.document.print.Goals as goal
 
 pub returns-in-Ok-clause-document : goal.returns-in-Ok-clause-document

@@ -1,8 +1,7 @@
-use Rattle.std.proofs.Common.{◌≡◌, ℕ, ◌<◌, map, take}
+use Rattle.std.proofs.Common.{◌≡◌, map, take}
 use Rattle.toml.specs.Data.{string}
 use Rattle.toml.specs.View.{view}
-use Rattle.policy_printer.specs.Named.{IsNamed}
 use Rattle.policy_printer.proofs.parts.names_value.Given as goal
 
 abbrev pub invariant-names : goal.invariant-names
-invariant-names l = (map view l.values.items ≡ map string (take l.n l.names.names)) × ((m : ℕ) → m < l.n → IsNamed l.names.names m)
+invariant-names l = map view l.values.items ≡ map string (take l.n l.names.names)

@@ -1,9 +1,9 @@
-use Rattle.std.proofs.Common.{ℕ, ◌+◌, ap, ◌∙◌, sym}
+use Rattle.std.proofs.Common.{arith, ◌≡◌, true, ℕ, ◌+◌, ap, ◌∙◌, sym}
 use Rattle.user_relations.specs.Relations.{known_names}
 use Rattle.policy_reader.specs.Relations.{first_declared}
-use Rattle.policy_printer.specs.Documents.{with_member, relation_entry}
-use Rattle.policy_printer.specs.Named.{IsNamed}
-use Rattle.policy_printer.proofs.Writing.{table_more, one_further}
+use Rattle.policy_printer.specs.Documents.{name_at, with_member, relation_entry}
+use Rattle.wf_names.specs.Names.{is_name}
+use Rattle.policy_printer.proofs.Writing.{table_more, one_further, known_named}
 use Rattle.policy_printer.proofs.rosters.relations_value.Goals as goal
 
 pub relations-preserved : goal.relations-preserved
@@ -11,5 +11,8 @@ relations-preserved c =
     let entry = (λ (n : ℕ). relation_entry c.args.users.now.names c.args.relations.now (first_declared + n)) in
     let n = c.relations.n in (
       c.in_default.ensures.put ∙ ap (with_member (entry n).0 (entry n).1) c.relations.invariant.0 ∙ sym (table_more n entry),
-      one_further (λ m. IsNamed (known_names c.args.relations.now) (first_declared + m)) n c.relations.invariant.1 c.in_default.ensures.named,
+      one_further (λ m. is_name (name_at (known_names c.args.relations.now) (first_declared + m)) ≡ true) n c.relations.invariant.1 c.in_default.ensures.form,
     )
+
+pub returns-clause-named : goal.returns-clause-named
+returns-clause-named c = known_named c.args.relations.now c.count-n-end.ensures.sound (λ n lt. c.relations.invariant.1 n (omega (arith, lt, c.relations-test.false, c.count-n-end.ensures.count)))

@@ -1,12 +1,12 @@
-use Rattle.std.proofs.Common.{◌≡◌, ℕ, ◌+◌, ◌<◌}
+use Rattle.std.proofs.Common.{◌≡◌, ℕ, ◌+◌, ◌<◌, true}
 use Rattle.toml.specs.View.{table_view}
 use Rattle.user_relations.specs.Relations.{known_names}
 use Rattle.policy_reader.specs.Relations.{first_declared}
-use Rattle.policy_printer.specs.Documents.{table_below, relation_entry}
-use Rattle.policy_printer.specs.Named.{IsNamed}
+use Rattle.policy_printer.specs.Documents.{name_at, table_below, relation_entry}
+use Rattle.wf_names.specs.Names.{is_name}
 use Rattle.policy_printer.proofs.rosters.relations_value.Given as goal
 
 abbrev pub invariant-relations : goal.invariant-relations
 invariant-relations l =
     (table_view l.table ≡ table_below l.n (λ n. relation_entry l.users.names l.relations (first_declared + n)))
-    × ((m : ℕ) → m < l.n → IsNamed (known_names l.relations) (first_declared + m))
+    × ((m : ℕ) → m < l.n → is_name (name_at (known_names l.relations) (first_declared + m)) ≡ true)

@@ -1,8 +1,7 @@
-use Rattle.std.proofs.Common.{◌≡◌, ℕ, ◌<◌}
+use Rattle.std.proofs.Common.{◌≡◌}
 use Rattle.toml.specs.View.{table_view}
 use Rattle.policy_printer.specs.Documents.{table_below, user_entry}
-use Rattle.policy_printer.specs.Named.{IsNamed}
 use Rattle.policy_printer.proofs.rosters.users_value.Given as goal
 
 abbrev pub invariant-users : goal.invariant-users
-invariant-users l = (table_view l.table ≡ table_below l.u (user_entry l.roster)) × ((m : ℕ) → m < l.u → IsNamed l.roster.users m)
+invariant-users l = table_view l.table ≡ table_below l.u (user_entry l.roster)

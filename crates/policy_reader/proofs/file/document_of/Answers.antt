@@ -1,4 +1,4 @@
-use Rattle.policy_reader.proofs.Texts.{document_in-utf8}
+use Rattle.policy_reader.proofs.Ends.{document_in-utf8}
 use Rattle.policy_reader.proofs.file.document_of.Goals as goal
 
 pub returns-in-Ok : goal.returns-in-Ok

@@ -1,4 +1,4 @@
-use Rattle.policy_reader.proofs.Sets.{len_insert}
+use Rattle.policy_reader.proofs.PairLists.{len_insert}
 use Rattle.policy_reader.proofs.parts.next_pair.Goals as goal
 
 pub returns-in-Ok-true-clause-len : goal.returns-in-Ok-true-clause-len

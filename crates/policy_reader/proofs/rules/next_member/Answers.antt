@@ -1,5 +1,5 @@
 use Rattle.std.proofs.Common.{arith}
-use Rattle.policy_reader.proofs.Groups.{any_set}
+use Rattle.policy_reader.proofs.Held.{any_set}
 use Rattle.policy_reader.proofs.rules.next_member.Goals as goal
 
 pub returns-clause-some : goal.returns-clause-some

@@ -5,7 +5,7 @@ use Rattle.pair_set.specs.Pairs.{pair_cmp}
 use Rattle.workflow_schema.specs.Flows.{IsLeastCycle}
 use Rattle.policy_reader.proofs.Counts.{few_steps}
 use Rattle.policy_reader.proofs.Orders.{all_below, below_limit, once_each, cycle_found, no_cycle_found, cycle_within}
-use Rattle.policy_reader.proofs.Cycles.{no_cycle-ok, refused}
+use Rattle.policy_reader.proofs.Orders.{no_cycle-ok, refused}
 use Rattle.policy_reader.proofs.workflows.make_flow.Goals as goal
 
 pub step_pairs-requires : goal.step_pairs-requires
