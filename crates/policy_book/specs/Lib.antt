@@ -6,3 +6,4 @@ pub mod Twins
 pub mod Refuting
 pub mod Lean
 pub mod Stored
+pub mod Candidates

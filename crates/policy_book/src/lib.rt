@@ -1,6 +1,8 @@
 //! The policy: who holds which role, who is related to whom, and the workflows with their rules.
 #![tactic(auto)]
 
+mod authority;
+mod candidates;
 mod policy;
 #[cfg(test)]
 mod tests;

@@ -1,24 +1,29 @@
 //! The policy over its parts.
-ghost use Rattle.std.specs.Prelude.{◌≡◌, ◌<◌, ◌≤◌, ◌+◌, ◌↔◌, ℕ, List, [], ◌∷◌, ◌++◌, length, is_some, true, false, IfOk, IfSome, OnOk, OnErr, IsErrOf, IsTrue, not, ◌&&◌};
+ghost use Rattle.std.specs.Prelude.{◌≡◌, ◌<◌, ◌≤◌, ◌+◌, ◌↔◌, ℕ, List, [], ◌∷◌, ◌++◌, length, is_some, true, false, IfOk, IfSome, OnOk, OnErr, IsErrOf, IsTrue, not};
 ghost use Rattle.std.specs.FinSet as set;
 ghost use Rattle.wf_names.specs.declared.limits.TheConstants.{FLOW_LIMIT, RULE_LIMIT, USER_LIMIT};
 ghost use Rattle.rbac_state.specs.Rosters.{has_role};
 ghost use Rattle.wf_names.specs.Table.{place_of};
+ghost use Rattle.wf_names.specs.UserSets.{has_user};
 ghost use Rattle.user_relations.specs.Relations.{pairs_of};
 ghost use Rattle.user_relations.specs.Faults.{AnswersFault, relate_fault, unrelate_fault};
-ghost use Rattle.policy_book.specs.Policies.{any_below, flow_at, is_authorised, problem_of, with_roster, with_pairs, with_permits, with_flow};
+ghost use Rattle.policy_book.specs.Policies.{flow_at, is_authorised, problem_of, with_roster, with_pairs, with_permits, with_flow};
 ghost use Rattle.policy_book.specs.Plans.{IsWellFormed};
+ghost use Rattle.policy_book.specs.Refuting.{is_unassigned};
+ghost use Rattle.policy_book.specs.Candidates.{is_candidate};
 ghost use Rattle.policy_book.specs.Facts.{AreOfUsers, AreSoundRules, IsSoundPolicy, PermitsRolesBelow};
 
+use crate::authority::{holders_of_some, some_role};
+use crate::candidates::keep_unbroken;
 use crate::workflow::Workflow;
-use constraint_forms::{Holds, Rules};
+use constraint_forms::{Assign, Holds, Rules};
 use rbac_state::{Roster, RosterFault};
 use std::alloc::{AllocError, Global};
 use std::marker::Model;
 use user_relations::{RelationFault, Relations};
 use wf_names::{
-    FLOW_LIMIT, FlowId, Name, NameFault, NameTable, ROLE_LIMIT, RelId, RoleId, StepId, USER_LIMIT,
-    UserId,
+    FLOW_LIMIT, FlowId, Name, NameFault, NameTable, ROLE_LIMIT, RelId, RoleId, STEP_LIMIT, StepId,
+    USER_LIMIT, UserId, UserSet,
 };
 use workflow_schema::Flow;
 
@@ -111,6 +116,29 @@ impl Policy {
         ensures { result ≡ is_authorised self.now f s u }
     {
         some_role(&self.roster, self.flow(f), s, u)
+    }
+
+    /// The users who are authorised for a step of a workflow. Takes no memory.
+    pub fn authorised_users(&self, f: FlowId, s: StepId) -> UserSet
+        requires flow { f < length self.now.flows }
+        ensures authorised { (u : ℕ) → has_user result u ≡ is_authorised self.now f s u }
+        ensures known { (u : ℕ) → has_user result u ≡ true → u < length self.now.roster.users }
+    {
+        holders_of_some(&self.roster, self.flow(f), s)
+    }
+
+    /// The users who are authorised for a step that is not assigned, and to whom it can be given
+    /// without falsifying a rule. Takes no memory.
+    pub fn candidates(&self, f: FlowId, s: StepId, a: &Assign) -> UserSet
+        requires flow { f < length self.now.flows }
+        requires free { IsTrue (is_unassigned (problem_of self.now f) a.now s) }
+        ensures { (u : ℕ) → has_user result u ≡ is_candidate (problem_of self.now f) a.now s u }
+    {
+        let steps = self.flow(f).steps().len();
+        prove!(steps as usize <= STEP_LIMIT);
+        let mut users = self.authorised_users(f, s);
+        keep_unbroken(self, f, s, a, &mut users);
+        users
     }
 
     /// The users, the roles and who holds which.
@@ -319,28 +347,6 @@ impl Holds for Policy {
     fn holds(&self, rho: RelId, u: UserId, v: UserId) -> bool {
         self.relations.holds(rho, u, v)
     }
-}
-
-// Whether some role is held by a user and permitted for a step.
-fn some_role(roster: &Roster, flow: &Flow, s: StepId, u: UserId) -> bool
-    ensures { result ≡ any_below (length roster.now.roles) (λ r. has_role roster.now u r && set.contains flow.now.permits (r, s)) }
-{
-    'roles: for r in 0..roster.roles().len() {
-        let role = RoleId(r as u8);
-        if authorises(roster, flow, s, u, role) {
-            return true;
-        }
-    }
-    false
-}
-
-// Whether a role is held by a user and permitted for a step. The permission is one bit, so it is
-// asked first.
-#[tactic(auto, using(basics::proofs::Booleans::and_swap))]
-fn authorises(roster: &Roster, flow: &Flow, s: StepId, u: UserId, r: RoleId) -> bool
-    ensures { result ≡ (has_role roster.now u r && set.contains flow.now.permits (r, s)) }
-{
-    flow.permits(r, s) && roster.has(u, r)
 }
 
 // The number that a new workflow gets, where its name is new and there is room.

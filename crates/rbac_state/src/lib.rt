@@ -3,17 +3,20 @@
 
 ghost use Rattle.std.specs.Prelude.{◌≡◌, ◌<◌, ◌≤◌, ◌↔◌, ℕ, List, [], ◌∷◌, ◌++◌, length, is_some, IfOk, OnOk, OnErr, IsErrOf, true, false};
 ghost use Rattle.std.specs.FinSet as set;
+ghost use Rattle.wf_names.specs.declared.limits.TheConstants.{ROLE_LIMIT, USER_LIMIT};
 ghost use Rattle.wf_names.specs.Table.{place_of};
+ghost use Rattle.wf_names.specs.UserSets.{has_user};
 ghost use Rattle.rbac_state.specs.Rosters.{RosterShape, has_role, IsSoundRoster};
 
+mod members;
 #[cfg(test)]
 mod tests;
 
-use pair_set::PairSet;
+use crate::members::Members;
 use shared_part::Shared;
 use std::alloc::{AllocError, Global};
 use std::marker::Model;
-use wf_names::{Name, NameFault, NameTable, ROLE_LIMIT, RoleId, USER_LIMIT, UserId};
+use wf_names::{Name, NameFault, NameTable, ROLE_LIMIT, RoleId, USER_LIMIT, UserId, UserSet};
 
 /// Why a role was not given or not taken away.
 #[derive(Clone, Copy, Debug, PartialEq, Eq)]
@@ -31,7 +34,7 @@ pub enum RosterFault {
 pub struct Roster {
     users: NameTable,
     roles: NameTable,
-    members: Shared<PairSet>,
+    members: Shared<Members>,
 }
 
 impl Model for Roster {
@@ -54,7 +57,7 @@ impl Roster {
         requires { length roles.names ≤ ROLE_LIMIT }
         ensures { IfOk result (λ r. r ≡ record { users = []; roles = roles.names; members = set.empty }) }
     {
-        let members = Shared::new(alloc, PairSet::new(alloc))?;
+        let members = Shared::new(alloc, Members::none())?;
         Ok(Roster {
             users: NameTable::new(alloc, USER_LIMIT)?,
             roles,
@@ -109,7 +112,14 @@ impl Roster {
     pub fn has(&self, u: UserId, r: RoleId) -> bool
         ensures { result ≡ has_role self.now u r }
     {
-        self.members.get().has(u.0, r.0 as u16)
+        self.members.get().has(u, r)
+    }
+
+    /// The users who have a role. Takes no memory.
+    pub fn holders(&self, r: RoleId) -> UserSet
+        ensures { (u : ℕ) → has_user result u ≡ has_role self.now u r }
+    {
+        self.members.get().holders(r)
     }
 
     /// The users' names, by their numbers.
@@ -142,14 +152,16 @@ impl Roster {
 }
 
 // Gives a user a role, in memberships of which others may have a share.
-fn enrol_among(members: &mut Shared<PairSet>, u: UserId, r: RoleId) -> Result<(), RosterFault>
+fn enrol_among(members: &mut Shared<Members>, u: UserId, r: RoleId) -> Result<(), RosterFault>
+    requires user { u < USER_LIMIT }
+    requires role { r < ROLE_LIMIT }
     ensures enrolled { OnOk result (members.new ≡ set.insert members.old (u, r)) }
     ensures fresh { OnOk result (set.contains members.old (u, r) ≡ false) }
     ensures already { IsErrOf result RosterFault.Already ↔ (set.contains members.old (u, r) ≡ true) }
     ensures absent { ¬ IsErrOf result RosterFault.Absent }
     ensures unchanged { OnErr result (members.new ≡ members.old) }
 {
-    if members.get().has(u.0, r.0 as u16) {
+    if members.get().has(u, r) {
         return Err(RosterFault::Already);
     }
     match put_in(members, u, r) {
@@ -158,24 +170,26 @@ fn enrol_among(members: &mut Shared<PairSet>, u: UserId, r: RoleId) -> Result<()
     }
 }
 
-fn put_in(members: &mut Shared<PairSet>, u: UserId, r: RoleId) -> Result<(), AllocError>
+fn put_in(members: &mut Shared<Members>, u: UserId, r: RoleId) -> Result<(), AllocError>
+    requires user { u < USER_LIMIT }
+    requires role { r < ROLE_LIMIT }
     ensures put { OnOk result (members.new ≡ set.insert members.old (u, r)) }
     ensures unchanged { OnErr result (members.new ≡ members.old) }
 {
     let own = members.edit()?;
-    own.insert(u.0, r.0 as u16)?;
+    own.insert(u, r);
     Ok(())
 }
 
 // Takes a role away from a user, in memberships of which others may have a share.
-fn dismiss_among(members: &mut Shared<PairSet>, u: UserId, r: RoleId) -> Result<(), RosterFault>
+fn dismiss_among(members: &mut Shared<Members>, u: UserId, r: RoleId) -> Result<(), RosterFault>
     ensures dismissed { OnOk result (members.new ≡ set.remove members.old (u, r)) }
     ensures held { OnOk result (set.contains members.old (u, r) ≡ true) }
     ensures absent { IsErrOf result RosterFault.Absent ↔ (set.contains members.old (u, r) ≡ false) }
     ensures already { ¬ IsErrOf result RosterFault.Already }
     ensures unchanged { OnErr result (members.new ≡ members.old) }
 {
-    if !members.get().has(u.0, r.0 as u16) {
+    if !members.get().has(u, r) {
         return Err(RosterFault::Absent);
     }
     match take_out(members, u, r) {
@@ -184,11 +198,13 @@ fn dismiss_among(members: &mut Shared<PairSet>, u: UserId, r: RoleId) -> Result<
     }
 }
 
-fn take_out(members: &mut Shared<PairSet>, u: UserId, r: RoleId) -> Result<(), AllocError>
+fn take_out(members: &mut Shared<Members>, u: UserId, r: RoleId) -> Result<(), AllocError>
+    requires user { u < USER_LIMIT }
+    requires role { r < ROLE_LIMIT }
     ensures taken { OnOk result (members.new ≡ set.remove members.old (u, r)) }
     ensures unchanged { OnErr result (members.new ≡ members.old) }
 {
     let own = members.edit()?;
-    own.remove(u.0, r.0 as u16);
+    own.remove(u, r);
     Ok(())
 }

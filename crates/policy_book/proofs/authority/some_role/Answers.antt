@@ -2,7 +2,7 @@ use Rattle.std.proofs.Common.{◌≡◌, ◌<◌, true, sym, ap, ◌&&◌, lengt
 use Rattle.std.specs.FinSet as set
 use Rattle.rbac_state.specs.Rosters.{has_role}
 use Rattle.policy_book.proofs.Counting.{any_below-at}
-use Rattle.policy_book.proofs.policy.some_role.Goals as goal
+use Rattle.policy_book.proofs.authority.some_role.Goals as goal
 
 pub returns-then-authorises : goal.returns-then-authorises
 returns-then-authorises c =
