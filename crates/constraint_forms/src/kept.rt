@@ -24,7 +24,7 @@ pub trait RelatedRows: Holds {
         ensures { (v : ℕ) → has_user result v ≡ (nat_lt v users && Self.related self.now rho v u) };
 }
 
-/// Keeps the users of a set who may be given a step: those with whom there the rule is not falsified.
+/// Keeps the users of a set who may be given a step: those with whom the rule is not falsified.
 pub fn keep_unfalsified<R: RelatedRows>(
     rule: &Rule,
     rows: &R,

@@ -4,6 +4,7 @@ ghost use Rattle.wf_names.specs.declared.limits.TheConstants.{STEP_LIMIT};
 ghost use Rattle.constraint_forms.specs.declared.rule.Rule.{Rule as AnyRule};
 ghost use Rattle.refutation_tree.specs.Shapes.{holder, rule};
 ghost use Rattle.refutation_tree.specs.Views.{shape_of};
+ghost use Rattle.policy_book.specs.Candidates.{breaks_none};
 ghost use Rattle.policy_book.specs.Plans.{IsWellFormed, IsWithin};
 ghost use Rattle.policy_book.specs.Policies.{problem_of};
 ghost use Rattle.policy_book.specs.Refuting.{is_rule_naming, refutes};
@@ -105,8 +106,30 @@ fn first_falsified(p: &Policy, f: FlowId, a: &Assign, done: &StepSet) -> Option<
     None
 }
 
-/// A rule that is falsified, where only rules that name a step can be. One is looked at first.
-pub(crate) fn falsified_with(
+/// The leaf of a rule that is falsified, where some rule is, and only rules that name a step can be.
+/// One is looked at first.
+pub(crate) fn broken_rule(
+    p: &Policy,
+    f: FlowId,
+    a: &Assign,
+    done: &StepSet,
+    s: StepId,
+    first: u8,
+) -> Refutation
+    requires flow { f < length p.now.flows }
+    requires within { IsWithin (problem_of p.now f) a.now }
+    requires others { NoLeafRefutesWithout (problem_of p.now f) a.now done.now s }
+    requires broken { breaks_none (problem_of p.now f) a.now ≡ false }
+    ensures { IsRefutation (problem_of p.now f) a.now done.now result }
+{
+    match falsified_with(p, f, a, done, s, first) {
+        Some(k) => falsified_rule(p, f, k),
+        None => unreachable!(),
+    }
+}
+
+// A rule that is falsified, where only rules that name a step can be. One is looked at first.
+fn falsified_with(
     p: &Policy,
     f: FlowId,
     a: &Assign,

@@ -74,6 +74,7 @@ fn mended_for(
     None
 }
 
+// Any candidate for the step beside the rest of the plan does as well as another.
 fn mended_at(
     p: &Policy,
     f: FlowId,
@@ -88,15 +89,12 @@ fn mended_at(
     requires room { step < STEP_LIMIT }
     ensures { IfSome result (IsValidPlan (problem_of p.now f) a.now done.now) }
 {
-    for u in 0..p.roster().users().len() {
-        if p.authorised(f, step, UserId(u)) {
-            let other = with_assigned(plan, &a.with(step, UserId(u)));
-            if let Some(mended) = checked(p, f, a, done, other) {
-                return Some(mended);
-            }
-        }
+    let others = assignment_of(plan).without(step);
+    prove!(others.at(step).is_none());
+    match p.candidates(f, step, &others).next(0) {
+        Some(user) => checked(p, f, a, done, with_assigned(plan, &a.with(step, user))),
+        None => None,
     }
-    None
 }
 
 // A plan with what is assigned in it.

@@ -1,6 +1,7 @@
 //! The search over the users of the steps that are not assigned yet.
 ghost use Rattle.std.specs.Prelude.{◌≡◌, ◌<◌, ◌≤◌, length, false, IfOk, IsTrue};
 ghost use Rattle.wf_names.specs.declared.limits.TheConstants.{STEP_LIMIT};
+ghost use Rattle.policy_book.specs.Candidates.{breaks_none};
 ghost use Rattle.policy_book.specs.Plans.{AreAssigned, IsWithin};
 ghost use Rattle.policy_book.specs.Policies.{problem_of};
 ghost use Rattle.policy_book.specs.Refuting.{is_unassigned};
@@ -9,7 +10,7 @@ ghost use Rattle.wsp_solver.specs.Searches.{Decides, HasSearched, NoLeafRefutes,
 
 use crate::crew::{Crew, duties_at};
 use crate::found::found;
-use crate::leaf::{Refutation, falsified_rule, falsified_with, refuting_leaf};
+use crate::leaf::{Refutation, broken_rule, refuting_leaf};
 use crate::lean::trim_tree;
 use crate::next::{next_step, plan_of};
 use crate::steps::united;
@@ -154,6 +155,7 @@ fn try_users(
 {
     let mut branches = Branches::new(alloc);
     let mut steps = StepSet::empty();
+    let candidates = p.candidates(f, s, a);
     finder.find_reasons(a, depth, s);
     'users: for u in 0..p.roster().users().len() {
         let user = UserId(u);
@@ -170,11 +172,12 @@ fn try_users(
         if !finder.may_try(depth) && bounded {
             return Ok(Searched::Stopped);
         }
+        let fits = candidates.has(user);
         let reason = finder.reason(depth, user);
         let given = a.with(s, user);
         let next = depth.saturating_add(1);
         match try_user(
-            alloc, p, f, &given, done, s, crew, finder, next, bounded, reason,
+            alloc, p, f, &given, done, s, crew, finder, next, bounded, fits, reason,
         )? {
             Searched::Plan(plan) => return Ok(Searched::Plan(plan)),
             Searched::Stopped => return Ok(Searched::Stopped),
@@ -196,7 +199,8 @@ fn try_users(
     }))
 }
 
-// Decides an assignment under which a leaf refutes only where it mentions the step that was given last.
+// Decides an assignment under which a leaf refutes only where it mentions the step that was given
+// last, to a user who is a candidate or not.
 #[cycle(search)]
 fn try_user(
     alloc: Global,
@@ -209,6 +213,7 @@ fn try_user(
     finder: &mut Finder,
     depth: u8,
     bounded: bool,
+    fits: bool,
     reason: u8,
 ) -> Result<Searched, AllocError>
     requires flow { f < length p.now.flows }
@@ -216,11 +221,13 @@ fn try_user(
     requires assigned { AreAssigned done.now a.now }
     requires crew { IsCrewOf (problem_of p.now f) crew.now }
     requires others { NoLeafRefutesWithout (problem_of p.now f) a.now done.now s }
+    requires candidate { fits ≡ breaks_none (problem_of p.now f) a.now }
     ensures { IfOk result (HasSearched (problem_of p.now f) a.now done.now bounded) }
 {
-    match falsified_with(p, f, a, done, s, reason) {
-        Some(k) => Ok(Searched::Refuted(falsified_rule(p, f, k))),
-        None => decide(alloc, p, f, a, done, crew, finder, depth, bounded),
+    if fits {
+        decide(alloc, p, f, a, done, crew, finder, depth, bounded)
+    } else {
+        Ok(Searched::Refuted(broken_rule(p, f, a, done, s, reason)))
     }
 }
 

@@ -2,6 +2,7 @@ use Rattle.std.proofs.Common.{◌≡◌, ◌<◌, ℕ, length, is_some, None, tr
 use Rattle.std.proofs.lemmas.Bool.{and_from, ltb-true}
 use Rattle.constraint_forms.specs.Assigned.{user_at}
 use Rattle.refutation_tree.specs.Views.{shape_of}
+use Rattle.policy_book.specs.Candidates.{breaks_none}
 use Rattle.policy_book.specs.Plans.{Problem, AreAssigned, IsWithin, IsValidPlan}
 use Rattle.policy_book.specs.Policies.{problem_of}
 use Rattle.policy_book.specs.Refuting.{all_refute, authorised_users, have_users, is_unassigned, refutes}
@@ -13,7 +14,7 @@ use Rattle.certificate_check.specs.Walks.{AreUsersBelow}
 use Rattle.wsp_solver.specs.Searches.{AreOfUsersBelow, AreMentionedIn, HasSearched, NoLeafRefutesWithout, free_count}
 use Rattle.wsp_solver.proofs.Members.{mentioned_push, mentioned_push_twin}
 use Rattle.certificate_check.proofs.Dropped.{unmentioned_step_drops as drops}
-use Rattle.wsp_solver.proofs.Searching.{quiet_given, valid_full, valid_without, users_skip, users_end, count_less}
+use Rattle.wsp_solver.proofs.Searching.{candidate_quiet, fits_alike, quiet_given, valid_full, valid_without, users_skip, users_end, count_less}
 use Rattle.wsp_solver.proofs.Pushes.{below_push, below_push_twin, refute_push, refute_push_twin, users_push, users_push_twin}
 use Rattle.wsp_solver.proofs.TwinUsers.{below_more}
 use Rattle.wsp_solver.proofs.search.+search.Goals as goal
@@ -57,7 +58,10 @@ try_users-try_user-requires t c =
             subst (AreAssigned c.args.done.now) (sym c.with-given.ensures.given) (assigned_given a c.args.done.now s c.users.u c.requires.assigned (step_open p a s c.requires.free)),
             (
               c.requires.crew,
-              subst (λ x. NoLeafRefutesWithout p x c.args.done.now s) (sym c.with-given.ensures.given) (quiet_given p a c.args.done.now s c.users.u (omega (arith, c.requires.room, c.with-given.ensures.len)) (sym c.if-not-is_authorised_user.ensures) c.requires.quiet),
+              (
+                subst (λ x. NoLeafRefutesWithout p x c.args.done.now s) (sym c.with-given.ensures.given) (quiet_given p a c.args.done.now s c.users.u (omega (arith, c.requires.room, c.with-given.ensures.len)) (sym c.if-not-is_authorised_user.ensures) c.requires.quiet),
+                c.has-fits.ensures.member ∙ c.candidates-candidates.ensures c.users.u ∙ fits_alike p a s c.users.u (omega (arith, known, c.users-test.true)) (sym c.if-not-is_authorised_user.ensures) ∙ ap (breaks_none p) (sym c.with-given.ensures.given),
+              ),
             ),
           ),
         ),
@@ -137,3 +141,10 @@ try_users-returns t c =
           (and_from (have_users (authorised_users p c.args.s) front) (all_refute p c.args.a.now c.args.done.now c.args.s [] front) users c.users.invariant.1);
       steps = c.users.invariant.2;
     }
+
+pub try_user-decide-requires : goal.try_user-decide-requires
+try_user-decide-requires t c =
+    let p = problem_of c.args.p.now c.args.f in
+    let a = c.args.a.now in
+    let quiet = candidate_quiet p a c.args.done.now c.args.s c.requires.others (sym c.requires.candidate ∙ c.if-fits.true) in
+    (omega (arith, c.decreases), (c.requires.flow, (c.requires.within, (c.requires.assigned, (c.requires.crew, quiet)))))
