@@ -1,7 +1,7 @@
 -- A rule of two steps is one of a workflow with these steps.
-use Rattle.std.proofs.Common.{◌≡◌, ℕ, ◌+◌, ◌≤◌, ◌<◌, List, [], ◌∷◌, Some, inl, inr, sym, ap, subst, arith}
+use Rattle.std.proofs.Common.{◌≡◌, ℕ, ◌≤◌, List, [], ◌∷◌, inl, inr, sym, subst, arith}
 use Prim.Native.Nat.{zero, suc}
-use Rattle.std.specs.Prelude.{◌==◌, ◌||◌, slice_get}
+use Rattle.std.specs.Prelude.{◌==◌}
 use Rattle.std.proofs.lemmas.Bool.{eqb-true}
 use Rattle.basics.proofs.Booleans.{or_cases}
 use Rattle.constraint_forms.specs.declared.rule.Rule.{Rule}

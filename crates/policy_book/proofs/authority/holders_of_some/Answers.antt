@@ -1,4 +1,4 @@
-use Rattle.std.proofs.Common.{sym, ◌∙◌, length, ◌<◌, ◌≡◌, true, ap}
+use Rattle.std.proofs.Common.{sym, ◌∙◌}
 use Rattle.std.specs.FinSet as set
 use Rattle.policy_book.proofs.Counting.{holder_known}
 use Rattle.policy_book.proofs.authority.holders_of_some.Goals as goal

@@ -1,4 +1,3 @@
-use Rattle.std.proofs.Common.{ℕ}
 use Rattle.rbac_state.proofs.Rows.{none_in_copies}
 use Rattle.rbac_state.proofs.members.no_rows.Goals as goal
 

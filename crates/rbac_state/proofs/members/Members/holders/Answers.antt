@@ -1,4 +1,4 @@
-use Rattle.std.proofs.Common.{◌≡◌, [], ap, sym, ◌∙◌}
+use Rattle.std.proofs.Common.{[], ap, sym, ◌∙◌}
 use Rattle.std.specs.FinSet as set
 use Rattle.wf_names.specs.UserSets.{has_user}
 use Rattle.rbac_state.proofs.Rows.{pairs_of-has, pairs_of-past}

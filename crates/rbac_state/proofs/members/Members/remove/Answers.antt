@@ -1,7 +1,6 @@
-use Rattle.std.proofs.Common.{◌≡◌, ◌<◌, ◌&&◌, not, nat_eq, [], length, ap, ◌∙◌, arith}
+use Rattle.std.proofs.Common.{◌<◌, ◌&&◌, not, nat_eq, [], length, ap, ◌∙◌, arith}
 use Rattle.std.specs.FinSet as set
 use Rattle.std.proofs.lemmas.List.{get_or_default}
-use Rattle.wf_names.specs.declared.limits.TheConstants.{ROLE_LIMIT}
 use Rattle.wf_names.specs.UserSets.{has_user}
 use Rattle.rbac_state.proofs.Rows.{pairs_of-remove}
 use Rattle.rbac_state.proofs.members.Members.remove.Goals as goal
