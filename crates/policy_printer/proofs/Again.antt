@@ -1,5 +1,5 @@
 -- A policy is read from the document that it is written as.
-use Rattle.std.proofs.Common.{◌≡◌, ℕ, zero, suc, ◌+◌, ◌<◌, Bool, true, false, List, [], ◌∷◌, length, map, refl, ap, subst, ◌∙◌, arith}
+use Rattle.std.proofs.Common.{◌≡◌, ℕ, zero, suc, ◌<◌, Bool, true, false, List, [], ◌∷◌, length, refl, ap, ◌∙◌, arith}
 use Rattle.std.specs.Prelude.{codes, Some, Ok, slice_index_or}
 use Rattle.std.specs.List.{AllByRecursion}
 use Rattle.toml.specs.Data.{Members, get_member}
@@ -15,8 +15,7 @@ use Rattle.policy_reader.specs.Printable.{IsPrintable}
 use Rattle.policy_printer.specs.Documents.{name_at, names_data, users_data, relations_data, flows_data, document_of}
 use Rattle.policy_printer.specs.Named.{IsNamedPolicy}
 use Rattle.policy_printer.proofs.Readings.{form_at, number_back}
-use Rattle.policy_printer.proofs.NamesAgain.{roles_back}
-use Rattle.policy_printer.proofs.UsersAgain.{roster_back}
+use Rattle.policy_printer.proofs.RostersAgain.{roles_back, roster_back}
 use Rattle.policy_printer.proofs.RelationsAgain.{relations_back}
 use Rattle.policy_printer.proofs.FlowsAgain.{flows_back}
 

@@ -1,5 +1,5 @@
 -- The workflows are read from what they are written as.
-use Rattle.std.proofs.Common.{◌≡◌, ℕ, zero, suc, ◌+◌, ◌<◌, ◌≤◌, Bool, true, false, List, [], ◌∷◌, length, map, take, refl, sym, ap, ◌∙◌, arith}
+use Rattle.std.proofs.Common.{◌≡◌, ℕ, zero, suc, ◌<◌, ◌≤◌, Bool, false, List, [], ◌∷◌, length, map, take, refl, sym, ap, ◌∙◌, arith}
 use Rattle.std.specs.Prelude.{codes, Some, None, Ok}
 use Rattle.std.specs.FinSet as set
 use Rattle.std.proofs.lemmas.List.{length-map, take_all}
@@ -21,7 +21,7 @@ use Rattle.policy_reader.specs.Flows.{order_in, pairs_of, least_below, cycle_at,
 use Rattle.policy_reader.specs.Printable.{Ascend}
 use Rattle.policy_printer.specs.Documents.{names_data, pair_data, pairs_data, permits_data, rules_data, rows, workflow_members, flow_entry, flows_data}
 use Rattle.policy_printer.specs.Named.{IsNamedWorkflow}
-use Rattle.policy_printer.proofs.NamesAgain.{steps_back}
+use Rattle.policy_printer.proofs.RostersAgain.{steps_back}
 use Rattle.policy_printer.proofs.Rows.{pairs_back}
 use Rattle.policy_printer.proofs.PermitsAgain.{permits_back}
 use Rattle.policy_printer.proofs.RulesAgain.{rules_back}

@@ -2,8 +2,7 @@ pub mod Writing
 pub mod Plain
 pub mod Readings
 pub mod Tabled
-pub mod NamesAgain
-pub mod UsersAgain
+pub mod RostersAgain
 pub mod PermitsAgain
 pub mod RulesAgain
 pub mod RelationsAgain

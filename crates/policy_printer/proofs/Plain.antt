@@ -1,10 +1,10 @@
 -- A document that a policy is written as has no dates and few levels.
-use Rattle.std.proofs.Common.{◌≡◌, ℕ, zero, suc, ◌+◌, ◌≤◌, Bool, true, ◌&&◌, List, [], ◌∷◌, map, length, Less, Equal, Greater, refl, arith}
-use Rattle.std.specs.Prelude.{Option, Some, None, max, codes, pos}
+use Rattle.std.proofs.Common.{◌≡◌, ℕ, zero, suc, ◌+◌, ◌≤◌, Bool, true, List, [], ◌∷◌, map, length, Less, Equal, Greater, refl, arith}
+use Rattle.std.specs.Prelude.{Option, Some, None, max, pos}
 use Rattle.std.specs.Ordering.{nat_cmp, match_ordering}
 use Rattle.std.specs.Cmp.Lexicographic.{slice_cmp}
 use Rattle.basics.proofs.Booleans.{and_both, and_from}
-use Rattle.toml.specs.Data.{Data, string, integer, array, table, Items, Members, no_members, member, depth, items_depth, members_depth, has_valid_dates, items_have_valid_dates, members_have_valid_dates}
+use Rattle.toml.specs.Data.{Data, string, integer, array, table, Members, no_members, member, depth, items_depth, members_depth, has_valid_dates, members_have_valid_dates}
 use Rattle.toml.specs.View.{items_of}
 use Rattle.constraint_forms.specs.declared.rule.Rule.{Rule}
 use Rattle.constraint_forms.specs.declared.rule.Rule.TheVariants as rule
@@ -16,7 +16,6 @@ use Rattle.policy_reader.specs.Formats.{format_number, written_format}
 use Rattle.policy_reader.specs.Relations.{first_declared}
 use Rattle.policy_reader.specs.declared.form.Form.{Form}
 use Rattle.policy_printer.specs.Documents.{with_member, table_below, name_at, names_where, pair_data, pairs_data, kind_members, relation_entry, grouped_members, rule_members, rule_data, workflow_members, flow_entry, permit_entry, user_entry, document_of}
-use Rattle.std.specs.FinSet as set
 use Rattle.pair_set.specs.Pairs.{Pairs}
 
 record IsPlain (n : ℕ) (d : Data) : Type 0 where

@@ -1,5 +1,5 @@
 -- The relations are read from what they are written as.
-use Rattle.std.proofs.Common.{◌≡◌, ℕ, zero, suc, ◌+◌, ◌<◌, true, false, nat_eq, List, [], ◌∷◌, ◌++◌, length, map, refl, sym, ap, subst, ◌∙◌, arith}
+use Rattle.std.proofs.Common.{◌≡◌, ℕ, zero, suc, ◌+◌, true, false, nat_eq, List, [], ◌∷◌, ◌++◌, length, map, refl, sym, ap, subst, ◌∙◌, arith}
 use Rattle.std.specs.Prelude.{codes, Option, Some, None, option_map, Ok, slice_get}
 use Rattle.std.specs.List.{AllByRecursion, IsDistinct}
 use Rattle.std.specs.Cmp.Lexicographic.{pointwise, nat_list_eq_equiv}
@@ -150,11 +150,7 @@ module _ (users : List (List ℕ)) (whole : List RelationShape) where
         rw (are, length-map whole entry', at_most-ok Relations 0 (length whole) RELATION_LIMIT sound.count)
         (list_back (next_relation users all) entry' (λ rs. rs) whole (step all are))
 
-    abbrev or_none : Option Data → Reading (List RelationShape)
-    or_none None = Ok []
-    or_none (Some d) = relations_in users d
-
     -- the relations are read from what they are written as
     pub relations_back : (again : Members) → Ascend (names_of whole) → get_member (codes "relations") again ≡ Some (relations_data users whole) → relations_of users again ≡ Ok whole
     unfolding relations_of
-    relations_back again ascend there = subst (λ o. or_none o ≡ Ok whole) (sym there) (in_again ascend)
+    relations_back again ascend there = rw (relations_of, there) (in_again ascend)

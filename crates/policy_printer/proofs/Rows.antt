@@ -1,6 +1,6 @@
 -- The pairs of a set, row by row: they ascend, and are those of the set.
 use Rattle.std.proofs.Common.{◌≡◌, ℕ, zero, suc, ◌<◌, Bool, true, false, ◌||◌, ◌&&◌, cond, List, [], ◌∷◌, ◌++◌, map, Less, Equal, refl, sym, ap, subst, ◌∙◌, append_assoc, arith, length}
-use Rattle.std.specs.Prelude.{if◌then◌else◌, Option, Some, None, T, Ok}
+use Rattle.std.specs.Prelude.{if◌then◌else◌, Some, None, T, Ok}
 use Rattle.std.specs.Ordering.{eq_by_cmp, nat_cmp, ordering_then}
 use Rattle.std.specs.Cmp.{nat_cmp_is, eq_by_cmp_equiv}
 use Rattle.std.specs.List.{list_any, AllByRecursion, IsDistinct}
@@ -12,7 +12,6 @@ use Rattle.std.proofs.lemmas.List.{append-nil}
 use Rattle.pair_set.specs.Pairs.{Pairs, pair_cmp, IsAscending, AllPairs}
 use Rattle.pair_set.specs.PairLaws.{pair_cmp_total, pair_cmp-IsAntisymmetric}
 use Rattle.policy_printer.specs.Documents.{row, rows, pair_data}
-use Rattle.policy_printer.specs.Named.{rows_below}
 use Rattle.policy_printer.proofs.Writing.{row_of, no_rows, all_rows, row_begins, row_up, row_same, row_end}
 use Rattle.std.proofs.lemmas.Map.Keys.{IsDistinct-from_sorted}
 use Rattle.wf_names.specs.Table.{AreNames}

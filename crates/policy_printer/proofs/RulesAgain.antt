@@ -131,12 +131,8 @@ module _ (f : ℕ) (steps : List (List ℕ)) (named : AreNames steps) where
         rw (items_back (map (rule_data relations steps) rules), length-map rules (rule_data relations steps), at_most-ok Flows f (length rules) RULE_LIMIT few)
         (list_back (next_rule f relations steps) (rule_data relations steps) (λ rs. rs) rules (rule_step rules sound flags))
 
-    abbrev or_none : Option Data → Reading (List Rule)
-    or_none None = Ok []
-    or_none (Some d) = rules_in f relations steps d
-
     -- the rules of a workflow are read from what they are written as
     pub rules_back : (again : Members) (rules : List Rule) → AreSoundRules (length steps) (length relations) rules → HaveFlags rules → length rules ≤ RULE_LIMIT
         → get_member (codes "rules") again ≡ Some (rules_data relations steps rules) → rules_of f relations steps again ≡ Ok rules
     unfolding rules_of
-    rules_back again rules sound flags few there = subst (λ o. or_none o ≡ Ok rules) (sym there) (in_again rules sound flags few)
+    rules_back again rules sound flags few there = rw (rules_of, there) (in_again rules sound flags few)

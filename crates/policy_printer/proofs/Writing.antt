@@ -17,7 +17,6 @@ use Rattle.pair_set.specs.Pairs.{Pairs, AllPairs}
 use Rattle.user_relations.specs.Relations.{RelationShape, RelationKind, listed, complement, kind_of, known_names, has_list, is_listed, complemented, complement_of, listed_pairs, pairs_of}
 use Rattle.pair_set.specs.PairLaws.{all_empty}
 use Rattle.policy_book.specs.Facts.{AreOfUsers, IsSoundRule}
-use Rattle.constraint_forms.specs.Assigned.{is_member}
 use Rattle.constraint_forms.specs.declared.rule.Rule.TheVariants.{Pair, SomeOf, AllOf}
 use Rattle.user_relations.specs.Soundness.{AreSound}
 use Rattle.std.specs.BTreeMap.{insert_entry}
