@@ -1,12 +1,13 @@
 //! What is asked: the steps of a workflow, who may have each, and its rules over rows of bits.
-ghost use Rattle.std.specs.Prelude.{◌<◌, length};
+ghost use Rattle.std.specs.Prelude.{◌<◌, ◌≤◌, length};
+ghost use Rattle.wf_names.specs.declared.limits.TheConstants.{USER_LIMIT};
 
 use crate::bits::bit;
-use crate::rows::{Rows, add_user, has_user, join, turn};
+use crate::rows::{Rows, add_user, has_user, put};
 use constraint_forms::{Rule, Rules, StepSet};
 use policy_book::Policy;
 use std::alloc::{AllocError, Global};
-use wf_names::{FlowId, RelId, RoleId, STEP_LIMIT, StepId, UserId};
+use wf_names::{FlowId, RelId, STEP_LIMIT, StepId, UserId};
 
 /// Over what a law is.
 #[derive(Clone, Copy, PartialEq, Eq)]
@@ -168,39 +169,20 @@ fn read_relation(
         back: Rows::new(alloc, users as usize, width)?,
         own: Rows::new(alloc, 1, width)?,
     };
-    match p.relations().complement_of(rho) {
-        Some(listed) => {
-            add_pairs(p, listed, &mut relation)?;
-            let everyone = read_everyone(alloc, users, width)?;
-            turn_rows(&mut relation, &everyone, users);
-        }
-        None => add_pairs(p, rho, &mut relation)?,
-    }
+    read_rows(p, &mut relation, users);
     add_own(&mut relation, users);
     Ok(relation)
 }
 
-fn read_everyone(alloc: Global, users: u16, width: usize) -> Result<Rows, AllocError> {
-    let mut everyone = Rows::new(alloc, 1, width)?;
+fn read_rows(p: &Policy, relation: &mut Relation, users: u16)
+    requires { users ≤ USER_LIMIT }
+{
+    let rho = relation.rho;
     for u in 0..users {
-        add_user(everyone.row_mut(0), u);
-    }
-    Ok(everyone)
-}
-
-fn add_pairs(p: &Policy, listed: RelId, relation: &mut Relation) -> Result<(), AllocError> {
-    let pairs = p.relations().pairs(listed)?;
-    for (u, v) in pairs.as_slice().iter() {
-        add_user(relation.ahead.row_mut(*u as usize), *v);
-        add_user(relation.back.row_mut(*v as usize), *u);
-    }
-    Ok(())
-}
-
-fn turn_rows(relation: &mut Relation, everyone: &Rows, users: u16) {
-    for u in 0..users {
-        turn(relation.ahead.row_mut(u as usize), everyone.row(0));
-        turn(relation.back.row_mut(u as usize), everyone.row(0));
+        let after = p.relations().after(rho, UserId(u), users);
+        put(relation.ahead.row_mut(u as usize), after.as_words());
+        let ahead = p.relations().ahead(rho, UserId(u), users);
+        put(relation.back.row_mut(u as usize), ahead.as_words());
     }
 }
 
@@ -212,50 +194,14 @@ fn add_own(relation: &mut Relation, users: u16) {
     }
 }
 
-// The users who are authorised for each step: of each role that is permitted for one, its holders.
+// The users who are authorised for each step.
 fn read_allowed(alloc: Global, p: &Policy, f: FlowId, width: usize) -> Result<Rows, AllocError>
     requires { f < length p.now.flows }
 {
     let mut allowed = Rows::new(alloc, STEP_LIMIT, width)?;
-    let mut holders = Rows::new(alloc, p.roster().roles().len() as usize, width)?;
-    for r in 0..p.roster().roles().len() {
-        let role = RoleId((r & 0xff) as u8);
-        if is_permitted(p, f, role) {
-            add_holders(p, role, holders.row_mut(r as usize));
-            add_to_steps(p, f, role, holders.row(r as usize), &mut allowed);
-        }
+    for s in 0..STEP_LIMIT {
+        let users = p.authorised_users(f, StepId((s & 0xff) as u8));
+        put(allowed.row_mut(s), users.as_words());
     }
     Ok(allowed)
-}
-
-fn is_permitted(p: &Policy, f: FlowId, role: RoleId) -> bool
-    requires { f < length p.now.flows }
-{
-    let flow = p.flow(f);
-    for s in 0..STEP_LIMIT {
-        if flow.permits(role, StepId((s & 0xff) as u8)) {
-            return true;
-        }
-    }
-    false
-}
-
-fn add_holders(p: &Policy, role: RoleId, holders: &mut [u64]) {
-    let roster = p.roster();
-    for u in 0..roster.users().len() {
-        if roster.has(UserId(u), role) {
-            add_user(holders, u);
-        }
-    }
-}
-
-fn add_to_steps(p: &Policy, f: FlowId, role: RoleId, holders: &[u64], allowed: &mut Rows)
-    requires { f < length p.now.flows }
-{
-    let flow = p.flow(f);
-    for s in 0..STEP_LIMIT {
-        if flow.permits(role, StepId((s & 0xff) as u8)) {
-            join(allowed.row_mut(s), holders);
-        }
-    }
 }

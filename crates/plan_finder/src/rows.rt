@@ -91,13 +91,6 @@ pub(crate) fn strike(row: &mut [u64], other: &[u64]) {
     }
 }
 
-/// Makes a row hold just those who are not in it, of those who are in another.
-pub(crate) fn turn(row: &mut [u64], all: &[u64]) {
-    for (word, known) in row.iter_mut().zip(all.iter()) {
-        *word = *known & !*word;
-    }
-}
-
 /// Whether two rows have a user in common.
 pub(crate) fn meets(row: &[u64], other: &[u64]) -> bool {
     for (word, mask) in row.iter().zip(other.iter()) {

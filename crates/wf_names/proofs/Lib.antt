@@ -5,3 +5,4 @@ pub mod UserBits
 pub mod Mixing
 pub mod Counts
 pub mod NextUsers
+pub mod LowBits

@@ -41,11 +41,15 @@ impl UserSet {
         requires { users ≤ USER_LIMIT }
         ensures { (v : ℕ) → has_user result v ≡ nat_lt v users }
     {
-        let mut set = UserSet::empty();
-        'users: for u in 0..users {
-            set.insert(UserId(u));
+        let mut words = [0; USER_WORDS];
+        let whole = users as usize / 64;
+        'words: for i in 0..whole {
+            words[i] = u64::MAX;
         }
-        set
+        if whole < USER_WORDS {
+            words[whole] = low_bits(users % 64);
+        }
+        UserSet { words }
     }
 
     /// Puts a user in.
@@ -99,6 +103,13 @@ impl UserSet {
         join_words(&mut self.words, &by.words);
     }
 
+    /// The words of the set: the user u is the bit u % 64 of the word u / 64.
+    pub fn as_words(&self) -> &[u64]
+        ensures { result.now ≡ self.now }
+    {
+        &self.words
+    }
+
     /// How many users are in the set.
     pub fn count(&self) -> u32
         ensures { result ≡ count_below USER_LIMIT (has_user self.now) }
@@ -112,6 +123,14 @@ impl UserSet {
     {
         next_in(&self.words, from as usize)
     }
+}
+
+// The word whose lowest bits are set, so many of them.
+fn low_bits(count: u16) -> u64
+    requires { count < 64 }
+    ensures { (k : ℕ) → has_bit result k ≡ nat_lt k count }
+{
+    (1 << count) - 1
 }
 
 fn count_users(words: &[u64]) -> u32

@@ -1,6 +1,6 @@
-use Rattle.std.proofs.Common.{◌≡◌, ℕ, nat_lt}
-use Rattle.wf_names.specs.UserSets.{has_user}
+use Rattle.std.proofs.Common.{◌≡◌, length}
+use Rattle.wf_names.proofs.LowBits.{AreFull}
 use Rattle.wf_names.proofs.user_set.UserSet.up_to.Given as goal
 
-abbrev pub invariant-users : goal.invariant-users
-invariant-users l = (v : ℕ) → has_user l.set v ≡ nat_lt v l.u
+abbrev pub invariant-words : goal.invariant-words
+invariant-words l = AreFull l.i l.words × (length l.words ≡ 16)
