@@ -16,7 +16,6 @@ use Rattle.case_record.proofs.Changes.{held_within}
 
 -- a list of one value has it everywhere
 pub blank_at : {X : Type 0} (n k : ℕ) (d : X) → get_or (replicate n d) k d ≡ d
-
 blank_at zero k d = refl
 blank_at (suc n) zero d = refl
 blank_at (suc n) (suc k) d = blank_at n k d

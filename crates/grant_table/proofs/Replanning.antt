@@ -31,7 +31,6 @@ replanned_so_far rows i plans k = take i rows ++ replanned (drop i rows) (drop k
 pub take_next : {A : Type 0} (xs : List A) (i : ℕ) (x : A) → i < length xs → x ≡ get_or xs i x → take (i + 1) xs ≡ take i xs ++ x ∷ []
 take_next xs i x below is = take_more xs i x below ∙ ap (λ y. take i xs ++ y ∷ []) (sym is)
 
-
 -- the row that comes next is passed over
 pub passes_over : (rows : List Row) (i : ℕ) (plans : List (List ℕ)) (k : ℕ) (r : Row) → i < length rows → r ≡ get_or rows i r →
     replanned (r ∷ drop (i + 1) rows) (drop k plans) ≡ r ∷ replanned (drop (i + 1) rows) (drop k plans) →

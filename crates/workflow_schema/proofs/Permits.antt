@@ -21,7 +21,6 @@ hits-append : (r s : ℕ) (ps qs : List (ℕ × ℕ)) → hits r s (ps ++ qs) �
 hits-append r s [] qs = refl
 hits-append r s (p ∷ ps) qs = ap (λ b. eq_by_cmp pair_cmp (r, s) p || b) (hits-append r s ps qs) ∙ sym (or_assoc (eq_by_cmp pair_cmp (r, s) p) (hits r s ps) (hits r s qs))
 
-
 -- the bits of a row below n
 bit_below : (r n : ℕ) → r ≢ n → nat_lt r n ≡ nat_lt r (suc n)
 bit_below r n h = grind arith
