@@ -121,17 +121,17 @@ changes_keep_policies_sound p (amend.Retire f) sound is fine =
 -- ---- what an edit finds
 
 -- P holds of what was read, if it was
-abbrev HoldsOf : {A F : Type 0} → (A → Type 0) → Result A F → Type 0
+abbrev pub HoldsOf : {A F : Type 0} → (A → Type 0) → Result A F → Type 0
 HoldsOf P (Ok x) = P x
 HoldsOf P (Err fault) = Unit {0}
 
-then_holds : {A B F : Type 0} (P : A → Type 0) (Q : B → Type 0) (r : Result A F) (f : A → Result B F) → HoldsOf P r → ((x : A) → P x → HoldsOf Q (f x)) → HoldsOf Q (r >>= f)
+pub then_holds : {A B F : Type 0} (P : A → Type 0) (Q : B → Type 0) (r : Result A F) (f : A → Result B F) → HoldsOf P r → ((x : A) → P x → HoldsOf Q (f x)) → HoldsOf Q (r >>= f)
 then_holds P Q (Ok x) f holds each = each x holds
 then_holds P Q (Err d) f holds each = tt
 
-any : {A F : Type 0} (r : Result A F) → HoldsOf (λ _. Unit {0}) r
-any (Ok x) = tt
-any (Err fault) = tt
+pub always : {A F : Type 0} (r : Result A F) → HoldsOf (λ _. Unit {0}) r
+always (Ok x) = tt
+always (Err fault) = tt
 
 fine : {F : Type 0} (r : Result (Unit {0}) F) {s : Result (Unit {0}) F} → r ≡ s → HoldsOf (λ _. s ≡ Ok tt) r
 fine (Ok tt) same = sym same
@@ -189,10 +189,10 @@ found_there p (edit.Leave user) named = found_in (IsFound p) (length p.roster.us
 found_there p (edit.Enrol role user) named = member_there p user role amend.Enrol (λ u r is. is)
 found_there p (edit.Dismiss role user) named = member_there p user role amend.Dismiss (λ u r is. is)
 found_there p (edit.Relate first relation second) named =
-    then_holds (λ _. Unit {0}) (IsFound p) (or_fault (place_of (known_names p.relations) relation) (Unknown Relation)) (λ rho. a_pair p first second (amend.Relate rho)) (any _)
+    then_holds (λ _. Unit {0}) (IsFound p) (or_fault (place_of (known_names p.relations) relation) (Unknown Relation)) (λ rho. a_pair p first second (amend.Relate rho)) (always _)
     (λ rho _. pair_there p first second (amend.Relate rho) (λ u v is. is))
 found_there p (edit.Unrelate first relation second) named =
-    then_holds (λ _. Unit {0}) (IsFound p) (or_fault (place_of (known_names p.relations) relation) (Unknown Relation)) (λ rho. a_pair p first second (amend.Unrelate rho)) (any _)
+    then_holds (λ _. Unit {0}) (IsFound p) (or_fault (place_of (known_names p.relations) relation) (Unknown Relation)) (λ rho. a_pair p first second (amend.Unrelate rho)) (always _)
     (λ rho _. pair_there p first second (amend.Unrelate rho) (λ u v is. is))
 found_there p (edit.Permit flow role step) named = permit_there p flow role step amend.Permit named (λ f r s is. is)
 found_there p (edit.Forbid flow role step) named = permit_there p flow role step amend.Forbid named (λ f r s is. is)
@@ -202,6 +202,6 @@ found_there p (edit.Retire flow) named = found_in (IsFound p) (length p.flows) p
 pub amendment_found : (p : PolicyShape) (by : List ℕ) (e : Edit) (a : Amendment) → IsSoundPolicy p → amendment_of p by e ≡ Ok a → IsFound p a × (allowed p a ≡ Ok tt)
 amendment_found p by e a sound is =
     subst (HoldsOf (λ (x : Amendment). IsFound p x × (allowed p x ≡ Ok tt))) is
-    (then_holds (λ _. Unit {0}) _ (check (is_admin p by) EditFault.NotAdmin) _ (any _) (λ _ _.
+    (then_holds (λ _. Unit {0}) _ (check (is_admin p by) EditFault.NotAdmin) _ (always _) (λ _ _.
     then_holds (IsFound p) _ (found p e) _ (found_there p e sound.named) (λ x there.
     then_holds (λ _. allowed p x ≡ Ok tt) _ (allowed p x) _ (fine (allowed p x) refl) (λ _ same. (there, same)))))

@@ -14,7 +14,8 @@ use Rattle.case_record.specs.Cells.{all_steps}
 use Rattle.case_record.specs.Cases.{CaseShape, as_finished, assigned_of, finished_case, finished_of, fresh_case, state_at, with_state}
 use Rattle.case_record.proofs.Changes.{held_within}
 
-blank_at : {X : Type 0} (n k : ℕ) (d : X) → get_or (replicate n d) k d ≡ d
+-- a list of one value has it everywhere
+pub blank_at : {X : Type 0} (n k : ℕ) (d : X) → get_or (replicate n d) k d ≡ d
 blank_at zero k d = refl
 blank_at (suc n) zero d = refl
 blank_at (suc n) (suc k) d = blank_at n k d

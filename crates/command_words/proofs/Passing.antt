@@ -1,9 +1,9 @@
 -- What a parse that succeeds finds, by the definitions.
-use Rattle.std.proofs.Common.{◌≡◌, ◌⊎◌, ◌∙◌, ◌<◌, Bool, true, false, not, refl, sym, ap, arith, inl, inr, length, List, [], ◌∷◌, map, Some, None, true≢false}
+use Rattle.std.proofs.Common.{◌≡◌, ◌⊎◌, ◌∙◌, ◌<◌, Bool, true, false, refl, sym, ap, arith, inl, inr, length, List, [], ◌∷◌, map, Some, None, true≢false}
 use Rattle.std.specs.List.{All, Any}
 use Rattle.std.specs.Borrow.{Bor}
 use Rattle.std.specs.Prelude.{if◌then◌else◌}
-use Rattle.std.proofs.lemmas.Bool.{ne_eqb}
+use Rattle.std.proofs.lemmas.Bool.{ne_eqb, not-true}
 use Rattle.std.proofs.lemmas.List.{get_or-map, length-map}
 use Rattle.std.proofs.lemmas.List.Elements.{All-map, All-weaker}
 use Rattle.clap.specs.Words.{App, IsParsed, Rule, Text, app_of, args_of, built, fault_of, found_of, groups_of, has_subcommand, is_simple, is_simple_and_free, matches_of, rows_of, rule_of}
@@ -28,10 +28,6 @@ not_empty x xs = ne_eqb _ _ (λ e. let lots : length (x ∷ xs) ≡ 0 = e in ome
 no_elements : {X : Type 0} (xs : List X) → is_empty xs ≡ true → xs ≡ []
 no_elements [] e = refl
 no_elements (x ∷ xs) e = absurd (true≢false (sym e ∙ not_empty x xs))
-
-of_not : (b : Bool) → not b ≡ true → b ≡ false
-of_not false e = refl
-of_not true e = absurd (true≢false (sym e))
 
 -- ---- from the arguments of a command to its rules
 
@@ -90,7 +86,7 @@ no_groups : (c : Command) → (app_of c).top.is_plain ≡ true → groups_of c �
 no_groups c e = no_elements (groups_of c) (both _ _ e).0
 
 no_globals : (c : Command) → (app_of c).top.is_plain ≡ true → (fields_of c).has_globals ≡ false
-no_globals c e = of_not _ (both _ _ (both _ _ (both _ _ e).1).1).0
+no_globals c e = not-true _ (both _ _ (both _ _ (both _ _ e).1).1).0
 
 -- ---- a parse that succeeds
 

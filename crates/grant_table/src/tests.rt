@@ -23,10 +23,14 @@ const CYD: UserId = UserId(2);
 #[test]
 fn cases_keep_their_numbers_and_plans(rt: HostRuntime) -> Result<(), Fail> {
     let mut table = table_with_room(rt.alloc(), 3)?;
-    open_three(&rt, &mut table);
-    work_on_two(&rt, &mut table);
-    keep_apart(&rt, &table);
+    three_are_apart(&rt, &mut table);
     Ok(())
+}
+
+fn three_are_apart(rt: &impl Abort, table: &mut Cases) {
+    open_three(rt, table);
+    work_on_two(rt, table);
+    keep_apart(rt, table);
 }
 
 fn open_three(rt: &impl Abort, table: &mut Cases) {
@@ -63,13 +67,22 @@ fn is_live_with(
 #[test]
 fn a_table_counts_its_open_cases(rt: HostRuntime) -> Result<(), Fail> {
     let mut table = table_with_room(rt.alloc(), 3)?;
-    open_three(&rt, &mut table);
-    finish_the_first(&rt, &mut table);
+    count_the_open(&rt, &mut table);
+    copy_in_part(&rt, rt.alloc(), &table)?;
+    Ok(())
+}
+
+fn count_the_open(rt: &impl Abort, table: &mut Cases) {
+    open_three(rt, table);
+    finish_the_first(rt, table);
     assert!(rt; (table.live(), table.ever()) == (2, 3));
     assert!(rt; table.next_live(0) == Some(CaseId(1)) && table.next_live(3).is_none());
-    assert!(rt;
-        copies_all(&table)? && copies_one(rt.alloc(), &table)? && copies_open(rt.alloc(), &table)?
-    );
+}
+
+fn copy_in_part(rt: &impl Abort, alloc: Global, table: &Cases) -> Result<(), AllocError> {
+    assert!(rt; copies_all(table)?);
+    assert!(rt; copies_one(alloc, table)?);
+    assert!(rt; copies_open(alloc, table)?);
     Ok(())
 }
 
@@ -85,32 +98,39 @@ fn copies_all(table: &Cases) -> Result<bool, AllocError> {
     Ok(table.copy()?.live() == 2)
 }
 
-// The copy of the done case has it, and none of the others.
 fn copies_one(alloc: Global, table: &Cases) -> Result<bool, AllocError> {
-    let copy = table.copy_one(alloc, CaseId(0))?;
-    Ok(has_the_done_case(&copy) && seen(&copy, CaseId(1)).is_none())
+    Ok(has_the_done_case(&table.copy_one(alloc, CaseId(0))?))
 }
 
+// Whether a table has the done case, and none of the others.
 fn has_the_done_case(copy: &Cases) -> bool {
     let (ann, bob) = (StepState::Finished(ANN), StepState::Finished(BOB));
     (copy.live(), copy.ever()) == (0, 3)
         && seen(copy, CaseId(0)) == Some((Phase::Done, ann, bob, None))
+        && seen(copy, CaseId(1)).is_none()
 }
 
 fn copies_open(alloc: Global, table: &Cases) -> Result<bool, AllocError> {
-    let copy = table.copy_open(alloc)?;
-    Ok(copy.live() == 2 && seen(&copy, CaseId(0)).is_none())
+    Ok(has_the_open_cases(&table.copy_open(alloc)?))
+}
+
+fn has_the_open_cases(copy: &Cases) -> bool {
+    copy.live() == 2 && seen(copy, CaseId(0)).is_none()
 }
 
 #[test]
 fn steps_are_given_back_and_cases_withdrawn(rt: HostRuntime) -> Result<(), Fail> {
     let mut table = table_with_room(rt.alloc(), 3)?;
-    open_three(&rt, &mut table);
-    give_back_and_withdraw(&mut table);
-    let plan = Plan::of(&[ANN, BOB]);
-    assert!(rt; is_live_with(&table, CaseId(0), StepState::Free, StepState::Free, &plan));
-    assert!(rt; is_withdrawn(&table, CaseId(1)) && table.live() == 2);
+    take_back(&rt, &mut table);
     Ok(())
+}
+
+fn take_back(rt: &impl Abort, table: &mut Cases) {
+    open_three(rt, table);
+    give_back_and_withdraw(table);
+    let plan = Plan::of(&[ANN, BOB]);
+    assert!(rt; is_live_with(table, CaseId(0), StepState::Free, StepState::Free, &plan));
+    assert!(rt; is_withdrawn(table, CaseId(1)) && table.live() == 2);
 }
 
 fn give_back_and_withdraw(table: &mut Cases) {
@@ -118,6 +138,10 @@ fn give_back_and_withdraw(table: &mut Cases) {
     if holds(table, CaseId(0), FIRST) {
         table.give_back(CaseId(0), FIRST);
     }
+    withdraw_the_second(table);
+}
+
+fn withdraw_the_second(table: &mut Cases) {
     if is_open(table, CaseId(1)) {
         table.withdraw(CaseId(1));
     }
@@ -127,15 +151,18 @@ fn give_back_and_withdraw(table: &mut Cases) {
 fn open_cases_get_other_plans_in_order(rt: HostRuntime) -> Result<(), Fail> {
     let mut table = table_with_room(rt.alloc(), 3)?;
     open_three(&rt, &mut table);
-    if is_open(&table, CaseId(1)) {
-        table.withdraw(CaseId(1));
-    }
-    table.replace_plans(&[Plan::of(&[CYD, BOB]), Plan::of(&[BOB, CYD])]);
-    assert!(rt; table.plan(CaseId(0)) == Some(Plan::of(&[CYD, BOB])));
-    assert!(rt; table.plan(CaseId(1)).is_none());
-    assert!(rt; table.plan(CaseId(2)) == Some(Plan::of(&[BOB, CYD])));
-    assert!(rt; shows_its_rows(&table));
+    withdraw_the_second(&mut table);
+    replan_the_others(&rt, &mut table);
     Ok(())
+}
+
+fn replan_the_others(rt: &impl Abort, table: &mut Cases) {
+    let (first, third) = (Plan::of(&[CYD, BOB]), Plan::of(&[BOB, CYD]));
+    table.replace_plans(&[first, third]);
+    assert!(rt; table.plan(CaseId(0)) == Some(first));
+    assert!(rt; table.plan(CaseId(1)).is_none());
+    assert!(rt; table.plan(CaseId(2)) == Some(third));
+    assert!(rt; shows_its_rows(table));
 }
 
 // Whether the rows are those of the three cases, of which the second is withdrawn.

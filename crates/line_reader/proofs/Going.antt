@@ -1,13 +1,13 @@
 -- How reading a line goes on.
 use Rattle.std.proofs.Common.{refl, ap, sym, subst, ◌∙◌, arith}
-use Rattle.std.specs.Prelude.{◌≡◌, ℕ, suc, ◌+◌, ◌-◌, ◌*◌, ◌<◌, ◌≤◌, Bool, true, false, List, [], ◌∷◌, ◌++◌, length, take, drop, Option, None, Some, if◌then◌else◌}
+use Rattle.std.specs.Prelude.{◌≡◌, ℕ, suc, ◌+◌, ◌-◌, ◌<◌, ◌≤◌, Bool, true, false, List, [], ◌++◌, length, take, drop, Option, None, Some}
 use Rattle.std.proofs.lemmas.Grind.{common_steps}
-use Rattle.std.proofs.lemmas.List.{append-nil, append_assoc, length-append, length-drop, length-take, drop-take, drop-drop, take-append-drop, take-take, drop_all}
+use Rattle.std.proofs.lemmas.List.{append-nil, append_assoc, length-append, length-drop, length-take, drop-take, drop-drop, take-take, drop_all}
 use Rattle.wf_outside.specs.Outside.{HasTaken, IsAtEnd}
 use Rattle.wf_outside.proofs.OutsideLaws.{nothing_taken, more_taken}
 use Rattle.line_reader.specs.declared.read.Read.{Read}
 use Rattle.line_reader.specs.declared.read.Read.TheVariants.{Line, End, Failed, TooLong, NoMemory}
-use Rattle.line_reader.specs.Lines.{ReaderShape, pending, HasSeen, HasReadLine, HasEnded, HasStopped, HasPassed, ReadsTo, CountsAs, first_line, behind_line, has_end, line_length}
+use Rattle.line_reader.specs.Lines.{ReaderShape, pending, HasSeen, HasReadLine, HasEnded, HasStopped, HasPassed, ReadsTo, CountsAs, has_end, line_length}
 use Rattle.line_reader.specs.Steps.{HasGoneOn, HasEndAt, StepsTo, CountsStep, steps_left}
 use Rattle.line_reader.proofs.FirstLines.{open_line, goes_on}
 

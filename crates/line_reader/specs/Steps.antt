@@ -1,5 +1,5 @@
 -- Inside: how reading a line goes on, step by step.
-use Rattle.std.specs.Prelude.{◌≡◌, ℕ, suc, ◌+◌, ◌-◌, ◌*◌, ◌<◌, Bool, true, false, List, length, take, drop, Option, None, Some}
+use Rattle.std.specs.Prelude.{◌≡◌, ℕ, suc, ◌+◌, ◌-◌, ◌*◌, ◌<◌, true, false, List, length, take, drop, Option, None, Some}
 use Rattle.line_reader.specs.declared.read.Read.{Read}
 use Rattle.line_reader.specs.Lines.{ReaderShape, HasSeen, pending, first_line, behind_line, has_end, line_length, ReadsTo, CountsAs}
 

@@ -26,7 +26,8 @@ pub enum RunFault {
     /// The command was done.
     #[error("wfserve: done")]
     Nothing,
-    /// The command was done, and found what it looked for: a plan that is not valid.
+    /// The command was done, and found what it looks for: `plan` that the plan is not valid, `audit` a line of the
+    /// transcript that has a fault or is missing.
     #[error("wfserve: found")]
     Found,
     /// The words are none of the program's commands.

@@ -1,17 +1,12 @@
 -- The names of a trial are of a name's form, and differ where their numbers do.
 use Rattle.std.proofs.Common.{◌≡◌, ℕ, zero, suc, ◌+◌, ◌<◌, ◌/◌, ◌%◌, true, false, List, [], ◌∷◌, ◌++◌, map, IsTrue, nat_eq, is_some, length, codes, refl, ap, ◌∙◌, arith}
-use Rattle.std.specs.Prelude.{IsUtf8}
 use Rattle.std.specs.List.{range_with_len}
 use Rattle.std.specs.Cmp.Lexicographic.{pointwise}
 use Rattle.std.proofs.lemmas.Bool.Decides.{nat_tests}
 use Rattle.std.proofs.lemmas.List.FromFn.{length-map-range_with_len, map-range_with_len_more}
 use Rattle.wf_names.specs.Names.{is_letter, is_name, is_name_byte}
 use Rattle.wf_names.specs.Table.{place_of}
-use Rattle.wf_names.proofs.NameForms.{name_utf8}
 use Rattle.trial_maker.specs.TrialNames.{admin_name, digit, two_digits, user_name, step_name, role_name}
-
-pub name_text : (bs : List ℕ) → IsTrue (is_name bs) → IsUtf8 bs
-name_text bs h = name_utf8 bs h
 
 digit_byte : (n : ℕ) → n < 10 → is_name_byte (48 + n) ≡ true
 digit_byte n h = grind (arith, nat_tests)

@@ -20,7 +20,7 @@ pub(crate) fn named(text: &str) -> Name
 }
 
 /// The name that bytes are.
-#[tactic(auto, using(crate::proofs::NameForms::name_text))]
+#[tactic(auto, using(wf_names::proofs::NameForms::name_utf8))]
 fn of_bytes(bytes: &[u8]) -> Name
     requires { IsTrue (is_name bytes.now) }
     ensures { result ≡ bytes.now }

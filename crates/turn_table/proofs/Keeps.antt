@@ -1,7 +1,7 @@
 -- Each step on the word keeps the rule of a turn table.
 use Rattle.std.proofs.Common.{◌≡◌, ◌≢◌, ℕ, ◌<◌, ◌≤◌, eqb, true, List, [], ◌∷◌, ◌++◌, length, drop, slice_index, set, sym, refl, ap, ◌∙◌, subst, inl, arith, length-set, get_or-set_same, eq-eqb, ne_eqb, Option, Some, None}
 use mathlib.Core.Option as maybe
-use mathlib.Core.Option.{none, some, some-injective}
+use mathlib.Core.Option.{none, some}
 use mathlib.Core.Logic.{dite}
 use native.Mathlib.Decide.{ℕ_discrete}
 use lib.ListN.{get_elem?}

@@ -18,7 +18,7 @@ use Rattle.admin_edits.specs.declared.amendment.Amendment.{Amendment}
 use Rattle.admin_edits.specs.declared.fault.EditFault.{EditFault}
 use Rattle.admin_edits.specs.declared.fault.EditFault.TheVariants as fault
 use Rattle.admin_edits.specs.Edits.{amended, amendment_of, is_admin}
-use Rattle.admin_edits.proofs.Keeping.{changes_keep_policies_sound}
+use Rattle.admin_edits.proofs.Keeping.{HoldsOf, changes_keep_policies_sound}
 use Rattle.denial_reasons.specs.Causes.{assigned_with, first_cause, first_falsified, first_of, permitted_roles, unless}
 use Rattle.wf_talk.specs.declared.request.Request.TheVariants as request
 use Rattle.wf_talk.specs.declared.request.Ask.{Ask}
@@ -53,7 +53,7 @@ use Rattle.wf_board.proofs.Answering.{same_taken}
 use Rattle.wf_board.proofs.Exact.{stranded_not}
 use Rattle.wf_board.proofs.Fixed.{one_stranded}
 use Rattle.wf_board.proofs.Listed.{one_list}
-use Rattle.wf_board.proofs.Told.{HoldsOf, IsTold, aside_told}
+use Rattle.wf_board.proofs.Told.{IsTold, aside_told}
 
 -- ---- causes have no tree
 

@@ -1,6 +1,7 @@
 -- What a board answers is a step of its state.
-use Rattle.std.proofs.Common.{◌≡◌, ℕ, ◌+◌, ◌<◌, ◌≤◌, inl, inr, ◌||◌, nat_le, Bool, true, false, not, List, length, is_err, OnErr, Option, None, Some, Result, Ok, Err, refl, sym, ap, subst, ◌∙◌, arith}
+use Rattle.std.proofs.Common.{◌≡◌, ℕ, ◌+◌, ◌<◌, ◌≤◌, inl, inr, nat_le, true, false, not, List, length, is_err, OnErr, Option, None, Some, Result, Ok, Err, refl, sym, ap, subst, ◌∙◌, arith}
 use Rattle.std.proofs.lemmas.Bool.Decides.{nat_tests}
+use Rattle.basics.proofs.Booleans.{or_false}
 use Rattle.first_fault.specs.Reading.{◌>>=◌}
 use Rattle.constraint_forms.specs.Assigned.{no_steps, no_users}
 use Rattle.refutation_tree.specs.declared.tree.Tree.{Tree}
@@ -21,7 +22,8 @@ use Rattle.admin_edits.specs.declared.amendment.Amendment.{Amendment}
 use Rattle.grant_table.specs.Kept.{AscendFrom, IsSoundTable}
 use Rattle.wf_board.specs.Edited.{ArePlansOf, IsFirstStranded}
 use Rattle.wf_board.proofs.Amended.{IsChange, change_decided, edited_keeps, edited_state, edition_change, plans_complete, stranded_case, stranding_change, with_plans}
-use Rattle.wf_board.proofs.Told.{HoldsOf, IsTold, aside_told}
+use Rattle.admin_edits.proofs.Keeping.{HoldsOf}
+use Rattle.wf_board.proofs.Told.{IsTold, aside_told}
 use Rattle.wf_board.specs.Found.{IsAllowed}
 use Rattle.wf_board.specs.declared.deed.Deed.{Deed}
 use Rattle.wf_board.specs.declared.deed.Deed.TheVariants as deed
@@ -73,18 +75,13 @@ full_denied b f full = ap (λ x. unless_denied (deed.Open f) (unless (not x) Ful
 pub room_left : (b : Book) (f : ℕ) → is_full b ≡ false → full_or b (deed.Open f) ≡ Ok (deed.Open f)
 room_left b f left = ap (λ x. unless_denied (deed.Open f) (unless (not x) Full)) left
 
-either_tells : (a b : Bool) → (a || b) ≡ false → (a ≡ false) × (b ≡ false)
-either_tells true b h = cc
-either_tells false true h = cc
-either_tells false false h = (refl, refl)
-
 less_than : (a b : ℕ) → nat_le a b ≡ false → b < a
 less_than a b h = grind (arith, nat_tests)
 
 -- below both limits
 pub below_limits : (p : PolicyShape) (t : CasesShape) → is_full (book_of p t) ≡ false → (open_count t.rows < OPEN_CASE_LIMIT) × (t.ever < CASE_LIMIT)
 below_limits p t left =
-    let both = either_tells _ _ left in
+    let both = or_false _ _ left in
     (subst (λ n. n < OPEN_CASE_LIMIT) (open_numbered t.rows) (less_than OPEN_CASE_LIMIT _ both.0), less_than CASE_LIMIT t.ever both.1)
 
 pub on_err : {A E P : Type 0} (r : Result A E) → is_err r ≡ true → OnErr r P → P

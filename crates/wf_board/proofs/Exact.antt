@@ -27,8 +27,8 @@ use Rattle.wf_board.specs.Laws.{ClaimsAreExact, EditsAreExact}
 use Rattle.wf_board.specs.Edited.{CanAllBeCompleted, IsFirstStranded}
 use Rattle.admin_edits.specs.declared.amendment.Amendment.{Amendment}
 use Rattle.admin_edits.specs.Edits.{amended}
-use Rattle.admin_edits.proofs.Keeping.{changes_keep_policies_sound}
-use Rattle.wf_board.proofs.Told.{HoldsOf, IsTold, claim_free, told}
+use Rattle.admin_edits.proofs.Keeping.{HoldsOf, changes_keep_policies_sound}
+use Rattle.wf_board.proofs.Told.{IsTold, claim_free, told}
 
 finished_user : (x : StepState) → is_finished x ≡ true → (u : ℕ) × (user_of x ≡ Some u)
 finished_user Free is = cc

@@ -13,7 +13,7 @@ use Rattle.certificate_check.proofs.Refuted.{refutes_soundly}
 use Rattle.case_record.specs.Cases.{CaseShape, assigned_of, finished_case, finished_of}
 use Rattle.admin_edits.specs.declared.amendment.Amendment.{Amendment}
 use Rattle.admin_edits.specs.Edits.{amended}
-use Rattle.admin_edits.proofs.Keeping.{changes_keep_policies_sound}
+use Rattle.admin_edits.proofs.Keeping.{HoldsOf, changes_keep_policies_sound}
 use Rattle.wf_talk.specs.declared.request.Bad.{Bad}
 use Rattle.wf_talk.specs.declared.reply.Reply.{Reply}
 use Rattle.wf_talk.specs.declared.reply.Reply.TheVariants as reply
@@ -30,7 +30,7 @@ use Rattle.wf_board.specs.Kept.{IsSoundState}
 use Rattle.wf_board.specs.Laws.{OutcomeIsFixed, bare}
 use Rattle.wf_board.proofs.Listed.{one_list}
 use Rattle.wf_board.proofs.Exact.{finished_assigned, refuted_claim, stranded_not, well_formed_any}
-use Rattle.wf_board.proofs.Told.{HoldsOf, IsTold, told}
+use Rattle.wf_board.proofs.Told.{IsTold, told}
 use Rattle.wf_board.proofs.Valid.{none_member}
 
 -- two replies are the same but for their plans or trees, and so are the states after them

@@ -1,9 +1,9 @@
 -- What does not count for a request leaves what its decision rests on.
-use Rattle.std.proofs.Common.{◌≡◌, ℕ, ◌+◌, ◌⊎◌, inl, inr, Bool, true, false, ◌||◌, is_some, nat_eq, List, [], ◌∷◌, ◌++◌, take, drop, Option, Some, None, Result, Ok, Err, if◌then◌else◌, refl, sym, ap, subst, ◌∙◌, arith}
+use Rattle.std.proofs.Common.{◌≡◌, ℕ, ◌+◌, ◌⊎◌, inl, inr, Bool, true, false, is_some, nat_eq, List, [], ◌∷◌, ◌++◌, take, drop, Option, Some, None, Result, Ok, Err, if◌then◌else◌, refl, sym, ap, subst, ◌∙◌, arith}
 use Rattle.std.specs.Option.{option_map}
 use Rattle.std.proofs.lemmas.List.{take-append-drop}
 use Rattle.first_fault.specs.Reading.{or_fault, check}
-use Rattle.basics.proofs.Booleans.{eq_back, eq_is}
+use Rattle.basics.proofs.Booleans.{eq_back, eq_is, or_false}
 use Rattle.case_record.specs.Cases.{CaseShape}
 use Rattle.grant_table.specs.Lookup.{look_up}
 use Rattle.wf_talk.specs.declared.entry.Entry.{Entry}
@@ -28,7 +28,8 @@ use Rattle.wf_board.specs.Counting.{IsFresh, case_of_ask, changed_case, changes_
 use Rattle.wf_board.specs.Histories.{EachAfter, IsLegal, IsRetry, IsRightAfter, state_after}
 use Rattle.wf_board.specs.HistoryLaws.{after_all, after_more, again_stays, each_from, policy_stays}
 use Rattle.wf_board.specs.Verdicts.{IsRight}
-use Rattle.wf_board.proofs.Told.{HoldsOf, then_holds, unless_holds}
+use Rattle.admin_edits.proofs.Keeping.{HoldsOf, always, then_holds}
+use Rattle.wf_board.proofs.Told.{unless_holds}
 use Rattle.wf_board.proofs.Snaps.{claim_no_change, finish_plain, opening_no_change, plain_right, release_plain, return_plain, right_same, same_claim, same_opening, show_plain, with_cases, withdraw_plain}
 
 -- ---- what is the same
@@ -98,16 +99,12 @@ IsNamed what (deed.Work u) = Unit {0}
 IsNamed what (deed.WhatIf a) = Unit {0}
 IsNamed what (deed.TurnAway bad) = Unit {0}
 
-any_read : {A F : Type 0} (r : Result A F) → HoldsOf (λ _. Unit {0}) r
-any_read (Ok x) = tt
-any_read (Err d) = tt
-
 named_step : (what : Ask) (b : Book) (make : ℕ → CaseShape → ℕ → ℕ → Deed) (n : ℕ) (step user : List ℕ) →
     ((c : CaseShape) (t u : ℕ) → IsNamed what (make n c t u)) → HoldsOf (IsNamed what) (on_step make b n step user)
 named_step what b make n step user named =
-    then_holds (λ _. Unit {0}) (IsNamed what) (open_case_at b n) _ (any_read (open_case_at b n))
-    (λ c _. then_holds (λ _. Unit {0}) (IsNamed what) (or_fault (step_named b c.flow step) NoStep) _ (any_read (or_fault (step_named b c.flow step) NoStep))
-    (λ t _. then_holds (λ _. Unit {0}) (IsNamed what) (or_fault (user_named b user) NoUser) _ (any_read (or_fault (user_named b user) NoUser))
+    then_holds (λ _. Unit {0}) (IsNamed what) (open_case_at b n) _ (always (open_case_at b n))
+    (λ c _. then_holds (λ _. Unit {0}) (IsNamed what) (or_fault (step_named b c.flow step) NoStep) _ (always (or_fault (step_named b c.flow step) NoStep))
+    (λ t _. then_holds (λ _. Unit {0}) (IsNamed what) (or_fault (user_named b user) NoUser) _ (always (or_fault (user_named b user) NoUser))
     (λ u _. named c t u)))
 
 change_named : (what : Ask) (make : Amendment → Deed) (r : Result Amendment EditFault) → ((a : Amendment) → IsNamed what (make a)) → HoldsOf (IsNamed what) (on_edit make r)
@@ -116,24 +113,24 @@ change_named what make (Err fault) named = tt
 
 resolve_named : (b : Book) (what : Ask) → HoldsOf (IsNamed what) (resolve b what)
 resolve_named b (ask.Request (request.OpenCase flow)) =
-    then_holds (λ _. Unit {0}) (IsNamed (ask.Request (request.OpenCase flow))) (or_fault (flow_named b flow) NoFlow) _ (any_read (or_fault (flow_named b flow) NoFlow)) (λ f _. tt)
+    then_holds (λ _. Unit {0}) (IsNamed (ask.Request (request.OpenCase flow))) (or_fault (flow_named b flow) NoFlow) _ (always (or_fault (flow_named b flow) NoFlow)) (λ f _. tt)
 resolve_named b (ask.Request (request.Claim n step user)) = named_step (ask.Request (request.Claim n step user)) b deed.Claim n step user (λ c t u. refl)
 resolve_named b (ask.Request (request.Finish n step user)) = named_step (ask.Request (request.Finish n step user)) b deed.Finish n step user (λ c t u. refl)
 resolve_named b (ask.Request (request.GiveBack n step user)) = named_step (ask.Request (request.GiveBack n step user)) b deed.GiveBack n step user (λ c t u. refl)
 resolve_named b (ask.Request (request.Release by n step)) =
     let what = ask.Request (request.Release by n step) in
-    then_holds (λ _. Unit {0}) (IsNamed what) (check (is_admin b.policy by) NotAdmin) _ (any_read (check (is_admin b.policy by) NotAdmin))
-    (λ _ _. then_holds (λ _. Unit {0}) (IsNamed what) (open_case_at b n) _ (any_read (open_case_at b n))
-    (λ c _. then_holds (λ _. Unit {0}) (IsNamed what) (or_fault (step_named b c.flow step) NoStep) _ (any_read (or_fault (step_named b c.flow step) NoStep)) (λ t _. refl)))
+    then_holds (λ _. Unit {0}) (IsNamed what) (check (is_admin b.policy by) NotAdmin) _ (always (check (is_admin b.policy by) NotAdmin))
+    (λ _ _. then_holds (λ _. Unit {0}) (IsNamed what) (open_case_at b n) _ (always (open_case_at b n))
+    (λ c _. then_holds (λ _. Unit {0}) (IsNamed what) (or_fault (step_named b c.flow step) NoStep) _ (always (or_fault (step_named b c.flow step) NoStep)) (λ t _. refl)))
 resolve_named b (ask.Request (request.Withdraw by n)) =
     let what = ask.Request (request.Withdraw by n) in
-    then_holds (λ _. Unit {0}) (IsNamed what) (check (is_admin b.policy by) NotAdmin) _ (any_read (check (is_admin b.policy by) NotAdmin))
-    (λ _ _. then_holds (λ _. Unit {0}) (IsNamed what) (open_case_at b n) _ (any_read (open_case_at b n)) (λ c _. refl))
+    then_holds (λ _. Unit {0}) (IsNamed what) (check (is_admin b.policy by) NotAdmin) _ (always (check (is_admin b.policy by) NotAdmin))
+    (λ _ _. then_holds (λ _. Unit {0}) (IsNamed what) (open_case_at b n) _ (always (open_case_at b n)) (λ c _. refl))
 resolve_named b (ask.Request (request.Change by edit)) = change_named (ask.Request (request.Change by edit)) deed.Change (amendment_of b.policy by edit) (λ a. tt)
 resolve_named b (ask.Request (request.Show n)) =
-    then_holds (λ _. Unit {0}) (IsNamed (ask.Request (request.Show n))) (or_fault (case_at b.cases n) NoCase) _ (any_read (or_fault (case_at b.cases n) NoCase)) (λ c _. tt)
+    then_holds (λ _. Unit {0}) (IsNamed (ask.Request (request.Show n))) (or_fault (case_at b.cases n) NoCase) _ (always (or_fault (case_at b.cases n) NoCase)) (λ c _. tt)
 resolve_named b (ask.Request (request.Worklist user)) =
-    then_holds (λ _. Unit {0}) (IsNamed (ask.Request (request.Worklist user))) (or_fault (user_named b user) NoUser) _ (any_read (or_fault (user_named b user) NoUser)) (λ u _. tt)
+    then_holds (λ _. Unit {0}) (IsNamed (ask.Request (request.Worklist user))) (or_fault (user_named b user) NoUser) _ (always (or_fault (user_named b user) NoUser)) (λ u _. tt)
 resolve_named b (ask.Request (request.WhatIf by edit)) = change_named (ask.Request (request.WhatIf by edit)) deed.WhatIf (amendment_of b.policy by edit) (λ a. tt)
 resolve_named b (ask.Bad bad) = tt
 
@@ -185,21 +182,16 @@ decision_book : (s : State) (what : Ask) (decision : Result Deed Denial) (answer
 decision_book s what (Ok given) answer named edited other = deed_book s what given answer named edited other
 decision_book s what (Err d) answer named edited other = refl
 
-neither : (a b : Bool) → (a || b) ≡ false → (a ≡ false) × (b ≡ false)
-neither true b h = cc
-neither false true h = cc
-neither false false h = (refl, refl)
-
 same_book : (s : State) (e : Entry) → changes_any e ≡ false → s.book ≡ (state_after_step s e.ask e.reply).book
 same_book s e other =
-    let both = neither (is_edited e.reply) (is_some (changed_case e.ask e.reply)) other in
+    let both = or_false (is_edited e.reply) (is_some (changed_case e.ask e.reply)) other in
     decision_book s e.ask (decision_of s.book e.ask) e.reply (decision_named s.book e.ask) both.0 both.1
 
 -- a step that does not count leaves what a verdict rests on
 pub step_same : (s : State) (e : Entry) (what : Ask) → IsStep s e.ask e.reply → counts_for e what ≡ false → SameFor what s (state_after_step s e.ask e.reply)
 step_same s e (ask.Request (request.OpenCase flow)) is other = sym (policy_stays s e.ask e.reply other)
 step_same s e (ask.Request (request.Claim n step user)) is other =
-    let both = neither (is_edited e.reply) (is_number n (changed_case e.ask e.reply)) other in
+    let both = or_false (is_edited e.reply) (is_number n (changed_case e.ask e.reply)) other in
     (sym (policy_stays s e.ask e.reply both.0), decision_case s e.ask (decision_of s.book e.ask) e.reply n (decision_named s.book e.ask) is both.1)
 step_same s e (ask.Request (request.Change by edit)) is other = same_book s e other
 step_same s e (ask.Request (request.Worklist user)) is other = same_book s e other

@@ -31,7 +31,7 @@ use Rattle.wf_board.specs.States.{Book, State}
 use Rattle.wf_board.specs.Decisions.{cause_full, decision_of, unless_denied}
 use Rattle.wf_board.specs.Steps.{Answers}
 use Rattle.wf_board.specs.Laws.{AreNamed, GrantsAreExact, MayBeGranted}
-use Rattle.wf_board.proofs.Told.{place_within}
+use Rattle.wf_board.proofs.Told.{place_within, unless_tells}
 use Rattle.wf_board.proofs.Exact.{claimed_assigned, claims_are_exact, well_formed}
 
 -- ---- what no cause tells
@@ -68,10 +68,6 @@ nothing_made (Some n) make h = cc
 made_of_nothing : (o : Option ℕ) (make : ℕ → Denial) → is_none o ≡ true → option_map make o ≡ None
 made_of_nothing None make h = refl
 made_of_nothing (Some n) make h = cc
-
-passes : (b : Bool) (d : Denial) → unless b d ≡ None → b ≡ true
-passes true d h = refl
-passes false d h = cc
 
 passed : (b : Bool) (d : Denial) → b ≡ true → unless b d ≡ None
 passed true d h = refl
@@ -152,7 +148,7 @@ none_granted s c t u below none complete =
     none in
     let within : nat_lt t (length c.states) ≡ true = grind (arith, nat_tests) in
     record {
-      authorised = passes (is_authorised p c.flow t u) (denial.Role (permitted_roles p c.flow t)) each.1.1.0;
+      authorised = unless_tells (is_authorised p c.flow t u) (denial.Role (permitted_roles p c.flow t)) each.1.1.0;
       ready = and_from (nat_lt t (length c.states) && is_free (state_at c t)) (is_none (first_missing c (flow_at p c.flow).flow.order t))
           (and_from (nat_lt t (length c.states)) (is_free (state_at c t)) within (free_of_users (state_at c t) denial.Taken each.0))
           (nothing_made (first_missing c (flow_at p c.flow).flow.order t) (denial.Order c.flow) each.1.0);

@@ -20,7 +20,7 @@ use Rattle.wf_board.specs.declared.deed.Deed.{Deed}
 use Rattle.wf_board.specs.declared.deed.Deed.TheVariants as deed
 use Rattle.admin_edits.specs.declared.amendment.Amendment.{Amendment}
 use Rattle.admin_edits.specs.Edits.{amended}
-use Rattle.admin_edits.proofs.Keeping.{changes_keep_policies_sound}
+use Rattle.admin_edits.proofs.Keeping.{HoldsOf, changes_keep_policies_sound}
 use Rattle.wf_board.specs.Edited.{CanAllBeCompleted}
 use Rattle.wf_board.specs.States.{Numbered, State, case_at, open_cases, opening_state, with_case_changed}
 use Rattle.wf_board.specs.Decisions.{decision_of}
@@ -29,7 +29,7 @@ use Rattle.wf_board.specs.Histories.{EachAfter, IsRetry, IsRightAfter, state_aft
 use Rattle.wf_board.specs.HistoryLaws.{after_more, again_stays}
 use Rattle.wf_board.specs.Kept.{IsOfPolicy, IsSoundState, KeepsCompletable}
 use Rattle.wf_board.specs.Laws.{HistoriesKeepCompletable, PlansStayValid, StepsKeepCompletable}
-use Rattle.wf_board.proofs.Told.{HasStep, HoldsOf, IsTold, claim_free, held_by, told}
+use Rattle.wf_board.proofs.Told.{HasStep, IsTold, claim_free, held_by, told}
 use Rattle.wf_board.proofs.Valid.{valid_claimed, valid_finished, valid_freed, valid_fresh}
 use Rattle.wf_board.proofs.Known.{of_policy_claimed, of_policy_finished, of_policy_freed, of_policy_fresh, of_policy_in_phase}
 use Rattle.wf_board.proofs.Amended.{of_policy_amended, open_can}

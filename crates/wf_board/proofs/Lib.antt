@@ -18,3 +18,5 @@ pub mod Answering
 pub mod Unhurt
 pub mod Fixed
 pub mod Admission
+pub mod Below
+pub mod Faring

@@ -28,15 +28,7 @@ use Rattle.wf_board.specs.Resolved.{on_edit, on_step, open_case_at, resolve}
 use Rattle.wf_board.specs.Found as found
 use Rattle.wf_board.specs.Decisions.{cause_aside, cause_full, decision_aside, decision_of, is_held_by, unless_denied}
 use Rattle.admin_edits.proofs.Keeping.{amendment_found}
-
--- P holds of what was read, if it was
-abbrev pub HoldsOf : {A F : Type 0} → (A → Type 0) → Result A F → Type 0
-HoldsOf P (Ok x) = P x
-HoldsOf P (Err fault) = Unit {0}
-
-pub then_holds : {A B F : Type 0} (P : A → Type 0) (Q : B → Type 0) (r : Result A F) (f : A → Result B F) → HoldsOf P r → ((x : A) → P x → HoldsOf Q (f x)) → HoldsOf Q (r >>= f)
-then_holds P Q (Ok x) f holds each = each x holds
-then_holds P Q (Err d) f holds each = tt
+pub use Rattle.admin_edits.proofs.Keeping.{HoldsOf, then_holds}
 
 pub there_holds : {A F : Type 0} (o : Option A) (fault : F) → HoldsOf (λ x. o ≡ Some x) (or_fault o fault)
 there_holds (Some x) fault = refl
@@ -143,7 +135,7 @@ IsAllowed b given = Unit {0}
 abbrev pub IsTold : Book → Deed → Type 0
 IsTold b given = IsThere b given × IsAllowed b given
 
-unless_tells : (b : Bool) (d : Denial) → unless b d ≡ None → b ≡ true
+pub unless_tells : (b : Bool) (d : Denial) → unless b d ≡ None → b ≡ true
 unless_tells true d h = refl
 unless_tells false d h = cc
 

@@ -8,7 +8,7 @@ use Rattle.policy_book.specs.Shapes.{PolicyShape}
 use Rattle.policy_book.specs.Policies.{problem_of}
 use Rattle.policy_book.specs.Plans.{IsValidPlan, IsWithin}
 use Rattle.certificate_check.proofs.Assigned.{given, same_some}
-use Rattle.case_record.specs.Cases.{CaseShape, assigned_of, finished_of}
+use Rattle.case_record.specs.Cases.{CaseShape, assigned_of, finished_of, state_at}
 use Rattle.case_record.proofs.Laws.{assigned_of-at}
 use Rattle.denial_reasons.specs.Causes.{assigned_with}
 use Rattle.wf_board.specs.Kept.{IsOfPolicy}
@@ -48,3 +48,7 @@ claimed_within p c t u known step user within = record {
     user_of_step : (s w : ℕ) → ((s ≡ t) × (w ≡ u)) ⊎ (user_at (assigned_of c) s ≡ Some w) → w < (problem_of p c.flow).users
     user_of_step s w (inl here) = subst (λ k. k < (problem_of p c.flow).users) (sym here.1) user
     user_of_step s w (inr before) = within.users s w before
+
+-- the users of a case are users of its policy
+pub user_known : (p : PolicyShape) (c : CaseShape) (t u : ℕ) → IsOfPolicy p c → user_of (state_at c t) ≡ Some u → u < length p.roster.users
+user_known p c t u of is = of.users.users t u (assigned_of-at c t ∙ is)

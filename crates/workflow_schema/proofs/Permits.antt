@@ -1,6 +1,7 @@
 -- A table as the set of its pairs (bit, row).
 use Rattle.std.proofs.Common.{◌≡◌, ◌≢◌, ℕ, zero, suc, ◌+◌, ◌<◌, inl, inr, Bool, true, false, cond, not, ◌&&◌, ◌||◌, nat_eq, nat_lt, List, [], ◌∷◌, ◌++◌, get_or, refl, sym, ap, subst, ◌∙◌, arith}
 use Rattle.std.proofs.lemmas.Bool.{cases_eq}
+use Rattle.std.proofs.Math.Bool.{or_assoc}
 use Rattle.std.specs.List.{list_any}
 use Rattle.std.specs.FinSet as set
 use Rattle.std.specs.Ordering.{eq_by_cmp}
@@ -16,13 +17,9 @@ use Rattle.workflow_schema.proofs.PairLists.{eq_pair, contains-one_more}
 abbrev hits : ℕ → ℕ → List (ℕ × ℕ) → Bool
 hits r s ps = list_any (eq_by_cmp pair_cmp (r, s)) ps
 
-or_together : (a b c : Bool) → (a || (b || c)) ≡ ((a || b) || c)
-or_together true b c = refl
-or_together false b c = refl
-
 hits-append : (r s : ℕ) (ps qs : List (ℕ × ℕ)) → hits r s (ps ++ qs) ≡ (hits r s ps || hits r s qs)
 hits-append r s [] qs = refl
-hits-append r s (p ∷ ps) qs = ap (λ b. eq_by_cmp pair_cmp (r, s) p || b) (hits-append r s ps qs) ∙ or_together (eq_by_cmp pair_cmp (r, s) p) (hits r s ps) (hits r s qs)
+hits-append r s (p ∷ ps) qs = ap (λ b. eq_by_cmp pair_cmp (r, s) p || b) (hits-append r s ps qs) ∙ sym (or_assoc (eq_by_cmp pair_cmp (r, s) p) (hits r s ps) (hits r s qs))
 
 -- the bits of a row below n
 bit_below : (r n : ℕ) → r ≢ n → nat_lt r n ≡ nat_lt r (suc n)

@@ -1,4 +1,4 @@
-use Rattle.std.proofs.Common.{◌≡◌, ◌+◌, ◌<◌, List, drop, length, slice_set, vec_capacity, vec_len, Vec, Global, true, false, refl, ap, sym, ◌∙◌, arith}
+use Rattle.std.proofs.Common.{◌≡◌, ◌+◌, ◌<◌, drop, length, slice_set, vec_capacity, vec_len, Vec, Global, true, false, ap, sym, ◌∙◌, arith}
 use Rattle.std.proofs.lemmas.List.{get_or_default}
 use Rattle.wf_names.specs.States.{is_live}
 use Rattle.grant_table.specs.Tables.{is_open_row, replanned_row}

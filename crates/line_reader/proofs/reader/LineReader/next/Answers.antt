@@ -1,8 +1,5 @@
-use Rattle.std.proofs.Common.{◌≡◌, refl, subst, ◌∙◌}
-use Rattle.std.specs.Prelude.{ℕ, List, Option, None, Some}
-use Rattle.line_reader.specs.declared.read.Read.{Read}
-use Rattle.line_reader.specs.Steps.{StepsTo, CountsStep}
-use Rattle.line_reader.proofs.Going.{seen_here, steps_on, goes_further, counts_still, counts_on}
+use Rattle.std.proofs.Common.{refl, ◌∙◌}
+use Rattle.line_reader.proofs.Going.{seen_here, steps_on, goes_further, counts_still}
 use Rattle.line_reader.proofs.reader.LineReader.next.Goals as goal
 
 pub reading-init : goal.reading-init

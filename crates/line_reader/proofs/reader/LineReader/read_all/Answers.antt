@@ -1,7 +1,5 @@
-use Rattle.std.proofs.Common.{◌≡◌, List, ℕ, [], ◌-◌, ◌++◌, take, drop, length, refl, ◌∙◌, ap, sym, subst, arith, length-take}
-use Rattle.std.proofs.lemmas.List.{drop_all}
-use Rattle.line_reader.specs.Lines.{ReaderShape}
-use Rattle.line_reader.proofs.Going.{between, read_whole}
+use Rattle.std.proofs.Common.{◌-◌, ◌++◌, take, drop, ◌∙◌, ap}
+use Rattle.line_reader.proofs.Going.{read_whole}
 use Rattle.line_reader.proofs.reader.LineReader.read_all.Goals as goal
 
 pub returns-clause-read : goal.returns-clause-read

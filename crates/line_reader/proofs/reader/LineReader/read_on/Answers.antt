@@ -1,6 +1,4 @@
-use Rattle.std.proofs.Common.{◌≡◌, ◌≤◌, ◌-◌, ◌+◌, ◌<◌, ◌++◌, false, length, ap, sym, ◌∙◌, arith}
-use Rattle.line_reader.specs.Lines.{ReaderShape, has_end, line_length}
-use Rattle.line_reader.specs.Steps.{HasEndAt}
+use Rattle.std.proofs.Common.{◌-◌, false, length, ◌∙◌, arith}
 use Rattle.line_reader.proofs.FirstLines.{goes_on}
 use Rattle.line_reader.proofs.Going.{IsSound, sound, line_ends, line_grows, line_passes, long_end, long_open, nothing_read, sizes}
 use Rattle.line_reader.proofs.reader.LineReader.read_on.Goals as goal

@@ -1,0 +1,32 @@
+-- Numbers that are all below a limit.
+use Rattle.std.proofs.Common.{◌≡◌, ℕ, zero, suc, ◌+◌, ◌<◌, ◌≤◌, inl, inr, Bool, true, false, ◌==◌, List, [], ◌∷◌, length, if◌then◌else◌, subst, arith}
+use Rattle.basics.proofs.Booleans.{eq_back, or_cases}
+use Rattle.constraint_forms.specs.Assigned.{planned}
+use Rattle.policy_book.specs.Twins.{is_one_of}
+use Rattle.policy_book.specs.Refuting.{passing}
+
+-- each of these is below n
+abbrev pub AllBelow : ℕ → List ℕ → Type 0
+AllBelow n [] = Unit {0}
+AllBelow n (u ∷ us) = (u < n) × AllBelow n us
+
+below_if : (n k : ℕ) (b : Bool) (us : List ℕ) → k < n → AllBelow n us → AllBelow n (if b then k ∷ us else us)
+below_if n k true us here rest = (here, rest)
+below_if n k false us here rest = rest
+
+pub passing_all : (n : ℕ) (test : ℕ → Bool) (k count : ℕ) → k + count ≤ n → AllBelow n (passing test k count)
+passing_all n test k zero within = tt
+passing_all n test k (suc count) within =
+    below_if n k (test k) (passing test (k + 1) count) (omega (arith, within)) (passing_all n test (k + 1) count (omega (arith, within)))
+
+pub one_below : (n : ℕ) (us : List ℕ) (v : ℕ) → AllBelow n us → is_one_of us v ≡ true → v < n
+one_below n [] v below one = cc
+one_below n (u ∷ us) v below one = elim (or_cases (u == v) (is_one_of us v) one) [
+  | inl here ↦ subst (λ m. m < n) (eq_back u v here) below.0
+  | inr later ↦ one_below n us v below.1 later
+]
+
+-- each user of a plan, where each step's is
+pub planned_below : (n : ℕ) (plan : List ℕ) → ((s : ℕ) → s < length plan → planned plan s < n) → AllBelow n plan
+planned_below n [] known = tt
+planned_below n (u ∷ us) known = (known 0 (omega arith), planned_below n us (λ s below. known (suc s) (omega (arith, below))))
