@@ -1,4 +1,4 @@
--- The set of the pairs that pass a test, and its laws.
+-- Inside: the set of the pairs that pass a test, and its laws.
 use Rattle.std.specs.Prelude.{◌≡◌, ℕ, ◌<◌, Bool, true, false, not, ◌&&◌, ◌||◌, ◌==◌, nat_lt, if◌then◌else◌}
 use Rattle.std.proofs.Common.{zero, suc, ◌+◌, ◌*◌, ◌≤◌, cond, refl, sym, ap, subst, ◌∙◌, inl, inr, arith, suc-mul}
 use Rattle.std.proofs.lemmas.Bool.{cases_lt, lt-ltb, le-ltb, ltb-true, eqb-true}
@@ -172,7 +172,7 @@ len_with_row t a (suc b) s =
     let few : set.len before ≤ set.len s + b = len_with_row t a b s in
     elim (t b) as (λ c. set.len (cond c (set.insert before (a, b)) before) ≤ set.len s + suc b) [
       | true ↦ subst (λ n. n ≤ set.len s + suc b) (sym (set.len-insert pair_cmp_total before (a, b)))
-        (elim (set.contains before (a, b)) as (λ c. cond c (set.len before) (set.len before + 1) ≤ set.len s + suc b) [ true ↦ omega (arith, few) | false ↦ omega (arith, few) ])
+          (elim (set.contains before (a, b)) as (λ c. cond c (set.len before) (set.len before + 1) ≤ set.len s + suc b) [ true ↦ omega (arith, few) | false ↦ omega (arith, few) ])
       | false ↦ omega (arith, few)
     ]
 
