@@ -17,9 +17,12 @@ use wf_talk::Edit;
 /// The policy as an edit leaves it; the one that it is made of stays as it is. Or the first fault
 /// of the edit, or that there was no memory for the copy.
 pub fn apply(p: &Policy, by: &Name, e: &Edit) -> Result<Policy, EditFault>
-    ensures fault { (fault : EditFault) → edit_cause p.now by.now e.now ≡ Some fault → result ≡ Err fault }
-    ensures edited { edit_cause p.now by.now e.now ≡ None → IfOk result (λ q. q ≡ edited_policy p.now by.now e.now) }
-    ensures memory { edit_cause p.now by.now e.now ≡ None → OnErr result (result ≡ Err EditFault.NoMemory) }
+    ensures fault { (fault : EditFault) → edit_cause p.now by.now e.now ≡ Some fault
+        → result ≡ Err fault }
+    ensures edited { edit_cause p.now by.now e.now ≡ None
+        → IfOk result (λ q. q ≡ edited_policy p.now by.now e.now) }
+    ensures memory { edit_cause p.now by.now e.now ≡ None
+        → OnErr result (result ≡ Err EditFault.NoMemory) }
 {
     let amendment = amendment_of(p, by, e)?;
     match amended(p, amendment) {

@@ -89,7 +89,8 @@ pub(crate) fn check_admin(p: &Policy, by: &Name) -> Result<(), EditFault>
 }
 
 fn find_user(p: &Policy, name: &Name) -> Result<UserId, EditFault>
-    ensures user { result ≡ or_fault (place_of p.now.roster.users name.now) (EditFault.Unknown Missing.User) }
+    ensures user { result ≡ or_fault (place_of p.now.roster.users name.now)
+        (EditFault.Unknown Missing.User) }
     ensures within { IfOk result (λ u. u < length p.now.roster.users) }
 {
     match p.roster().users().find(name) {
@@ -99,7 +100,8 @@ fn find_user(p: &Policy, name: &Name) -> Result<UserId, EditFault>
 }
 
 fn find_role(p: &Policy, name: &Name) -> Result<RoleId, EditFault>
-    ensures role { result ≡ or_fault (place_of p.now.roster.roles name.now) (EditFault.Unknown Missing.Role) }
+    ensures role { result ≡ or_fault (place_of p.now.roster.roles name.now)
+        (EditFault.Unknown Missing.Role) }
     ensures within { IfOk result (λ r. r < length p.now.roster.roles) }
 {
     match p.roster().roles().find(name) {
@@ -109,7 +111,8 @@ fn find_role(p: &Policy, name: &Name) -> Result<RoleId, EditFault>
 }
 
 fn find_relation(p: &Policy, name: &Name) -> Result<RelId, EditFault>
-    ensures { result ≡ or_fault (place_of (known_names p.now.relations) name.now) (EditFault.Unknown Missing.Relation) }
+    ensures { result ≡ or_fault (place_of (known_names p.now.relations) name.now)
+        (EditFault.Unknown Missing.Relation) }
 {
     match p.relations().find(name) {
         Some(rho) => Ok(rho),
@@ -118,7 +121,8 @@ fn find_relation(p: &Policy, name: &Name) -> Result<RelId, EditFault>
 }
 
 fn find_flow(p: &Policy, name: &Name) -> Result<FlowId, EditFault>
-    ensures flow { result ≡ or_fault (place_of p.now.flow_names name.now) (EditFault.Unknown Missing.Flow) }
+    ensures flow { result ≡ or_fault (place_of p.now.flow_names name.now)
+        (EditFault.Unknown Missing.Flow) }
     ensures within { IfOk result (λ f. f < length p.now.flows) }
 {
     match p.find_flow(name) {
@@ -129,7 +133,8 @@ fn find_flow(p: &Policy, name: &Name) -> Result<FlowId, EditFault>
 
 fn find_step(p: &Policy, f: FlowId, name: &Name) -> Result<StepId, EditFault>
     requires { f < length p.now.flows }
-    ensures step { result ≡ or_fault (place_of (flow_at p.now f).flow.steps name.now) (EditFault.Unknown Missing.Step) }
+    ensures step { result ≡ or_fault (place_of (flow_at p.now f).flow.steps name.now)
+        (EditFault.Unknown Missing.Step) }
     ensures within { IfOk result (λ s. s < length (flow_at p.now f).flow.steps) }
 {
     match p.flow(f).steps().find(name) {

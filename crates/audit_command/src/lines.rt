@@ -33,7 +33,8 @@ pub(crate) fn audit_input<V: Decider, S: Source>(
     ensures found { IfOk result (λ f. HasFound auditor f (S.left source.old) (S.left source.new)) }
     ensures taken { HasTakenSome (S.left source.old) (S.left source.new) }
     ensures ending { IfErr result IsReadEnding }
-    ensures counts { CountsReadsAlone (fault_in result) (S.faults source.old) (S.faults source.new) }
+    ensures counts { CountsReadsAlone (fault_in result) (S.faults source.old)
+        (S.faults source.new) }
 {
     let Ok(mut reader) = LineReader::new(alloc, PIECE, TRANSCRIPT_LINE_LIMIT) else {
         return Err(RunFault::NoMemory);
@@ -59,7 +60,8 @@ fn audit_lines<V: Decider, S: Source>(
     ensures found { IfOk result (λ f. HasFound auditor f (S.left source.old) (S.left source.new)) }
     ensures taken { HasTakenSome (S.left source.old) (S.left source.new) }
     ensures ending { IfErr result IsReadEnding }
-    ensures counts { CountsReadsAlone (fault_in result) (S.faults source.old) (S.faults source.new) }
+    ensures counts { CountsReadsAlone (fault_in result) (S.faults source.old)
+        (S.faults source.new) }
 {
     let mut number = 0;
     'auditing: loop {
@@ -93,7 +95,8 @@ fn audit_line<V: Decider, S: Source>(
     ensures ending { IfErr result IsReadEnding }
     ensures limit { reader.new.limit ≡ reader.old.limit }
     ensures room { reader.new.room ≡ reader.old.room }
-    ensures counts { CountsReadsAlone (fault_in result) (S.faults source.old) (S.faults source.new) }
+    ensures counts { CountsReadsAlone (fault_in result) (S.faults source.old)
+        (S.faults source.new) }
 {
     match reader.next(source) {
         Read::Line => take_line(alloc, decider, auditor, reader.line()),

@@ -78,19 +78,24 @@ impl Reader {
     /// nothing is handed over, and what was read is kept.
     pub fn next_batch<S: Source>(&mut self, source: &mut S) -> Reading
         requires { IsReady self.old }
-        ensures reads { (before : Option (List ℕ)) (h : Handed) → HasRead before (S.left source.old) h self.old →
+        ensures reads { (before : Option (List ℕ)) (h : Handed)
+            → HasRead before (S.left source.old) h self.old →
             ReadsTo before (S.left source.new) self.new.room (handed_more h result.jobs) result.paused }
-        ensures up { (before : Option (List ℕ)) (h : Handed) → HasRead before (S.left source.old) h self.old →
+        ensures up { (before : Option (List ℕ)) (h : Handed)
+            → HasRead before (S.left source.old) h self.old →
             IsReadUp before (S.left source.new) (handed_more h result.jobs) }
-        ensures up_before { (before : Option (List ℕ)) (h : Handed) → HasRead before (S.left source.old) h self.old →
+        ensures up_before { (before : Option (List ℕ)) (h : Handed)
+            → HasRead before (S.left source.old) h self.old →
             IsReadUp before (S.left source.new) h }
-        ensures goes_on { result.paused ≡ Paused.Batch → (before : Option (List ℕ)) (h : Handed) → HasRead before (S.left source.old) h self.old →
+        ensures goes_on { result.paused ≡ Paused.Batch → (before : Option (List ℕ)) (h : Handed)
+            → HasRead before (S.left source.old) h self.old →
             HasRead before (S.left source.new) (handed_more h result.jobs) self.new }
         ensures kept { result.paused ≡ Paused.NoMemory → (before : Option (List ℕ)) (h : Handed) →
             HasRead before (S.left source.old) h self.old → HasRead before (S.left source.new) h self.new }
         ensures none { result.paused ≡ Paused.NoMemory → result.jobs ≡ [] }
         ensures ready { result.paused ≡ Paused.Batch → IsReady self.new }
-        ensures less { result.paused ≡ Paused.Batch → left_to_read self.new < left_to_read self.old }
+        ensures less { result.paused ≡ Paused.Batch
+            → left_to_read self.new < left_to_read self.old }
         ensures room { self.new.room ≡ self.old.room }
         ensures counts { CountsAs result.paused (S.faults source.old) (S.faults source.new) }
     {
@@ -110,7 +115,8 @@ impl Reader {
     // Reads up to the end of a batch that has a job, or of what can be read.
     fn read_batch<S: Source>(&mut self, source: &mut S) -> Paused
         requires { IsReady self.old }
-        ensures reads { (before : Option (List ℕ)) (h : Handed) → HasRead before (S.left source.old) h self.old →
+        ensures reads { (before : Option (List ℕ)) (h : Handed)
+            → HasRead before (S.left source.old) h self.old →
             PausesBy before (S.left source.new) h self.new result }
         ensures pauses { PausesAs self.new (S.left source.new) result }
         ensures less { result ≡ Paused.Batch → left_to_read self.new < left_to_read self.old }
@@ -128,7 +134,8 @@ impl Reader {
     // Cuts some of the piece, or takes the next one where all of it is cut.
     fn advance<S: Source>(&mut self, source: &mut S) -> Option<Paused>
         requires { IsReady self.old }
-        ensures reads { (before : Option (List ℕ)) (h : Handed) → HasRead before (S.left source.old) h self.old →
+        ensures reads { (before : Option (List ℕ)) (h : Handed)
+            → HasRead before (S.left source.old) h self.old →
             AdvancesTo before (S.left source.new) h self.new result }
         ensures steps { StepsAs self.old self.new (S.left source.new) result }
         ensures less { result ≡ Some Paused.Batch → left_to_read self.new < left_to_read self.old }
@@ -148,7 +155,8 @@ impl Reader {
     fn cut_on(&mut self) -> Option<Paused>
         requires ready { IsReady self.old }
         requires some { 0 < length self.old.pending }
-        ensures reads { (before after : Option (List ℕ)) (h : Handed) → HasRead before after h self.old → AdvancesTo before after h self.new result }
+        ensures reads { (before after : Option (List ℕ)) (h : Handed)
+            → HasRead before after h self.old → AdvancesTo before after h self.new result }
         ensures steps { (left : Option (List ℕ)) → StepsAs self.old self.new left result }
         ensures less { result ≡ Some Paused.Batch → left_to_read self.new < left_to_read self.old }
         ensures room { self.new.room ≡ self.old.room }
@@ -171,10 +179,13 @@ impl Reader {
     fn cut_some(&mut self) -> Result<(), AllocError>
         requires ready { IsReady self.old }
         requires some { 0 < length self.old.pending }
-        ensures reads { OnOk result ((before after : Option (List ℕ)) (h : Handed) → HasRead before after h self.old → HasCut before after h self.new) }
+        ensures reads { OnOk result ((before after : Option (List ℕ)) (h : Handed)
+            → HasRead before after h self.old → HasCut before after h self.new) }
         ensures ended { OnOk result (self.new.cut.ends ≢ [] → IsEnded self.new.cut) }
-        ensures stopped { OnOk result ((s : Stop) → self.new.cut.stop ≡ Some s → self.new.cut.ends ≡ []) }
-        ensures further { OnOk result (self.new.cut.stop ≡ None → left_to_read self.new < left_to_read self.old) }
+        ensures stopped { OnOk result ((s : Stop) → self.new.cut.stop ≡ Some s
+            → self.new.cut.ends ≡ []) }
+        ensures further { OnOk result (self.new.cut.stop ≡ None
+            → left_to_read self.new < left_to_read self.old) }
         ensures ahead { OnOk result (length self.new.pending < self.new.room) }
         ensures room { self.new.room ≡ self.old.room }
         ensures unchanged { OnErr result (self.new ≡ self.old) }
@@ -188,7 +199,9 @@ impl Reader {
     fn take_piece<S: Source>(&mut self, source: &mut S) -> Result<bool, Failed>
         requires { self.old.pending ≡ [] }
         ensures cut { self.new.cut ≡ self.old.cut }
-        ensures reads { (before : Option (List ℕ)) (h : Handed) → HasRead before (S.left source.old) h self.old → HasRead before (S.left source.new) h self.new }
+        ensures reads { (before : Option (List ℕ)) (h : Handed)
+            → HasRead before (S.left source.old) h self.old
+            → HasRead before (S.left source.new) h self.new }
         ensures more { result ≡ Ok true → 0 < length self.new.pending }
         ensures ended { result ≡ Ok false → (self.new.pending ≡ []) × IsAtEnd (S.left source.new) }
         ensures nothing { OnErr result (self.new.pending ≡ []) }
@@ -234,7 +247,8 @@ impl Reader {
 // The next bytes, at the front of the piece; how many there are.
 fn take_into<S: Source>(piece: &mut [u8], source: &mut S) -> Result<usize, Failed>
     requires { 0 < length piece.old }
-    ensures taken { IfOk result (λ n. HasTaken (S.left source.old) (S.left source.new) (take n piece.new)) }
+    ensures taken { IfOk result (λ n. HasTaken (S.left source.old) (S.left source.new)
+        (take n piece.new)) }
     ensures within { IfOk result (λ n. n ≤ length piece.new) }
     ensures room { length piece.new ≡ length piece.old }
     ensures ended { IfOk result (λ n. n ≡ 0 → IsAtEnd (S.left source.new)) }

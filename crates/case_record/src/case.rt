@@ -118,7 +118,9 @@ impl Case {
     pub fn first_missing(&self, f: &Flow, s: StepId) -> Option<StepId>
         requires steps { length self.now.states ≡ length f.now.steps }
         ensures answer { result ≡ first_missing self.now f.now.order s }
-        ensures meaning { MatchOption result ((t : ℕ) → Precedes f.now.order t s → IsTrue (is_finished (state_at self.now t))) (λ t. IsFirstMissing self.now f.now.order s t) }
+        ensures meaning { MatchOption result
+            ((t : ℕ) → Precedes f.now.order t s → IsTrue (is_finished (state_at self.now t)))
+            (λ t. IsFirstMissing self.now f.now.order s t) }
     {
         first_unfinished(self, f, s)
     }

@@ -13,7 +13,8 @@ use workflow_schema::Flow;
 pub(crate) fn first_unfinished(c: &Case, f: &Flow, s: StepId) -> Option<StepId>
     requires { length c.now.states ≡ length f.now.steps }
     ensures answer { result ≡ first_missing c.now f.now.order s }
-    ensures meaning { MatchOption result ((t : ℕ) → Precedes f.now.order t s → IsTrue (is_finished (state_at c.now t))) (λ t. IsFirstMissing c.now f.now.order s t) }
+    ensures meaning { MatchOption result ((t : ℕ) → Precedes f.now.order t s
+        → IsTrue (is_finished (state_at c.now t))) (λ t. IsFirstMissing c.now f.now.order s t) }
 {
     let count = f.steps().len();
     'steps: for t in 0..count {

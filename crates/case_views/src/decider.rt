@@ -81,7 +81,8 @@ fn claim_verdict(
     user: UserId,
 ) -> Verdict
     requires { AreFound snap.now.policy snap.now.cases.rows number case.now step user }
-    ensures { DecidesFor (problem_of snap.now.policy case.now.flow) (assigned_with case.now step user)
+    ensures { DecidesFor (problem_of snap.now.policy case.now.flow)
+        (assigned_with case.now step user)
         (finished_of case.now) result }
 {
     let Some(kept) = snap.cases().plan(number) else {

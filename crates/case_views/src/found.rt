@@ -30,7 +30,8 @@ pub(crate) fn outcome_with(
     requires valid { IsPlanOf p.now case.now kept.now }
     requires step { step < length case.now.states }
     requires user { user < length p.now.roster.users }
-    ensures { IfOk result (Decides (problem_of p.now case.now.flow) (assigned_with case.now step user)
+    ensures { IfOk result (Decides (problem_of p.now case.now.flow)
+        (assigned_with case.now step user)
         (finished_of case.now)) }
 {
     if kept.at(step) == user {

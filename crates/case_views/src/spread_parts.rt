@@ -32,7 +32,8 @@ pub(crate) fn work_parts<R: Threads + Sync>(
 ) -> Result<Vec<WorkList>, AllocError>
     requires kept { ArePlanned p.now rows.now }
     requires user { u < length p.now.roster.users }
-    ensures { IfOk result (λ parts. AllZip (λ r part. IsWorkIn p.now u (r ∷ []) part) rows.now parts.items) }
+    ensures { IfOk result (λ parts. AllZip (λ r part. IsWorkIn p.now u (r ∷ []) part) rows.now
+        parts.items) }
 {
     let parts: Result<Vec<WorkList>, AllocError> = rows
         .par_iter()
@@ -59,15 +60,18 @@ pub(crate) fn stranded_parts<R: Threads + Sync>(
     requires allowed { IsAllowed p.now a.now }
     requires after { after.now ≡ amended p.now a.now }
     requires kept { ArePlanned p.now rows.now }
-    ensures { IfOk result (λ parts. AllZip (λ r part. AreStrandedIn after.now (r ∷ []) (list_of part)) rows.now parts.items) }
+    ensures { IfOk result (λ parts. AllZip
+        (λ r part. AreStrandedIn after.now (r ∷ []) (list_of part)) rows.now parts.items) }
 {
     let parts: Result<Vec<Option<CaseId>>, AllocError> = rows
         .par_iter()
         .with_min_len(PIECE)
         .map(
             |row: &Row| -> Result<Option<CaseId>, AllocError>
-                requires { IsKeptRow p.now row.now × IsAllowed p.now a.now × (after.now ≡ amended p.now a.now) }
-                ensures { IfOk result (λ part. AreStrandedIn after.entry.now (row.now ∷ []) (list_of part)) }
+                requires { IsKeptRow p.now row.now × IsAllowed p.now a.now
+                    × (after.now ≡ amended p.now a.now) }
+                ensures { IfOk result (λ part. AreStrandedIn after.entry.now (row.now ∷ [])
+                    (list_of part)) }
             { stranded_at(alloc, p, a, after, row) },
         )
         .collect(rt, alloc)?;
@@ -93,7 +97,8 @@ pub(crate) fn left_parts<R: Threads + Sync>(
         .with_min_len(PIECE)
         .map(
             |row: &Row| -> Result<Option<Outcome>, AllocError>
-                requires { IsKeptRow p.now row.now × IsAllowed p.now a.now × (after.now ≡ amended p.now a.now) }
+                requires { IsKeptRow p.now row.now × IsAllowed p.now a.now
+                    × (after.now ≡ amended p.now a.now) }
                 ensures { IfOk result (IsLeftAt after.entry.now row.now) }
             { left_at(alloc, p, a, after, row) },
         )

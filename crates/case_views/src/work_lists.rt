@@ -72,7 +72,8 @@ fn granted_steps(
     requires known { IsOfPolicy p.now row.now.case }
     requires valid { IsPlanOf p.now row.now.case kept.now }
     requires user { u < length p.now.roster.users }
-    ensures { IfOk result (AreGrantable p.now u (steps_from (numbered row.now) (length row.now.case.states) 0)) }
+    ensures { IfOk result (AreGrantable p.now u
+        (steps_from (numbered row.now) (length row.now.case.states) 0)) }
 {
     let mut items = WorkList::new(alloc);
     'steps: for s in 0..row.case().steps() {
@@ -95,7 +96,8 @@ fn add_step(
     requires valid { IsPlanOf p.now row.now.case kept.now }
     requires user { u < length p.now.roster.users }
     requires step { step < length row.now.case.states }
-    ensures { OnOk result (HasListed p.now u (record { of = numbered row.now; step = step }) items.old items.new) }
+    ensures { OnOk result (HasListed p.now u (record { of = numbered row.now; step = step })
+        items.old items.new) }
 {
     if is_granted(alloc, p, u, row.case(), kept, step)? {
         items.push(item_of(row, step))?;
@@ -127,7 +129,8 @@ fn is_granted(
     requires valid { IsPlanOf p.now case.now kept.now }
     requires user { u < length p.now.roster.users }
     requires step { step < length case.now.states }
-    ensures { IfOk result (λ b. MatchBool b (IsGrantable p.now case.now step u) (¬ IsGrantable p.now case.now step u)) }
+    ensures { IfOk result (λ b. MatchBool b (IsGrantable p.now case.now step u)
+        (¬ IsGrantable p.now case.now step u)) }
 {
     if has_cause(p, case, step, u) {
         return Ok(false);

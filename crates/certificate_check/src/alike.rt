@@ -67,7 +67,8 @@ fn may_both_or_neither(p: &Policy, f: FlowId, s: StepId, u: UserId, v: UserId) -
     requires step { s < (problem_of p.now f).steps }
     requires first { u < (problem_of p.now f).users }
     requires second { v < (problem_of p.now f).users }
-    ensures { result ≡ agree ((problem_of p.now f).authorised s u) ((problem_of p.now f).authorised s v) }
+    ensures { result ≡ agree ((problem_of p.now f).authorised s u)
+        ((problem_of p.now f).authorised s v) }
 {
     agree(p.authorised(f, s, u), p.authorised(f, s, v))
 }
@@ -92,7 +93,8 @@ fn are_related_alike(p: &Policy, f: FlowId, u: UserId, v: UserId) -> bool
 
 fn is_rule_alike(p: &Policy, f: FlowId, k: usize, u: UserId, v: UserId) -> bool
     requires { f < length p.now.flows }
-    ensures { result ≡ is_rule_alike (problem_of p.now f) u v (slice_get (problem_of p.now f).rules k) }
+    ensures { result ≡ is_rule_alike (problem_of p.now f) u v
+        (slice_get (problem_of p.now f).rules k) }
 {
     match p.rules(f).as_slice().get(k) {
         Some(rule) => treats_alike(p, f, relation_of(rule), u, v),
@@ -111,7 +113,8 @@ fn relation_of(rule: &Rule) -> RelId
 }
 
 fn treats_alike(p: &Policy, f: FlowId, rho: RelId, u: UserId, v: UserId) -> bool
-    ensures { result ≡ treats_alike (problem_of p.now f).users ((problem_of p.now f).related rho) u v }
+    ensures { result ≡ treats_alike (problem_of p.now f).users
+        ((problem_of p.now f).related rho) u v }
 {
     if !agree(p.holds(rho, u, u), p.holds(rho, v, v)) {
         return false;
@@ -123,7 +126,8 @@ fn treats_alike(p: &Policy, f: FlowId, rho: RelId, u: UserId, v: UserId) -> bool
 }
 
 fn are_alike_to_all(p: &Policy, f: FlowId, rho: RelId, u: UserId, v: UserId) -> bool
-    ensures { result ≡ all_below (problem_of p.now f).users (λ w. (w == u || w == v) || is_alike_to ((problem_of p.now f).related rho) u v w) }
+    ensures { result ≡ all_below (problem_of p.now f).users
+        (λ w. (w == u || w == v) || is_alike_to ((problem_of p.now f).related rho) u v w) }
 {
     'users: for w in 0..p.roster().users().len() {
         if !are_alike_to(p, f, rho, u, v, UserId(w)) {
@@ -134,7 +138,8 @@ fn are_alike_to_all(p: &Policy, f: FlowId, rho: RelId, u: UserId, v: UserId) -> 
 }
 
 fn are_alike_to(p: &Policy, f: FlowId, rho: RelId, u: UserId, v: UserId, w: UserId) -> bool
-    ensures { result ≡ ((w == u || w == v) || is_alike_to ((problem_of p.now f).related rho) u v w) }
+    ensures { result ≡ ((w == u || w == v) || is_alike_to ((problem_of p.now f).related
+        rho) u v w) }
 {
     w == u || w == v || is_alike_to(p, f, rho, u, v, w)
 }

@@ -39,7 +39,8 @@ fn is_whole(p: &Policy, f: FlowId, plan: &Plan) -> bool
 
 /// Whether the policy has every user of a plan.
 fn has_known(p: &Policy, plan: &Plan) -> bool
-    ensures { result ≡ true ↔ ((s : ℕ) → s < length plan.now → planned plan.now s < length p.now.roster.users) }
+    ensures { result ≡ true ↔ ((s : ℕ) → s < length plan.now
+        → planned plan.now s < length p.now.roster.users) }
 {
     'steps: for s in 0..plan.len() {
         if plan.at(StepId(s)).0 >= p.roster().users().len() {
@@ -59,7 +60,8 @@ pub fn check_plan(
 ) -> Result<(), PlanFault>
     requires flow { f < length p.now.flows }
     requires whole { length plan.now ≡ (problem_of p.now f).steps }
-    requires users { (s : ℕ) → s < length plan.now → planned plan.now s < (problem_of p.now f).users }
+    requires users { (s : ℕ) → s < length plan.now
+        → planned plan.now s < (problem_of p.now f).users }
     requires within { IsWithin (problem_of p.now f) a.now }
     ensures valid { IsOk result ↔ IsValidPlan (problem_of p.now f) a.now done.now plan.now }
     ensures fault { result ≡ plan_verdict (problem_of p.now f) a.now done.now plan.now }
@@ -70,7 +72,8 @@ pub fn check_plan(
 fn verdict(p: &Policy, f: FlowId, a: &Assign, done: &StepSet, plan: &Plan) -> Result<(), PlanFault>
     requires flow { f < length p.now.flows }
     requires whole { length plan.now ≡ (problem_of p.now f).steps }
-    requires users { (s : ℕ) → s < length plan.now → planned plan.now s < (problem_of p.now f).users }
+    requires users { (s : ℕ) → s < length plan.now
+        → planned plan.now s < (problem_of p.now f).users }
     ensures { result ≡ plan_verdict (problem_of p.now f) a.now done.now plan.now }
 {
     if let Some(s) = first_moved(a, plan) {
@@ -87,7 +90,8 @@ fn verdict(p: &Policy, f: FlowId, a: &Assign, done: &StepSet, plan: &Plan) -> Re
 
 /// The least step that is assigned and that the plan gives to another user.
 fn first_moved(a: &Assign, plan: &Plan) -> Option<StepId>
-    ensures { result ≡ first_failing (λ s. is_kept (user_at a.now s) (planned plan.now s)) 0 (length plan.now) }
+    ensures { result ≡ first_failing (λ s. is_kept (user_at a.now s) (planned plan.now s)) 0
+        (length plan.now) }
 {
     'steps: for s in 0..plan.len() {
         if !is_kept(a, plan, StepId(s)) {
@@ -111,8 +115,10 @@ fn is_kept(a: &Assign, plan: &Plan, s: StepId) -> bool
 fn first_unauthorised(p: &Policy, f: FlowId, done: &StepSet, plan: &Plan) -> Option<StepId>
     requires flow { f < length p.now.flows }
     requires whole { length plan.now ≡ (problem_of p.now f).steps }
-    requires users { (s : ℕ) → s < length plan.now → planned plan.now s < (problem_of p.now f).users }
-    ensures { result ≡ first_failing (may_perform (problem_of p.now f) done.now plan.now) 0 (length plan.now) }
+    requires users { (s : ℕ) → s < length plan.now
+        → planned plan.now s < (problem_of p.now f).users }
+    ensures { result ≡ first_failing (may_perform (problem_of p.now f) done.now plan.now) 0
+        (length plan.now) }
 {
     'steps: for s in 0..plan.len() {
         if !may_perform(p, f, done, plan, StepId(s)) {
@@ -125,7 +131,8 @@ fn first_unauthorised(p: &Policy, f: FlowId, done: &StepSet, plan: &Plan) -> Opt
 fn may_perform(p: &Policy, f: FlowId, done: &StepSet, plan: &Plan, s: StepId) -> bool
     requires flow { f < length p.now.flows }
     requires whole { length plan.now ≡ (problem_of p.now f).steps }
-    requires users { (t : ℕ) → t < length plan.now → planned plan.now t < (problem_of p.now f).users }
+    requires users { (t : ℕ) → t < length plan.now
+        → planned plan.now t < (problem_of p.now f).users }
     requires step { s < length plan.now }
     ensures { result ≡ may_perform (problem_of p.now f) done.now plan.now s }
 {
@@ -136,7 +143,8 @@ fn may_perform(p: &Policy, f: FlowId, done: &StepSet, plan: &Plan, s: StepId) ->
 fn first_disobeyed(p: &Policy, f: FlowId, plan: &Plan) -> Option<u8>
     requires flow { f < length p.now.flows }
     requires whole { length plan.now ≡ (problem_of p.now f).steps }
-    ensures { result ≡ first_failing (λ k. is_obeyed (problem_of p.now f) plan.now (slice_get (problem_of p.now f).rules k)) 0 (length (problem_of p.now f).rules) }
+    ensures { result ≡ first_failing (λ k. is_obeyed (problem_of p.now f) plan.now
+        (slice_get (problem_of p.now f).rules k)) 0 (length (problem_of p.now f).rules) }
 {
     'rules: for k in 0..p.rules(f).len() {
         if !is_obeyed(p, f, plan, k) {
@@ -149,7 +157,8 @@ fn first_disobeyed(p: &Policy, f: FlowId, plan: &Plan) -> Option<u8>
 fn is_obeyed(p: &Policy, f: FlowId, plan: &Plan, k: usize) -> bool
     requires flow { f < length p.now.flows }
     requires whole { length plan.now ≡ (problem_of p.now f).steps }
-    ensures { result ≡ is_obeyed (problem_of p.now f) plan.now (slice_get (problem_of p.now f).rules k) }
+    ensures { result ≡ is_obeyed (problem_of p.now f) plan.now
+        (slice_get (problem_of p.now f).rules k) }
 {
     match p.rules(f).as_slice().get(k) {
         Some(rule) => satisfied(rule, p, plan),

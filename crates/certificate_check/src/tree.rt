@@ -54,8 +54,10 @@ fn all_refute(
     requires within { IsWithin (problem_of p.now f) a.now }
     requires room { s < STEP_LIMIT }
     requires free { IsTrue (is_unassigned (problem_of p.now f) a.now s) }
-    requires users { IsTrue (have_users (authorised_users (problem_of p.now f) s) (kids_of_items branches.now)) }
-    ensures { result ≡ all_refute (problem_of p.now f) a.now done.now s [] (kids_of_items branches.now) }
+    requires users { IsTrue (have_users (authorised_users (problem_of p.now f) s)
+        (kids_of_items branches.now)) }
+    ensures { result ≡ all_refute (problem_of p.now f) a.now done.now s []
+        (kids_of_items branches.now) }
 {
     'branches: for i in 0..branches.len() {
         if !branch_refutes(p, f, a, done, s, &branches[..i], &branches[i]) {
@@ -83,7 +85,8 @@ fn branch_refutes(
     requires free { IsTrue (is_unassigned (problem_of p.now f) a.now s) }
     requires users { AreUsersBelow (problem_of p.now f).users (kids_of_items earlier.now) }
     requires user { branch.now.user < (problem_of p.now f).users }
-    ensures { result ≡ all_refute (problem_of p.now f) a.now done.now s (tree_users [] earlier.now) (branch_onto branch.now no_kids) }
+    ensures { result ≡ all_refute (problem_of p.now f) a.now done.now s (tree_users [] earlier.now)
+        (branch_onto branch.now no_kids) }
 {
     match &branch.kid {
         Kid::Tree(tree) => check_tree(p, f, &a.with(s, branch.user), done, tree),
@@ -103,7 +106,8 @@ fn is_twin_of_one(
     requires flow { f < length p.now.flows }
     requires users { AreUsersBelow (problem_of p.now f).users (kids_of_items branches.now) }
     requires user { u < (problem_of p.now f).users }
-    ensures { result ≡ (is_one_of (tree_users [] branches.now) twin && are_twins (problem_of p.now f) a.now u twin) }
+    ensures { result ≡ (is_one_of (tree_users [] branches.now) twin && are_twins
+        (problem_of p.now f) a.now u twin) }
 {
     has_tree(branches, twin) && twins(p, f, a, u, twin)
 }
@@ -132,7 +136,8 @@ fn is_tree_of(branch: &Branch, u: UserId) -> bool
 fn is_misheld(p: &Policy, f: FlowId, a: &Assign, done: &StepSet, s: StepId) -> bool
     requires flow { f < length p.now.flows }
     requires within { IsWithin (problem_of p.now f) a.now }
-    ensures { result ≡ (nat_lt s (problem_of p.now f).steps && is_misheld (problem_of p.now f) done.now s (user_at a.now s)) }
+    ensures { result ≡ (nat_lt s (problem_of p.now f).steps && is_misheld (problem_of p.now f)
+        done.now s (user_at a.now s)) }
 {
     match a.at(s) {
         Some(u) => !done.has(s) && !p.authorised(f, s, u),
@@ -142,7 +147,8 @@ fn is_misheld(p: &Policy, f: FlowId, a: &Assign, done: &StepSet, s: StepId) -> b
 
 fn is_broken(p: &Policy, f: FlowId, a: &Assign, k: u8) -> bool
     requires flow { f < length p.now.flows }
-    ensures { result ≡ is_broken (problem_of p.now f) a.now (slice_get (problem_of p.now f).rules k) }
+    ensures { result ≡ is_broken (problem_of p.now f) a.now
+        (slice_get (problem_of p.now f).rules k) }
 {
     match p.rules(f).as_slice().get(k as usize) {
         Some(rule) => falsified(rule, p, a),
@@ -162,7 +168,8 @@ fn is_unassigned(p: &Policy, f: FlowId, a: &Assign, s: StepId) -> bool
 fn have_users(p: &Policy, f: FlowId, s: StepId, branches: &[Branch]) -> bool
     requires flow { f < length p.now.flows }
     requires step { s < (problem_of p.now f).steps }
-    ensures { result ≡ have_users (authorised_users (problem_of p.now f) s) (kids_of_items branches.now) }
+    ensures { result ≡ have_users (authorised_users (problem_of p.now f) s)
+        (kids_of_items branches.now) }
 {
     let mut next = 0;
     'users: for u in 0..p.roster().users().len() {

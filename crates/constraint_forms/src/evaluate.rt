@@ -47,7 +47,8 @@ pub(crate) fn is_unrelated<H: Holds>(
 
 // Whether some member is assigned and unrelated to the step.
 fn any_unrelated<H: Holds>(h: &H, rho: RelId, a: &Assign, group: &StepSet, step: StepId) -> bool
-    ensures { result ≡ any_from 0 group.now (λ x. are_unrelated (H.related h.now) rho (user_at a.now x) (user_at a.now step)) }
+    ensures { result ≡ any_from 0 group.now
+        (λ x. are_unrelated (H.related h.now) rho (user_at a.now x) (user_at a.now step)) }
 {
     let limit = group.limit();
     'members: for x in 0..limit {
@@ -61,7 +62,8 @@ fn any_unrelated<H: Holds>(h: &H, rho: RelId, a: &Assign, group: &StepSet, step:
 
 // Whether every member is assigned and unrelated to the step.
 fn all_unrelated<H: Holds>(h: &H, rho: RelId, a: &Assign, group: &StepSet, step: StepId) -> bool
-    ensures { result ≡ all_from 0 group.now (λ x. are_unrelated (H.related h.now) rho (user_at a.now x) (user_at a.now step)) }
+    ensures { result ≡ all_from 0 group.now
+        (λ x. are_unrelated (H.related h.now) rho (user_at a.now x) (user_at a.now step)) }
 {
     let limit = group.limit();
     'members: for x in 0..limit {

@@ -36,7 +36,9 @@ pub fn keep_unfalsified<R: RelatedRows>(
     requires step { s < STEP_LIMIT }
     requires users { users ≤ USER_LIMIT }
     requires below { IsBelow users set.old }
-    ensures { (u : ℕ) → has_user set.new u ≡ (has_user set.old u && not (is_falsified (R.related rows.now) rule.now (user_at (slice_set a.now s (Some u))))) }
+    ensures { (u : ℕ) → has_user set.new u
+        ≡ (has_user set.old u && not (is_falsified (R.related rows.now) rule.now
+        (user_at (slice_set a.now s (Some u))))) }
 {
     match *rule {
         Rule::Pair { rho, first, second } => {
@@ -65,7 +67,9 @@ fn keep_related_to_some<R: RelatedRows>(
     requires step { s < STEP_LIMIT }
     requires users { users ≤ USER_LIMIT }
     requires below { IsBelow users set.old }
-    ensures { (u : ℕ) → has_user set.new u ≡ (has_user set.old u && not (is_falsified (R.related rows.now) (SomeOf rho group.now step) (user_at (slice_set a.now s (Some u))))) }
+    ensures { (u : ℕ) → has_user set.new u
+        ≡ (has_user set.old u && not (is_falsified (R.related rows.now) (SomeOf rho group.now step)
+        (user_at (slice_set a.now s (Some u))))) }
 {
     if a.at(step).is_some() || s == step {
         keep_related_to_member(rows, rho, a, group, step, s, users, set);
@@ -86,7 +90,9 @@ fn keep_related_to_member<R: RelatedRows>(
     requires step { s < STEP_LIMIT }
     requires users { users ≤ USER_LIMIT }
     requires below { IsBelow users set.old }
-    ensures { (u : ℕ) → has_user set.new u ≡ (has_user set.old u && not (all_from 0 group.now (λ x. are_unrelated_with (R.related rows.now) rho a.now x step s u))) }
+    ensures { (u : ℕ) → has_user set.new u
+        ≡ (has_user set.old u && not (all_from 0 group.now
+        (λ x. are_unrelated_with (R.related rows.now) rho a.now x step s u))) }
 {
     let limit = group.limit();
     let mut kept = UserSet::empty();
@@ -115,7 +121,9 @@ fn keep_related_to_all<R: RelatedRows>(
     requires step { s < STEP_LIMIT }
     requires users { users ≤ USER_LIMIT }
     requires below { IsBelow users set.old }
-    ensures { (u : ℕ) → has_user set.new u ≡ (has_user set.old u && not (any_from 0 group.now (λ x. are_unrelated_with (R.related rows.now) rho a.now x step s u))) }
+    ensures { (u : ℕ) → has_user set.new u
+        ≡ (has_user set.old u && not (any_from 0 group.now
+        (λ x. are_unrelated_with (R.related rows.now) rho a.now x step s u))) }
 {
     let limit = group.limit();
     'members: for x in 0..limit {
@@ -140,7 +148,8 @@ fn keep_related<R: RelatedRows>(
     requires step { s < STEP_LIMIT }
     requires users { users ≤ USER_LIMIT }
     requires below { IsBelow users set.old }
-    ensures { (u : ℕ) → has_user set.new u ≡ (has_user set.old u && not (are_unrelated_with (R.related rows.now) rho a.now x y s u)) }
+    ensures { (u : ℕ) → has_user set.new u
+        ≡ (has_user set.old u && not (are_unrelated_with (R.related rows.now) rho a.now x y s u)) }
 {
     let (u, v) = (a.at(x), a.at(y));
     match (x == s, y == s) {
@@ -165,7 +174,8 @@ fn keep_ahead<R: RelatedRows>(
 )
     requires users { users ≤ USER_LIMIT }
     requires below { IsBelow users set.old }
-    ensures { (u : ℕ) → has_user set.new u ≡ (has_user set.old u && not (are_unrelated (R.related rows.now) rho (Some u) v)) }
+    ensures { (u : ℕ) → has_user set.new u
+        ≡ (has_user set.old u && not (are_unrelated (R.related rows.now) rho (Some u) v)) }
 {
     if let Some(v) = v {
         set.meet(&rows.ahead(rho, v, users));
@@ -182,7 +192,8 @@ fn keep_after<R: RelatedRows>(
 )
     requires users { users ≤ USER_LIMIT }
     requires below { IsBelow users set.old }
-    ensures { (u : ℕ) → has_user set.new u ≡ (has_user set.old u && not (are_unrelated (R.related rows.now) rho v (Some u))) }
+    ensures { (u : ℕ) → has_user set.new u
+        ≡ (has_user set.old u && not (are_unrelated (R.related rows.now) rho v (Some u))) }
 {
     if let Some(v) = v {
         set.meet(&rows.after(rho, v, users));

@@ -86,7 +86,8 @@ fn assigned_with(c: &Case, s: StepId, u: UserId) -> Assign
 /// The number of the first rule of a workflow that an assignment falsifies.
 fn first_falsified(p: &Policy, f: FlowId, a: &Assign) -> Option<u8>
     requires { f < length p.now.flows }
-    ensures { result ≡ first_falsified (problem_of p.now f).related (user_at a.now) 0 (flow_at p.now f).rules }
+    ensures { result ≡ first_falsified (problem_of p.now f).related (user_at a.now) 0
+        (flow_at p.now f).rules }
 {
     let rules = p.rules(f);
     'rules: for k in 0..rules.len() {

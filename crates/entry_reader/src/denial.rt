@@ -27,7 +27,8 @@ pub(crate) fn denial_of<F: FlowOf>(
     flow: Option<FlowId>,
     value: &Value,
 ) -> Result<Denial, TextFault>
-    ensures { Reads (λ d. d) result (told.denial_in p.now (F.FlowOf.flows cases.now) flow (view value.now)) }
+    ensures { Reads (λ d. d) result (told.denial_in p.now (F.FlowOf.flows cases.now) flow
+        (view value.now)) }
 {
     if let Some(denial) = word_denial(value) {
         return Ok(denial);
@@ -57,7 +58,8 @@ fn denial_by<F: FlowOf>(
     kind: DenialKind,
     value: &Value,
 ) -> Result<Denial, TextFault>
-    ensures { Reads (λ d. d) result (told.denial_by p.now (F.FlowOf.flows cases.now) flow kind (view value.now)) }
+    ensures { Reads (λ d. d) result (told.denial_by p.now (F.FlowOf.flows cases.now) flow kind
+        (view value.now)) }
 {
     match kind {
         DenialKind::Role => Ok(Denial::Role(roles_of(alloc, p, value)?)),
@@ -101,7 +103,8 @@ fn strands_of<F: FlowOf>(
     cases: &F,
     value: &Value,
 ) -> Result<Denial, TextFault>
-    ensures { Reads (λ d. d) result (told.strands_in p.now (F.FlowOf.flows cases.now) (view value.now)) }
+    ensures { Reads (λ d. d) result (told.strands_in p.now (F.FlowOf.flows cases.now)
+        (view value.now)) }
 {
     let Some(case) = case_of(value) else {
         return Err(TextFault::NotText);

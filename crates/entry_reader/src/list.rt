@@ -58,7 +58,8 @@ pub(crate) fn work_of<F: FlowOf>(
     cases: &F,
     value: &Value,
 ) -> Result<WorkList, TextFault>
-    ensures { Reads (λ items. items) result (told.work_in p.now (F.FlowOf.flows cases.now) (view value.now)) }
+    ensures { Reads (λ items. items) result
+        (told.work_in p.now (F.FlowOf.flows cases.now) (view value.now)) }
 {
     each_item(alloc, p, cases, items_of(value)?)
 }
@@ -82,7 +83,8 @@ fn items_of(value: &Value) -> Result<&[Value], TextFault>
 
 #[tactic(auto, using(crate::proofs::Readings::each_more, crate::proofs::Readings::each_none, crate::proofs::Readings::each_end, crate::proofs::Readings::each_start))]
 fn users_of(alloc: Global, p: &Policy, items: &[Value]) -> Result<List<UserId>, TextFault>
-    ensures { Reads (λ users. users) result (read.each_in (read.user_in p.now) (items_view items.now)) }
+    ensures { Reads (λ users. users) result
+        (read.each_in (read.user_in p.now) (items_view items.now)) }
 {
     let mut users = List::new(alloc);
     'items: for item in items {
@@ -96,7 +98,8 @@ fn users_of(alloc: Global, p: &Policy, items: &[Value]) -> Result<List<UserId>, 
 
 #[tactic(auto, using(crate::proofs::Readings::each_more, crate::proofs::Readings::each_none, crate::proofs::Readings::each_end, crate::proofs::Readings::each_start))]
 fn each_state(alloc: Global, p: &Policy, items: &[Value]) -> Result<List<StepState>, TextFault>
-    ensures { Reads (λ states. states) result (read.each_in (read.seen_in p.now) (items_view items.now)) }
+    ensures { Reads (λ states. states) result
+        (read.each_in (read.seen_in p.now) (items_view items.now)) }
 {
     let mut states = List::new(alloc);
     'items: for item in items {
@@ -110,7 +113,8 @@ fn each_state(alloc: Global, p: &Policy, items: &[Value]) -> Result<List<StepSta
 
 #[tactic(auto, using(crate::proofs::Readings::each_more, crate::proofs::Readings::each_none, crate::proofs::Readings::each_end, crate::proofs::Readings::each_start))]
 fn each_role(alloc: Global, p: &Policy, items: &[Value]) -> Result<RoleList, TextFault>
-    ensures { Reads (λ roles. roles) result (read.each_in (read.numbered p.now.roster.roles) (items_view items.now)) }
+    ensures { Reads (λ roles. roles) result
+        (read.each_in (read.numbered p.now.roster.roles) (items_view items.now)) }
 {
     let mut roles = List::new(alloc);
     'items: for item in items {
@@ -129,7 +133,8 @@ fn each_item<F: FlowOf>(
     cases: &F,
     items: &[Value],
 ) -> Result<WorkList, TextFault>
-    ensures { Reads (λ work. work) result (read.each_in (told.item_in p.now (F.FlowOf.flows cases.now)) (items_view items.now)) }
+    ensures { Reads (λ work. work) result
+        (read.each_in (told.item_in p.now (F.FlowOf.flows cases.now)) (items_view items.now)) }
 {
     let mut work = List::new(alloc);
     'items: for item in items {
@@ -153,7 +158,8 @@ fn item_of<F: FlowOf>(p: &Policy, cases: &F, value: &Value) -> Option<WorkItem>
 
 #[tactic(auto, using(crate::proofs::Readings::each_more, crate::proofs::Readings::each_none, crate::proofs::Readings::each_end, crate::proofs::Readings::each_start))]
 fn each_case(alloc: Global, items: &[Value]) -> Result<CaseList, TextFault>
-    ensures { Reads (λ cases. cases) result (read.each_in told.number_of_case (items_view items.now)) }
+    ensures { Reads (λ cases. cases) result
+        (read.each_in told.number_of_case (items_view items.now)) }
 {
     let mut cases: List<CaseId> = List::new(alloc);
     'items: for item in items {

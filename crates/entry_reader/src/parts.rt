@@ -24,7 +24,8 @@ pub(crate) fn only(value: &Value) -> Option<(&str, &Value)>
 /// The two items of an array.
 #[tactic(auto, using(crate::proofs::Small::pair_none, crate::proofs::Small::pair_some))]
 pub(crate) fn pair_of(value: &Value) -> Option<(&Value, &Value)>
-    ensures { option_map (λ b. (view b.0.now, view b.1.now)) result ≡ read.pair_parts (view value.now) }
+    ensures { option_map (λ b. (view b.0.now, view b.1.now)) result
+        ≡ read.pair_parts (view value.now) }
 {
     let items = value.as_array()?;
     if items.len() != 2 {

@@ -35,7 +35,8 @@ pub fn read_plain<F: FlowOf>(
     line: &[u8],
 ) -> Result<Option<Reply>, AllocError>
     ensures place { IfOk result (λ o. IfSome o (λ r. place_of_line line.now ≡ Some place)) }
-    ensures reply { IfOk result (λ o. IfSome o (HasReply p.now (F.FlowOf.flows cases.now) ask.now line.now)) }
+    ensures reply { IfOk result (λ o. IfSome o
+        (HasReply p.now (F.FlowOf.flows cases.now) ask.now line.now)) }
 {
     let _ = cases;
     let Some(reply) = guess_reply(p, line) else {

@@ -36,7 +36,8 @@ pub fn read_reply<F: FlowOf>(
     text: &[u8],
 ) -> Result<Reply, TextFault>
     ensures reply { IfOk result (HasReply p.now (F.FlowOf.flows cases.now) ask.now text.now) }
-    ensures none { IsErrOf result NotText → HasNoReply p.now (F.FlowOf.flows cases.now) ask.now text.now }
+    ensures none { IsErrOf result NotText
+        → HasNoReply p.now (F.FlowOf.flows cases.now) ask.now text.now }
 {
     know_names(p);
     let entry = entry_of_line(alloc, p, cases, ask, text)?;
@@ -54,7 +55,8 @@ pub(crate) fn is_written(
     entry: &Entry,
     text: &[u8],
 ) -> Result<bool, AllocError>
-    ensures { IfOk result (λ b. MatchBool b (entry_text p.now entry.now ≡ text.now) (entry_text p.now entry.now ≢ text.now)) }
+    ensures { IfOk result (λ b. MatchBool b (entry_text p.now entry.now ≡ text.now)
+        (entry_text p.now entry.now ≢ text.now)) }
 {
     let line = write_entry(alloc, p, entry)?;
     Ok(line.as_bytes() == text)
@@ -69,7 +71,8 @@ fn entry_of_line<F: FlowOf>(
     ask: &Ask,
     text: &[u8],
 ) -> Result<Entry, TextFault>
-    ensures { Reads (λ e. e) result (told.entry_of_line p.now (F.FlowOf.flows cases.now) ask.now text.now) }
+    ensures { Reads (λ e. e) result (told.entry_of_line p.now (F.FlowOf.flows cases.now)
+        ask.now text.now) }
 {
     match read_value(alloc, text)? {
         Some(value) => entry_in(alloc, p, cases, ask, &value),
@@ -85,7 +88,8 @@ fn entry_in<F: FlowOf>(
     ask: &Ask,
     value: &Value,
 ) -> Result<Entry, TextFault>
-    ensures { Reads (λ e. e) result (told.entry_in p.now (F.FlowOf.flows cases.now) ask.now (view value.now)) }
+    ensures { Reads (λ e. e) result (told.entry_in p.now (F.FlowOf.flows cases.now) ask.now
+        (view value.now)) }
 {
     let Some(place) = place_in(value) else {
         return Err(TextFault::NotText);
@@ -134,7 +138,8 @@ fn reply_of<F: FlowOf>(
     flow: Option<FlowId>,
     value: &Value,
 ) -> Result<Reply, TextFault>
-    ensures { Reads (λ r. r) result (told.reply_in p.now (F.FlowOf.flows cases.now) flow (view value.now)) }
+    ensures { Reads (λ r. r) result (told.reply_in p.now (F.FlowOf.flows cases.now) flow
+        (view value.now)) }
 {
     if let Some(reply) = word_reply(value) {
         return Ok(reply);
@@ -164,7 +169,8 @@ fn reply_by<F: FlowOf>(
     kind: ReplyKind,
     value: &Value,
 ) -> Result<Reply, TextFault>
-    ensures { Reads (λ r. r) result (told.reply_by p.now (F.FlowOf.flows cases.now) flow kind (view value.now)) }
+    ensures { Reads (λ r. r) result (told.reply_by p.now (F.FlowOf.flows cases.now) flow kind
+        (view value.now)) }
 {
     match kind {
         ReplyKind::Granted => Ok(Reply::Granted(plan_of(alloc, p, value)?)),

@@ -21,8 +21,10 @@ use wf_names::{FlowId, StepId, UserId};
 /// The tree over users of the policy and steps of a workflow whose value this is.
 #[tactic(auto, using(crate::proofs::LinesBack::tree_told, crate::proofs::LinesBack::no_tree))]
 pub fn tree_of(alloc: Global, p: &Policy, f: FlowId, value: &Value) -> Result<Tree, TextFault>
-    ensures tree { IfOk result (λ t. IsTree p.now f (shape_of t) × (tree_data p.now f (shape_of t) ≡ view value.now)) }
-    ensures none { IsErrOf result NotText → (t : Shape) → IsTree p.now f t → tree_data p.now f t ≢ view value.now }
+    ensures tree { IfOk result (λ t. IsTree p.now f (shape_of t)
+        × (tree_data p.now f (shape_of t) ≡ view value.now)) }
+    ensures none { IsErrOf result NotText → (t : Shape) → IsTree p.now f t
+        → tree_data p.now f t ≢ view value.now }
 {
     know_names(p);
     read_tree(alloc, p, f, value)
@@ -84,7 +86,8 @@ fn read_branches(
 #[cycle(read_tree)]
 #[tactic(auto, using(crate::proofs::TreeParts::branch_twin, crate::proofs::TreeParts::branch_tree, crate::proofs::TreeParts::branch_bad))]
 fn read_branch(alloc: Global, p: &Policy, f: FlowId, value: &Value) -> Result<Branch, TextFault>
-    ensures { (rest : Option Kids) → ReadsOnto result rest (read.kid_in p.now f (view value.now) rest) }
+    ensures { (rest : Option Kids) → ReadsOnto result rest
+        (read.kid_in p.now f (view value.now) rest) }
 {
     let Some((user, kid)) = pair_of(value) else {
         return Err(TextFault::NotText);
@@ -109,7 +112,8 @@ fn read_branch(alloc: Global, p: &Policy, f: FlowId, value: &Value) -> Result<Br
 
 // The step and the users of a node.
 fn node_parts(value: &Value) -> Option<(&Value, &Value)>
-    ensures { option_map (λ n. (view n.0.now, view n.1.now)) result ≡ read.node_parts (view value.now) }
+    ensures { option_map (λ n. (view n.0.now, view n.1.now)) result
+        ≡ read.node_parts (view value.now) }
 {
     let mut members = value.as_object()?.iter();
     let (first, step) = members.next()?;

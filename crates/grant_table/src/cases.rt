@@ -131,7 +131,8 @@ impl Cases {
 
     /// The case with a number.
     pub fn case(&self, c: CaseId) -> Option<&Case>
-        ensures { MatchOption result (case_at self.now c ≡ None) (λ k. case_at self.now c ≡ Some k.now) }
+        ensures { MatchOption result (case_at self.now c ≡ None)
+            (λ k. case_at self.now c ≡ Some k.now) }
     {
         case_of(&self.rows, c.0)
     }
@@ -170,7 +171,9 @@ impl Cases {
     /// The least open case not below a number.
     pub fn next_live(&self, from: u32) -> Option<CaseId>
         ensures answer { result ≡ next_open from self.now.rows }
-        ensures meaning { MatchOption result ((n : ℕ) → from ≤ n → is_open_case (case_at self.now n) ≡ false) (λ n. IsNextOpen self.now from n) }
+        ensures meaning { MatchOption result
+            ((n : ℕ) → from ≤ n → is_open_case (case_at self.now n) ≡ false)
+            (λ n. IsNextOpen self.now from n) }
     {
         match next_open(&self.rows, from) {
             Some(number) => Some(CaseId(number)),
@@ -191,7 +194,8 @@ impl Cases {
 
     /// A table with one case alone, at its number, and with none where there is no such case.
     pub fn copy_one(&self, alloc: Global, c: CaseId) -> Result<Cases, AllocError>
-        ensures { IfOk result (λ t. t ≡ record self.now { rows = only c self.now.rows; spare = t.spare }) }
+        ensures { IfOk result (λ t. t ≡ record self.now
+            { rows = only c self.now.rows; spare = t.spare }) }
     {
         Ok(Cases {
             rows: only(alloc, &self.rows, c.0)?,
@@ -213,7 +217,8 @@ impl Cases {
 
     /// A table with the open cases alone, each at its number.
     pub fn copy_open(&self, alloc: Global) -> Result<Cases, AllocError>
-        ensures { IfOk result (λ t. t ≡ record self.now { rows = open_rows self.now.rows; spare = t.spare }) }
+        ensures { IfOk result (λ t. t ≡ record self.now
+            { rows = open_rows self.now.rows; spare = t.spare }) }
     {
         Ok(Cases {
             rows: open_rows(alloc, &self.rows)?,
@@ -243,7 +248,8 @@ impl Cases {
 
     /// Puts a row in the place of the one with its number.
     fn put_row(&mut self, row: Row, has_ended: bool)
-        requires there { IsSomeAnd (row_at row.number self.old.rows) (λ r. ones r ≡ ones row + cond has_ended 1 0) }
+        requires there { IsSomeAnd (row_at row.number self.old.rows)
+            (λ r. ones r ≡ ones row + cond has_ended 1 0) }
         requires planned { is_some row.plan ≡ is_open row.case }
         ensures { self.new ≡ with_row self.old row.number (λ _. row) }
     {

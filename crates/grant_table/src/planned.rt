@@ -21,7 +21,8 @@ impl Cases {
         requires open { open_count self.old.rows < OPEN_CASE_LIMIT }
         requires ever { self.old.ever < CASE_LIMIT }
         ensures number { result ≡ self.old.ever }
-        ensures opened { self.new ≡ with_case self.old f (length (flow_at p.now f).flow.steps) plan }
+        ensures opened { self.new ≡ with_case self.old f (length
+            (flow_at p.now f).flow.steps) plan }
     {
         let steps = p.flow(f).steps().len() as u8;
         self.open_fresh(f, steps, plan)
@@ -30,7 +31,9 @@ impl Cases {
     /// Gives a free step of an open case to a user, and keeps a plan that is valid with the user there.
     pub fn hold(&mut self, p: &Policy, c: CaseId, s: StepId, u: UserId, plan: Plan)
         requires free { IsSomeAnd (case_at self.old c) (λ k. HasFreeStep k s) }
-        requires valid { IsSomeAnd (case_at self.old c) (λ k. IsValidPlan (problem_of p.now k.flow) (slice_set (assigned_of k) s (Some u)) (finished_of k) plan) }
+        requires valid { IsSomeAnd (case_at self.old c)
+            (λ k. IsValidPlan (problem_of p.now k.flow) (slice_set (assigned_of k) s (Some u))
+            (finished_of k) plan) }
         ensures { self.new ≡ with_row self.old c (held_row s u plan) }
     {
         let _ = p;

@@ -78,7 +78,8 @@ pub(crate) fn row_of(rows: &[Row], n: u16) -> Option<Row>
 /// The case with a number.
 pub(crate) fn case_of(rows: &[Row], n: u16) -> Option<&Case>
     requires { AscendFrom 0 rows.now }
-    ensures { MatchOption result (case_in n rows.now ≡ None) (λ c. case_in n rows.now ≡ Some c.now) }
+    ensures { MatchOption result (case_in n rows.now ≡ None)
+        (λ c. case_in n rows.now ≡ Some c.now) }
 {
     match find(rows, n) {
         Some(i) => Some(&rows[i].case),

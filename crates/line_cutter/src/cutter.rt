@@ -146,7 +146,8 @@ impl Cutter {
 
     // Adds bytes to the open line.
     fn push_plain(&mut self, bytes: &[u8]) -> Result<(), AllocError>
-        ensures pushed { OnOk result (self.new ≡ record self.old { line = self.old.line ++ bytes.now }) }
+        ensures pushed { OnOk result (self.new
+            ≡ record self.old { line = self.old.line ++ bytes.now }) }
         ensures unchanged { OnErr result (self.new ≡ self.old) }
     {
         self.line.push_all(bytes)
@@ -223,7 +224,9 @@ impl Cutter {
         requires few { length self.old.jobs < BATCH_LINE_LIMIT }
         requires begins { self.old.from ≤ length self.old.jobs }
         requires within { self.old.number < SESSION_LINE_LIMIT }
-        ensures ended { OnOk result (self.new ≡ jobs.end_full_batch (jobs.with_job self.old (record { lane = asked.lane; line = self.old.number; ask = asked.ask }))) }
+        ensures ended { OnOk result (self.new
+            ≡ jobs.end_full_batch (jobs.with_job self.old
+            (record { lane = asked.lane; line = self.old.number; ask = asked.ask }))) }
         ensures unchanged { OnErr result (self.new ≡ self.old) }
     {
         let count = self.jobs.len();
@@ -280,7 +283,9 @@ impl Cutter {
     fn flush(&mut self, ended: bool) -> Result<(), AllocError>
         ensures flushed { OnOk result (self.new ≡ jobs.flush ended self.old) }
         ensures one { length self.new.jobs ≤ length self.old.jobs + 1 }
-        ensures before { record self.new { jobs = take (length self.old.jobs) self.new.jobs } ≡ self.old }
+        ensures before { record self.new {
+          jobs = take (length self.old.jobs) self.new.jobs;
+        } ≡ self.old }
         ensures unchanged { OnErr result (self.new ≡ self.old) }
     {
         if !ended || self.stop.is_some() || self.line.len() == 0 {
@@ -294,7 +299,11 @@ impl Cutter {
 
     // Adds the job of the open line.
     fn add_job(&mut self, asked: Asked) -> Result<(), AllocError>
-        ensures added { OnOk result (self.new ≡ record self.old { jobs = self.old.jobs ++ record { lane = asked.lane; line = self.old.number; ask = asked.ask } ∷ [] }) }
+        ensures added { OnOk result (self.new
+            ≡ record self.old {
+              jobs = self.old.jobs ++ record
+                  { lane = asked.lane; line = self.old.number; ask = asked.ask } ∷ [];
+            }) }
         ensures unchanged { OnErr result (self.new ≡ self.old) }
     {
         self.jobs.add(&Job {

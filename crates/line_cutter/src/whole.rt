@@ -39,7 +39,8 @@ pub fn jobs_of(alloc: Global, bytes: &[u8], lanes: u8) -> Result<Batch, AllocErr
 // Cuts all of the bytes, as far as they are within the limits.
 fn cut_bytes(whole: &mut Batch, cutter: &mut Cutter, bytes: &[u8]) -> Result<(), AllocError>
     requires { (lanes : ℕ) × HasCutUp lanes whole.old.jobs whole.old.ends cutter.old [] }
-    ensures { OnOk result ((lanes : ℕ) → HasCutUp lanes whole.old.jobs whole.old.ends cutter.old [] →
+    ensures { OnOk result ((lanes : ℕ) → HasCutUp lanes whole.old.jobs whole.old.ends
+        cutter.old [] →
         HasCutUp lanes whole.new.jobs whole.new.ends cutter.new bytes.now) }
 {
     let mut at = 0;
@@ -56,7 +57,8 @@ fn cut_bytes(whole: &mut Batch, cutter: &mut Cutter, bytes: &[u8]) -> Result<(),
 fn cut_some(whole: &mut Batch, cutter: &mut Cutter, left: &[u8]) -> Result<usize, AllocError>
     requires some { 0 < length left.now }
     requires going { cutter.old.stop ≡ None }
-    requires cut { (lanes : ℕ) × ((seen : List ℕ) × HasCutUp lanes whole.old.jobs whole.old.ends cutter.old seen) }
+    requires cut { (lanes : ℕ) × ((seen : List ℕ)
+        × HasCutUp lanes whole.old.jobs whole.old.ends cutter.old seen) }
     ensures some { IfOk result (λ n. 0 < n) }
     ensures within { IfOk result (λ n. n ≤ length left.now) }
     ensures cut { IfOk result (λ n. (lanes : ℕ) (seen : List ℕ) →
@@ -74,7 +76,8 @@ fn cut_some(whole: &mut Batch, cutter: &mut Cutter, left: &[u8]) -> Result<usize
 fn add_batch(whole: &mut Batch, batch: &[Job]) -> Result<(), AllocError>
     requires few { length whole.old.jobs + length batch.now ≤ SESSION_LINE_LIMIT }
     ensures jobs { OnOk result (whole.new.jobs ≡ whole.old.jobs ++ batch.now) }
-    ensures ends { OnOk result (whole.new.ends ≡ ends_after whole.old.ends (length whole.old.jobs) batch.now) }
+    ensures ends { OnOk result (whole.new.ends
+        ≡ ends_after whole.old.ends (length whole.old.jobs) batch.now) }
 {
     if batch.is_empty() {
         return Ok(());

@@ -42,7 +42,8 @@ impl LineReader {
     /// takes at most `room` bytes at once.
     pub fn new(alloc: Global, room: usize, limit: usize) -> Result<LineReader, AllocError>
         requires { 0 < room }
-        ensures { IfOk result (λ r. r ≡ record { line = []; handed = false; ahead = []; limit = limit; room = room }) }
+        ensures { IfOk result (λ r. r ≡ record
+            { line = []; handed = false; ahead = []; limit = limit; room = room }) }
     {
         Ok(LineReader {
             line: Bytes::new(alloc),
@@ -143,7 +144,12 @@ impl LineReader {
     fn read_line(&mut self, count: usize) -> Result<(), AllocError>
         requires kept { self.old.handed ≡ false }
         requires within { count ≤ length self.old.ahead }
-        ensures read { OnOk result (self.new ≡ record self.old { line = self.old.line ++ take count self.old.ahead; handed = true; ahead = drop count self.old.ahead }) }
+        ensures read { OnOk result (self.new
+            ≡ record self.old {
+              line = self.old.line ++ take count self.old.ahead;
+              handed = true;
+              ahead = drop count self.old.ahead;
+            }) }
         ensures unchanged { OnErr result (self.new ≡ self.old) }
     {
         self.line.push_all(&self.piece[self.at..self.at + count])?;
@@ -157,7 +163,8 @@ impl LineReader {
         requires kept { self.old.handed ≡ false }
         requires going { has_end (self.old.line ++ self.old.ahead) ≡ false }
         requires fits { length self.old.line + length self.old.ahead ≤ self.old.limit }
-        ensures read { OnOk result (self.new ≡ record self.old { line = self.old.line ++ self.old.ahead; ahead = [] }) }
+        ensures read { OnOk result (self.new
+            ≡ record self.old { line = self.old.line ++ self.old.ahead; ahead = [] }) }
         ensures unchanged { OnErr result (self.new ≡ self.old) }
     {
         self.line.push_all(&self.piece[self.at..self.filled])?;
@@ -169,7 +176,8 @@ impl LineReader {
     fn finish(&mut self) -> Read
         requires kept { self.old.handed ≡ false }
         requires none { self.old.ahead ≡ [] }
-        ensures reads { (before after : Option (List ℕ)) → HasTaken before after [] → IsAtEnd after → ReadsTo before after self.old self.new result }
+        ensures reads { (before after : Option (List ℕ)) → HasTaken before after [] → IsAtEnd after
+            → ReadsTo before after self.old self.new result }
         ensures no_fault { (count : ℕ) → CountsAs result count count }
         ensures limit { self.new.limit ≡ self.old.limit }
         ensures room { self.new.room ≡ self.old.room }
@@ -185,10 +193,12 @@ impl LineReader {
     fn take_piece<S: Source>(&mut self, source: &mut S) -> Result<bool, Failed>
         requires { self.old.ahead ≡ [] }
         ensures same { self.new ≡ record self.old { ahead = self.new.ahead } }
-        ensures taken { OnOk result (HasTaken (S.left source.old) (S.left source.new) self.new.ahead) }
+        ensures taken { OnOk result (HasTaken (S.left source.old) (S.left source.new)
+            self.new.ahead) }
         ensures more { result ≡ Ok true → 0 < length self.new.ahead }
         ensures ended { result ≡ Ok false → (self.new.ahead ≡ []) × IsAtEnd (S.left source.new) }
-        ensures nothing { OnErr result ((self.new.ahead ≡ []) × (S.left source.new ≡ S.left source.old)) }
+        ensures nothing { OnErr result ((self.new.ahead ≡ [])
+            × (S.left source.new ≡ S.left source.old)) }
         ensures faults { S.faults source.old ≤ S.faults source.new }
         ensures rose { OnErr result (Rose (S.faults source.old) (S.faults source.new)) }
         ensures stays { OnOk result (S.faults source.new ≡ S.faults source.old) }
@@ -203,7 +213,8 @@ impl LineReader {
 // The next bytes, at the front of the piece; how many there are.
 fn take_into<S: Source>(piece: &mut [u8], source: &mut S) -> Result<usize, Failed>
     requires { 0 < length piece.old }
-    ensures taken { IfOk result (λ n. HasTaken (S.left source.old) (S.left source.new) (take n piece.new)) }
+    ensures taken { IfOk result (λ n. HasTaken (S.left source.old) (S.left source.new)
+        (take n piece.new)) }
     ensures within { IfOk result (λ n. n ≤ length piece.new) }
     ensures room { length piece.new ≡ length piece.old }
     ensures ended { IfOk result (λ n. n ≡ 0 → IsAtEnd (S.left source.new)) }

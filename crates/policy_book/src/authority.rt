@@ -11,7 +11,8 @@ use workflow_schema::Flow;
 
 /// Whether some role is held by a user and permitted for a step.
 pub(crate) fn some_role(roster: &Roster, flow: &Flow, s: StepId, u: UserId) -> bool
-    ensures { result ≡ any_below (length roster.now.roles) (λ r. has_role roster.now u r && set.contains flow.now.permits (r, s)) }
+    ensures { result ≡ any_below (length roster.now.roles)
+        (λ r. has_role roster.now u r && set.contains flow.now.permits (r, s)) }
 {
     'roles: for r in 0..roster.roles().len() {
         let role = RoleId(r as u8);
@@ -34,7 +35,9 @@ fn authorises(roster: &Roster, flow: &Flow, s: StepId, u: UserId, r: RoleId) -> 
 /// The users who hold a role that is permitted for a step.
 pub(crate) fn holders_of_some(roster: &Roster, flow: &Flow, s: StepId) -> UserSet
     ensures known { (u : ℕ) → has_user result u ≡ true → u < length roster.now.users }
-    ensures held { (u : ℕ) → has_user result u ≡ any_below (length roster.now.roles) (λ r. has_role roster.now u r && set.contains flow.now.permits (r, s)) }
+    ensures held { (u : ℕ) → has_user result u
+        ≡ any_below (length roster.now.roles)
+        (λ r. has_role roster.now u r && set.contains flow.now.permits (r, s)) }
 {
     let mut users = UserSet::empty();
     'roles: for r in 0..roster.roles().len() {
@@ -45,7 +48,9 @@ pub(crate) fn holders_of_some(roster: &Roster, flow: &Flow, s: StepId) -> UserSe
 
 // Puts in the users who hold a role, where it is permitted for a step.
 fn join_if_permitted(roster: &Roster, flow: &Flow, s: StepId, r: RoleId, users: &mut UserSet)
-    ensures { (u : ℕ) → has_user users.new u ≡ (has_user users.old u || (has_role roster.now u r && set.contains flow.now.permits (r, s))) }
+    ensures { (u : ℕ) → has_user users.new u
+        ≡ (has_user users.old u || (has_role roster.now u r && set.contains
+        flow.now.permits (r, s))) }
 {
     if flow.permits(r, s) {
         users.join(&roster.holders(r));

@@ -15,7 +15,8 @@ pub(crate) fn keep_unbroken(p: &Policy, f: FlowId, s: StepId, a: &Assign, users:
     requires flow { f < length p.now.flows }
     requires step { s < STEP_LIMIT }
     requires known { (u : ℕ) → has_user users.old u ≡ true → u < length p.now.roster.users }
-    ensures { (u : ℕ) → has_user users.new u ≡ (has_user users.old u && breaks_none (problem_of p.now f) (slice_set a.now s (Some u))) }
+    ensures { (u : ℕ) → has_user users.new u
+        ≡ (has_user users.old u && breaks_none (problem_of p.now f) (slice_set a.now s (Some u))) }
 {
     'rules: for k in 0..p.rules(f).len() {
         keep_by_rule(p, f, s, a, k, users);
@@ -27,7 +28,9 @@ fn keep_by_rule(p: &Policy, f: FlowId, s: StepId, a: &Assign, k: usize, users: &
     requires flow { f < length p.now.flows }
     requires step { s < STEP_LIMIT }
     requires known { (u : ℕ) → has_user users.old u ≡ true → u < length p.now.roster.users }
-    ensures { (u : ℕ) → has_user users.new u ≡ (has_user users.old u && not (is_broken (problem_of p.now f) (slice_set a.now s (Some u)) (slice_get (problem_of p.now f).rules k))) }
+    ensures { (u : ℕ) → has_user users.new u
+        ≡ (has_user users.old u && not (is_broken (problem_of p.now f) (slice_set a.now s (Some u))
+        (slice_get (problem_of p.now f).rules k))) }
 {
     let count = p.roster().users().len();
     if let Some(rule) = p.rules(f).as_slice().get(k) {

@@ -62,7 +62,13 @@ impl Policy {
     ) -> Result<Policy, AllocError>
         requires related { AreOfUsers (length roster.users) relations }
         requires admin { admin < length roster.roles }
-        ensures { IfOk result (λ p. p ≡ record { roster = roster; relations = relations; flow_names = []; flows = []; admin = admin }) }
+        ensures { IfOk result (λ p. p ≡ record {
+          roster = roster;
+          relations = relations;
+          flow_names = [];
+          flows = [];
+          admin = admin;
+        }) }
     {
         let (users, roles) = (roster.users().len(), roster.roles().len());
         prove!(users <= USER_LIMIT && roles <= ROLE_LIMIT);
@@ -89,8 +95,11 @@ impl Policy {
         }) }
         ensures fresh { OnOk result (is_some (place_of self.old.flow_names name) ≡ false) }
 
-        ensures twice { IsErrOf result NameFault.Twice ↔ (is_some (place_of self.old.flow_names name) ≡ true) }
-        ensures full { IsErrOf result NameFault.Full ↔ ((is_some (place_of self.old.flow_names name) ≡ false) × (length self.old.flows ≡ FLOW_LIMIT)) }
+        ensures twice { IsErrOf result NameFault.Twice
+            ↔ (is_some (place_of self.old.flow_names name) ≡ true) }
+        ensures full { IsErrOf result NameFault.Full
+            ↔ ((is_some (place_of self.old.flow_names name) ≡ false)
+            × (length self.old.flows ≡ FLOW_LIMIT)) }
         ensures unchanged { OnErr result (self.new ≡ self.old) }
     {
         let place = free_place(&self.names, &name)?;
@@ -172,7 +181,8 @@ impl Policy {
         requires { f < length self.now.flows }
         ensures rules { result.now ≡ (flow_at self.now f).rules }
         ensures few { length (flow_at self.now f).rules ≤ RULE_LIMIT }
-        ensures ruled { AreSoundRules (length (flow_at self.now f).flow.steps) (length self.now.relations) (flow_at self.now f).rules }
+        ensures ruled { AreSoundRules (length (flow_at self.now f).flow.steps)
+            (length self.now.relations) (flow_at self.now f).rules }
         ensures well_formed { IsWellFormed (problem_of self.now f) }
     {
         let workflow = &self.flows[f.0 as usize];
@@ -236,10 +246,15 @@ impl Policy {
     /// Adds a user without roles, and answers their number.
     pub fn add_user(&mut self, name: Name) -> Result<UserId, NameFault>
         ensures number { IfOk result (λ u. u ≡ length self.old.roster.users) }
-        ensures added { OnOk result (self.new ≡ with_roster self.old (record self.old.roster { users = self.old.roster.users ++ name ∷ [] })) }
+        ensures added { OnOk result (self.new
+            ≡ with_roster self.old (record self.old.roster
+            { users = self.old.roster.users ++ name ∷ [] })) }
 
-        ensures twice { IsErrOf result NameFault.Twice ↔ (is_some (place_of self.old.roster.users name) ≡ true) }
-        ensures full { IsErrOf result NameFault.Full ↔ ((is_some (place_of self.old.roster.users name) ≡ false) × (length self.old.roster.users ≡ USER_LIMIT)) }
+        ensures twice { IsErrOf result NameFault.Twice
+            ↔ (is_some (place_of self.old.roster.users name) ≡ true) }
+        ensures full { IsErrOf result NameFault.Full
+            ↔ ((is_some (place_of self.old.roster.users name) ≡ false)
+            × (length self.old.roster.users ≡ USER_LIMIT)) }
         ensures unchanged { OnErr result (self.new ≡ self.old) }
     {
         match self.roster.add_user(name) {
@@ -252,9 +267,12 @@ impl Policy {
     pub fn enrol(&mut self, u: UserId, r: RoleId) -> Result<(), RosterFault>
         requires user { u < length self.old.roster.users }
         requires role { r < length self.old.roster.roles }
-        ensures enrolled { OnOk result (self.new ≡ with_roster self.old (record self.old.roster { members = set.insert self.old.roster.members (u, r) })) }
+        ensures enrolled { OnOk result (self.new
+            ≡ with_roster self.old (record self.old.roster
+            { members = set.insert self.old.roster.members (u, r) })) }
 
-        ensures already { IsErrOf result RosterFault.Already ↔ (has_role self.old.roster u r ≡ true) }
+        ensures already { IsErrOf result RosterFault.Already
+            ↔ (has_role self.old.roster u r ≡ true) }
         ensures absent { ¬ IsErrOf result RosterFault.Absent }
         ensures unchanged { OnErr result (self.new ≡ self.old) }
     {
@@ -265,10 +283,13 @@ impl Policy {
     pub fn dismiss(&mut self, u: UserId, r: RoleId) -> Result<(), RosterFault>
         requires user { u < length self.old.roster.users }
         requires role { r < length self.old.roster.roles }
-        ensures dismissed { OnOk result (self.new ≡ with_roster self.old (record self.old.roster { members = set.remove self.old.roster.members (u, r) })) }
+        ensures dismissed { OnOk result (self.new
+            ≡ with_roster self.old (record self.old.roster
+            { members = set.remove self.old.roster.members (u, r) })) }
         ensures held { OnOk result (has_role self.old.roster u r ≡ true) }
 
-        ensures absent { IsErrOf result RosterFault.Absent ↔ (has_role self.old.roster u r ≡ false) }
+        ensures absent { IsErrOf result RosterFault.Absent
+            ↔ (has_role self.old.roster u r ≡ false) }
         ensures already { ¬ IsErrOf result RosterFault.Already }
         ensures unchanged { OnErr result (self.new ≡ self.old) }
     {
@@ -279,7 +300,8 @@ impl Policy {
     pub fn relate(&mut self, rho: RelId, u: UserId, v: UserId) -> Result<(), RelationFault>
         requires first { u < length self.old.roster.users }
         requires second { v < length self.old.roster.users }
-        ensures related { OnOk result (self.new ≡ with_pairs self.old rho (set.insert (pairs_of self.old.relations rho) (u, v))) }
+        ensures related { OnOk result (self.new
+            ≡ with_pairs self.old rho (set.insert (pairs_of self.old.relations rho) (u, v))) }
         ensures fault { AnswersFault (relate_fault self.old.relations rho u v) result }
         ensures unchanged { OnErr result (self.new ≡ self.old) }
     {
@@ -293,7 +315,8 @@ impl Policy {
     pub fn unrelate(&mut self, rho: RelId, u: UserId, v: UserId) -> Result<(), RelationFault>
         requires first { u < length self.old.roster.users }
         requires second { v < length self.old.roster.users }
-        ensures unrelated { OnOk result (self.new ≡ with_pairs self.old rho (set.remove (pairs_of self.old.relations rho) (u, v))) }
+        ensures unrelated { OnOk result (self.new
+            ≡ with_pairs self.old rho (set.remove (pairs_of self.old.relations rho) (u, v))) }
         ensures fault { AnswersFault (unrelate_fault self.old.relations rho u v) result }
         ensures unchanged { OnErr result (self.new ≡ self.old) }
     {
@@ -308,7 +331,8 @@ impl Policy {
         requires flow { f < length self.old.flows }
         requires role { r < length self.old.roster.roles }
         requires step { s < length (flow_at self.old f).flow.steps }
-        ensures permitted { self.new ≡ with_permits self.old f (set.insert (flow_at self.old f).flow.permits (r, s)) }
+        ensures permitted { self.new ≡ with_permits self.old f
+            (set.insert (flow_at self.old f).flow.permits (r, s)) }
         ensures changed { result ≡ not (set.contains (flow_at self.old f).flow.permits (r, s)) }
         ensures unchanged { result ≡ false → self.new ≡ self.old }
     {
@@ -321,7 +345,8 @@ impl Policy {
         requires flow { f < length self.old.flows }
         requires role { r < length self.old.roster.roles }
         requires step { s < length (flow_at self.old f).flow.steps }
-        ensures forbidden { self.new ≡ with_permits self.old f (set.remove (flow_at self.old f).flow.permits (r, s)) }
+        ensures forbidden { self.new ≡ with_permits self.old f
+            (set.remove (flow_at self.old f).flow.permits (r, s)) }
         ensures changed { result ≡ set.contains (flow_at self.old f).flow.permits (r, s) }
         ensures unchanged { result ≡ false → self.new ≡ self.old }
     {
@@ -345,8 +370,11 @@ fn free_place(names: &NameTable, name: &Name) -> Result<FlowId, NameFault>
     ensures place { IfOk result (λ f. f ≡ length names.now.names) }
     ensures fresh { OnOk result (is_some (place_of names.now.names name.now) ≡ false) }
     ensures room { OnOk result (length names.now.names < FLOW_LIMIT) }
-    ensures twice { IsErrOf result NameFault.Twice ↔ (is_some (place_of names.now.names name.now) ≡ true) }
-    ensures full { IsErrOf result NameFault.Full ↔ ((is_some (place_of names.now.names name.now) ≡ false) × (length names.now.names ≡ FLOW_LIMIT)) }
+    ensures twice { IsErrOf result NameFault.Twice
+        ↔ (is_some (place_of names.now.names name.now) ≡ true) }
+    ensures full { IsErrOf result NameFault.Full
+        ↔ ((is_some (place_of names.now.names name.now) ≡ false)
+        × (length names.now.names ≡ FLOW_LIMIT)) }
     ensures memory { ¬ IsErrOf result NameFault.NoMemory }
 {
     if names.find(name).is_some() {

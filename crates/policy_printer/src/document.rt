@@ -26,7 +26,8 @@ use wf_names::NameTable;
 use workflow_schema::laws::order_is_chained;
 
 fn put_users(alloc: Global, table: &mut Table, roster: &Roster) -> Result<(), AllocError>
-    ensures put { OnOk result (table_view table.new ≡ spec.with_member (codes "users") (spec.users_data roster.now) (table_view table.old)) }
+    ensures put { OnOk result (table_view table.new
+        ≡ spec.with_member (codes "users") (spec.users_data roster.now) (table_view table.old)) }
     ensures named { AreNames roster.now.users }
 {
     let users = users_value(alloc, roster)?;
@@ -34,7 +35,9 @@ fn put_users(alloc: Global, table: &mut Table, roster: &Roster) -> Result<(), Al
 }
 
 fn put_roles(alloc: Global, table: &mut Table, roles: &NameTable) -> Result<(), AllocError>
-    ensures put { OnOk result (table_view table.new ≡ spec.with_member (codes "roles") (spec.names_data roles.now.names) (table_view table.old)) }
+    ensures put { OnOk result (table_view table.new
+        ≡ spec.with_member (codes "roles") (spec.names_data roles.now.names)
+        (table_view table.old)) }
     ensures named { AreNames roles.now.names }
 {
     let roles = names_value(alloc, roles)?;
@@ -42,7 +45,9 @@ fn put_roles(alloc: Global, table: &mut Table, roles: &NameTable) -> Result<(), 
 }
 
 fn put_relations(alloc: Global, table: &mut Table, policy: &Policy) -> Result<(), AllocError>
-    ensures put { OnOk result (table_view table.new ≡ spec.with_member (codes "relations") (spec.relations_data policy.now.roster.users policy.now.relations) (table_view table.old)) }
+    ensures put { OnOk result (table_view table.new
+        ≡ spec.with_member (codes "relations")
+        (spec.relations_data policy.now.roster.users policy.now.relations) (table_view table.old)) }
     ensures named { OnOk result (AreNames (known_names policy.now.relations)) }
     ensures sound { AreSound policy.now.relations }
 {
@@ -51,16 +56,20 @@ fn put_relations(alloc: Global, table: &mut Table, policy: &Policy) -> Result<()
 }
 
 fn put_flows(alloc: Global, table: &mut Table, policy: &Policy) -> Result<(), AllocError>
-    ensures put { OnOk result (table_view table.new ≡ spec.with_member (codes "flows") (spec.flows_data policy.now) (table_view table.old)) }
+    ensures put { OnOk result (table_view table.new
+        ≡ spec.with_member (codes "flows") (spec.flows_data policy.now) (table_view table.old)) }
     ensures names { AreNames policy.now.flow_names }
-    ensures named { OnOk result ((f : ℕ) → f < length policy.now.flows → IsNamedWorkflow (flow_at policy.now f)) }
+    ensures named { OnOk result ((f : ℕ) → f < length policy.now.flows
+        → IsNamedWorkflow (flow_at policy.now f)) }
 {
     let flows = flows_value(alloc, policy)?;
     put(alloc, table, "flows", flows)
 }
 
 fn put_admin(alloc: Global, table: &mut Table, policy: &Policy) -> Result<(), AllocError>
-    ensures put { OnOk result (table_view table.new ≡ spec.with_member (codes "admin") (string (spec.name_at policy.now.roster.roles policy.now.admin)) (table_view table.old)) }
+    ensures put { OnOk result (table_view table.new
+        ≡ spec.with_member (codes "admin")
+        (string (spec.name_at policy.now.roster.roles policy.now.admin)) (table_view table.old)) }
     ensures sound { IsSoundPolicy policy.now }
 {
     let admin = numbered(alloc, policy.roster().roles(), policy.admin().0 as u16)?;
@@ -103,8 +112,10 @@ fn document(alloc: Global, policy: &Policy) -> Result<Table, AllocError>
 /// A policy as TOML. What is written of a policy that can be printed, as each is that a file gave,
 /// reads as that policy; the layout is that of the `toml` crate.
 pub fn print(alloc: Global, p: &Policy) -> Result<String, AllocError>
-    ensures document { IfOk result (λ text. document_in (string_bytes text) ≡ Ok (spec.document_of p.now)) }
-    ensures reads_back { IfOk result (λ text. IsPrintable p.now → policy_of_file (string_bytes text) ≡ Ok p.now) }
+    ensures document { IfOk result (λ text. document_in (string_bytes text)
+        ≡ Ok (spec.document_of p.now)) }
+    ensures reads_back { IfOk result (λ text. IsPrintable p.now
+        → policy_of_file (string_bytes text) ≡ Ok p.now) }
 {
     order_is_chained();
     let table = document(alloc, p)?;

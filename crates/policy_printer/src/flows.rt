@@ -69,7 +69,8 @@ fn permitted_value(
     s: StepId,
 ) -> Result<Value, AllocError>
     requires { length roles.now.names ≤ ROLE_LIMIT }
-    ensures { IfOk result (λ v. view v ≡ spec.names_where roles.now.names (λ r. set.contains flow.now.permits (r, s))) }
+    ensures { IfOk result (λ v. view v ≡ spec.names_where roles.now.names
+        (λ r. set.contains flow.now.permits (r, s))) }
 {
     let mut values = Vec::new(alloc);
     'roles: for r in 0..roles.len() {
@@ -89,7 +90,9 @@ fn put_permit(
 ) -> Result<(), AllocError>
     requires roles { length roles.now.names ≤ ROLE_LIMIT }
     requires step { s < length flow.now.steps }
-    ensures { OnOk result (table_view table.new ≡ spec.with_member (spec.permit_entry roles.now.names flow.now s).0 (spec.permit_entry roles.now.names flow.now s).1 (table_view table.old)) }
+    ensures { OnOk result (table_view table.new
+        ≡ spec.with_member (spec.permit_entry roles.now.names flow.now s).0
+        (spec.permit_entry roles.now.names flow.now s).1 (table_view table.old)) }
 {
     let permitted = permitted_value(alloc, roles, flow, s)?;
     let name = flow.steps().name(s.0 as u16);
@@ -115,7 +118,8 @@ fn permits_value(alloc: Global, roles: &NameTable, flow: &Flow) -> Result<Value,
 #[tactic(auto, using(crate::proofs::Writing::chosen_more, crate::proofs::Writing::chosen_skip))]
 fn group_value(alloc: Global, steps: &NameTable, group: &StepSet) -> Result<Value, AllocError>
     requires { length steps.now.names ≤ STEP_LIMIT }
-    ensures value { IfOk result (λ v. view v ≡ spec.names_where steps.now.names (is_member group.now)) }
+    ensures value { IfOk result (λ v. view v
+        ≡ spec.names_where steps.now.names (is_member group.now)) }
     ensures flags { length group.now ≡ STEP_LIMIT }
 {
     let limit = group.limit();
@@ -141,7 +145,8 @@ fn pair_table(
     requires relation { rho < length relations.now + 2 }
     requires first { first < length steps.now.names }
     requires second { second < length steps.now.names }
-    ensures { IfOk result (λ t. table_view t ≡ spec.rule_members relations.now steps.now.names (Rule.Pair rho first second)) }
+    ensures { IfOk result (λ t. table_view t
+        ≡ spec.rule_members relations.now steps.now.names (Rule.Pair rho first second)) }
 {
     let mut table = Table::new(alloc);
     put(
@@ -184,7 +189,8 @@ fn grouped_table(
     requires few { length steps.now.names ≤ STEP_LIMIT }
     requires relation { rho < length relations.now + 2 }
     requires step { step < length steps.now.names }
-    ensures table { IfOk result (λ t. table_view t ≡ spec.grouped_members form relations.now steps.now.names rho group.now step) }
+    ensures table { IfOk result (λ t. table_view t
+        ≡ spec.grouped_members form relations.now steps.now.names rho group.now step) }
     ensures flags { IfOk result (λ _. length group.now ≡ STEP_LIMIT) }
 {
     let mut table = Table::new(alloc);
@@ -224,7 +230,8 @@ fn rule_table(
 ) -> Result<Table, AllocError>
     requires few { length steps.now.names ≤ STEP_LIMIT }
     requires sound { IsSoundRule (length steps.now.names) (length relations.now) rule.now }
-    ensures table { IfOk result (λ t. table_view t ≡ spec.rule_members relations.now steps.now.names rule.now) }
+    ensures table { IfOk result (λ t. table_view t
+        ≡ spec.rule_members relations.now steps.now.names rule.now) }
     ensures flags { IfOk result (λ _. HasFlags rule.now) }
 {
     match *rule {
@@ -250,7 +257,8 @@ fn rules_value(
 ) -> Result<Value, AllocError>
     requires few { length steps.now.names ≤ STEP_LIMIT }
     requires sound { AreSoundRules (length steps.now.names) (length relations.now) rules.now }
-    ensures value { IfOk result (λ v. view v ≡ spec.rules_data relations.now steps.now.names rules.now) }
+    ensures value { IfOk result (λ v. view v
+        ≡ spec.rules_data relations.now steps.now.names rules.now) }
     ensures flags { IfOk result (λ _. HaveFlags rules.now) }
 {
     let mut values = Vec::new(alloc);
@@ -269,7 +277,8 @@ fn push_rule(
 ) -> Result<(), AllocError>
     requires few { length steps.now.names ≤ STEP_LIMIT }
     requires sound { IsSoundRule (length steps.now.names) (length relations.now) rule.now }
-    ensures pushed { OnOk result (map view values.new.items ≡ map view values.old.items ++ spec.rule_data relations.now steps.now.names rule.now ∷ []) }
+    ensures pushed { OnOk result (map view values.new.items
+        ≡ map view values.old.items ++ spec.rule_data relations.now steps.now.names rule.now ∷ []) }
     ensures flags { OnOk result (HasFlags rule.now) }
 {
     let table = rule_table(alloc, relations, steps, rule)?;
@@ -280,7 +289,9 @@ fn push_rule(
 #[tactic(auto, unfolding(crate::specs::Documents::workflow_members))]
 fn workflow_table(alloc: Global, policy: &Policy, f: FlowId) -> Result<Table, AllocError>
     requires { f < length policy.now.flows }
-    ensures table { IfOk result (λ t. table_view t ≡ spec.workflow_members policy.now.roster.roles policy.now.relations (flow_at policy.now f)) }
+    ensures table { IfOk result (λ t. table_view t
+        ≡ spec.workflow_members policy.now.roster.roles policy.now.relations
+        (flow_at policy.now f)) }
     ensures named { IfOk result (λ _. IsNamedWorkflow (flow_at policy.now f)) }
 {
     let flow = policy.flow(f);
@@ -308,7 +319,9 @@ fn flow_name(policy: &Policy, f: FlowId) -> Name
 fn put_flow(alloc: Global, table: &mut Table, policy: &Policy, f: FlowId) -> Result<(), AllocError>
     requires { f < length policy.now.flows }
     ensures named { OnOk result (IsNamedWorkflow (flow_at policy.now f)) }
-    ensures put { OnOk result (table_view table.new ≡ spec.with_member (spec.flow_entry policy.now f).0 (spec.flow_entry policy.now f).1 (table_view table.old)) }
+    ensures put { OnOk result (table_view table.new
+        ≡ spec.with_member (spec.flow_entry policy.now f).0 (spec.flow_entry policy.now f).1
+        (table_view table.old)) }
 {
     let workflow = workflow_table(alloc, policy, f)?;
     let name = flow_name(policy, f);
@@ -320,7 +333,8 @@ fn put_flow(alloc: Global, table: &mut Table, policy: &Policy, f: FlowId) -> Res
 pub(crate) fn flows_value(alloc: Global, policy: &Policy) -> Result<Value, AllocError>
     ensures value { IfOk result (λ v. view v ≡ spec.flows_data policy.now) }
     ensures names { AreNames policy.now.flow_names }
-    ensures named { IfOk result (λ _. (f : ℕ) → f < length policy.now.flows → IsNamedWorkflow (flow_at policy.now f)) }
+    ensures named { IfOk result (λ _. (f : ℕ) → f < length policy.now.flows
+        → IsNamedWorkflow (flow_at policy.now f)) }
 {
     let mut table = Table::new(alloc);
     'flows: for f in 0..policy.flows().len() {

@@ -37,7 +37,8 @@ pub(crate) fn put(
     key: &str,
     value: Value,
 ) -> Result<(), AllocError>
-    ensures { OnOk result (table_view table.new ≡ spec.with_member key.now (view value) (table_view table.old)) }
+    ensures { OnOk result (table_view table.new
+        ≡ spec.with_member key.now (view value) (table_view table.old)) }
 {
     let key = String::from_str(alloc, key)?;
     match table.insert(key, value) {
@@ -54,7 +55,8 @@ pub(crate) fn push_name(
     n: u16,
 ) -> Result<(), AllocError>
     requires { n < length names.now.names }
-    ensures { OnOk result (map view values.new.items ≡ map view values.old.items ++ string (spec.name_at names.now.names n) ∷ []) }
+    ensures { OnOk result (map view values.new.items
+        ≡ map view values.old.items ++ string (spec.name_at names.now.names n) ∷ []) }
 {
     let value = numbered(alloc, names, n)?;
     push(values, value)
@@ -62,7 +64,8 @@ pub(crate) fn push_name(
 
 /// Appends a value.
 pub(crate) fn push(values: &mut Vec<Value>, value: Value) -> Result<(), AllocError>
-    ensures { OnOk result (map view values.new.items ≡ map view values.old.items ++ view value ∷ []) }
+    ensures { OnOk result (map view values.new.items
+        ≡ map view values.old.items ++ view value ∷ []) }
 {
     match values.push(value) {
         Ok(()) => Ok(()),
@@ -104,7 +107,8 @@ fn push_pair(
 ) -> Result<(), AllocError>
     requires first { pair.0 < length names.now.names }
     requires second { pair.1 < length names.now.names }
-    ensures { OnOk result (map view values.new.items ≡ map view values.old.items ++ spec.pair_data names.now.names pair ∷ []) }
+    ensures { OnOk result (map view values.new.items
+        ≡ map view values.old.items ++ spec.pair_data names.now.names pair ∷ []) }
 {
     let value = pair_value(alloc, names, pair)?;
     push(values, value)
@@ -117,7 +121,8 @@ pub(crate) fn pairs_value(
     names: &NameTable,
     pairs: &[(u16, u16)],
 ) -> Result<Value, AllocError>
-    requires within { All (λ p. (p.0 < length names.now.names) × (p.1 < length names.now.names)) pairs.now }
+    requires within { All (λ p. (p.0 < length names.now.names)
+        × (p.1 < length names.now.names)) pairs.now }
     ensures { IfOk result (λ v. view v ≡ spec.listed_data names.now.names pairs.now) }
 {
     let mut values = Vec::new(alloc);

@@ -22,7 +22,8 @@ use wf_names::{Name, NameTable, RelId, RoleId, UserId};
 /// An array of the roles of a user.
 #[tactic(auto, using(crate::proofs::Writing::chosen_more, crate::proofs::Writing::chosen_skip))]
 fn held_value(alloc: Global, roster: &Roster, u: UserId) -> Result<Value, AllocError>
-    ensures { IfOk result (λ v. view v ≡ spec.names_where roster.now.roles (has_role roster.now u)) }
+    ensures { IfOk result (λ v. view v ≡ spec.names_where roster.now.roles
+        (has_role roster.now u)) }
 {
     let mut values = Vec::new(alloc);
     'roles: for r in 0..roster.roles().len() {
@@ -53,7 +54,9 @@ pub(crate) fn users_value(alloc: Global, roster: &Roster) -> Result<Value, Alloc
 #[tactic(auto, using(crate::proofs::Writing::name_found))]
 fn put_user(alloc: Global, table: &mut Table, roster: &Roster, u: UserId) -> Result<(), AllocError>
     requires { u < length roster.now.users }
-    ensures { OnOk result (table_view table.new ≡ spec.with_member (spec.user_entry roster.now u).0 (spec.user_entry roster.now u).1 (table_view table.old)) }
+    ensures { OnOk result (table_view table.new
+        ≡ spec.with_member (spec.user_entry roster.now u).0 (spec.user_entry roster.now u).1
+        (table_view table.old)) }
 {
     let held = held_value(alloc, roster, u)?;
     let name = roster.users().name(u.0);
@@ -90,7 +93,8 @@ fn complement_table(
     other: RelId,
 ) -> Result<Table, AllocError>
     requires { other < length relations.now + 2 }
-    ensures { IfOk result (λ t. table_view t ≡ spec.kind_members users.now.names relations.now rho (Some other)) }
+    ensures { IfOk result (λ t. table_view t
+        ≡ spec.kind_members users.now.names relations.now rho (Some other)) }
 {
     let mut table = Table::new(alloc);
     let name = relation_value(alloc, relations, other)?;
@@ -105,7 +109,8 @@ fn listed_value(
     rho: RelId,
 ) -> Result<Value, AllocError>
     requires { AreOfUsers (length users.now.names) relations.now }
-    ensures { IfOk result (λ v. view v ≡ spec.pairs_data users.now.names (pairs_of relations.now rho)) }
+    ensures { IfOk result (λ v. view v ≡ spec.pairs_data users.now.names
+        (pairs_of relations.now rho)) }
 {
     let pairs = relations.pairs(rho)?;
     pairs_value(alloc, users, &pairs)
@@ -119,7 +124,8 @@ fn listed_table(
     rho: RelId,
 ) -> Result<Table, AllocError>
     requires { AreOfUsers (length users.now.names) relations.now }
-    ensures { IfOk result (λ t. table_view t ≡ spec.kind_members users.now.names relations.now rho None) }
+    ensures { IfOk result (λ t. table_view t
+        ≡ spec.kind_members users.now.names relations.now rho None) }
 {
     let mut table = Table::new(alloc);
     let listed = listed_value(alloc, users, relations, rho)?;
@@ -137,7 +143,8 @@ fn kind_table(
 ) -> Result<Table, AllocError>
     requires users { AreOfUsers (length users.now.names) relations.now }
     requires sound { AreSound relations.now }
-    ensures { IfOk result (λ t. table_view t ≡ spec.kind_members users.now.names relations.now rho (complement_of relations.now rho)) }
+    ensures { IfOk result (λ t. table_view t
+        ≡ spec.kind_members users.now.names relations.now rho (complement_of relations.now rho)) }
 {
     match relations.complement_of(rho) {
         Some(other) => complement_table(alloc, users, relations, rho, other),
@@ -156,7 +163,9 @@ fn put_relation(
     requires sound { AreSound relations.now }
     requires within { rho < length relations.now + 2 }
     ensures form { OnOk result (is_name (spec.name_at (known_names relations.now) rho) ≡ true) }
-    ensures put { OnOk result (table_view table.new ≡ spec.with_member (spec.relation_entry users.now.names relations.now rho).0 (spec.relation_entry users.now.names relations.now rho).1 (table_view table.old)) }
+    ensures put { OnOk result (table_view table.new
+        ≡ spec.with_member (spec.relation_entry users.now.names relations.now rho).0
+        (spec.relation_entry users.now.names relations.now rho).1 (table_view table.old)) }
 {
     let kind = kind_table(alloc, users, relations, rho)?;
     let name = relation_name(relations, rho);

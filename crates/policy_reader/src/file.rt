@@ -83,7 +83,8 @@ fn read_rest(
     requires none { policy.old.flow_names ≡ [] }
     requires bare { policy.old.flows ≡ [] }
     requires begun { IsBegun policy.old }
-    ensures read { Gives fault_of (λ _. policy.new) result (spec.rest_of format policy.old (table_view file.now)) }
+    ensures read { Gives fault_of (λ _. policy.new) result
+        (spec.rest_of format policy.old (table_view file.now)) }
     ensures printable { OnOk result (IsPrintable policy.new) }
 {
     if let Err(fault) = read_flows(alloc, policy, file) {
@@ -114,7 +115,8 @@ fn start_with(
     file: &Table,
 ) -> Result<Policy, ReadFault>
     requires few { length roles.names ≤ ROLE_LIMIT }
-    ensures read { Gives fault_of (λ p. p) result (spec.start_with roles.names name.now (table_view file.now)) }
+    ensures read { Gives fault_of (λ p. p) result
+        (spec.start_with roles.names name.now (table_view file.now)) }
     ensures none { IfOk result (λ p. p.flow_names ≡ []) }
     ensures bare { IfOk result (λ p. p.flows ≡ []) }
     ensures begun { IfOk result IsBegun }
@@ -134,7 +136,8 @@ fn start_over(
 ) -> Result<Policy, ReadFault>
     requires within { admin < length roster.roles }
     requires ascend { Ascend roster.users }
-    ensures read { Gives fault_of (λ p. p) result (spec.start_over roster admin (table_view file.now)) }
+    ensures read { Gives fault_of (λ p. p) result
+        (spec.start_over roster admin (table_view file.now)) }
     ensures none { IfOk result (λ p. p.flow_names ≡ []) }
     ensures bare { IfOk result (λ p. p.flows ≡ []) }
     ensures begun { IfOk result IsBegun }

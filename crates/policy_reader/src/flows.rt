@@ -28,7 +28,8 @@ use workflow_schema::Flow;
 #[tactic(auto, unfolding(crate::specs::Flows::flow_in))]
 fn flow_of(alloc: Global, roles: &NameTable, table: &Table, number: u32) -> Result<Flow, ReadFault>
     requires few { length roles.now.names ≤ ROLE_LIMIT }
-    ensures read { Gives fault_of (λ f. f) result (spec.flow_in number roles.now.names (table_view table.now)) }
+    ensures read { Gives fault_of (λ f. f) result
+        (spec.flow_in number roles.now.names (table_view table.now)) }
     ensures roles { IfOk result (PermitsRolesBelow (length roles.now.names)) }
     ensures counted { IfOk result (λ f. is_count (length f.steps) ≡ true) }
 {
@@ -49,7 +50,8 @@ fn ordered_flow(
     number: u32,
 ) -> Result<Flow, ReadFault>
     requires counted { is_count (length steps.now.names) ≡ true }
-    ensures read { Gives fault_of (λ f. f) result (spec.ordered_in number steps.now.names (table_view table.now)) }
+    ensures read { Gives fault_of (λ f. f) result
+        (spec.ordered_in number steps.now.names (table_view table.now)) }
     ensures bare { IfOk result (λ f. f.permits ≡ set.empty) }
     ensures steps { IfOk result (λ f. f.steps ≡ steps.now.names) }
 {
@@ -67,7 +69,8 @@ fn add_workflow(
 ) -> Result<(), ReadFault>
     requires fresh { is_some (place_of policy.old.flow_names name) ≡ false }
     requires room { length policy.old.flows < FLOW_LIMIT }
-    ensures read { Gives fault_of (λ _. policy.new) result (spec.with_workflow policy.old name (spec.workflow_in policy.old (table_view table.now))) }
+    ensures read { Gives fault_of (λ _. policy.new) result
+        (spec.with_workflow policy.old name (spec.workflow_in policy.old (table_view table.now))) }
     ensures names { OnOk result (policy.new.flow_names ≡ policy.old.flow_names ++ name ∷ []) }
     ensures grown { OnOk result (IsGrown policy.old policy.new) }
 {
@@ -92,7 +95,8 @@ fn add_workflow(
 fn next_flow(alloc: Global, policy: &mut Policy, key: &str, value: &Value) -> Result<(), ReadFault>
     requires fresh { is_some (place_of policy.old.flow_names key.now) ≡ false }
     requires room { length policy.old.flow_names < FLOW_LIMIT }
-    ensures read { Gives fault_of (λ _. policy.new) result (spec.next_flow policy.old (key.now, view value.now)) }
+    ensures read { Gives fault_of (λ _. policy.new) result
+        (spec.next_flow policy.old (key.now, view value.now)) }
     ensures names { OnOk result (policy.new.flow_names ≡ policy.old.flow_names ++ key.now ∷ []) }
     ensures grown { OnOk result (IsGrown policy.old policy.new) }
 {
@@ -108,7 +112,8 @@ fn all_flows(alloc: Global, policy: &mut Policy, flows: &Table) -> Result<(), Re
     requires some { 0 < length flows.now.entries }
     requires bare { policy.old.flows ≡ [] }
     requires begun { IsBegun policy.old }
-    ensures read { Gives fault_of (λ _. policy.new) result (each spec.next_flow policy.old (entries (table_view flows.now))) }
+    ensures read { Gives fault_of (λ _. policy.new) result
+        (each spec.next_flow policy.old (entries (table_view flows.now))) }
     ensures printable { OnOk result (IsPrintable policy.new) }
 {
     'entries: for (key, value) in flows {
@@ -125,7 +130,8 @@ pub(crate) fn read_flows(alloc: Global, policy: &mut Policy, file: &Table) -> Re
     requires none { policy.old.flow_names ≡ [] }
     requires bare { policy.old.flows ≡ [] }
     requires begun { IsBegun policy.old }
-    ensures read { Gives fault_of (λ _. policy.new) result (spec.flows_of policy.old (table_view file.now)) }
+    ensures read { Gives fault_of (λ _. policy.new) result
+        (spec.flows_of policy.old (table_view file.now)) }
     ensures printable { OnOk result (IsPrintable policy.new) }
 {
     let value = value_at(file, "flows", PolicyPart::Flows, 0)?;

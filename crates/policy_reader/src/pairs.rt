@@ -24,7 +24,9 @@ pub(crate) fn read_user_pairs(
     index: u32,
 ) -> Result<UserPairs, ReadFault>
     requires few { length users.now.names ≤ USER_LIMIT }
-    ensures read { Gives fault_of (λ pairs. pairs) result (each (parts.next_pair part index users.now.names) set.empty (parts.items (items_view items.now))) }
+    ensures read { Gives fault_of (λ pairs. pairs) result
+        (each (parts.next_pair part index users.now.names) set.empty
+        (parts.items (items_view items.now))) }
     ensures within { IfOk result (λ pairs. AreBelow (length users.now.names) pairs) }
     ensures len { IfOk result (λ pairs. set.len pairs ≤ length items.now) }
 {
@@ -48,7 +50,8 @@ fn next_user_pair(
 ) -> Result<(), ReadFault>
     requires few { length users.now.names ≤ USER_LIMIT }
     requires within { AreBelow (length users.now.names) pairs.old }
-    ensures read { Gives fault_of (λ _. pairs.new) result (parts.next_pair part index users.now.names pairs.old (view value.now)) }
+    ensures read { Gives fault_of (λ _. pairs.new) result
+        (parts.next_pair part index users.now.names pairs.old (view value.now)) }
     ensures within { OnOk result (AreBelow (length users.now.names) pairs.new) }
     ensures len { OnOk result (set.len pairs.new ≤ set.len pairs.old + 1) }
 {

@@ -28,7 +28,8 @@ pub(crate) fn value_at<'t>(
     part: PolicyPart,
     index: u32,
 ) -> Result<&'t Value, ReadFault>
-    ensures { Gives fault_of (λ v. view v.now) result (parts.value_at part index key.now (table_view table.now)) }
+    ensures { Gives fault_of (λ v. view v.now) result
+        (parts.value_at part index key.now (table_view table.now)) }
 {
     match find(table, key) {
         Some(value) => Ok(value),
@@ -57,7 +58,8 @@ pub(crate) fn text_of(value: &Value, part: PolicyPart, index: u32) -> Result<&st
 /// The array that a value has to be.
 #[tactic(auto, unfolding(crate::specs::Parts::array_in))]
 pub(crate) fn array_of(value: &Value, part: PolicyPart, index: u32) -> Result<&Array, ReadFault>
-    ensures { Gives fault_of (λ v. array_view v.now) result (parts.array_in part index (view value.now)) }
+    ensures { Gives fault_of (λ v. array_view v.now) result
+        (parts.array_in part index (view value.now)) }
 {
     match value.as_array() {
         Some(items) => Ok(items),
@@ -68,7 +70,8 @@ pub(crate) fn array_of(value: &Value, part: PolicyPart, index: u32) -> Result<&A
 /// The table that a value has to be.
 #[tactic(auto, unfolding(crate::specs::Parts::table_in))]
 pub(crate) fn table_of(value: &Value, part: PolicyPart, index: u32) -> Result<&Table, ReadFault>
-    ensures { Gives fault_of (λ t. table_view t.now) result (parts.table_in part index (view value.now)) }
+    ensures { Gives fault_of (λ t. table_view t.now) result
+        (parts.table_in part index (view value.now)) }
 {
     match value.as_table() {
         Some(members) => Ok(members),
@@ -125,7 +128,8 @@ pub(crate) fn number_of(
     part: PolicyPart,
     index: u32,
 ) -> Result<u16, ReadFault>
-    ensures read { Gives fault_of (λ n. n) result (parts.number_in part index names.now.names text.now) }
+    ensures read { Gives fault_of (λ n. n) result
+        (parts.number_in part index names.now.names text.now) }
     ensures within { IfOk result (λ n. n < length names.now.names) }
 {
     let Some(name) = Name::read(text) else {
@@ -146,7 +150,8 @@ pub(crate) fn next_name(
     index: u32,
 ) -> Result<(), ReadFault>
     requires room { length names.old.names < names.old.limit }
-    ensures read { Gives fault_of (λ _. names.new.names) result (parts.next_name part index names.old.names (view value.now)) }
+    ensures read { Gives fault_of (λ _. names.new.names) result
+        (parts.next_name part index names.old.names (view value.now)) }
     ensures limit { OnOk result (names.new.limit ≡ names.old.limit) }
     ensures count { OnOk result (length names.new.names ≡ length names.old.names + 1) }
 {
@@ -181,7 +186,8 @@ fn texts_of(items: &[Value]) -> Option<(&str, &str)>
 }
 
 fn both_texts<'t>(first: &'t Value, second: &'t Value) -> Option<(&'t str, &'t str)>
-    ensures { option_map (λ p. (p.0.now, p.1.now)) result ≡ parts.both_texts (view first.now) (view second.now) }
+    ensures { option_map (λ p. (p.0.now, p.1.now)) result
+        ≡ parts.both_texts (view first.now) (view second.now) }
 {
     match (first.as_str(), second.as_str()) {
         (Some(first), Some(second)) => Some((first, second)),
@@ -191,8 +197,11 @@ fn both_texts<'t>(first: &'t Value, second: &'t Value) -> Option<(&'t str, &'t s
 
 /// Notes a pair and answers whether it is new.
 fn put_new(seen: &mut IndexSet<(u16, u16)>, pair: (u16, u16)) -> Result<bool, ReadFault>
-    ensures fresh { IfOk result (λ fresh. fresh ≡ not (set.contains {R = pair_cmp} (set.from_list seen.old.keys) pair)) }
-    ensures put { IfOk result (λ fresh. fresh ≡ true → set.from_list {R = pair_cmp} seen.new.keys ≡ set.insert (set.from_list seen.old.keys) pair) }
+    ensures fresh { IfOk result (λ fresh. fresh
+        ≡ not (set.contains {R = pair_cmp} (set.from_list seen.old.keys) pair)) }
+    ensures put { IfOk result (λ fresh. fresh ≡ true
+        → set.from_list {R = pair_cmp} seen.new.keys
+        ≡ set.insert (set.from_list seen.old.keys) pair) }
     ensures memory { IfErr result (λ e. e ≡ NoMemory) }
 {
     match seen.insert(pair) {
@@ -211,9 +220,12 @@ fn next_pair(
     index: u32,
 ) -> Result<(), ReadFault>
     requires within { AreBelow (length names.now.names) (set.from_list seen.old.keys) }
-    ensures read { Gives fault_of (λ _. set.from_list seen.new.keys) result (parts.next_pair part index names.now.names (set.from_list seen.old.keys) (view value.now)) }
+    ensures read { Gives fault_of (λ _. set.from_list seen.new.keys) result
+        (parts.next_pair part index names.now.names (set.from_list seen.old.keys)
+        (view value.now)) }
     ensures within { OnOk result (AreBelow (length names.now.names) (set.from_list seen.new.keys)) }
-    ensures len { OnOk result (set.len {R = pair_cmp} (set.from_list seen.new.keys) ≤ set.len {R = pair_cmp} (set.from_list seen.old.keys) + 1) }
+    ensures len { OnOk result (set.len {R = pair_cmp} (set.from_list seen.new.keys)
+        ≤ set.len {R = pair_cmp} (set.from_list seen.old.keys) + 1) }
 {
     let Some((first, second)) = two_texts(value) else {
         return Err(refuse(PolicyKind::Shape, part, index));
@@ -236,7 +248,9 @@ pub(crate) fn read_pairs(
     part: PolicyPart,
     index: u32,
 ) -> Result<PairSet, ReadFault>
-    ensures read { Gives fault_of (λ pairs. pairs) result (each (parts.next_pair part index names.now.names) set.empty (parts.items (items_view items.now))) }
+    ensures read { Gives fault_of (λ pairs. pairs) result
+        (each (parts.next_pair part index names.now.names) set.empty
+        (parts.items (items_view items.now))) }
     ensures within { IfOk result (λ pairs. AreBelow (length names.now.names) pairs) }
     ensures len { IfOk result (λ pairs. set.len pairs ≤ length items.now) }
 {
@@ -267,7 +281,8 @@ pub(crate) fn no_others(
     part: PolicyPart,
     index: u32,
 ) -> Result<(), ReadFault>
-    ensures { Gives fault_of (λ u. u) result (parts.no_others part index (map (λ k. k.now) known.now) (table_view table.now)) }
+    ensures { Gives fault_of (λ u. u) result
+        (parts.no_others part index (map (λ k. k.now) known.now) (table_view table.now)) }
 {
     'entries: for (key, _value) in table {
         if let Err(fault) = known_key(key.as_str(), known, part, index) {
@@ -279,7 +294,8 @@ pub(crate) fn no_others(
 
 #[tactic(auto, unfolding(crate::specs::Parts::known_key))]
 fn known_key(key: &str, known: &[&str], part: PolicyPart, index: u32) -> Result<(), ReadFault>
-    ensures { (d : Data) → Gives fault_of (λ u. u) result (parts.known_key part index (map (λ k. k.now) known.now) tt (key.now, d)) }
+    ensures { (d : Data) → Gives fault_of (λ u. u) result
+        (parts.known_key part index (map (λ k. k.now) known.now) tt (key.now, d)) }
 {
     if is_among(known, key) {
         Ok(())

@@ -37,7 +37,8 @@ fn listed_of(
     value: &Value,
 ) -> Result<UserPairs, ReadFault>
     requires known { length users.now.names ≤ USER_LIMIT }
-    ensures read { Gives fault_of (λ pairs. listed pairs) result (spec.listed_in users.now.names number (view value.now)) }
+    ensures read { Gives fault_of (λ pairs. listed pairs) result
+        (spec.listed_in users.now.names number (view value.now)) }
     ensures few { IfOk result (λ pairs. set.len pairs ≤ PAIR_LIMIT) }
     ensures users { IfOk result (AreBelow (length users.now.names)) }
 {
@@ -76,7 +77,8 @@ fn entry_of(all: &Table, text: &str) -> Option<(u8, bool)>
 #[tactic(auto, unfolding(crate::specs::Relations::complement_in))]
 fn complement_of(all: &Table, number: u32, value: &Value) -> Result<RelId, ReadFault>
     requires few { length all.now.entries ≤ RELATION_LIMIT }
-    ensures read { Gives fault_of (λ rho. complement rho) result (spec.complement_in (table_view all.now) number (view value.now)) }
+    ensures read { Gives fault_of (λ rho. complement rho) result
+        (spec.complement_in (table_view all.now) number (view value.now)) }
     ensures target { IfOk result (IsTarget (entries (table_view all.now))) }
 {
     let text = text_of(value, PolicyPart::Relations, number)?;
@@ -101,8 +103,10 @@ fn kind_of(
 ) -> Result<Kind, ReadFault>
     requires known { length users.now.names ≤ USER_LIMIT }
     requires few { length all.now.entries ≤ RELATION_LIMIT }
-    ensures read { Gives fault_of kind_view result (spec.kind_in users.now.names (table_view all.now) number (table_view table.now)) }
-    ensures kept { IfOk result (λ k. IsKept (length users.now.names) (entries (table_view all.now)) (spec.is_complement_table (table_view table.now)) (kind_view k)) }
+    ensures read { Gives fault_of kind_view result
+        (spec.kind_in users.now.names (table_view all.now) number (table_view table.now)) }
+    ensures kept { IfOk result (λ k. IsKept (length users.now.names) (entries (table_view all.now))
+        (spec.is_complement_table (table_view table.now)) (kind_view k)) }
 {
     if table.len() != 1 {
         return Err(refuse(PolicyKind::Shape, PolicyPart::Relations, number));
@@ -124,7 +128,8 @@ fn is_built_in(text: &str) -> bool
 }
 
 fn push_relation(relations: &mut Vec<Relation>, name: Name, kind: Kind) -> Result<(), ReadFault>
-    ensures added { OnOk result (shapes relations.new.items ≡ shapes relations.old.items ++ record { name = name; kind = kind_view kind } ∷ []) }
+    ensures added { OnOk result (shapes relations.new.items
+        ≡ shapes relations.old.items ++ record { name = name; kind = kind_view kind } ∷ []) }
     ensures memory { IfErr result (λ e. e ≡ NoMemory) }
 {
     match relations.push(Relation { name, kind }) {
@@ -147,11 +152,18 @@ fn next_relation(
     requires few { length all.now.entries ≤ RELATION_LIMIT }
     requires room { length (shapes relations.old.items) < RELATION_LIMIT }
     requires new { parts.is_among (names_of (shapes relations.old.items)) key.now ≡ false }
-    requires kept { AreKept (length users.now.names) (entries (table_view all.now)) (shapes relations.old.items) }
-    requires here { is_marked first_declared (entries (table_view all.now)) (first_declared + length (shapes relations.old.items)) ≡ spec.is_complement (view value.now) }
-    ensures read { Gives fault_of (λ _. shapes relations.new.items) result (spec.next_relation users.now.names (table_view all.now) (shapes relations.old.items) (key.now, view value.now)) }
-    ensures names { OnOk result (names_of (shapes relations.new.items) ≡ names_of (shapes relations.old.items) ++ key.now ∷ []) }
-    ensures kept { OnOk result (AreKept (length users.now.names) (entries (table_view all.now)) (shapes relations.new.items)) }
+    requires kept { AreKept (length users.now.names) (entries (table_view all.now))
+        (shapes relations.old.items) }
+    requires here { is_marked first_declared (entries (table_view all.now))
+        (first_declared + length (shapes relations.old.items))
+        ≡ spec.is_complement (view value.now) }
+    ensures read { Gives fault_of (λ _. shapes relations.new.items) result
+        (spec.next_relation users.now.names (table_view all.now) (shapes relations.old.items)
+        (key.now, view value.now)) }
+    ensures names { OnOk result (names_of (shapes relations.new.items)
+        ≡ names_of (shapes relations.old.items) ++ key.now ∷ []) }
+    ensures kept { OnOk result (AreKept (length users.now.names) (entries (table_view all.now))
+        (shapes relations.new.items)) }
 {
     let number = relations.len() as u32 + 2;
     let name = name_of(key, PolicyPart::Relations, number)?;
@@ -175,9 +187,12 @@ fn all_relations(
     requires none { relations.old.items ≡ [] }
     requires users { length users.now.names ≤ USER_LIMIT }
     requires few { length all.now.entries ≤ RELATION_LIMIT }
-    ensures read { Gives fault_of (λ _. shapes relations.new.items) result (each (spec.next_relation users.now.names (table_view all.now)) [] (entries (table_view all.now))) }
+    ensures read { Gives fault_of (λ _. shapes relations.new.items) result
+        (each (spec.next_relation users.now.names (table_view all.now)) []
+        (entries (table_view all.now))) }
     ensures sound { OnOk result (AreSound (shapes relations.new.items)) }
-    ensures related { OnOk result (AreOfUsers (length users.now.names) (shapes relations.new.items)) }
+    ensures related { OnOk result (AreOfUsers (length users.now.names)
+        (shapes relations.new.items)) }
     ensures ascend { OnOk result (Ascend (names_of (shapes relations.new.items))) }
 {
     'entries: for (key, value) in all {
@@ -191,7 +206,8 @@ fn all_relations(
 #[tactic(auto, unfolding(crate::specs::Relations::relations_in), using(crate::proofs::Counts::count_entries))]
 fn relations_in(alloc: Global, users: &NameTable, value: &Value) -> Result<Relations, ReadFault>
     requires users { length users.now.names ≤ USER_LIMIT }
-    ensures read { Gives fault_of (λ r. r) result (spec.relations_in users.now.names (view value.now)) }
+    ensures read { Gives fault_of (λ r. r) result
+        (spec.relations_in users.now.names (view value.now)) }
     ensures related { IfOk result (AreOfUsers (length users.now.names)) }
     ensures ascend { IfOk result (λ r. Ascend (names_of r)) }
 {
@@ -212,7 +228,8 @@ pub(crate) fn read_relations(
     file: &Table,
 ) -> Result<Relations, ReadFault>
     requires users { length users.now.names ≤ USER_LIMIT }
-    ensures read { Gives fault_of (λ r. r) result (spec.relations_of users.now.names (table_view file.now)) }
+    ensures read { Gives fault_of (λ r. r) result
+        (spec.relations_of users.now.names (table_view file.now)) }
     ensures related { IfOk result (AreOfUsers (length users.now.names)) }
     ensures ascend { IfOk result (λ r. Ascend (names_of r)) }
 {

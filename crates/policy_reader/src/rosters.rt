@@ -37,7 +37,8 @@ pub(crate) fn read_roles(alloc: Global, file: &Table) -> Result<NameTable, ReadF
 fn all_roles(roles: &mut NameTable, items: &[Value]) -> Result<(), ReadFault>
     requires limit { roles.old.limit ≡ ROLE_LIMIT }
     requires room { length roles.old.names + length items.now ≤ ROLE_LIMIT }
-    ensures read { Gives fault_of (λ _. roles.new.names) result (each rosters.next_role roles.old.names (part_items (items_view items.now))) }
+    ensures read { Gives fault_of (λ _. roles.new.names) result
+        (each rosters.next_role roles.old.names (part_items (items_view items.now))) }
     ensures limit { OnOk result (roles.new.limit ≡ ROLE_LIMIT) }
 {
     'items: for value in items {
@@ -51,7 +52,8 @@ fn all_roles(roles: &mut NameTable, items: &[Value]) -> Result<(), ReadFault>
 #[tactic(auto, unfolding(crate::specs::Rosters::next_role))]
 fn next_role(roles: &mut NameTable, value: &Value) -> Result<(), ReadFault>
     requires room { length roles.old.names < roles.old.limit }
-    ensures read { Gives fault_of (λ _. roles.new.names) result (rosters.next_role roles.old.names (view value.now)) }
+    ensures read { Gives fault_of (λ _. roles.new.names) result
+        (rosters.next_role roles.old.names (view value.now)) }
     ensures limit { OnOk result (roles.new.limit ≡ roles.old.limit) }
     ensures count { OnOk result (length roles.new.names ≡ length roles.old.names + 1) }
 {
@@ -62,7 +64,8 @@ fn next_role(roles: &mut NameTable, value: &Value) -> Result<(), ReadFault>
 #[tactic(auto, unfolding(crate::specs::Rosters::next_held, crate::specs::Parts::once))]
 fn next_held(roster: &mut Roster, u: UserId, value: &Value) -> Result<(), ReadFault>
     requires user { u < length roster.old.users }
-    ensures read { Gives fault_of (λ _. roster.new) result (rosters.next_held u roster.old (view value.now)) }
+    ensures read { Gives fault_of (λ _. roster.new) result
+        (rosters.next_held u roster.old (view value.now)) }
     ensures users { OnOk result (roster.new.users ≡ roster.old.users) }
     ensures roles { OnOk result (roster.new.roles ≡ roster.old.roles) }
 {
@@ -84,7 +87,8 @@ fn next_held(roster: &mut Roster, u: UserId, value: &Value) -> Result<(), ReadFa
 
 fn all_held(roster: &mut Roster, u: UserId, items: &[Value]) -> Result<(), ReadFault>
     requires user { u < length roster.old.users }
-    ensures read { Gives fault_of (λ _. roster.new) result (each (rosters.next_held u) roster.old (part_items (items_view items.now))) }
+    ensures read { Gives fault_of (λ _. roster.new) result
+        (each (rosters.next_held u) roster.old (part_items (items_view items.now))) }
     ensures users { OnOk result (roster.new.users ≡ roster.old.users) }
     ensures roles { OnOk result (roster.new.roles ≡ roster.old.roles) }
 {
@@ -101,7 +105,8 @@ fn all_held(roster: &mut Roster, u: UserId, items: &[Value]) -> Result<(), ReadF
 fn next_user(roster: &mut Roster, key: &str, value: &Value) -> Result<(), ReadFault>
     requires fresh { is_some (place_of roster.old.users key.now) ≡ false }
     requires room { length roster.old.users < USER_LIMIT }
-    ensures read { Gives fault_of (λ _. roster.new) result (rosters.next_user roster.old (key.now, view value.now)) }
+    ensures read { Gives fault_of (λ _. roster.new) result
+        (rosters.next_user roster.old (key.now, view value.now)) }
     ensures users { OnOk result (roster.new.users ≡ roster.old.users ++ key.now ∷ []) }
     ensures roles { OnOk result (roster.new.roles ≡ roster.old.roles) }
 {
@@ -118,7 +123,8 @@ fn next_user(roster: &mut Roster, key: &str, value: &Value) -> Result<(), ReadFa
 /// The table of the users.
 #[tactic(auto, unfolding(crate::specs::Rosters::users_in), using(crate::proofs::Counts::count_entries))]
 fn users_of(file: &Table) -> Result<&Table, ReadFault>
-    ensures read { Gives fault_of (λ t. table_view t.now) result (rosters.users_in (table_view file.now)) }
+    ensures read { Gives fault_of (λ t. table_view t.now) result
+        (rosters.users_in (table_view file.now)) }
     ensures few { IfOk result (λ t. length t.now.entries ≤ USER_LIMIT) }
 {
     let value = value_at(file, "users", PolicyPart::Users, 0)?;
@@ -136,7 +142,8 @@ pub(crate) fn read_roster(
     file: &Table,
 ) -> Result<Roster, ReadFault>
     requires roles { length roles.names ≤ ROLE_LIMIT }
-    ensures read { Gives fault_of (λ r. r) result (rosters.roster_of roles.names (table_view file.now)) }
+    ensures read { Gives fault_of (λ r. r) result
+        (rosters.roster_of roles.names (table_view file.now)) }
     ensures roles { IfOk result (λ r. r.roles ≡ roles.names) }
     ensures ascend { IfOk result (λ r. Ascend r.users) }
 {
@@ -151,7 +158,8 @@ pub(crate) fn read_roster(
 fn all_users(roster: &mut Roster, users: &Table) -> Result<(), ReadFault>
     requires none { roster.old.users ≡ [] }
     requires room { length users.now.entries ≤ USER_LIMIT }
-    ensures read { Gives fault_of (λ _. roster.new) result (each rosters.next_user roster.old (entries (table_view users.now))) }
+    ensures read { Gives fault_of (λ _. roster.new) result
+        (each rosters.next_user roster.old (entries (table_view users.now))) }
     ensures roles { OnOk result (roster.new.roles ≡ roster.old.roles) }
     ensures ascend { OnOk result (Ascend roster.new.users) }
 {

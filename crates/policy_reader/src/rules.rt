@@ -27,7 +27,8 @@ use wf_names::{Name, NameTable, RULE_LIMIT, RelId, StepId};
 /// The relation that a value names.
 #[tactic(auto, unfolding(crate::specs::Rules::relation_in, crate::specs::Parts::number_in))]
 fn relation_of(relations: &Relations, value: &Value, flow: u32) -> Result<RelId, ReadFault>
-    ensures read { Gives fault_of (λ rho. rho) result (spec.relation_in flow relations.now (view value.now)) }
+    ensures read { Gives fault_of (λ rho. rho) result
+        (spec.relation_in flow relations.now (view value.now)) }
     ensures within { IfOk result (λ rho. rho < length relations.now + 2) }
 {
     let text = text_of(value, PolicyPart::Flows, flow)?;
@@ -44,7 +45,8 @@ fn relation_of(relations: &Relations, value: &Value, flow: u32) -> Result<RelId,
 #[tactic(auto, unfolding(crate::specs::Rules::step_in))]
 fn step_of(steps: &NameTable, value: &Value, flow: u32) -> Result<StepId, ReadFault>
     requires few { length steps.now.names ≤ STEP_LIMIT }
-    ensures read { Gives fault_of (λ s. s) result (spec.step_in flow steps.now.names (view value.now)) }
+    ensures read { Gives fault_of (λ s. s) result
+        (spec.step_in flow steps.now.names (view value.now)) }
     ensures within { IfOk result (λ s. s < length steps.now.names) }
 {
     let text = text_of(value, PolicyPart::Flows, flow)?;
@@ -62,7 +64,8 @@ fn next_member(
 ) -> Result<(), ReadFault>
     requires few { length steps.now.names ≤ STEP_LIMIT }
     requires within { HasStepsBelow (length steps.now.names) group.old }
-    ensures read { Gives fault_of (λ _. group.new) result (spec.next_member flow steps.now.names group.old (view value.now)) }
+    ensures read { Gives fault_of (λ _. group.new) result
+        (spec.next_member flow steps.now.names group.old (view value.now)) }
     ensures within { OnOk result (HasStepsBelow (length steps.now.names) group.new) }
     ensures some { OnOk result (IsTrue (any_from 0 group.new (λ _. true))) }
 {
@@ -80,7 +83,8 @@ fn next_member(
 #[tactic(auto, unfolding(crate::specs::Rules::group_in), using(crate::proofs::Counts::count_items))]
 fn group_of(steps: &NameTable, value: &Value, flow: u32) -> Result<StepSet, ReadFault>
     requires few { length steps.now.names ≤ STEP_LIMIT }
-    ensures read { Gives fault_of (λ g. g) result (spec.group_in flow steps.now.names (view value.now)) }
+    ensures read { Gives fault_of (λ g. g) result
+        (spec.group_in flow steps.now.names (view value.now)) }
     ensures within { IfOk result (HasStepsBelow (length steps.now.names)) }
     ensures some { IfOk result (λ g. IsTrue (any_from 0 g (λ _. true))) }
 {
@@ -92,7 +96,9 @@ fn group_of(steps: &NameTable, value: &Value, flow: u32) -> Result<StepSet, Read
 fn all_members(steps: &NameTable, items: &[Value], flow: u32) -> Result<StepSet, ReadFault>
     requires few { length steps.now.names ≤ STEP_LIMIT }
     requires some { 0 < length items.now }
-    ensures read { Gives fault_of (λ g. g) result (each (spec.next_member flow steps.now.names) no_steps (part_items (items_view items.now))) }
+    ensures read { Gives fault_of (λ g. g) result
+        (each (spec.next_member flow steps.now.names) no_steps
+        (part_items (items_view items.now))) }
     ensures within { IfOk result (HasStepsBelow (length steps.now.names)) }
     ensures some { IfOk result (λ g. IsTrue (any_from 0 g (λ _. true))) }
 {
@@ -114,7 +120,8 @@ fn pair_of(
     flow: u32,
 ) -> Result<Rule, ReadFault>
     requires few { length steps.now.names ≤ STEP_LIMIT }
-    ensures read { Gives fault_of (λ r. r) result (spec.pair_in flow relations.now steps.now.names (table_view table.now)) }
+    ensures read { Gives fault_of (λ r. r) result
+        (spec.pair_in flow relations.now steps.now.names (table_view table.now)) }
     ensures sound { IfOk result (IsSoundRule (length steps.now.names) (length relations.now)) }
 {
     let relation = value_at(table, "relation", PolicyPart::Flows, flow)?;
@@ -145,7 +152,8 @@ fn grouped_of(
     flow: u32,
 ) -> Result<Grouped, ReadFault>
     requires few { length steps.now.names ≤ STEP_LIMIT }
-    ensures read { Gives fault_of (λ g. (g.rho, (g.group, g.step))) result (spec.grouped_in form flow relations.now steps.now.names (table_view table.now)) }
+    ensures read { Gives fault_of (λ g. (g.rho, (g.group, g.step))) result
+        (spec.grouped_in form flow relations.now steps.now.names (table_view table.now)) }
     ensures relation { IfOk result (λ g. g.rho < length relations.now + 2) }
     ensures step { IfOk result (λ g. g.step < length steps.now.names) }
     ensures within { IfOk result (λ g. HasStepsBelow (length steps.now.names) g.group) }
@@ -171,7 +179,8 @@ fn rule_of_form(
     flow: u32,
 ) -> Result<Rule, ReadFault>
     requires few { length steps.now.names ≤ STEP_LIMIT }
-    ensures read { Gives fault_of (λ r. r) result (spec.rule_of_form form flow relations.now steps.now.names (table_view table.now)) }
+    ensures read { Gives fault_of (λ r. r) result
+        (spec.rule_of_form form flow relations.now steps.now.names (table_view table.now)) }
     ensures sound { IfOk result (IsSoundRule (length steps.now.names) (length relations.now)) }
 {
     match form {
@@ -210,7 +219,8 @@ fn rule_of(
     flow: u32,
 ) -> Result<Rule, ReadFault>
     requires few { length steps.now.names ≤ STEP_LIMIT }
-    ensures read { Gives fault_of (λ r. r) result (spec.rule_in flow relations.now steps.now.names (view value.now)) }
+    ensures read { Gives fault_of (λ r. r) result
+        (spec.rule_in flow relations.now steps.now.names (view value.now)) }
     ensures sound { IfOk result (IsSoundRule (length steps.now.names) (length relations.now)) }
 {
     let table = table_of(value, PolicyPart::Flows, flow)?;
@@ -230,8 +240,10 @@ fn next_rule(
 ) -> Result<(), ReadFault>
     requires few { length steps.now.names ≤ STEP_LIMIT }
     requires sound { AreSoundRules (length steps.now.names) (length relations.now) rules.old }
-    ensures read { Gives fault_of (λ _. rules.new) result (spec.next_rule flow relations.now steps.now.names rules.old (view value.now)) }
-    ensures sound { OnOk result (AreSoundRules (length steps.now.names) (length relations.now) rules.new) }
+    ensures read { Gives fault_of (λ _. rules.new) result
+        (spec.next_rule flow relations.now steps.now.names rules.old (view value.now)) }
+    ensures sound { OnOk result (AreSoundRules (length steps.now.names)
+        (length relations.now) rules.new) }
     ensures count { OnOk result (length rules.new ≡ length rules.old + 1) }
 {
     match rule_of(value, relations, steps, flow) {
@@ -258,7 +270,9 @@ fn all_rules(
     flow: u32,
 ) -> Result<Rules, ReadFault>
     requires few { length steps.now.names ≤ STEP_LIMIT }
-    ensures read { Gives fault_of (λ r. r) result (each (spec.next_rule flow relations.now steps.now.names) [] (part_items (items_view items.now))) }
+    ensures read { Gives fault_of (λ r. r) result
+        (each (spec.next_rule flow relations.now steps.now.names) []
+        (part_items (items_view items.now))) }
     ensures sound { IfOk result (AreSoundRules (length steps.now.names) (length relations.now)) }
     ensures count { IfOk result (λ r. length r ≤ length items.now) }
 {
@@ -280,7 +294,8 @@ fn rules_in(
     flow: u32,
 ) -> Result<Rules, ReadFault>
     requires few { length steps.now.names ≤ STEP_LIMIT }
-    ensures read { Gives fault_of (λ r. r) result (spec.rules_in flow relations.now steps.now.names (view value.now)) }
+    ensures read { Gives fault_of (λ r. r) result
+        (spec.rules_in flow relations.now steps.now.names (view value.now)) }
     ensures sound { IfOk result (AreSoundRules (length steps.now.names) (length relations.now)) }
     ensures few { IfOk result (λ r. length r ≤ RULE_LIMIT) }
 {
@@ -299,7 +314,8 @@ pub(crate) fn read_rules(
     flow: u32,
 ) -> Result<Rules, ReadFault>
     requires few { length steps.now.names ≤ STEP_LIMIT }
-    ensures read { Gives fault_of (λ r. r) result (spec.rules_of flow relations.now steps.now.names (table_view table.now)) }
+    ensures read { Gives fault_of (λ r. r) result
+        (spec.rules_of flow relations.now steps.now.names (table_view table.now)) }
     ensures sound { IfOk result (AreSoundRules (length steps.now.names) (length relations.now)) }
     ensures few { IfOk result (λ r. length r ≤ RULE_LIMIT) }
 {

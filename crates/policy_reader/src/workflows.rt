@@ -34,7 +34,8 @@ use workflow_schema::{Flow, FlowFault};
 /// Reads the steps of a workflow.
 #[tactic(auto, unfolding(crate::specs::Flows::steps_of), using(crate::proofs::Counts::count_items, crate::proofs::Counts::counted))]
 pub(crate) fn read_steps(alloc: Global, table: &Table, flow: u32) -> Result<NameTable, ReadFault>
-    ensures read { Gives fault_of (λ t. t.names) result (spec.steps_of flow (table_view table.now)) }
+    ensures read { Gives fault_of (λ t. t.names) result
+        (spec.steps_of flow (table_view table.now)) }
     ensures counted { IfOk result (λ t. is_count (length t.names) ≡ true) }
 {
     let value = value_at(table, "steps", PolicyPart::Flows, flow)?;
@@ -46,7 +47,8 @@ pub(crate) fn read_steps(alloc: Global, table: &Table, flow: u32) -> Result<Name
 
 fn all_steps(alloc: Global, items: &[Value], flow: u32) -> Result<NameTable, ReadFault>
     requires few { length items.now ≤ STEP_LIMIT }
-    ensures read { Gives fault_of (λ t. t.names) result (each (parts.next_name Flows flow) [] (part_items (items_view items.now))) }
+    ensures read { Gives fault_of (λ t. t.names) result
+        (each (parts.next_name Flows flow) [] (part_items (items_view items.now))) }
     ensures count { IfOk result (λ t. length t.names ≡ length items.now) }
 {
     let mut steps = NameTable::new(alloc, STEP_LIMIT as u16)?;
@@ -66,7 +68,8 @@ pub(crate) fn read_order(
     table: &Table,
     flow: u32,
 ) -> Result<PairSet, ReadFault>
-    ensures read { Gives fault_of (λ pairs. pairs) result (spec.pairs_of flow steps.now.names (table_view table.now)) }
+    ensures read { Gives fault_of (λ pairs. pairs) result
+        (spec.pairs_of flow steps.now.names (table_view table.now)) }
     ensures within { IfOk result (AreBelow (length steps.now.names)) }
 {
     match find(table, "order") {
@@ -82,7 +85,8 @@ fn order_of(
     value: &Value,
     flow: u32,
 ) -> Result<PairSet, ReadFault>
-    ensures read { Gives fault_of (λ pairs. pairs) result (spec.order_in flow steps.now.names (view value.now)) }
+    ensures read { Gives fault_of (λ pairs. pairs) result
+        (spec.order_in flow steps.now.names (view value.now)) }
     ensures within { IfOk result (AreBelow (length steps.now.names)) }
 {
     let items = array_of(value, PolicyPart::Flows, flow)?;
@@ -101,7 +105,8 @@ pub(crate) fn make_flow(
     requires counted { is_count (length steps.now.names) ≡ true }
     requires within { AreBelow (length steps.now.names) order.now }
     ensures cycle { Gives fault_of (λ _. tt) result (spec.no_cycle flow steps.now.names order.now) }
-    ensures made { IfOk result (λ f. f ≡ record { steps = steps.now.names; order = order.now; permits = set.empty }) }
+    ensures made { IfOk result (λ f. f ≡ record
+        { steps = steps.now.names; order = order.now; permits = set.empty }) }
 {
     order_is_chained();
     let pairs = step_pairs(alloc, order.as_slice())?;
@@ -115,7 +120,9 @@ pub(crate) fn make_flow(
 fn flow_fault(steps: &NameTable, fault: FlowFault, flow: u32) -> ReadFault
     requires known { IsCycleOrMemory fault }
     requires within { (s : ℕ) → fault ≡ FlowFault.Cycle s → s < length steps.now.names }
-    ensures cycle { (s : ℕ) → fault ≡ FlowFault.Cycle s → result ≡ Policy (fault_about kind.Cycle Flows flow (slice_index_or steps.now.names s [])) }
+    ensures cycle { (s : ℕ) → fault ≡ FlowFault.Cycle s
+        → result ≡ Policy (fault_about kind.Cycle Flows flow
+        (slice_index_or steps.now.names s [])) }
     ensures memory { fault ≡ FlowFault.NoMemory → result ≡ NoMemory }
 {
     match fault {
@@ -133,8 +140,10 @@ fn order_flow(
     requires counted { is_count (length steps.names) ≡ true }
     requires within { All (λ p. (p.0 < length steps.names) × (p.1 < length steps.names)) pairs.now }
     requires once { has_twice pairs.now ≡ false }
-    ensures made { IfOk result (λ f. f ≡ record { steps = steps.names; order = set.from_list pairs.now; permits = set.empty }) }
-    ensures cycle { (s : ℕ) → IsErrOf result (FlowFault.Cycle s) ↔ IsLeastCycle (set.from_list pairs.now) s }
+    ensures made { IfOk result (λ f. f ≡ record
+        { steps = steps.names; order = set.from_list pairs.now; permits = set.empty }) }
+    ensures cycle { (s : ℕ) → IsErrOf result (FlowFault.Cycle s)
+        ↔ IsLeastCycle (set.from_list pairs.now) s }
     ensures known { IfErr result IsCycleOrMemory }
 {
     Flow::build(alloc, steps, pairs, &[])
@@ -142,7 +151,8 @@ fn order_flow(
 
 fn cycle_fault(steps: &NameTable, s: StepId, flow: u32) -> ReadFault
     requires { s < length steps.now.names }
-    ensures { result ≡ Policy (fault_about kind.Cycle Flows flow (slice_index_or steps.now.names s [])) }
+    ensures { result ≡ Policy (fault_about kind.Cycle Flows flow
+        (slice_index_or steps.now.names s [])) }
 {
     let name = steps.name(s.0 as u16);
     refuse_text(PolicyKind::Cycle, PolicyPart::Flows, flow, name.as_str())
@@ -176,7 +186,8 @@ fn next_permitted(
     requires step { s < length made.old.steps }
     requires few { length roles.now.names ≤ ROLE_LIMIT }
     requires roles { PermitsRolesBelow (length roles.now.names) made.old }
-    ensures read { Gives fault_of (λ _. made.new) result (spec.next_permitted flow roles.now.names s made.old (view value.now)) }
+    ensures read { Gives fault_of (λ _. made.new) result
+        (spec.next_permitted flow roles.now.names s made.old (view value.now)) }
     ensures steps { OnOk result (made.new.steps ≡ made.old.steps) }
     ensures roles { OnOk result (PermitsRolesBelow (length roles.now.names) made.new) }
 {
@@ -199,7 +210,9 @@ fn all_permitted(
     requires step { s < length made.old.steps }
     requires few { length roles.now.names ≤ ROLE_LIMIT }
     requires roles { PermitsRolesBelow (length roles.now.names) made.old }
-    ensures read { Gives fault_of (λ _. made.new) result (each (spec.next_permitted flow roles.now.names s) made.old (part_items (items_view items.now))) }
+    ensures read { Gives fault_of (λ _. made.new) result
+        (each (spec.next_permitted flow roles.now.names s) made.old
+        (part_items (items_view items.now))) }
     ensures steps { OnOk result (made.new.steps ≡ made.old.steps) }
     ensures roles { OnOk result (PermitsRolesBelow (length roles.now.names) made.new) }
 {
@@ -222,7 +235,8 @@ fn next_permit(
 ) -> Result<(), ReadFault>
     requires few { length roles.now.names ≤ ROLE_LIMIT }
     requires roles { PermitsRolesBelow (length roles.now.names) made.old }
-    ensures read { Gives fault_of (λ _. made.new) result (spec.next_permit flow roles.now.names made.old (key.now, view value.now)) }
+    ensures read { Gives fault_of (λ _. made.new) result
+        (spec.next_permit flow roles.now.names made.old (key.now, view value.now)) }
     ensures steps { OnOk result (made.new.steps ≡ made.old.steps) }
     ensures roles { OnOk result (PermitsRolesBelow (length roles.now.names) made.new) }
 {
@@ -239,7 +253,8 @@ fn all_permits(
 ) -> Result<(), ReadFault>
     requires few { length roles.now.names ≤ ROLE_LIMIT }
     requires roles { PermitsRolesBelow (length roles.now.names) made.old }
-    ensures read { Gives fault_of (λ _. made.new) result (each (spec.next_permit flow roles.now.names) made.old (entries (table_view permits.now))) }
+    ensures read { Gives fault_of (λ _. made.new) result
+        (each (spec.next_permit flow roles.now.names) made.old (entries (table_view permits.now))) }
     ensures steps { OnOk result (made.new.steps ≡ made.old.steps) }
     ensures roles { OnOk result (PermitsRolesBelow (length roles.now.names) made.new) }
 {
@@ -261,7 +276,8 @@ pub(crate) fn read_permits(
 ) -> Result<(), ReadFault>
     requires few { length roles.now.names ≤ ROLE_LIMIT }
     requires roles { PermitsRolesBelow (length roles.now.names) made.old }
-    ensures read { Gives fault_of (λ _. made.new) result (spec.permits_of flow roles.now.names made.old (table_view table.now)) }
+    ensures read { Gives fault_of (λ _. made.new) result
+        (spec.permits_of flow roles.now.names made.old (table_view table.now)) }
     ensures steps { OnOk result (made.new.steps ≡ made.old.steps) }
     ensures roles { OnOk result (PermitsRolesBelow (length roles.now.names) made.new) }
 {

@@ -55,7 +55,8 @@ impl Roster {
     /// A roster of these roles without users.
     pub fn new(alloc: Global, roles: NameTable) -> Result<Roster, AllocError>
         requires { length roles.names ≤ ROLE_LIMIT }
-        ensures { IfOk result (λ r. r ≡ record { users = []; roles = roles.names; members = set.empty }) }
+        ensures { IfOk result (λ r. r ≡ record
+            { users = []; roles = roles.names; members = set.empty }) }
     {
         let members = Shared::new(alloc, Members::none())?;
         Ok(Roster {
@@ -68,12 +69,16 @@ impl Roster {
     /// Adds a user without roles, and answers their number.
     pub fn add_user(&mut self, name: Name) -> Result<UserId, NameFault>
         ensures number { IfOk result (λ u. u ≡ length self.old.users) }
-        ensures added { OnOk result (self.new ≡ record self.old { users = self.old.users ++ name ∷ [] }) }
+        ensures added { OnOk result (self.new
+            ≡ record self.old { users = self.old.users ++ name ∷ [] }) }
         ensures fresh { OnOk result (is_some (place_of self.old.users name) ≡ false) }
         ensures room { OnOk result (length self.old.users < USER_LIMIT) }
 
-        ensures twice { IsErrOf result NameFault.Twice ↔ (is_some (place_of self.old.users name) ≡ true) }
-        ensures full { IsErrOf result NameFault.Full ↔ ((is_some (place_of self.old.users name) ≡ false) × (length self.old.users ≡ USER_LIMIT)) }
+        ensures twice { IsErrOf result NameFault.Twice
+            ↔ (is_some (place_of self.old.users name) ≡ true) }
+        ensures full { IsErrOf result NameFault.Full
+            ↔ ((is_some (place_of self.old.users name) ≡ false)
+            × (length self.old.users ≡ USER_LIMIT)) }
         ensures unchanged { OnErr result (self.new ≡ self.old) }
     {
         match self.users.add(name) {
@@ -86,7 +91,8 @@ impl Roster {
     pub fn enrol(&mut self, u: UserId, r: RoleId) -> Result<(), RosterFault>
         requires user { u < length self.old.users }
         requires role { r < length self.old.roles }
-        ensures enrolled { OnOk result (self.new ≡ record self.old { members = set.insert self.old.members (u, r) }) }
+        ensures enrolled { OnOk result (self.new
+            ≡ record self.old { members = set.insert self.old.members (u, r) }) }
         ensures fresh { OnOk result (has_role self.old u r ≡ false) }
 
         ensures already { IsErrOf result RosterFault.Already ↔ (has_role self.old u r ≡ true) }
@@ -98,7 +104,8 @@ impl Roster {
 
     /// Takes a role away from a user.
     pub fn dismiss(&mut self, u: UserId, r: RoleId) -> Result<(), RosterFault>
-        ensures dismissed { OnOk result (self.new ≡ record self.old { members = set.remove self.old.members (u, r) }) }
+        ensures dismissed { OnOk result (self.new
+            ≡ record self.old { members = set.remove self.old.members (u, r) }) }
         ensures held { OnOk result (has_role self.old u r ≡ true) }
 
         ensures absent { IsErrOf result RosterFault.Absent ↔ (has_role self.old u r ≡ false) }
@@ -157,7 +164,8 @@ fn enrol_among(members: &mut Shared<Members>, u: UserId, r: RoleId) -> Result<()
     requires role { r < ROLE_LIMIT }
     ensures enrolled { OnOk result (members.new ≡ set.insert members.old (u, r)) }
     ensures fresh { OnOk result (set.contains members.old (u, r) ≡ false) }
-    ensures already { IsErrOf result RosterFault.Already ↔ (set.contains members.old (u, r) ≡ true) }
+    ensures already { IsErrOf result RosterFault.Already
+        ↔ (set.contains members.old (u, r) ≡ true) }
     ensures absent { ¬ IsErrOf result RosterFault.Absent }
     ensures unchanged { OnErr result (members.new ≡ members.old) }
 {

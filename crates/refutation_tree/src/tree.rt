@@ -151,7 +151,8 @@ impl Branches {
 
     /// The branch at a place, if there is one.
     pub fn get(&self, i: usize) -> Option<&Branch>
-        ensures { MatchOption result (kid_count self.now ≤ i) (λ b. kids_from i self.now ≡ branch_onto b.now (kids_from (i + 1) self.now)) }
+        ensures { MatchOption result (kid_count self.now ≤ i)
+            (λ b. kids_from i self.now ≡ branch_onto b.now (kids_from (i + 1) self.now)) }
     {
         self.items.get(i)
     }

@@ -242,7 +242,8 @@ impl Auditor {
     // Whether a lane's next job may be answered again so.
     fn may_retry(&self, job: &Job, rounds: u8, at: u32) -> bool
         requires next { next_job self.now job.now.lane ≡ Some job.now }
-        ensures { result ≡ true ↔ ComesNext self.now (entry_next self.now job.now (reply.Again rounds at)) }
+        ensures { result ≡ true ↔ ComesNext self.now
+            (entry_next self.now job.now (reply.Again rounds at)) }
     {
         if rounds != self.record.rounds() {
             return false;

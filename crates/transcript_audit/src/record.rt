@@ -89,7 +89,8 @@ impl Record {
 
     /// Keeps the kind of a fault.
     pub fn keep_fault(&mut self, kind: AuditKind)
-        ensures { self.new ≡ record self.old { audit = record self.old.audit { fault = Some kind } } }
+        ensures { self.new ≡ record self.old
+            { audit = record self.old.audit { fault = Some kind } } }
     {
         self.fault = Some(kind);
     }
@@ -121,7 +122,8 @@ impl Record {
 
     /// Whether each job has its entry.
     pub fn is_done(&self) -> bool
-        ensures done { result ≡ nat_eq (length self.now.audit.entries) (length self.now.audit.jobs) }
+        ensures done { result ≡ nat_eq (length self.now.audit.entries)
+            (length self.now.audit.jobs) }
         ensures whole { result ≡ true → IsWhole self.now.audit }
         ensures within { length self.now.audit.entries ≤ length self.now.audit.jobs }
     {
@@ -153,7 +155,8 @@ impl Record {
     pub fn add(&mut self, job: &Job, reply: Reply)
         requires room { 1 ≤ self.old.spare }
         requires next { ComesNext self.old.audit (entry_next self.old.audit job.now reply) }
-        ensures { self.new.audit ≡ with_entry self.old.audit (entry_next self.old.audit job.now reply) }
+        ensures { self.new.audit ≡ with_entry self.old.audit
+            (entry_next self.old.audit job.now reply) }
     {
         add_entry(&mut self.journal, job, reply);
         advance(

@@ -36,7 +36,8 @@ impl Model for Maker {
 #[tactic(auto, using(crate::proofs::Growing::rounds_none, crate::proofs::Growing::rounds_more, crate::proofs::Growing::rounds_count, crate::proofs::Growing::openings_count))]
 pub(crate) fn jobs_of(alloc: Global, draws: Generator, cases: u16) -> Result<Jobs, AllocError>
     requires { cases ≤ 40 }
-    ensures { IfOk result (λ jobs. jobs ≡ (rounds cases 24 (record { state = draws; jobs = openings cases })).jobs) }
+    ensures { IfOk result (λ jobs. jobs ≡ (rounds cases 24
+        (record { state = draws; jobs = openings cases })).jobs) }
 {
     let jobs = openings(alloc, cases)?;
     let mut maker = Maker { draws, jobs };

@@ -48,7 +48,8 @@ fn role_table(alloc: Global) -> Result<NameTable, AllocError>
 // Adds the users to a roster without any.
 fn add_users(roster: &mut Roster) -> Result<(), AllocError>
     requires { roster.old.users ≡ [] }
-    ensures { OnOk result (roster.new ≡ record roster.old { users = map user_name (range_with_len 0 60) }) }
+    ensures { OnOk result (roster.new ≡ record roster.old
+        { users = map user_name (range_with_len 0 60) }) }
 {
     'users: for u in 0..USERS {
         add_user(roster, UserId(u))?;
@@ -61,7 +62,8 @@ fn add_users(roster: &mut Roster) -> Result<(), AllocError>
 fn add_user(roster: &mut Roster, u: UserId) -> Result<(), AllocError>
     requires few { u < 60 }
     requires earlier { roster.old.users ≡ map user_name (range_with_len 0 u) }
-    ensures { OnOk result (roster.new ≡ record roster.old { users = map user_name (range_with_len 0 (u + 1)) }) }
+    ensures { OnOk result (roster.new ≡ record roster.old
+        { users = map user_name (range_with_len 0 (u + 1)) }) }
 {
     match roster.add_user(named::user_name(u)) {
         Ok(_) => Ok(()),
@@ -76,7 +78,8 @@ fn draw_roles(roster: &mut Roster, draws: &mut Generator) -> Result<(), AllocErr
     requires users { length roster.old.users ≡ 60 }
     requires roles { length roster.old.roles ≡ 6 }
     requires none { roster.old.members ≡ set.empty }
-    ensures members { OnOk result (roster.new ≡ record roster.old { members = drawn_members draws.old 60 }) }
+    ensures members { OnOk result (roster.new
+        ≡ record roster.old { members = drawn_members draws.old 60 }) }
     ensures drawn { OnOk result (draws.new ≡ after 60 draws.old) }
 {
     'users: for u in 0..USERS {
@@ -92,7 +95,8 @@ fn draw_roles(roster: &mut Roster, draws: &mut Generator) -> Result<(), AllocErr
 fn give(roster: &mut Roster, u: UserId, r: RoleId) -> Result<(), AllocError>
     requires user { u < length roster.old.users }
     requires role { r < length roster.old.roles }
-    ensures { OnOk result (roster.new ≡ record roster.old { members = set.insert roster.old.members (u, r) }) }
+    ensures { OnOk result (roster.new ≡ record roster.old
+        { members = set.insert roster.old.members (u, r) }) }
 {
     match roster.enrol(u, r) {
         Ok(()) | Err(RosterFault::Already) => Ok(()),

@@ -38,7 +38,8 @@ fn declare(relations: &mut Relations, name: Name, pairs: UserPairs) -> Result<()
     requires users { AllPairs (λ u v. (u < USER_LIMIT) × (v < USER_LIMIT)) pairs }
     requires fresh { is_some (place_of (known_names relations.old) name) ≡ false }
     requires room { length relations.old < RELATION_LIMIT }
-    ensures { OnOk result (relations.new ≡ relations.old ++ (record { name = name; kind = listed pairs }) ∷ []) }
+    ensures { OnOk result (relations.new ≡ relations.old ++
+        (record { name = name; kind = listed pairs }) ∷ []) }
 {
     match relations.add_pairs(name, pairs) {
         Ok(_) => Ok(()),
@@ -62,7 +63,8 @@ fn peers(alloc: Global) -> Result<UserPairs, AllocError>
 // Puts in a pair of users, if they are different ones of one team.
 fn add_peers(pairs: &mut UserPairs, i: u16, j: u16) -> Result<(), AllocError>
     requires users { (i < USER_LIMIT) × (j < USER_LIMIT) }
-    ensures { OnOk result (pairs.new ≡ (if are_peers i j then set.insert pairs.old (i, j) else pairs.old)) }
+    ensures { OnOk result (pairs.new ≡ (if are_peers i j then set.insert pairs.old (i, j) else
+        pairs.old)) }
 {
     if i != j && i / TEAM == j / TEAM {
         pairs.insert(UserId(i), UserId(j))?;

@@ -91,7 +91,8 @@ impl<D: Tabled> TurnTable<D> {
     /// A table for `lanes` lanes beside the first one, 1 to 8, and its first lane, which has no number and takes no turns.
     pub fn new(alloc: Global, value: D, lanes: u8) -> Result<(TurnTable<D>, Lane<D>), Refused<D>>
         requires { (1 ≤ lanes) × (lanes ≤ 8) }
-        ensures first { IfOk result (λ t. t.1 ≡ first_lane t.0 (D.fixed_part value) (D.list value) lanes) }
+        ensures first { IfOk result (λ t. t.1
+            ≡ first_lane t.0 (D.fixed_part value) (D.list value) lanes) }
         ensures refused { IfErr result (λ r. r.value ≡ value) }
     {
         let told = Told {
@@ -147,8 +148,15 @@ impl<D: Tabled> TurnTable<D> {
         requires out { lane.old.out ≡ true }
         requires fixed { Some (D.fixed_part value) ≡ lane.old.fixed }
         requires list { IfSome lane.old.number (λ n. GrowsByOne n (D.list value) lane.old.seen) }
-        ensures lane { lane.new ≡ record lane.old { out = false; seen = D.list value; own = lane.old.own ++ drop (length lane.old.seen) (D.list value) } }
-        ensures own { IfSome lane.new.number (λ n. OwnPast n lane.new.seen lane.new.opening lane.new.own × OwnPast n lane.new.seen lane.new.born lane.new.own) }
+        ensures lane { lane.new ≡ record lane.old {
+          out = false;
+          seen = D.list value;
+          own = lane.old.own ++ drop (length lane.old.seen)
+              (D.list value);
+        } }
+        ensures own { IfSome lane.new.number
+            (λ n. OwnPast n lane.new.seen lane.new.opening lane.new.own
+            × OwnPast n lane.new.seen lane.new.born lane.new.own) }
     {
         let shared = &self.table.shared;
         let value = Some(value);
@@ -165,8 +173,10 @@ impl<D: Tabled> TurnTable<D> {
         requires inside { (into.old.out ≡ false) × (from.out ≡ false) }
         requires numbered { IsSome from.number }
         ensures into { into.new ≡ joined_lane into.old from }
-        ensures begins { StartsWith into.new.seen into.old.seen × StartsWith into.new.seen from.seen }
-        ensures counted { (n : ℕ) → (from.number ≡ Some n) ⊎ Contains from.joined n → Contains into.new.joined n }
+        ensures begins { StartsWith into.new.seen into.old.seen
+            × StartsWith into.new.seen from.seen }
+        ensures counted { (n : ℕ) → (from.number ≡ Some n) ⊎ Contains from.joined n
+            → Contains into.new.joined n }
         ensures kept { (n : ℕ) → Contains into.old.joined n → Contains into.new.joined n }
     {
         let shared = &self.table.shared;

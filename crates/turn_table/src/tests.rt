@@ -44,7 +44,8 @@ fn journal_of(alloc: Global) -> Result<Journal, AllocError> {
 // Writes a number, where there is memory for it.
 fn write(journal: &mut Journal, lane: u8, number: u8)
     ensures title { journal.new.title ≡ journal.old.title }
-    ensures list { GrowsByOne lane (⟦<Journal as Tabled>⟧.list journal.new) (⟦<Journal as Tabled>⟧.list journal.old) }
+    ensures list { GrowsByOne lane (⟦<Journal as Tabled>⟧.list journal.new)
+        (⟦<Journal as Tabled>⟧.list journal.old) }
 {
     match journal.entries.push(Entry { lane, number }) {
         Ok(()) => {}
@@ -102,12 +103,14 @@ fn run_lanes<R: Threads + Wait + Sync>(
         rt,
         move || -> Lane<Journal>
             requires { (lane.table ≡ table.now) × (lane.number ≡ Some next) × (lane.out ≡ false) }
-            ensures { (result.table ≡ table.entry.now) × (result.number ≡ Some next) × (result.out ≡ false) }
+            ensures { (result.table ≡ table.entry.now) × (result.number ≡ Some next)
+                × (result.out ≡ false) }
         { work(rt, table, lane, next, turns) },
         move || -> Lane<Journal>
             requires table { IsSync R.row × (first.table ≡ table.now) }
             requires first { (first.number ≡ None) × (first.out ≡ false) }
-            requires room { (0 < count) × (first.made ≡ next + 1) × (next + count ≤ first.lanes) × (next + count ≤ 8) }
+            requires room { (0 < count) × (first.made ≡ next + 1) × (next + count ≤ first.lanes)
+                × (next + count ≤ 8) }
             ensures table { result.table ≡ table.entry.now }
             ensures first { (result.number ≡ None) × (result.out ≡ false) }
             ensures same { (result.fixed ≡ first.fixed) × (result.made ≡ next + count) }
@@ -129,7 +132,8 @@ fn run<R: Threads + Wait + Sync>(
     idle: u8,
 ) -> Result<Journal, Journal>
     requires { (1 ≤ lanes) × (lanes ≤ 8) }
-    ensures ok { IfOk result (λ j. (j.title ≡ journal.title) × StartsWith (⟦<Journal as Tabled>⟧.list j) (⟦<Journal as Tabled>⟧.list journal)) }
+    ensures ok { IfOk result (λ j. (j.title ≡ journal.title)
+        × StartsWith (⟦<Journal as Tabled>⟧.list j) (⟦<Journal as Tabled>⟧.list journal)) }
     ensures err { IfErr result (λ j. j ≡ journal) }
 {
     match TurnTable::new(alloc, journal, lanes) {

@@ -106,8 +106,10 @@ pub(crate) fn join(
     requires users { (u < USER_LIMIT) × (v < USER_LIMIT) }
     requires ahead_whole { length ahead.old ≡ BLOCKS }
     requires behind_whole { length behind.old ≡ BLOCKS }
-    ensures ahead { OnOk result ((x y : ℕ) → row_bit ahead.new x y ≡ ((x == u && y == v) || row_bit ahead.old x y)) }
-    ensures behind { OnOk result ((y x : ℕ) → row_bit behind.new y x ≡ ((y == v && x == u) || row_bit behind.old y x)) }
+    ensures ahead { OnOk result ((x y : ℕ)
+        → row_bit ahead.new x y ≡ ((x == u && y == v) || row_bit ahead.old x y)) }
+    ensures behind { OnOk result ((y x : ℕ)
+        → row_bit behind.new y x ≡ ((y == v && x == u) || row_bit behind.old y x)) }
     ensures unchanged { OnErr result ((ahead.new ≡ ahead.old) × (behind.new ≡ behind.old)) }
 {
     let there = &mut ahead[u.0 as usize / BLOCK_ROWS];
@@ -122,8 +124,11 @@ fn join_blocks(
     v: UserId,
 ) -> Result<(), AllocError>
     requires users { (u < USER_LIMIT) × (v < USER_LIMIT) }
-    ensures ahead { OnOk result ((k y : ℕ) → block_bit ahead.new k y ≡ ((k == u % BLOCK_ROWS && y == v) || block_bit ahead.old k y)) }
-    ensures behind { OnOk result ((k x : ℕ) → block_bit behind.new k x ≡ ((k == v % BLOCK_ROWS && x == u) || block_bit behind.old k x)) }
+    ensures ahead { OnOk result ((k y : ℕ)
+        → block_bit ahead.new k y ≡ ((k == u % BLOCK_ROWS && y == v) || block_bit ahead.old k y)) }
+    ensures behind { OnOk result ((k x : ℕ)
+        → block_bit behind.new k x ≡ ((k == v % BLOCK_ROWS && x == u) || block_bit
+        behind.old k x)) }
     ensures unchanged { OnErr result ((ahead.new ≡ ahead.old) × (behind.new ≡ behind.old)) }
 {
     let there = ahead.edit()?;
@@ -143,8 +148,10 @@ pub(crate) fn part(
     requires users { (u < USER_LIMIT) × (v < USER_LIMIT) }
     requires ahead_whole { length ahead.old ≡ BLOCKS }
     requires behind_whole { length behind.old ≡ BLOCKS }
-    ensures ahead { OnOk result ((x y : ℕ) → row_bit ahead.new x y ≡ (not (x == u && y == v) && row_bit ahead.old x y)) }
-    ensures behind { OnOk result ((y x : ℕ) → row_bit behind.new y x ≡ (not (y == v && x == u) && row_bit behind.old y x)) }
+    ensures ahead { OnOk result ((x y : ℕ)
+        → row_bit ahead.new x y ≡ (not (x == u && y == v) && row_bit ahead.old x y)) }
+    ensures behind { OnOk result ((y x : ℕ)
+        → row_bit behind.new y x ≡ (not (y == v && x == u) && row_bit behind.old y x)) }
     ensures unchanged { OnErr result ((ahead.new ≡ ahead.old) × (behind.new ≡ behind.old)) }
 {
     let there = &mut ahead[u.0 as usize / BLOCK_ROWS];
@@ -159,8 +166,12 @@ fn part_blocks(
     v: UserId,
 ) -> Result<(), AllocError>
     requires users { (u < USER_LIMIT) × (v < USER_LIMIT) }
-    ensures ahead { OnOk result ((k y : ℕ) → block_bit ahead.new k y ≡ (not (k == u % BLOCK_ROWS && y == v) && block_bit ahead.old k y)) }
-    ensures behind { OnOk result ((k x : ℕ) → block_bit behind.new k x ≡ (not (k == v % BLOCK_ROWS && x == u) && block_bit behind.old k x)) }
+    ensures ahead { OnOk result ((k y : ℕ)
+        → block_bit ahead.new k y ≡ (not (k == u % BLOCK_ROWS && y == v) && block_bit
+        ahead.old k y)) }
+    ensures behind { OnOk result ((k x : ℕ)
+        → block_bit behind.new k x ≡ (not (k == v % BLOCK_ROWS && x == u) && block_bit
+        behind.old k x)) }
     ensures unchanged { OnErr result ((ahead.new ≡ ahead.old) × (behind.new ≡ behind.old)) }
 {
     let there = ahead.edit()?;

@@ -44,7 +44,8 @@ impl Kind {
 
 /// The place of a declared relation in the list.
 fn place(declared: &[Relation], rho: RelId) -> Option<usize>
-    ensures { MatchOption result (kind_of (shapes declared.now) rho ≡ None) (IsPlace (length declared.now) rho) }
+    ensures { MatchOption result (kind_of (shapes declared.now) rho ≡ None)
+        (IsPlace (length declared.now) rho) }
 {
     if rho.0 >= 2 && (rho.0 as usize - 2) < declared.len() {
         Some(rho.0 as usize - 2)
@@ -54,7 +55,8 @@ fn place(declared: &[Relation], rho: RelId) -> Option<usize>
 }
 
 fn kind_at(declared: &[Relation], rho: RelId) -> Option<&Kind>
-    ensures { MatchOption result (kind_of (shapes declared.now) rho ≡ None) (λ kind. kind_of (shapes declared.now) rho ≡ Some (kind_view kind.now)) }
+    ensures { MatchOption result (kind_of (shapes declared.now) rho ≡ None)
+        (λ kind. kind_of (shapes declared.now) rho ≡ Some (kind_view kind.now)) }
 {
     match place(declared, rho) {
         Some(place) => Some(&declared[place].kind),
@@ -88,7 +90,8 @@ pub(crate) fn pairs(
     declared: &[Relation],
     rho: RelId,
 ) -> Result<Vec<(u16, u16)>, AllocError>
-    ensures pairs { IfOk result (λ pairs. set.from_list pairs.items ≡ pairs_of (shapes declared.now) rho) }
+    ensures pairs { IfOk result (λ pairs. set.from_list pairs.items
+        ≡ pairs_of (shapes declared.now) rho) }
     ensures ascending { IfOk result (λ pairs. IsAscending pairs.items) }
 {
     match kind_at(declared, rho) {
@@ -101,7 +104,9 @@ pub(crate) fn pairs(
 /// The users below `users` to whom a declared relation relates u.
 pub(crate) fn after(declared: &[Relation], rho: RelId, u: UserId, users: u16) -> UserSet
     requires { users ≤ USER_LIMIT }
-    ensures { (v : ℕ) → has_user result v ≡ (nat_lt v users && kind_holds (shapes declared.now) (kind_of (shapes declared.now) rho) u v) }
+    ensures { (v : ℕ) → has_user result v
+        ≡ (nat_lt v users && kind_holds (shapes declared.now) (kind_of
+        (shapes declared.now) rho) u v) }
 {
     match kind_at(declared, rho) {
         None => UserSet::empty(),
@@ -112,7 +117,8 @@ pub(crate) fn after(declared: &[Relation], rho: RelId, u: UserId, users: u16) ->
 
 fn listed_after(declared: &[Relation], rho: RelId, u: UserId, users: u16) -> UserSet
     requires { users ≤ USER_LIMIT }
-    ensures { (v : ℕ) → has_user result v ≡ (nat_lt v users && set.contains (pairs_of (shapes declared.now) rho) (u, v)) }
+    ensures { (v : ℕ) → has_user result v
+        ≡ (nat_lt v users && set.contains (pairs_of (shapes declared.now) rho) (u, v)) }
 {
     match kind_at(declared, rho) {
         None => UserSet::empty(),
@@ -124,7 +130,9 @@ fn listed_after(declared: &[Relation], rho: RelId, u: UserId, users: u16) -> Use
 /// The users below `users` whom a declared relation relates to u.
 pub(crate) fn ahead(declared: &[Relation], rho: RelId, u: UserId, users: u16) -> UserSet
     requires { users ≤ USER_LIMIT }
-    ensures { (v : ℕ) → has_user result v ≡ (nat_lt v users && kind_holds (shapes declared.now) (kind_of (shapes declared.now) rho) v u) }
+    ensures { (v : ℕ) → has_user result v
+        ≡ (nat_lt v users && kind_holds (shapes declared.now) (kind_of
+        (shapes declared.now) rho) v u) }
 {
     match kind_at(declared, rho) {
         None => UserSet::empty(),
@@ -135,7 +143,8 @@ pub(crate) fn ahead(declared: &[Relation], rho: RelId, u: UserId, users: u16) ->
 
 fn listed_ahead(declared: &[Relation], rho: RelId, u: UserId, users: u16) -> UserSet
     requires { users ≤ USER_LIMIT }
-    ensures { (v : ℕ) → has_user result v ≡ (nat_lt v users && set.contains (pairs_of (shapes declared.now) rho) (v, u)) }
+    ensures { (v : ℕ) → has_user result v
+        ≡ (nat_lt v users && set.contains (pairs_of (shapes declared.now) rho) (v, u)) }
 {
     match kind_at(declared, rho) {
         None => UserSet::empty(),
@@ -222,7 +231,8 @@ pub(crate) fn push_listed(
     name: Name,
     pairs: UserPairs,
 ) -> Result<(), AllocError>
-    ensures pushed { OnOk result (shapes declared.new.items ≡ shapes declared.old.items ++ record { name = name; kind = listed pairs } ∷ []) }
+    ensures pushed { OnOk result (shapes declared.new.items
+        ≡ shapes declared.old.items ++ record { name = name; kind = listed pairs } ∷ []) }
     ensures unchanged { OnErr result (declared.new.items ≡ declared.old.items) }
 {
     let kind = Kind::of_pairs(*declared.allocator(), pairs)?;
@@ -248,7 +258,9 @@ pub(crate) fn relate(
 ) -> Result<(), RelationFault>
     requires first { u < USER_LIMIT }
     requires second { v < USER_LIMIT }
-    ensures related { OnOk result (shapes declared.new ≡ with_kind (shapes declared.old) rho (listed (set.insert (pairs_of (shapes declared.old) rho) (u, v)))) }
+    ensures related { OnOk result (shapes declared.new
+        ≡ with_kind (shapes declared.old) rho
+        (listed (set.insert (pairs_of (shapes declared.old) rho) (u, v)))) }
     ensures fault { AnswersFault (relate_fault (shapes declared.old) rho u v) result }
     ensures unchanged { OnErr result (shapes declared.new ≡ shapes declared.old) }
 {
@@ -262,7 +274,8 @@ pub(crate) fn relate(
 fn put_pair(kind: &mut Kind, u: UserId, v: UserId) -> Result<(), RelationFault>
     requires first { u < USER_LIMIT }
     requires second { v < USER_LIMIT }
-    ensures related { OnOk result (kind_view kind.new ≡ listed (set.insert (listed_pairs (Some (kind_view kind.old))) (u, v))) }
+    ensures related { OnOk result (kind_view kind.new
+        ≡ listed (set.insert (listed_pairs (Some (kind_view kind.old))) (u, v))) }
     ensures fault { AnswersFault (put_fault (Some (kind_view kind.old)) u v) result }
     ensures unchanged { OnErr result (kind_view kind.new ≡ kind_view kind.old) }
 {
@@ -296,7 +309,9 @@ pub(crate) fn unrelate(
     u: UserId,
     v: UserId,
 ) -> Result<(), RelationFault>
-    ensures unrelated { OnOk result (shapes declared.new ≡ with_kind (shapes declared.old) rho (listed (set.remove (pairs_of (shapes declared.old) rho) (u, v)))) }
+    ensures unrelated { OnOk result (shapes declared.new
+        ≡ with_kind (shapes declared.old) rho
+        (listed (set.remove (pairs_of (shapes declared.old) rho) (u, v)))) }
     ensures fault { AnswersFault (unrelate_fault (shapes declared.old) rho u v) result }
     ensures unchanged { OnErr result (shapes declared.new ≡ shapes declared.old) }
 {
@@ -308,7 +323,8 @@ pub(crate) fn unrelate(
 }
 
 fn take_pair(kind: &mut Kind, u: UserId, v: UserId) -> Result<(), RelationFault>
-    ensures unrelated { OnOk result (kind_view kind.new ≡ listed (set.remove (listed_pairs (Some (kind_view kind.old))) (u, v))) }
+    ensures unrelated { OnOk result (kind_view kind.new
+        ≡ listed (set.remove (listed_pairs (Some (kind_view kind.old))) (u, v))) }
     ensures fault { AnswersFault (take_fault (Some (kind_view kind.old)) u v) result }
     ensures unchanged { OnErr result (kind_view kind.new ≡ kind_view kind.old) }
 {
@@ -353,7 +369,8 @@ pub(crate) fn find(declared: &[Relation], name: &Name) -> Option<RelId>
 }
 
 fn find_declared(declared: &[Relation], name: &Name) -> Option<usize>
-    ensures place { result ≡ position (λ relation. pointwise nat_eq name.now relation.name) declared.now }
+    ensures place { result ≡ position (λ relation. pointwise nat_eq name.now relation.name)
+        declared.now }
     ensures within { IfSome result (λ place. place < length declared.now) }
 {
     declared.iter().position(|relation| *name == relation.name)

@@ -85,12 +85,16 @@ impl Relations {
     /// Declares a listed relation without pairs, and answers its number.
     pub fn add_listed(&mut self, name: Name) -> Result<RelId, NameFault>
         ensures number { IfOk result (λ rho. rho ≡ length self.old + 2) }
-        ensures added { OnOk result (self.new ≡ self.old ++ (record { name = name; kind = listed set.empty }) ∷ []) }
+        ensures added { OnOk result (self.new
+            ≡ self.old ++ (record { name = name; kind = listed set.empty }) ∷ []) }
         ensures fresh { OnOk result (is_some (place_of (known_names self.old) name) ≡ false) }
         ensures room { OnOk result (length self.old < RELATION_LIMIT) }
 
-        ensures twice { IsErrOf result NameFault.Twice ↔ (is_some (place_of (known_names self.old) name) ≡ true) }
-        ensures full { IsErrOf result NameFault.Full ↔ ((is_some (place_of (known_names self.old) name) ≡ false) × (length self.old ≡ RELATION_LIMIT)) }
+        ensures twice { IsErrOf result NameFault.Twice
+            ↔ (is_some (place_of (known_names self.old) name) ≡ true) }
+        ensures full { IsErrOf result NameFault.Full
+            ↔ ((is_some (place_of (known_names self.old) name) ≡ false)
+            × (length self.old ≡ RELATION_LIMIT)) }
         ensures unchanged { OnErr result (self.new ≡ self.old) }
     {
         match UserPairs::new(*self.declared.allocator()) {
@@ -101,8 +105,11 @@ impl Relations {
 
     // Why a relation is not declared where there is no memory for its pairs.
     fn unlisted(&self, name: &Name) -> NameFault
-        ensures twice { result ≡ NameFault.Twice ↔ (is_some (place_of (known_names self.now) name.now) ≡ true) }
-        ensures full { result ≡ NameFault.Full ↔ ((is_some (place_of (known_names self.now) name.now) ≡ false) × (length self.now ≡ RELATION_LIMIT)) }
+        ensures twice { result ≡ NameFault.Twice
+            ↔ (is_some (place_of (known_names self.now) name.now) ≡ true) }
+        ensures full { result ≡ NameFault.Full
+            ↔ ((is_some (place_of (known_names self.now) name.now) ≡ false)
+            × (length self.now ≡ RELATION_LIMIT)) }
     {
         if self.find(name).is_some() {
             NameFault::Twice
@@ -118,12 +125,16 @@ impl Relations {
         requires few { set.len pairs ≤ PAIR_LIMIT }
         requires users { AllPairs (λ u v. (u < USER_LIMIT) × (v < USER_LIMIT)) pairs }
         ensures number { IfOk result (λ rho. rho ≡ length self.old + 2) }
-        ensures added { OnOk result (self.new ≡ self.old ++ (record { name = name; kind = listed pairs }) ∷ []) }
+        ensures added { OnOk result (self.new
+            ≡ self.old ++ (record { name = name; kind = listed pairs }) ∷ []) }
         ensures fresh { OnOk result (is_some (place_of (known_names self.old) name) ≡ false) }
         ensures room { OnOk result (length self.old < RELATION_LIMIT) }
 
-        ensures twice { IsErrOf result NameFault.Twice ↔ (is_some (place_of (known_names self.old) name) ≡ true) }
-        ensures full { IsErrOf result NameFault.Full ↔ ((is_some (place_of (known_names self.old) name) ≡ false) × (length self.old ≡ RELATION_LIMIT)) }
+        ensures twice { IsErrOf result NameFault.Twice
+            ↔ (is_some (place_of (known_names self.old) name) ≡ true) }
+        ensures full { IsErrOf result NameFault.Full
+            ↔ ((is_some (place_of (known_names self.old) name) ≡ false)
+            × (length self.old ≡ RELATION_LIMIT)) }
         ensures unchanged { OnErr result (self.new ≡ self.old) }
     {
         if self.find(&name).is_some() {
@@ -190,7 +201,8 @@ impl Relations {
     pub fn relate(&mut self, rho: RelId, u: UserId, v: UserId) -> Result<(), RelationFault>
         requires first { u < USER_LIMIT }
         requires second { v < USER_LIMIT }
-        ensures related { OnOk result (self.new ≡ with_kind self.old rho (listed (set.insert (pairs_of self.old rho) (u, v)))) }
+        ensures related { OnOk result (self.new
+            ≡ with_kind self.old rho (listed (set.insert (pairs_of self.old rho) (u, v)))) }
         ensures fault { AnswersFault (relate_fault self.old rho u v) result }
         ensures unchanged { OnErr result (self.new ≡ self.old) }
     {
@@ -199,7 +211,8 @@ impl Relations {
 
     /// Takes a pair out of a listed relation.
     pub fn unrelate(&mut self, rho: RelId, u: UserId, v: UserId) -> Result<(), RelationFault>
-        ensures unrelated { OnOk result (self.new ≡ with_kind self.old rho (listed (set.remove (pairs_of self.old rho) (u, v)))) }
+        ensures unrelated { OnOk result (self.new
+            ≡ with_kind self.old rho (listed (set.remove (pairs_of self.old rho) (u, v)))) }
         ensures fault { AnswersFault (unrelate_fault self.old rho u v) result }
         ensures unchanged { OnErr result (self.new ≡ self.old) }
     {

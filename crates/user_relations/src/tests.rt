@@ -225,7 +225,8 @@ fn of(users: &[u16]) -> UserSet {
 
 fn declare(relations: &mut Relations, name: &str) -> Result<RelId, Fail>
     ensures number { IfOk result (λ rho. rho ≡ length relations.old + 2) }
-    ensures added { OnOk result (relations.new ≡ relations.old ++ (record { name = name.now; kind = listed set.empty }) ∷ []) }
+    ensures added { OnOk result (relations.new
+        ≡ relations.old ++ (record { name = name.now; kind = listed set.empty }) ∷ []) }
 {
     let name = read(name)?;
     match relations.add_listed(name) {

@@ -57,8 +57,10 @@ pub(crate) fn admit(
     requires kept { IsKept p.now cases.old }
     requires right { IsRight (book_of p.now cases.old) ask.now verdict.now }
     requires same { keeps_policy verdict.now ≡ true }
-    requires verdict { HasVerdict (state_on (board_of p.now cases.old 0)) ask.now reply.now verdict.now }
-    ensures { HasAdmitted p.now cases.old cases.new (decision_of (book_of p.now cases.old) ask.now) reply.now result }
+    requires verdict { HasVerdict (state_on (board_of p.now cases.old 0)) ask.now reply.now
+        verdict.now }
+    ensures { HasAdmitted p.now cases.old cases.new (decision_of (book_of p.now cases.old) ask.now)
+        reply.now result }
 {
     if is_want(reply) {
         return Ok(());
@@ -150,7 +152,8 @@ fn admit_finish(
     requires found { IsOpenAt p.now cases.old.rows n case.now }
     requires held { is_held (state_at case.now s) ≡ true }
     requires given { reply.now ≢ replies.NoMemory }
-    ensures { HasAdmitted p.now cases.old cases.new (Ok (deeds.Finish n case.now s u)) reply.now result }
+    ensures { HasAdmitted p.now cases.old cases.new (Ok (deeds.Finish n case.now s u))
+        reply.now result }
 {
     match reply {
         Reply::Finished { done } => finish_as(p, cases, n, case, s, u, *done),
@@ -171,7 +174,8 @@ fn finish_as(
     requires kept { IsKept p.now cases.old }
     requires found { IsOpenAt p.now cases.old.rows n case.now }
     requires held { is_held (state_at case.now s) ≡ true }
-    ensures { HasAdmitted p.now cases.old cases.new (Ok (deeds.Finish n case.now s u)) (replies.Finished done) result }
+    ensures { HasAdmitted p.now cases.old cases.new (Ok (deeds.Finish n case.now s u))
+        (replies.Finished done) result }
 {
     if !is_told(case, s, done) {
         return Err(AdmitFault::NotStep);
@@ -211,7 +215,8 @@ fn admit_return(
     requires found { IsOpenAt p.now cases.old.rows n case.now }
     requires held { is_held (state_at case.now s) ≡ true }
     requires given { reply.now ≢ replies.NoMemory }
-    ensures { HasAdmitted p.now cases.old cases.new (Ok (deeds.GiveBack n case.now s u)) reply.now result }
+    ensures { HasAdmitted p.now cases.old cases.new (Ok (deeds.GiveBack n case.now s u))
+        reply.now result }
 {
     let _ = u;
     match reply {
@@ -236,7 +241,8 @@ fn admit_release(
     requires found { IsOpenAt p.now cases.old.rows n case.now }
     requires held { is_held (state_at case.now s) ≡ true }
     requires given { reply.now ≢ replies.NoMemory }
-    ensures { HasAdmitted p.now cases.old cases.new (Ok (deeds.Release n case.now s)) reply.now result }
+    ensures { HasAdmitted p.now cases.old cases.new (Ok (deeds.Release n case.now s))
+        reply.now result }
 {
     match reply {
         Reply::Released => {

@@ -73,7 +73,8 @@ impl Board {
     pub fn reserve(&mut self, more: u16) -> Result<(), AllocError>
         ensures room { OnOk result (more ≤ self.new.cases.spare) }
         ensures kept { self.old.cases.spare ≤ self.new.cases.spare }
-        ensures same { self.new ≡ record self.old { cases = record self.old.cases { spare = self.new.cases.spare } } }
+        ensures same { self.new ≡ record self.old
+            { cases = record self.old.cases { spare = self.new.cases.spare } } }
         ensures unchanged { OnErr result (self.new ≡ self.old) }
     {
         self.cases.reserve(more)
@@ -359,7 +360,8 @@ impl Board {
 
     /// A board with the same policy, cases and plans.
     pub fn copy(&self) -> Result<Board, AllocError>
-        ensures { IfOk result (λ b. b ≡ record self.now { cases = record self.now.cases { spare = b.cases.spare } }) }
+        ensures { IfOk result (λ b. b ≡ record self.now
+            { cases = record self.now.cases { spare = b.cases.spare } }) }
     {
         Ok(Board {
             policy: Arc::try_clone(&self.policy)?,
@@ -371,7 +373,8 @@ impl Board {
 
 /// The one case of a claim, the open cases for an edit or a view over them, and else none.
 fn cases_for(alloc: Global, cases: &Cases, ask: &Ask) -> Result<Cases, AllocError>
-    ensures { IfOk result (λ t. t ≡ record cases.now { rows = snap_rows cases.now.rows ask.now; spare = t.spare }) }
+    ensures { IfOk result (λ t. t ≡ record cases.now
+        { rows = snap_rows cases.now.rows ask.now; spare = t.spare }) }
 {
     match *ask {
         Ask::Request(Request::Claim { case, .. }) => cases.copy_one(alloc, case),

@@ -67,7 +67,8 @@ fn decides_claim(
 ) -> bool
     requires planned { ArePlanned p.now cases.now.rows }
     requires found { AreFound p.now cases.now.rows number case.now step user }
-    ensures { result ≡ true ↔ IsCertificateOf (problem_of p.now case.now.flow) (assigned_with case.now step user)
+    ensures { result ≡ true ↔ IsCertificateOf (problem_of p.now case.now.flow)
+        (assigned_with case.now step user)
         (finished_of case.now) verdict.now }
 {
     let _ = cases;

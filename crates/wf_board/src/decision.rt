@@ -45,7 +45,8 @@ impl From<AllocError> for Refused {
 /// needs a verdict. Only the roles of a denied claim take memory.
 pub fn decision_aside(alloc: Global, p: &Policy, cases: &Cases, ask: &Ask) -> Result<Deed, Refused>
     requires { ArePlanned p.now cases.now.rows }
-    ensures decision { Gives denial_in (λ deed. deed) result (decision_aside (book_of p.now cases.now) ask.now) }
+    ensures decision { Gives denial_in (λ deed. deed) result
+        (decision_aside (book_of p.now cases.now) ask.now) }
     ensures found { IfOk result (IsFound p.now cases.now.rows) }
     ensures memory { IfErr result (λ e. e ≡ Refused.NoMemory
         → takes_memory (decision_aside (book_of p.now cases.now) ask.now) ≡ true) }
@@ -69,8 +70,10 @@ pub(crate) fn decision_of(
     ask: &Ask,
 ) -> Result<Deed, Refused>
     requires { ArePlanned p.now cases.now.rows }
-    ensures decision { Gives denial_in (λ deed. deed) result (decision_of (book_of p.now cases.now) ask.now) }
-    ensures aside { IfOk result (λ deed. decision_aside (book_of p.now cases.now) ask.now ≡ Ok deed) }
+    ensures decision { Gives denial_in (λ deed. deed) result
+        (decision_of (book_of p.now cases.now) ask.now) }
+    ensures aside { IfOk result (λ deed. decision_aside (book_of p.now cases.now)
+        ask.now ≡ Ok deed) }
     ensures found { IfOk result (IsFound p.now cases.now.rows) }
     ensures memory { IfErr result (λ e. e ≡ Refused.NoMemory
         → takes_memory (decision_of (book_of p.now cases.now) ask.now) ≡ true) }
@@ -161,7 +164,8 @@ fn cause_aside(
 
 /// That a user does not hold a step.
 fn unless_holding(case: &Case, s: StepId, u: UserId) -> Option<Denial>
-    ensures { result ≡ causes.unless (is_held_by u (state_at case.now s)) (Denial.NotHeld (state_at case.now s)) }
+    ensures { result ≡ causes.unless (is_held_by u (state_at case.now s))
+        (Denial.NotHeld (state_at case.now s)) }
 {
     if holds(case.state(s), u) {
         None
@@ -172,7 +176,8 @@ fn unless_holding(case: &Case, s: StepId, u: UserId) -> Option<Denial>
 
 /// That nobody holds a step.
 fn unless_held(case: &Case, s: StepId) -> Option<Denial>
-    ensures { result ≡ causes.unless (is_held (state_at case.now s)) (Denial.NotHeld (state_at case.now s)) }
+    ensures { result ≡ causes.unless (is_held (state_at case.now s))
+        (Denial.NotHeld (state_at case.now s)) }
 {
     if case.state(s).is_held() {
         None

@@ -59,7 +59,8 @@ fn open_as(
     requires kept { IsKept p.now cases.old }
     requires flow { flow < length p.now.flows }
     requires room { full_or (book_of p.now cases.old) (deeds.Open flow) ≡ Ok (deeds.Open flow) }
-    ensures { HasAdmitted p.now cases.old cases.new (Ok (deeds.Open flow)) (replies.Opened number plan.now) result }
+    ensures { HasAdmitted p.now cases.old cases.new (Ok (deeds.Open flow))
+        (replies.Opened number plan.now) result }
 {
     if !is_next(cases, number) {
         return Err(AdmitFault::NotStep);
@@ -99,7 +100,8 @@ fn admit_unsatisfiable(
 ) -> Result<(), AdmitFault>
     requires kept { IsKept p.now cases.now }
     requires flow { flow < length p.now.flows }
-    ensures { HasAdmitted p.now cases.now cases.now (Ok (deeds.Open flow)) (replies.Denied denial.now) result }
+    ensures { HasAdmitted p.now cases.now cases.now (Ok (deeds.Open flow))
+        (replies.Denied denial.now) result }
 {
     let _ = cases;
     match denial {
@@ -134,7 +136,8 @@ pub(crate) fn admit_claim(
     requires found { AreFound p.now cases.old.rows n case.now s u }
     requires cause { cause_aside (book_of p.now cases.old) (deeds.Claim n case.now s u) ≡ None }
     requires given { reply.now ≢ replies.NoMemory }
-    ensures { HasAdmitted p.now cases.old cases.new (Ok (deeds.Claim n case.now s u)) reply.now result }
+    ensures { HasAdmitted p.now cases.old cases.new (Ok (deeds.Claim n case.now s u))
+        reply.now result }
 {
     match reply {
         Reply::Granted(plan) => claim_as(p, cases, n, case, s, u, plan),
@@ -156,7 +159,8 @@ fn claim_as(
     requires kept { IsKept p.now cases.old }
     requires found { AreFound p.now cases.old.rows n case.now s u }
     requires cause { cause_aside (book_of p.now cases.old) (deeds.Claim n case.now s u) ≡ None }
-    ensures { HasAdmitted p.now cases.old cases.new (Ok (deeds.Claim n case.now s u)) (replies.Granted plan.now) result }
+    ensures { HasAdmitted p.now cases.old cases.new (Ok (deeds.Claim n case.now s u))
+        (replies.Granted plan.now) result }
 {
     if !is_claim_plan(p, cases, n, case, s, u, plan) {
         return Err(AdmitFault::NotStep);
@@ -176,7 +180,8 @@ fn is_claim_plan(
     plan: &Plan,
 ) -> bool
     requires { AreFound p.now cases.now.rows n case.now s u }
-    ensures { result ≡ true ↔ IsValidPlan (problem_of p.now case.now.flow) (assigned_with case.now s u) (finished_of case.now) plan.now }
+    ensures { result ≡ true ↔ IsValidPlan (problem_of p.now case.now.flow)
+        (assigned_with case.now s u) (finished_of case.now) plan.now }
 {
     let assigned = claimed(p, cases, n, case, s, u);
     is_valid_plan(p, case.flow(), &assigned, &case.finished(), plan)
@@ -195,7 +200,8 @@ fn admit_stranded(
 ) -> Result<(), AdmitFault>
     requires kept { IsKept p.now cases.now }
     requires found { AreFound p.now cases.now.rows n case.now s u }
-    ensures { HasAdmitted p.now cases.now cases.now (Ok (deeds.Claim n case.now s u)) (replies.Denied denial.now) result }
+    ensures { HasAdmitted p.now cases.now cases.now (Ok (deeds.Claim n case.now s u))
+        (replies.Denied denial.now) result }
 {
     match denial {
         Denial::Stranded { flow, tree } => {
@@ -216,7 +222,8 @@ fn is_claim_tree(
     tree: &Tree,
 ) -> bool
     requires { AreFound p.now cases.now.rows n case.now s u }
-    ensures { result ≡ refutes (problem_of p.now case.now.flow) (assigned_with case.now s u) (finished_of case.now) (shape_of tree.now) }
+    ensures { result ≡ refutes (problem_of p.now case.now.flow) (assigned_with case.now s u)
+        (finished_of case.now) (shape_of tree.now) }
 {
     let assigned = claimed(p, cases, n, case, s, u);
     check_tree(p, case.flow(), &assigned, &case.finished(), tree)

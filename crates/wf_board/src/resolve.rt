@@ -182,7 +182,8 @@ fn case_with(p: &Policy, cases: &Cases, n: CaseId) -> Result<Case, Denial>
 /// The step with a name, of a case's workflow.
 fn step_named(p: &Policy, case: &Case, name: &Name) -> Result<StepId, Denial>
     requires { IsOfPolicy p.now case.now }
-    ensures step { result ≡ or_fault (place_of (flow_at p.now case.now.flow).flow.steps name.now) Denial.NoStep }
+    ensures step { result ≡ or_fault (place_of (flow_at p.now case.now.flow).flow.steps name.now)
+        Denial.NoStep }
     ensures within { IfOk result (λ s. s < length case.now.states) }
 {
     match p.flow(case.flow()).steps().find(name) {

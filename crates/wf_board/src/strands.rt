@@ -81,7 +81,8 @@ fn admit_strands(
     requires kept { IsKept p.now cases.now }
     requires allowed { IsAllowed p.now a }
     requires stranded { IsStrandingFor (book_of p.now cases.now) (Ok (deeds.Change a)) n shown.now }
-    ensures { HasAdmitted p.now cases.now cases.now (Ok (deeds.Change a)) (replies.Denied denial.now) result }
+    ensures { HasAdmitted p.now cases.now cases.now (Ok (deeds.Change a))
+        (replies.Denied denial.now) result }
 {
     match denial {
         Denial::Strands { case, flow, tree } => {
@@ -106,7 +107,8 @@ fn admit_strands_of(
     requires kept { IsKept p.now cases.now }
     requires allowed { IsAllowed p.now a }
     requires stranded { IsStrandingFor (book_of p.now cases.now) (Ok (deeds.Change a)) n shown.now }
-    ensures { HasAdmitted p.now cases.now cases.now (Ok (deeds.Change a)) (replies.Denied (denials.Strands named flow tree.now)) result }
+    ensures { HasAdmitted p.now cases.now cases.now (Ok (deeds.Change a))
+        (replies.Denied (denials.Strands named flow tree.now)) result }
 {
     let _ = shown;
     let _sound = p.admin();
@@ -131,7 +133,8 @@ fn is_named(n: CaseId, case: &Case, named: CaseId, flow: FlowId) -> bool
 fn is_tree_after(p: &Policy, a: Amendment, case: &Case, tree: &Tree) -> Result<bool, AllocError>
     requires allowed { IsAllowed p.now a }
     requires known { IsOfPolicy p.now case.now }
-    ensures { IfOk result (λ b. b ≡ refutes (problem_of (amended p.now a) case.now.flow) (assigned_of case.now) (finished_of case.now) (shape_of tree.now)) }
+    ensures { IfOk result (λ b. b ≡ refutes (problem_of (amended p.now a) case.now.flow)
+        (assigned_of case.now) (finished_of case.now) (shape_of tree.now)) }
 {
     let after = amended(p, a)?;
     let assigned = case.assigned();

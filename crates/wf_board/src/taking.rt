@@ -64,7 +64,8 @@ pub(crate) fn answer(
 /// Answers what needs no verdict.
 pub(crate) fn without_verdict(alloc: Global, p: &Policy, cases: &mut Cases, ask: &Ask) -> Answered
     requires { IsKept p.now cases.old }
-    ensures { HasAnsweredAlone p.now cases.old cases.new (decision_of (book_of p.now cases.old) ask.now) result }
+    ensures { HasAnsweredAlone p.now cases.old cases.new
+        (decision_of (book_of p.now cases.old) ask.now) result }
 {
     match decision_of(alloc, p, cases, ask) {
         Ok(deed) if needs_plan(&deed) => Answered::Needs,
@@ -77,9 +78,12 @@ pub(crate) fn without_verdict(alloc: Global, p: &Policy, cases: &mut Cases, ask:
 /// Answers by a plan that shows that a case can be completed.
 pub(crate) fn by_plan(p: &Policy, cases: &mut Cases, ask: &Ask, plan: Plan) -> Reply
     requires kept { IsKept p.now cases.old }
-    requires plan { IsPlanFor (book_of p.now cases.old) (decision_aside (book_of p.now cases.old) ask.now) plan }
-    ensures taken { HasTaken p.now cases.old cases.new (decision_of (book_of p.now cases.old) ask.now) result }
-    ensures made { needs_verdict (decision_of (book_of p.now cases.old) ask.now) ≡ true → IsMadeOf (verdicts.Plan plan) result }
+    requires plan { IsPlanFor (book_of p.now cases.old)
+        (decision_aside (book_of p.now cases.old) ask.now) plan }
+    ensures taken { HasTaken p.now cases.old cases.new
+        (decision_of (book_of p.now cases.old) ask.now) result }
+    ensures made { needs_verdict (decision_of (book_of p.now cases.old) ask.now) ≡ true
+        → IsMadeOf (verdicts.Plan plan) result }
     ensures memory { result ≡ replies.NoMemory
         → (is_opening (decision_of (book_of p.now cases.old) ask.now) ≡ true) × (cases.old.spare ≡ 0) }
     ensures unchanged { result ≡ replies.NoMemory → cases.new ≡ cases.old }
@@ -96,8 +100,10 @@ fn plan_for(p: &Policy, cases: &mut Cases, deed: Deed, plan: Plan) -> Reply
     requires found { IsFound p.now cases.old.rows deed }
     requires cause { cause_aside (book_of p.now cases.old) deed ≡ None }
     requires plan { IsPlanFor (book_of p.now cases.old) (Ok deed) plan }
-    ensures taken { HasTaken p.now cases.old cases.new (full_or (book_of p.now cases.old) deed) result }
-    ensures made { needs_verdict (full_or (book_of p.now cases.old) deed) ≡ true → IsMadeOf (verdicts.Plan plan) result }
+    ensures taken { HasTaken p.now cases.old cases.new (full_or (book_of p.now cases.old)
+        deed) result }
+    ensures made { needs_verdict (full_or (book_of p.now cases.old) deed) ≡ true
+        → IsMadeOf (verdicts.Plan plan) result }
     ensures memory { result ≡ replies.NoMemory
         → (is_opening (full_or (book_of p.now cases.old) deed) ≡ true) × (cases.old.spare ≡ 0) }
     ensures unchanged { result ≡ replies.NoMemory → cases.new ≡ cases.old }
@@ -117,9 +123,12 @@ fn plan_for(p: &Policy, cases: &mut Cases, deed: Deed, plan: Plan) -> Reply
 /// Answers by a tree that shows that a case cannot be completed.
 pub(crate) fn by_tree(p: &Policy, cases: &Cases, ask: &Ask, tree: Tree) -> Reply
     requires kept { IsKept p.now cases.now }
-    requires tree { IsTreeFor (book_of p.now cases.now) (decision_aside (book_of p.now cases.now) ask.now) tree }
-    ensures taken { HasTaken p.now cases.now cases.now (decision_of (book_of p.now cases.now) ask.now) result }
-    ensures made { needs_verdict (decision_of (book_of p.now cases.now) ask.now) ≡ true → IsMadeOf (verdicts.Refuted tree) result }
+    requires tree { IsTreeFor (book_of p.now cases.now)
+        (decision_aside (book_of p.now cases.now) ask.now) tree }
+    ensures taken { HasTaken p.now cases.now cases.now
+        (decision_of (book_of p.now cases.now) ask.now) result }
+    ensures made { needs_verdict (decision_of (book_of p.now cases.now) ask.now) ≡ true
+        → IsMadeOf (verdicts.Refuted tree) result }
     ensures memory { result ≢ replies.NoMemory }
 {
     match resolve(p, cases, ask) {
@@ -132,8 +141,10 @@ pub(crate) fn by_tree(p: &Policy, cases: &Cases, ask: &Ask, tree: Tree) -> Reply
 fn tree_for(p: &Policy, cases: &Cases, deed: Deed, tree: Tree) -> Reply
     requires kept { IsKept p.now cases.now }
     requires tree { IsTreeFor (book_of p.now cases.now) (Ok deed) tree }
-    ensures taken { HasTaken p.now cases.now cases.now (full_or (book_of p.now cases.now) deed) result }
-    ensures made { needs_verdict (full_or (book_of p.now cases.now) deed) ≡ true → IsMadeOf (verdicts.Refuted tree) result }
+    ensures taken { HasTaken p.now cases.now cases.now (full_or (book_of p.now cases.now)
+        deed) result }
+    ensures made { needs_verdict (full_or (book_of p.now cases.now) deed) ≡ true
+        → IsMadeOf (verdicts.Refuted tree) result }
     ensures memory { result ≢ replies.NoMemory }
 {
     match deed {
@@ -150,8 +161,10 @@ fn tree_for(p: &Policy, cases: &Cases, deed: Deed, tree: Tree) -> Reply
 fn unsatisfiable(p: &Policy, cases: &Cases, flow: FlowId, tree: Tree) -> Reply
     requires kept { IsKept p.now cases.now }
     requires tree { IsTreeFor (book_of p.now cases.now) (Ok (deeds.Open flow)) tree }
-    ensures taken { HasTaken p.now cases.now cases.now (full_or (book_of p.now cases.now) (deeds.Open flow)) result }
-    ensures made { is_full (book_of p.now cases.now) ≡ false → IsMadeOf (verdicts.Refuted tree) result }
+    ensures taken { HasTaken p.now cases.now cases.now
+        (full_or (book_of p.now cases.now) (deeds.Open flow)) result }
+    ensures made { is_full (book_of p.now cases.now) ≡ false
+        → IsMadeOf (verdicts.Refuted tree) result }
     ensures memory { result ≢ replies.NoMemory }
 {
     if is_full(p, cases) {
@@ -169,8 +182,10 @@ pub(crate) fn by_stranding(
     tree: Tree,
 ) -> Reply
     requires kept { IsKept p.now cases.now }
-    requires tree { IsStrandingFor (book_of p.now cases.now) (decision_aside (book_of p.now cases.now) ask.now) number tree }
-    ensures taken { HasTaken p.now cases.now cases.now (decision_of (book_of p.now cases.now) ask.now) result }
+    requires tree { IsStrandingFor (book_of p.now cases.now)
+        (decision_aside (book_of p.now cases.now) ask.now) number tree }
+    ensures taken { HasTaken p.now cases.now cases.now
+        (decision_of (book_of p.now cases.now) ask.now) result }
     ensures made { IsMadeOf (verdicts.Strands number tree) result }
     ensures memory { result ≢ replies.NoMemory }
 {
@@ -235,8 +250,10 @@ pub(crate) fn open(p: &Policy, cases: &mut Cases, flow: FlowId, plan: Plan) -> R
     requires kept { IsKept p.now cases.old }
     requires flow { flow < length p.now.flows }
     requires valid { IsValidPlan (problem_of p.now flow) no_users no_steps plan }
-    ensures taken { HasTaken p.now cases.old cases.new (full_or (book_of p.now cases.old) (deeds.Open flow)) result }
-    ensures made { is_full (book_of p.now cases.old) ≡ false → IsMadeOf (verdicts.Plan plan) result }
+    ensures taken { HasTaken p.now cases.old cases.new
+        (full_or (book_of p.now cases.old) (deeds.Open flow)) result }
+    ensures made { is_full (book_of p.now cases.old) ≡ false
+        → IsMadeOf (verdicts.Plan plan) result }
     ensures memory { result ≡ replies.NoMemory
         → (is_full (book_of p.now cases.old) ≡ false) × (cases.old.spare ≡ 0) }
     ensures unchanged { result ≡ replies.NoMemory → cases.new ≡ cases.old }
@@ -278,7 +295,8 @@ pub(crate) fn claim(
     requires kept { IsKept p.now cases.old }
     requires found { AreFound p.now cases.old.rows n case.now s u }
     requires free { state_at case.now s ≡ FreeStep }
-    requires valid { IsValidPlan (problem_of p.now case.now.flow) (assigned_with case.now s u) (finished_of case.now) plan }
+    requires valid { IsValidPlan (problem_of p.now case.now.flow) (assigned_with case.now s u)
+        (finished_of case.now) plan }
     ensures taken { HasTaken p.now cases.old cases.new (Ok (deeds.Claim n case.now s u)) result }
     ensures granted { result ≡ replies.Granted plan }
 {

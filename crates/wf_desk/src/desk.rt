@@ -87,8 +87,10 @@ impl Desk {
         requires few { length jobs.now ≤ BATCH_LINE_LIMIT }
         requires lanes { AreOfLanes self.old.lanes jobs.now }
         requires small { length self.old.entries + length jobs.now < 4294967296 }
-        ensures loaded { OnOk result (self.new ≡ with_room (with_batch self.old jobs.now) self.new.spare self.new.board.cases.spare) }
-        ensures unchanged { OnErr result (self.new ≡ with_room self.old self.new.spare self.new.board.cases.spare) }
+        ensures loaded { OnOk result (self.new
+            ≡ with_room (with_batch self.old jobs.now) self.new.spare self.new.board.cases.spare) }
+        ensures unchanged { OnErr result (self.new
+            ≡ with_room self.old self.new.spare self.new.board.cases.spare) }
         ensures kept { self.old.spare ≤ self.new.spare }
         ensures room { self.old.board.cases.spare ≤ self.new.board.cases.spare }
     {
@@ -353,7 +355,8 @@ impl Desk {
         requires lane { job.now.lane < self.old.lanes }
         requires next { next_job self.old job.now.lane ≡ Some job.now }
         requires right { IsRight (state_on self.old.board).book job.now.ask verdict }
-        ensures { HasAdded self.old self.new job.now result (IsDecided self.old.board job.now.ask verdict) }
+        ensures { HasAdded self.old self.new job.now result
+            (IsDecided self.old.board job.now.ask verdict) }
     {
         let reply = self.board.decide(alloc, decider, &job.ask, verdict);
         let at = add_entry(&mut self.journal, job, reply);

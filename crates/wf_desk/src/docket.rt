@@ -48,7 +48,8 @@ pub fn count_of_lane(jobs: &[Job], lane: u8) -> u32
 /// For each lane the place of its first job.
 pub fn first_places(jobs: &[Job]) -> [u32; LANE_LIMIT as usize]
     requires { length jobs.now < 4294967296 }
-    ensures { (lane : ℕ) → lane < LANE_LIMIT → IsNextPlace jobs.now lane 0 (slice_index_or result lane 0) }
+    ensures { (lane : ℕ) → lane < LANE_LIMIT
+        → IsNextPlace jobs.now lane 0 (slice_index_or result lane 0) }
 {
     let mut places = [0; LANE_LIMIT as usize];
     'lanes: for lane in 0..LANE_LIMIT {
@@ -63,7 +64,8 @@ pub fn go_on(places: &mut [u32; LANE_LIMIT as usize], jobs: &[Job], lane: u8)
     requires here { slice_index_or places.old lane 0 < length jobs.now }
     requires small { length jobs.now < 4294967296 }
     ensures sized { lane < length places.old }
-    ensures moved { (place : ℕ) × ((places.new ≡ slice_set places.old lane place) × IsNextPlace jobs.now lane (slice_index_or places.old lane 0 + 1) place) }
+    ensures moved { (place : ℕ) × ((places.new ≡ slice_set places.old lane place)
+        × IsNextPlace jobs.now lane (slice_index_or places.old lane 0 + 1) place) }
 {
     let from = places[lane as usize] as usize + 1;
     places[lane as usize] = next_place(jobs, lane, from) as u32;

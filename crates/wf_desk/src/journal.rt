@@ -74,7 +74,8 @@ pub fn add_entry(journal: &mut Journal, job: &Job, reply: Reply) -> u32
     requires room { 0 < journal.old.spare }
     requires small { length journal.old.entries < 4294967296 }
     ensures at { result ≡ length journal.old.entries }
-    ensures added { journal.new.entries ≡ journal.old.entries ++ entry_for job.now (length journal.old.entries) reply ∷ [] }
+    ensures added { journal.new.entries ≡ journal.old.entries ++ entry_for job.now
+        (length journal.old.entries) reply ∷ [] }
     ensures room { journal.old.spare ≤ journal.new.spare + 1 }
 {
     let at = journal.len() as u32;

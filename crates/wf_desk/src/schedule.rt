@@ -137,7 +137,8 @@ fn begin<V: Decider>(desk: &Desk, alloc: Global, decider: &V, held: &mut Held, l
     requires ready { V.ready decider.now }
     requires lane { lane < desk.now.lanes }
     requires held { AreHeld desk.now held.old }
-    ensures done { HasDone (standing desk.now held.old) (Event.Begin lane) result (standing desk.now held.new) }
+    ensures done { HasDone (standing desk.now held.old) (Event.Begin lane) result
+        (standing desk.now held.new) }
     ensures held { AreHeld desk.now held.new }
 {
     let _few = desk.lanes();
@@ -185,7 +186,8 @@ fn commit<V: Decider>(
     requires ready { V.ready decider.now }
     requires lane { lane < desk.old.lanes }
     requires held { AreHeld desk.old held.old }
-    ensures done { HasDone (standing desk.old held.old) (Event.Commit lane) result (standing desk.new held.new) }
+    ensures done { HasDone (standing desk.old held.old) (Event.Commit lane) result
+        (standing desk.new held.new) }
     ensures held { AreHeld desk.new held.new }
     ensures grown { HasGrown desk.old desk.new }
 {
@@ -211,7 +213,8 @@ fn serve<V: Decider>(desk: &mut Desk, alloc: Global, decider: &V, held: &Held, l
     requires ready { V.ready decider.now }
     requires lane { lane < desk.old.lanes }
     requires held { AreHeld desk.old held.now }
-    ensures done { HasDone (standing desk.old held.now) (Event.Serve lane) result (standing desk.new held.now) }
+    ensures done { HasDone (standing desk.old held.now) (Event.Serve lane) result
+        (standing desk.new held.now) }
     ensures held { AreHeld desk.new held.now }
     ensures grown { HasGrown desk.old desk.new }
 {

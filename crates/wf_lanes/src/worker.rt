@@ -49,7 +49,8 @@ pub(crate) trait Turns {
         requires right { Decides (book_on task.now.snap) task.now.ask verdict }
         ensures fits { fits self.new }
         ensures lane { lane self.new ≡ lane self.old }
-        ensures committed { HasCommittedTask (known self.old) (known self.new) task.now verdict result };
+        ensures committed { HasCommittedTask (known self.old) (known self.new) task.now
+            verdict result };
 }
 
 /// Serves a lane's jobs until none is left. A task that is lost is begun again.

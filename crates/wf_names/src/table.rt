@@ -51,12 +51,16 @@ impl NameTable {
     /// Adds a name at the end, and answers its number.
     pub fn add(&mut self, name: Name) -> Result<u16, NameFault>
         ensures place { IfOk result (λ n. n ≡ length self.old.names) }
-        ensures added { OnOk result (self.new ≡ record self.old { names = self.old.names ++ name ∷ [] }) }
+        ensures added { OnOk result (self.new
+            ≡ record self.old { names = self.old.names ++ name ∷ [] }) }
         ensures fresh { OnOk result (is_some (place_of self.old.names name) ≡ false) }
         ensures room { OnOk result (length self.old.names < self.old.limit) }
 
-        ensures twice { IsErrOf result NameFault.Twice ↔ (is_some (place_of self.old.names name) ≡ true) }
-        ensures full { IsErrOf result NameFault.Full ↔ ((is_some (place_of self.old.names name) ≡ false) × (length self.old.names ≡ self.old.limit)) }
+        ensures twice { IsErrOf result NameFault.Twice
+            ↔ (is_some (place_of self.old.names name) ≡ true) }
+        ensures full { IsErrOf result NameFault.Full
+            ↔ ((is_some (place_of self.old.names name) ≡ false)
+            × (length self.old.names ≡ self.old.limit)) }
         ensures unchanged { OnErr result (self.new ≡ self.old) }
     {
         if self.find(&name).is_some() {

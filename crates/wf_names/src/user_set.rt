@@ -119,7 +119,8 @@ impl UserSet {
 
     /// The least user of the set whose number is not below `from`.
     pub fn next(&self, from: u32) -> Option<UserId>
-        ensures { MatchOption result ((v : ℕ) → from ≤ v → has_user self.now v ≡ false) (IsNextIn self.now from) }
+        ensures { MatchOption result ((v : ℕ) → from ≤ v → has_user self.now v ≡ false)
+            (IsNextIn self.now from) }
     {
         next_in(&self.words, from as usize)
     }
@@ -143,7 +144,8 @@ fn count_users(words: &[u64]) -> u32
 // The least user of some words whose number is not below `from`.
 fn next_in(words: &[u64], from: usize) -> Option<UserId>
     requires { length words.now ≡ 16 }
-    ensures { MatchOption result ((v : ℕ) → from ≤ v → has_user words.now v ≡ false) (IsNextIn words.now from) }
+    ensures { MatchOption result ((v : ℕ) → from ≤ v → has_user words.now v ≡ false)
+        (IsNextIn words.now from) }
 {
     let first = from / 64;
     if first >= words.len() {
@@ -163,7 +165,8 @@ fn next_in(words: &[u64], from: usize) -> Option<UserId>
 // The least bit of a word that is set and not below `from`.
 fn bit_from(word: u64, from: u32) -> Option<u16>
     requires { from < 64 }
-    ensures { MatchOption result ((i : ℕ) → from ≤ i → has_bit word i ≡ false) (IsBitFrom word from) }
+    ensures { MatchOption result ((i : ℕ) → from ≤ i → has_bit word i ≡ false)
+        (IsBitFrom word from) }
 {
     let rest = word >> from;
     if rest == 0 {

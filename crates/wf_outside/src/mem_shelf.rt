@@ -36,7 +36,11 @@ impl MemShelf {
     /// Of two files of one name the first is found. The calls with the numbers in `failing`, from 0, fail,
     /// unless the file is longer than the limit; so does each call for a name that no file has.
     pub fn new(files: Vec<MemFile>, failing: Vec<u64>) -> Self
-        ensures { result ≡ record { files = map file_view files.items; counts = record { failing = failing.items; calls = 0; faults = 0 } } }
+        ensures { result ≡ record {
+          files = map file_view files.items;
+          counts = record
+              { failing = failing.items; calls = 0; faults = 0 };
+        } }
     {
         MemShelf {
             files,

@@ -36,7 +36,14 @@ impl MemSink {
         most: usize,
         failing: Vec<u64>,
     ) -> Result<Self, AllocError>
-        ensures { IfOk result (λ sink. sink ≡ record { bytes = []; room = room; most = most; counts = record { failing = failing.items; calls = 0; faults = 0 } }) }
+        ensures { IfOk result (λ sink. sink
+            ≡ record {
+              bytes = [];
+              room = room;
+              most = most;
+              counts = record
+                  { failing = failing.items; calls = 0; faults = 0 };
+            }) }
     {
         let mut bytes = Vec::new(alloc);
         bytes.reserve(room)?;
@@ -72,16 +79,23 @@ impl Sink for MemSink {
     fn put(&mut self, bytes: &[u8]) -> Result<usize, Failed>
         // The call fails exactly where its number says so or none can be taken, and then nothing else happens.
         ensures fails { IsErr result ↔ IsTrue (is_refusing self.old (length bytes.now)) }
-        ensures failed { OnErr result (self.new ≡ record self.old { counts = after_fault self.old.counts }) }
+        ensures failed { OnErr result (self.new
+            ≡ record self.old { counts = after_fault self.old.counts }) }
 
         // Else as many bytes as may be taken are put behind those that are there.
         ensures count { IfOk result (λ n. n ≡ piece_len self.old (length bytes.now)) }
-        ensures after { IfOk result (λ n. self.new ≡ record self.old { bytes = self.old.bytes ++ take n bytes.now; counts = after_call self.old.counts }) }
+        ensures after { IfOk result (λ n. self.new
+            ≡ record self.old {
+              bytes = self.old.bytes ++ take n bytes.now;
+              counts = after_call
+                  self.old.counts;
+            }) }
 
         // The clauses of every sink.
         ensures within { IfOk result (λ n. n ≤ length bytes.now) }
         ensures some { IfOk result (λ n. 0 < length bytes.now → 0 < n) }
-        ensures taken { IfOk result (λ n. Some self.new.bytes ≡ with_bytes (Some self.old.bytes) (take n bytes.now)) }
+        ensures taken { IfOk result (λ n. Some self.new.bytes
+            ≡ with_bytes (Some self.old.bytes) (take n bytes.now)) }
     {
         let count = self.most.min(bytes.len().min(self.room - self.bytes.len()));
         if self.counts.is_failing() || (0 < bytes.len() && count == 0) {

@@ -30,7 +30,12 @@ impl MemSource {
     /// All of `bytes` are to come, at most `most` at a time; the calls with the numbers in `failing`, from 0, fail.
     pub fn new(bytes: Vec<u8>, most: usize, failing: Vec<u64>) -> Self
         requires { 0 < most }
-        ensures { result ≡ record { left = bytes.items; most = most; counts = record { failing = failing.items; calls = 0; faults = 0 } } }
+        ensures { result ≡ record {
+          left = bytes.items;
+          most = most;
+          counts = record
+              { failing = failing.items; calls = 0; faults = 0 };
+        } }
     {
         MemSource {
             bytes,
@@ -73,18 +78,27 @@ impl Source for MemSource {
     fn take(&mut self, buf: &mut [u8]) -> Result<usize, Failed>
         // The call fails exactly where its number says so, and then nothing else happens.
         ensures fails { IsErr result ↔ IsTrue (is_failing self.old.counts) }
-        ensures failed { OnErr result (self.new ≡ record self.old { counts = after_fault self.old.counts }) }
+        ensures failed { OnErr result (self.new
+            ≡ record self.old { counts = after_fault self.old.counts }) }
         ensures untouched { OnErr result (buf.new ≡ buf.old) }
 
         // Else as many bytes as may come stand at the front of `buf`.
-        ensures count { IfOk result (λ n. n ≡ min self.old.most (min (length buf.old) (length self.old.left))) }
+        ensures count { IfOk result (λ n. n
+            ≡ min self.old.most (min (length buf.old) (length self.old.left))) }
         ensures front { IfOk result (λ n. buf.new ≡ take n self.old.left ++ drop n buf.old) }
-        ensures after { IfOk result (λ n. self.new ≡ record self.old { left = drop n self.old.left; counts = after_call self.old.counts }) }
+        ensures after { IfOk result (λ n. self.new
+            ≡ record self.old {
+              left = drop n self.old.left;
+              counts = after_call
+                  self.old.counts;
+            }) }
 
         // The clauses of every source.
         ensures within { IfOk result (λ n. n ≤ length buf.old) }
-        ensures taken { IfOk result (λ n. HasTaken (Some self.old.left) (Some self.new.left) (take n buf.new)) }
-        ensures ended { IfOk result (λ n. n ≡ 0 → 0 < length buf.old → IsAtEnd (Some self.new.left)) }
+        ensures taken { IfOk result (λ n. HasTaken (Some self.old.left) (Some self.new.left)
+            (take n buf.new)) }
+        ensures ended { IfOk result (λ n. n ≡ 0 → 0 < length buf.old
+            → IsAtEnd (Some self.new.left)) }
     {
         if self.counts.is_failing() {
             self.counts.fail();

@@ -15,7 +15,8 @@ pub trait Sink {
     fn put(&mut self, bytes: &[u8]) -> Result<usize, Failed>
         ensures within { IfOk result (λ n. n ≤ length bytes.now) }
         ensures some { IfOk result (λ n. 0 < length bytes.now → 0 < n) }
-        ensures taken { IfOk result (λ n. held self.new ≡ with_bytes (held self.old) (take n bytes.now)) }
+        ensures taken { IfOk result (λ n. held self.new
+            ≡ with_bytes (held self.old) (take n bytes.now)) }
         ensures kept { OnErr result (held self.new ≡ held self.old) }
         ensures faults { faults self.old ≤ faults self.new }
         ensures rose { OnErr result (Rose (faults self.old) (faults self.new)) }
@@ -26,7 +27,8 @@ pub trait Sink {
 fn put_some<K: Sink>(sink: &mut K, bytes: &[u8]) -> Result<usize, Failed>
     ensures within { IfOk result (λ n. n ≤ length bytes.now) }
     ensures some { IfOk result (λ n. 0 < length bytes.now → 0 < n) }
-    ensures taken { IfOk result (λ n. K.held sink.new ≡ with_bytes (K.held sink.old) (take n bytes.now)) }
+    ensures taken { IfOk result (λ n. K.held sink.new
+        ≡ with_bytes (K.held sink.old) (take n bytes.now)) }
     ensures kept { OnErr result (K.held sink.new ≡ K.held sink.old) }
     ensures faults { K.faults sink.old ≤ K.faults sink.new }
     ensures rose { OnErr result (Rose (K.faults sink.old) (K.faults sink.new)) }

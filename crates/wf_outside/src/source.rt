@@ -28,7 +28,8 @@ pub trait Source {
     /// Puts bytes at the front of `buf` and answers how many; 0 into a buffer that is not empty is the end.
     fn take(&mut self, buf: &mut [u8]) -> Result<usize, Failed>
         ensures within { IfOk result (λ n. n ≤ length buf.old) }
-        ensures taken { IfOk result (λ n. HasTaken (left self.old) (left self.new) (take n buf.new)) }
+        ensures taken { IfOk result (λ n. HasTaken (left self.old) (left self.new)
+            (take n buf.new)) }
         ensures ended { IfOk result (λ n. n ≡ 0 → 0 < length buf.old → IsAtEnd (left self.new)) }
 
         // After a fault the same bytes are still to come; what stands in `buf` is open.
@@ -41,7 +42,8 @@ pub trait Source {
 // Takes the next bytes to the front of `buf`; how many.
 fn take_some<S: Source>(source: &mut S, buf: &mut [u8]) -> Result<usize, Failed>
     ensures within { IfOk result (λ n. n ≤ length buf.old) }
-    ensures taken { IfOk result (λ n. HasTaken (S.left source.old) (S.left source.new) (take n buf.new)) }
+    ensures taken { IfOk result (λ n. HasTaken (S.left source.old) (S.left source.new)
+        (take n buf.new)) }
     ensures ended { IfOk result (λ n. n ≡ 0 → 0 < length buf.old → IsAtEnd (S.left source.new)) }
     ensures kept { OnErr result (S.left source.new ≡ S.left source.old) }
     ensures faults { S.faults source.old ≤ S.faults source.new }
@@ -57,13 +59,18 @@ fn take_piece<S: Source>(
     buf: &mut [u8],
     bytes: &mut Vec<u8>,
 ) -> Result<usize, LoadFault>
-    ensures count { IfOk result (λ n. (n ≤ length buf.old) × (length bytes.new.items ≡ length bytes.old.items + n)) }
-    ensures more { OnOk result ((before : Option (List ℕ)) → HasTaken before (S.left source.old) bytes.old.items → HasTaken before (S.left source.new) bytes.new.items) }
+    ensures count { IfOk result (λ n. (n ≤ length buf.old)
+        × (length bytes.new.items ≡ length bytes.old.items + n)) }
+    ensures more { OnOk result ((before : Option (List ℕ))
+        → HasTaken before (S.left source.old) bytes.old.items
+        → HasTaken before (S.left source.new) bytes.new.items) }
     ensures ended { IfOk result (λ n. n ≡ 0 → 0 < length buf.old → IsAtEnd (S.left source.new)) }
-    ensures part { (before : Option (List ℕ)) → HasTaken before (S.left source.old) bytes.old.items → HasTakenAtMost before (S.left source.new) (length bytes.old.items + length buf.old) }
+    ensures part { (before : Option (List ℕ)) → HasTaken before (S.left source.old) bytes.old.items
+        → HasTakenAtMost before (S.left source.new) (length bytes.old.items + length buf.old) }
     ensures fault { IsErrOf result LoadFault.TooLong → ⊥ }
     ensures faults { S.faults source.old ≤ S.faults source.new }
-    ensures rose { IsErrOf result LoadFault.Failed → Rose (S.faults source.old) (S.faults source.new) }
+    ensures rose { IsErrOf result LoadFault.Failed
+        → Rose (S.faults source.old) (S.faults source.new) }
     ensures stays { StaysUnlessFailed result (S.faults source.old) (S.faults source.new) }
 {
     let count = take_some(source, buf)?;
@@ -97,14 +104,16 @@ pub fn take_all<S: Source>(
     ensures taken { IfOk result (λ bytes. HasTaken (S.left source.old) (S.left source.new) bytes) }
     ensures ended { OnOk result (IsAtEnd (S.left source.new)) }
     ensures within { IfOk result (λ bytes. length bytes ≤ limit) }
-    ensures too_long { IsErrOf result LoadFault.TooLong → HasTakenCount (S.left source.old) (S.left source.new) (limit + 1) }
+    ensures too_long { IsErrOf result LoadFault.TooLong
+        → HasTakenCount (S.left source.old) (S.left source.new) (limit + 1) }
     ensures part { HasTakenAtMost (S.left source.old) (S.left source.new) (limit + 1) }
 
     // The same of a source that tells.
     ensures told { IfSome (S.left source.old) (λ content. ReadsAll content limit result) }
 
     ensures faults { S.faults source.old ≤ S.faults source.new }
-    ensures rose { IsErrOf result LoadFault.Failed → Rose (S.faults source.old) (S.faults source.new) }
+    ensures rose { IsErrOf result LoadFault.Failed
+        → Rose (S.faults source.old) (S.faults source.new) }
     ensures stays { StaysUnlessFailed result (S.faults source.old) (S.faults source.new) }
 {
     let mut bytes = Vec::new(alloc);

@@ -59,7 +59,8 @@ pub(crate) fn answer_batch<K: Sink, W: Fn(Desk) -> Desk>(
     ensures answers { (held : Option (List ℕ)) →
         HasAnswered held (K.held sink.old) desk (told_of desk told.old) →
         AnswersTo held (K.held sink.new) (told_of desk told.old) batch.now result.0 (told_of result.0 told.new) result.1 }
-    ensures once { ServesOnce (W.post way.now) → AreAnsweredOnce desk.entries → AreAnsweredOnce result.0.entries }
+    ensures once { ServesOnce (W.post way.now) → AreAnsweredOnce desk.entries
+        → AreAnsweredOnce result.0.entries }
     ensures ending { IfErr result.1 IsWriteEnding }
     ensures counts { CountsWrites (fault_in result.1) (K.faults sink.old) (K.faults sink.new) }
 {
@@ -95,7 +96,8 @@ fn take_batch(
     ensures loaded { OnOk result (desk.new.jobs ≡ batch.now) }
     ensures start { OnOk result (desk.new.start ≡ length desk.old.entries) }
     ensures jobs { OnOk result (told.new.jobs ≡ told.old.jobs ++ batch.now) }
-    ensures ends { OnOk result (told.new.batch_ends ≡ ends_after told.old.batch_ends (length told.old.jobs) batch.now) }
+    ensures ends { OnOk result (told.new.batch_ends
+        ≡ ends_after told.old.batch_ends (length told.old.jobs) batch.now) }
     ensures jobs_stay { OnErr result (told.new.jobs ≡ told.old.jobs) }
     ensures ends_stay { OnErr result (told.new.batch_ends ≡ told.old.batch_ends) }
 {
@@ -111,7 +113,8 @@ fn serve_jobs<W: Fn(Desk) -> Desk>(way: &W, desk: Desk) -> Desk
     ensures grown { HasGrown desk result }
     ensures done { IsDone result }
     ensures sound { IsSoundDesk result }
-    ensures once { ServesOnce (W.post way.now) → AreAnsweredOnce desk.entries → AreAnsweredOnce result.entries }
+    ensures once { ServesOnce (W.post way.now) → AreAnsweredOnce desk.entries
+        → AreAnsweredOnce result.entries }
 {
     let served = way(desk);
     let _kept = served.journal();
@@ -123,7 +126,8 @@ fn serve_jobs<W: Fn(Desk) -> Desk>(way: &W, desk: Desk) -> Desk
 fn add_batch(told: &mut Answered, batch: &[Job]) -> Result<(), AllocError>
     requires few { length told.old.jobs + length batch.now ≤ SESSION_LINE_LIMIT }
     ensures jobs { OnOk result (told.new.jobs ≡ told.old.jobs ++ batch.now) }
-    ensures ends { OnOk result (told.new.batch_ends ≡ ends_after told.old.batch_ends (length told.old.jobs) batch.now) }
+    ensures ends { OnOk result (told.new.batch_ends
+        ≡ ends_after told.old.batch_ends (length told.old.jobs) batch.now) }
     ensures jobs_stay { OnErr result (told.new.jobs ≡ told.old.jobs) }
     ensures ends_stay { OnErr result (told.new.batch_ends ≡ told.old.batch_ends) }
 {
@@ -167,7 +171,8 @@ fn write_entries<K: Sink>(
     entries: &[Entry],
     sink: &mut K,
 ) -> Result<(), RunFault>
-    ensures all { OnOk result (K.held sink.new ≡ with_bytes (K.held sink.old) (entries_text p.now entries.now)) }
+    ensures all { OnOk result (K.held sink.new
+        ≡ with_bytes (K.held sink.old) (entries_text p.now entries.now)) }
     ensures part { HasPart (K.held sink.old) (K.held sink.new) (entries_text p.now entries.now) }
     ensures some { OnErr result (0 < length entries.now) }
     ensures ending { IfErr result IsWriteEnding }
@@ -186,7 +191,8 @@ fn write_one<K: Sink>(
     entry: &Entry,
     sink: &mut K,
 ) -> Result<(), RunFault>
-    ensures all { OnOk result (K.held sink.new ≡ with_bytes (K.held sink.old) (entry_text p.now entry.now)) }
+    ensures all { OnOk result (K.held sink.new
+        ≡ with_bytes (K.held sink.old) (entry_text p.now entry.now)) }
     ensures part { HasPart (K.held sink.old) (K.held sink.new) (entry_text p.now entry.now) }
     ensures ending { IfErr result IsWriteEnding }
     ensures counts { CountsWrites (fault_in result) (K.faults sink.old) (K.faults sink.new) }

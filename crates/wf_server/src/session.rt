@@ -112,7 +112,8 @@ fn serve_batch<S: Source, K: Sink, W: Fn(Desk) -> Desk>(
         BatchEnds before
         (record { input = S.left source.new; output = K.held sink.new; read_faults = S.faults source.new; write_faults = K.faults sink.new })
         reader.new result.0 (told_of result.0 told.new) result.1 }
-    ensures once { ServesOnce (W.post way.now) → AreAnsweredOnce desk.entries → AreAnsweredOnce result.0.entries }
+    ensures once { ServesOnce (W.post way.now) → AreAnsweredOnce desk.entries
+        → AreAnsweredOnce result.0.entries }
     ensures setting { setting_of result.0 ≡ setting_of desk }
     ensures ready { result.1 ≡ None → IsReady reader.new }
     ensures less { result.1 ≡ None → left_to_read reader.new < left_to_read reader.old }

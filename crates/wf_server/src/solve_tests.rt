@@ -222,7 +222,8 @@ pub(crate) fn is_valid(p: &Policy, plan: &Plan) -> bool {
 
 // Whether each user of a plan is one of the policy.
 fn are_known(p: &Policy, plan: &Plan) -> bool
-    ensures { IsTrue result → (s : ℕ) → s < length plan.now → planned plan.now s < length p.now.roster.users }
+    ensures { IsTrue result → (s : ℕ) → s < length plan.now
+        → planned plan.now s < length p.now.roster.users }
 {
     'steps: for s in 0..plan.len() {
         if plan.at(StepId(s)).0 >= p.roster().users().len() {

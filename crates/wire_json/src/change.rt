@@ -18,7 +18,8 @@ pub(crate) fn change_in(
     value: &Value,
     members: &Map<String, Value>,
 ) -> Result<Request, Bad>
-    ensures { Gives Some (λ r. r) result (read.change_by (row_of_edit word) (view value.now) (members_view members.now.entries)) }
+    ensures { Gives Some (λ r. r) result (read.change_by (row_of_edit word) (view value.now)
+        (members_view members.now.entries)) }
 {
     let by = name_at(value, "by")?;
     let edit = edit_in(word, value)?;
@@ -29,7 +30,8 @@ pub(crate) fn change_in(
 /// To see what a change of the policy would strand.
 #[tactic(auto, unfolding(crate::specs::Requests::what_if_in))]
 pub(crate) fn what_if_in(value: &Value, members: &Map<String, Value>) -> Result<Request, Bad>
-    ensures { Gives Some (λ r. r) result (read.what_if_in (view value.now) (members_view members.now.entries)) }
+    ensures { Gives Some (λ r. r) result (read.what_if_in (view value.now)
+        (members_view members.now.entries)) }
 {
     let word = edit_word_in(value)?;
     what_if_by(word, value, members)
@@ -38,7 +40,9 @@ pub(crate) fn what_if_in(value: &Value, members: &Map<String, Value>) -> Result<
 // The word at the key edit.
 #[tactic(auto, unfolding(wf_names::specs::Names::is_name))]
 fn edit_word_in(value: &Value) -> Result<EditWord, Bad>
-    ensures { Gives Some row_of_edit result (or_fault (option_and_then (read.row_of read.edits) (read.text_at (codes "edit") (view value.now))) (bad.Key (codes "edit"))) }
+    ensures { Gives Some row_of_edit result
+        (or_fault (option_and_then (read.row_of read.edits)
+        (read.text_at (codes "edit") (view value.now))) (bad.Key (codes "edit"))) }
 {
     let Some(text) = text_at(value, "edit") else {
         return Err(key_fault("edit"));
@@ -51,7 +55,8 @@ fn edit_word_in(value: &Value) -> Result<EditWord, Bad>
 
 #[tactic(auto, unfolding(crate::specs::Requests::request_by, wf_names::specs::Names::is_name))]
 fn what_if_by(word: EditWord, value: &Value, members: &Map<String, Value>) -> Result<Request, Bad>
-    ensures { Gives Some (λ r. r) result (read.what_if_by (row_of_edit word) (view value.now) (members_view members.now.entries)) }
+    ensures { Gives Some (λ r. r) result (read.what_if_by (row_of_edit word) (view value.now)
+        (members_view members.now.entries)) }
 {
     let by = name_at(value, "by")?;
     let edit = edit_in(word, value)?;
@@ -132,7 +137,8 @@ fn relate_in(value: &Value) -> Result<Edit, Bad>
 // To take a pair of users out of a relation.
 #[tactic(auto, unfolding(wf_names::specs::Names::is_name))]
 fn unrelate_in(value: &Value) -> Result<Edit, Bad>
-    ensures { Gives Some (λ e. e) result (edit_by (row_of_edit EditWord.Unrelate) (view value.now)) }
+    ensures { Gives Some (λ e. e) result (edit_by (row_of_edit EditWord.Unrelate)
+        (view value.now)) }
 {
     let first = name_at(value, "first")?;
     let relation = name_at(value, "relation")?;

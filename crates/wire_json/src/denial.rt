@@ -23,7 +23,8 @@ pub(crate) fn push_denial(
     p: &Policy,
     denial: &Denial,
 ) -> Result<(), AllocError>
-    ensures { OnOk result (out.new.items ≡ out.old.items ++ compact_text (denial_data p.now denial.now)) }
+    ensures { OnOk result (out.new.items ≡ out.old.items ++ compact_text
+        (denial_data p.now denial.now)) }
 {
     match denial {
         Denial::NoFlow => push(out, b"\"no_flow\""),
@@ -55,7 +56,8 @@ pub(crate) fn push_denial(
 }
 
 fn push_rule(out: &mut Vec<u8>, rule: u8) -> Result<(), AllocError>
-    ensures { OnOk result (out.new.items ≡ out.old.items ++ compact_text (single (codes "rule") (number (unsigned rule)))) }
+    ensures { OnOk result (out.new.items ≡ out.old.items ++ compact_text
+        (single (codes "rule") (number (unsigned rule)))) }
 {
     push_number(out, b"{\"rule\":", rule as u32)?;
     push(out, b"}")?;
@@ -63,7 +65,8 @@ fn push_rule(out: &mut Vec<u8>, rule: u8) -> Result<(), AllocError>
 }
 
 fn push_not_held(out: &mut Vec<u8>, p: &Policy, state: StepState) -> Result<(), AllocError>
-    ensures { OnOk result (out.new.items ≡ out.old.items ++ compact_text (single (codes "not_held") (state_data p.now state))) }
+    ensures { OnOk result (out.new.items ≡ out.old.items ++ compact_text
+        (single (codes "not_held") (state_data p.now state))) }
 {
     push(out, b"{\"not_held\":")?;
     push_state(out, p, state)?;
@@ -73,7 +76,8 @@ fn push_not_held(out: &mut Vec<u8>, p: &Policy, state: StepState) -> Result<(), 
 
 #[tactic(auto, unfolding(json::specs::Print::escape_byte))]
 fn push_unknown(out: &mut Vec<u8>, missing: Missing) -> Result<(), AllocError>
-    ensures { OnOk result (out.new.items ≡ out.old.items ++ compact_text (single (codes "unknown") (missing_data missing))) }
+    ensures { OnOk result (out.new.items ≡ out.old.items ++ compact_text
+        (single (codes "unknown") (missing_data missing))) }
 {
     match missing {
         Missing::Flow => push(out, b"{\"unknown\":\"flow\"}"),
@@ -92,7 +96,8 @@ fn push_strands(
     f: FlowId,
     tree: &Tree,
 ) -> Result<(), AllocError>
-    ensures { OnOk result (out.new.items ≡ out.old.items ++ compact_text (single (codes "strands") (strands_data case (tree_data p.now f (shape_of tree.now))))) }
+    ensures { OnOk result (out.new.items ≡ out.old.items ++ compact_text
+        (single (codes "strands") (strands_data case (tree_data p.now f (shape_of tree.now))))) }
 {
     push_case(out, b"{\"strands\":{\"case\":", case)?;
     push(out, b",\"tree\":")?;
@@ -121,7 +126,8 @@ fn push_step_in(
     f: FlowId,
     s: StepId,
 ) -> Result<(), AllocError>
-    ensures { OnOk result (out.new.items ≡ out.old.items ++ (before.now ++ (compact_text (step_data p.now f s) ++ 125 ∷ []))) }
+    ensures { OnOk result (out.new.items ≡ out.old.items ++
+        (before.now ++ (compact_text (step_data p.now f s) ++ 125 ∷ []))) }
 {
     push(out, before)?;
     push_step(out, p, f, s)?;
@@ -152,7 +158,8 @@ fn push_roles_in(
     p: &Policy,
     roles: &[RoleId],
 ) -> Result<(), AllocError>
-    ensures { OnOk result (out.new.items ≡ out.old.items ++ (before.now ++ (compact_text (names_data p.now.roster.roles roles.now) ++ 125 ∷ []))) }
+    ensures { OnOk result (out.new.items ≡ out.old.items ++
+        (before.now ++ (compact_text (names_data p.now.roster.roles roles.now) ++ 125 ∷ []))) }
 {
     push(out, before)?;
     push_roles(out, p.roster().roles(), roles)?;
@@ -169,7 +176,8 @@ fn push_tree_in(
     f: FlowId,
     tree: &Tree,
 ) -> Result<(), AllocError>
-    ensures { OnOk result (out.new.items ≡ out.old.items ++ (before.now ++ (compact_text (tree_data p.now f (shape_of tree.now)) ++ 125 ∷ []))) }
+    ensures { OnOk result (out.new.items ≡ out.old.items ++
+        (before.now ++ (compact_text (tree_data p.now f (shape_of tree.now)) ++ 125 ∷ []))) }
 {
     push(out, before)?;
     push_tree(alloc, out, p, f, tree)?;
@@ -185,7 +193,8 @@ fn push_tree(
     f: FlowId,
     tree: &Tree,
 ) -> Result<(), AllocError>
-    ensures { OnOk result (out.new.items ≡ out.old.items ++ compact_text (tree_data p.now f (shape_of tree.now))) }
+    ensures { OnOk result (out.new.items ≡ out.old.items ++ compact_text
+        (tree_data p.now f (shape_of tree.now))) }
 {
     let text = tree_value(alloc, p, f, tree)?.to_string(alloc)?;
     push(out, text.as_bytes())?;

@@ -45,7 +45,8 @@ fn push_entry(alloc: Global, out: &mut Vec<u8>, p: &Policy, e: &Entry) -> Result
 
 #[tactic(auto, unfolding(json::specs::Print::escape_byte))]
 fn push_reply(alloc: Global, out: &mut Vec<u8>, p: &Policy, reply: &Reply) -> Result<(), AllocError>
-    ensures { OnOk result (out.new.items ≡ out.old.items ++ compact_text (reply_data p.now reply.now)) }
+    ensures { OnOk result (out.new.items ≡ out.old.items ++ compact_text
+        (reply_data p.now reply.now)) }
 {
     match reply {
         Reply::Granted(plan) => push_granted(out, p, plan),
@@ -66,7 +67,8 @@ fn push_reply(alloc: Global, out: &mut Vec<u8>, p: &Policy, reply: &Reply) -> Re
 }
 
 fn push_granted(out: &mut Vec<u8>, p: &Policy, plan: &Plan) -> Result<(), AllocError>
-    ensures { OnOk result (out.new.items ≡ out.old.items ++ compact_text (reply_data p.now (Reply.Granted plan.now))) }
+    ensures { OnOk result (out.new.items ≡ out.old.items ++ compact_text
+        (reply_data p.now (Reply.Granted plan.now))) }
 {
     push(out, b"{\"granted\":{\"plan\":")?;
     push_users(out, p, plan)?;
@@ -76,14 +78,16 @@ fn push_granted(out: &mut Vec<u8>, p: &Policy, plan: &Plan) -> Result<(), AllocE
 
 // Adds the names of a plan's users.
 fn push_users(out: &mut Vec<u8>, p: &Policy, plan: &Plan) -> Result<(), AllocError>
-    ensures { OnOk result (out.new.items ≡ out.old.items ++ compact_text (plan_data p.now.roster.users plan.now)) }
+    ensures { OnOk result (out.new.items ≡ out.old.items ++ compact_text
+        (plan_data p.now.roster.users plan.now)) }
 {
     push_plan(out, p.roster().users(), plan)
 }
 
 #[tactic(auto, unfolding(json::specs::Print::escape_byte))]
 fn push_finished(out: &mut Vec<u8>, done: bool) -> Result<(), AllocError>
-    ensures { OnOk result (out.new.items ≡ out.old.items ++ compact_text (single (codes "finished") (single (codes "done") (boolean done)))) }
+    ensures { OnOk result (out.new.items ≡ out.old.items ++ compact_text
+        (single (codes "finished") (single (codes "done") (boolean done)))) }
 {
     if done {
         push(out, b"{\"finished\":{\"done\":true}}")
@@ -93,7 +97,8 @@ fn push_finished(out: &mut Vec<u8>, done: bool) -> Result<(), AllocError>
 }
 
 fn push_opened(out: &mut Vec<u8>, p: &Policy, case: CaseId, plan: &Plan) -> Result<(), AllocError>
-    ensures { OnOk result (out.new.items ≡ out.old.items ++ compact_text (reply_data p.now (Reply.Opened case plan.now))) }
+    ensures { OnOk result (out.new.items ≡ out.old.items ++ compact_text
+        (reply_data p.now (Reply.Opened case plan.now))) }
 {
     push_case(out, b"{\"opened\":{\"case\":", case)?;
     push(out, b",\"plan\":")?;
@@ -103,7 +108,8 @@ fn push_opened(out: &mut Vec<u8>, p: &Policy, case: CaseId, plan: &Plan) -> Resu
 }
 
 fn push_edited(out: &mut Vec<u8>, n: u32) -> Result<(), AllocError>
-    ensures { OnOk result (out.new.items ≡ out.old.items ++ compact_text (single (codes "edited") (single (codes "number") (number (unsigned n))))) }
+    ensures { OnOk result (out.new.items ≡ out.old.items ++ compact_text
+        (single (codes "edited") (single (codes "number") (number (unsigned n))))) }
 {
     push_number(out, b"{\"edited\":{\"number\":", n)?;
     push(out, b"}}")?;
@@ -111,7 +117,8 @@ fn push_edited(out: &mut Vec<u8>, n: u32) -> Result<(), AllocError>
 }
 
 fn push_again(out: &mut Vec<u8>, rounds: u8, at: u32) -> Result<(), AllocError>
-    ensures { OnOk result (out.new.items ≡ out.old.items ++ compact_text (single (codes "again") (again_data rounds at))) }
+    ensures { OnOk result (out.new.items ≡ out.old.items ++ compact_text
+        (single (codes "again") (again_data rounds at))) }
 {
     push_number(out, b"{\"again\":{\"at\":", at)?;
     push_number(out, b",\"rounds\":", rounds as u32)?;
@@ -121,7 +128,8 @@ fn push_again(out: &mut Vec<u8>, rounds: u8, at: u32) -> Result<(), AllocError>
 
 #[tactic(auto, unfolding(json::specs::Print::escape_byte))]
 fn push_bad(out: &mut Vec<u8>, bad: Bad) -> Result<(), AllocError>
-    ensures { OnOk result (out.new.items ≡ out.old.items ++ compact_text (single (codes "bad") (bad_data bad))) }
+    ensures { OnOk result (out.new.items ≡ out.old.items ++ compact_text
+        (single (codes "bad") (bad_data bad))) }
 {
     match bad {
         Bad::Syntax => push(out, b"{\"bad\":\"syntax\"}"),
@@ -134,7 +142,8 @@ fn push_bad(out: &mut Vec<u8>, bad: Bad) -> Result<(), AllocError>
 }
 
 fn push_bad_key(out: &mut Vec<u8>, key: &Name) -> Result<(), AllocError>
-    ensures { OnOk result (out.new.items ≡ out.old.items ++ compact_text (single (codes "bad") (bad_data (Bad.Key key.now)))) }
+    ensures { OnOk result (out.new.items ≡ out.old.items ++ compact_text
+        (single (codes "bad") (bad_data (Bad.Key key.now)))) }
 {
     push(out, b"{\"bad\":{\"key\":")?;
     push_quoted(out, key)?;
@@ -143,7 +152,8 @@ fn push_bad_key(out: &mut Vec<u8>, key: &Name) -> Result<(), AllocError>
 }
 
 fn push_shown(out: &mut Vec<u8>, p: &Policy, face: &Face) -> Result<(), AllocError>
-    ensures { OnOk result (out.new.items ≡ out.old.items ++ compact_text (single (codes "view") (face_data p.now face.now))) }
+    ensures { OnOk result (out.new.items ≡ out.old.items ++ compact_text
+        (single (codes "view") (face_data p.now face.now))) }
 {
     push(out, b"{\"view\":")?;
     push_face(out, p, face)?;
@@ -152,7 +162,8 @@ fn push_shown(out: &mut Vec<u8>, p: &Policy, face: &Face) -> Result<(), AllocErr
 }
 
 fn push_face(out: &mut Vec<u8>, p: &Policy, face: &Face) -> Result<(), AllocError>
-    ensures { OnOk result (out.new.items ≡ out.old.items ++ compact_text (face_data p.now face.now)) }
+    ensures { OnOk result (out.new.items ≡ out.old.items ++ compact_text
+        (face_data p.now face.now)) }
 {
     push(out, b"{\"flow\":")?;
     push_flow(out, p, face.flow)?;
@@ -165,13 +176,15 @@ fn push_face(out: &mut Vec<u8>, p: &Policy, face: &Face) -> Result<(), AllocErro
 }
 
 fn push_flow(out: &mut Vec<u8>, p: &Policy, f: FlowId) -> Result<(), AllocError>
-    ensures { OnOk result (out.new.items ≡ out.old.items ++ compact_text (named p.now.flow_names f)) }
+    ensures { OnOk result (out.new.items ≡ out.old.items ++ compact_text
+        (named p.now.flow_names f)) }
 {
     push_name(out, p.flows(), f.0 as u16)
 }
 
 fn push_steps(out: &mut Vec<u8>, p: &Policy, states: States) -> Result<(), AllocError>
-    ensures { OnOk result (out.new.items ≡ out.old.items ++ compact_text (array (items_of (map (seen_data p.now) states)))) }
+    ensures { OnOk result (out.new.items ≡ out.old.items ++ compact_text
+        (array (items_of (map (seen_data p.now) states)))) }
 {
     push_states(out, p, states.as_slice())
 }
@@ -189,7 +202,8 @@ fn push_phase(out: &mut Vec<u8>, phase: Phase) -> Result<(), AllocError>
 
 // Adds where steps stand, in order.
 fn push_states(out: &mut Vec<u8>, p: &Policy, states: &[StepState]) -> Result<(), AllocError>
-    ensures { OnOk result (out.new.items ≡ out.old.items ++ compact_text (array (items_of (map (seen_data p.now) states.now)))) }
+    ensures { OnOk result (out.new.items ≡ out.old.items ++ compact_text
+        (array (items_of (map (seen_data p.now) states.now)))) }
 {
     let mut later = false;
     push(out, b"[")?;
@@ -208,7 +222,8 @@ fn push_seen_next(
     p: &Policy,
     state: StepState,
 ) -> Result<(), AllocError>
-    ensures { OnOk result (out.new.items ≡ out.old.items ++ (comma_if later ++ compact_text (seen_data p.now state))) }
+    ensures { OnOk result (out.new.items ≡ out.old.items ++
+        (comma_if later ++ compact_text (seen_data p.now state))) }
 {
     push_comma(out, later)?;
     push_seen(out, p, state)?;
@@ -233,7 +248,8 @@ fn push_denied(
     p: &Policy,
     denial: &Denial,
 ) -> Result<(), AllocError>
-    ensures { OnOk result (out.new.items ≡ out.old.items ++ compact_text (single (codes "denied") (denial_data p.now denial.now))) }
+    ensures { OnOk result (out.new.items ≡ out.old.items ++ compact_text
+        (single (codes "denied") (denial_data p.now denial.now))) }
 {
     push(out, b"{\"denied\":")?;
     push_denial(alloc, out, p, denial)?;

@@ -81,7 +81,8 @@ fn request_in(value: &Value, lanes: u8) -> Result<Asked, Bad>
 }
 
 fn members_of(value: &Value) -> Result<&Map<String, Value>, Bad>
-    ensures { Gives Some (λ m. members_view m.now.entries) result (or_fault (as_object (view value.now)) bad.Object) }
+    ensures { Gives Some (λ m. members_view m.now.entries) result
+        (or_fault (as_object (view value.now)) bad.Object) }
 {
     match value.as_object() {
         Some(members) => Ok(members),
@@ -91,7 +92,9 @@ fn members_of(value: &Value) -> Result<&Map<String, Value>, Bad>
 
 // The word at the key do.
 fn word_in(value: &Value) -> Result<Word, Bad>
-    ensures { Gives Some reading_of_word result (or_fault (option_and_then read.reading_of (read.text_at (codes "do") (view value.now))) bad.Do) }
+    ensures { Gives Some reading_of_word result
+        (or_fault (option_and_then read.reading_of (read.text_at (codes "do") (view value.now)))
+        bad.Do) }
 {
     let Some(text) = text_at(value, "do") else {
         return Err(Bad::Do);
@@ -116,7 +119,8 @@ fn lane_in(value: &Value, lanes: u8) -> Result<u8, Bad>
 }
 
 fn request_named(word: Word, value: &Value, members: &Map<String, Value>) -> Result<Request, Bad>
-    ensures { Gives Some (λ r. r) result (reading_of_word word (view value.now) (members_view members.now.entries)) }
+    ensures { Gives Some (λ r. r) result (reading_of_word word (view value.now)
+        (members_view members.now.entries)) }
 {
     match word {
         Word::Open => open_in(value, members),
@@ -134,7 +138,8 @@ fn request_named(word: Word, value: &Value, members: &Map<String, Value>) -> Res
 
 #[tactic(auto, unfolding(crate::specs::Requests::request_by, wf_names::specs::Names::is_name))]
 fn open_in(value: &Value, members: &Map<String, Value>) -> Result<Request, Bad>
-    ensures { Gives Some (λ r. r) result (reading_of_word Word.Open (view value.now) (members_view members.now.entries)) }
+    ensures { Gives Some (λ r. r) result (reading_of_word Word.Open (view value.now)
+        (members_view members.now.entries)) }
 {
     let flow = name_at(value, "flow")?;
     no_others(members, &["do", "lane"], &["flow"])?;
@@ -143,7 +148,8 @@ fn open_in(value: &Value, members: &Map<String, Value>) -> Result<Request, Bad>
 
 #[tactic(auto, unfolding(crate::specs::Requests::request_by, wf_names::specs::Names::is_name))]
 fn claim_in(value: &Value, members: &Map<String, Value>) -> Result<Request, Bad>
-    ensures { Gives Some (λ r. r) result (reading_of_word Word.Claim (view value.now) (members_view members.now.entries)) }
+    ensures { Gives Some (λ r. r) result (reading_of_word Word.Claim (view value.now)
+        (members_view members.now.entries)) }
 {
     let case = case_at(value)?;
     let step = name_at(value, "step")?;
@@ -154,7 +160,8 @@ fn claim_in(value: &Value, members: &Map<String, Value>) -> Result<Request, Bad>
 
 #[tactic(auto, unfolding(crate::specs::Requests::request_by, wf_names::specs::Names::is_name))]
 fn finish_in(value: &Value, members: &Map<String, Value>) -> Result<Request, Bad>
-    ensures { Gives Some (λ r. r) result (reading_of_word Word.Finish (view value.now) (members_view members.now.entries)) }
+    ensures { Gives Some (λ r. r) result (reading_of_word Word.Finish (view value.now)
+        (members_view members.now.entries)) }
 {
     let case = case_at(value)?;
     let step = name_at(value, "step")?;
@@ -165,7 +172,8 @@ fn finish_in(value: &Value, members: &Map<String, Value>) -> Result<Request, Bad
 
 #[tactic(auto, unfolding(crate::specs::Requests::request_by, wf_names::specs::Names::is_name))]
 fn give_back_in(value: &Value, members: &Map<String, Value>) -> Result<Request, Bad>
-    ensures { Gives Some (λ r. r) result (reading_of_word Word.GiveBack (view value.now) (members_view members.now.entries)) }
+    ensures { Gives Some (λ r. r) result (reading_of_word Word.GiveBack (view value.now)
+        (members_view members.now.entries)) }
 {
     let case = case_at(value)?;
     let step = name_at(value, "step")?;
@@ -176,7 +184,8 @@ fn give_back_in(value: &Value, members: &Map<String, Value>) -> Result<Request, 
 
 #[tactic(auto, unfolding(crate::specs::Requests::request_by, wf_names::specs::Names::is_name))]
 fn release_in(value: &Value, members: &Map<String, Value>) -> Result<Request, Bad>
-    ensures { Gives Some (λ r. r) result (reading_of_word Word.Release (view value.now) (members_view members.now.entries)) }
+    ensures { Gives Some (λ r. r) result (reading_of_word Word.Release (view value.now)
+        (members_view members.now.entries)) }
 {
     let by = name_at(value, "by")?;
     let case = case_at(value)?;
@@ -187,7 +196,8 @@ fn release_in(value: &Value, members: &Map<String, Value>) -> Result<Request, Ba
 
 #[tactic(auto, unfolding(crate::specs::Requests::request_by, wf_names::specs::Names::is_name))]
 fn withdraw_in(value: &Value, members: &Map<String, Value>) -> Result<Request, Bad>
-    ensures { Gives Some (λ r. r) result (reading_of_word Word.Withdraw (view value.now) (members_view members.now.entries)) }
+    ensures { Gives Some (λ r. r) result (reading_of_word Word.Withdraw (view value.now)
+        (members_view members.now.entries)) }
 {
     let by = name_at(value, "by")?;
     let case = case_at(value)?;
@@ -197,7 +207,8 @@ fn withdraw_in(value: &Value, members: &Map<String, Value>) -> Result<Request, B
 
 #[tactic(auto, unfolding(crate::specs::Requests::request_by, wf_names::specs::Names::is_name))]
 fn view_in(value: &Value, members: &Map<String, Value>) -> Result<Request, Bad>
-    ensures { Gives Some (λ r. r) result (reading_of_word Word.View (view value.now) (members_view members.now.entries)) }
+    ensures { Gives Some (λ r. r) result (reading_of_word Word.View (view value.now)
+        (members_view members.now.entries)) }
 {
     let case = case_at(value)?;
     no_others(members, &["do", "lane"], &["case"])?;
@@ -206,7 +217,8 @@ fn view_in(value: &Value, members: &Map<String, Value>) -> Result<Request, Bad>
 
 #[tactic(auto, unfolding(crate::specs::Requests::request_by, wf_names::specs::Names::is_name))]
 fn worklist_in(value: &Value, members: &Map<String, Value>) -> Result<Request, Bad>
-    ensures { Gives Some (λ r. r) result (reading_of_word Word.Worklist (view value.now) (members_view members.now.entries)) }
+    ensures { Gives Some (λ r. r) result (reading_of_word Word.Worklist (view value.now)
+        (members_view members.now.entries)) }
 {
     let user = name_at(value, "user")?;
     no_others(members, &["do", "lane"], &["user"])?;
@@ -216,7 +228,8 @@ fn worklist_in(value: &Value, members: &Map<String, Value>) -> Result<Request, B
 // The number of the case, at the key case.
 #[tactic(auto, unfolding(wf_names::specs::Names::is_name))]
 fn case_at(value: &Value) -> Result<CaseId, Bad>
-    ensures { Gives Some (λ n. n) result (or_fault (read.case_at (view value.now)) (bad.Key read.case)) }
+    ensures { Gives Some (λ n. n) result (or_fault (read.case_at (view value.now))
+        (bad.Key read.case)) }
 {
     match number_at(value, "case") {
         Some(n) if n <= CASE_NUMBER_LIMIT as u64 => Ok(CaseId(n as u16)),
@@ -227,7 +240,8 @@ fn case_at(value: &Value) -> Result<CaseId, Bad>
 /// The name at a key.
 pub(crate) fn name_at(value: &Value, key: &str) -> Result<Name, Bad>
     requires { IsTrue (is_name key.now) }
-    ensures { Gives Some (λ n. n) result (or_fault (read.name_at key.now (view value.now)) (bad.Key key.now)) }
+    ensures { Gives Some (λ n. n) result (or_fault (read.name_at key.now (view value.now))
+        (bad.Key key.now)) }
 {
     let Some(text) = text_at(value, key) else {
         return Err(key_fault(key));
@@ -265,7 +279,9 @@ pub(crate) fn no_others(
     others: &[&str],
     keys: &[&str],
 ) -> Result<(), Bad>
-    ensures { Gives Some (λ u. u) result (check (read.has_only (map (λ k. k.now) others.now ++ map (λ k. k.now) keys.now) (members_view members.now.entries)) bad.Extra) }
+    ensures { Gives Some (λ u. u) result (check
+        (read.has_only (map (λ k. k.now) others.now ++ map (λ k. k.now) keys.now)
+        (members_view members.now.entries)) bad.Extra) }
 {
     'members: for (key, _value) in members {
         if !is_either(others, keys, key.as_str()) {
@@ -278,7 +294,8 @@ pub(crate) fn no_others(
 // Whether a text is one of some texts or of some others.
 #[tactic(auto, using(crate::proofs::Keys::any_of_both))]
 fn is_either(texts: &[&str], others: &[&str], text: &str) -> bool
-    ensures { result ≡ list_any (pointwise nat_eq text.now) (map (λ t. t.now) texts.now ++ map (λ t. t.now) others.now) }
+    ensures { result ≡ list_any (pointwise nat_eq text.now)
+        (map (λ t. t.now) texts.now ++ map (λ t. t.now) others.now) }
 {
     is_among(texts, text) || is_among(others, text)
 }

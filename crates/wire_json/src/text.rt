@@ -37,7 +37,8 @@ pub(crate) fn push_case(out: &mut Vec<u8>, before: &[u8], case: CaseId) -> Resul
 
 /// Adds the name with a number, as text; the empty text where there is none.
 pub(crate) fn push_name(out: &mut Vec<u8>, names: &NameTable, n: u16) -> Result<(), AllocError>
-    ensures { OnOk result (out.new.items ≡ out.old.items ++ compact_text (named names.now.names n)) }
+    ensures { OnOk result (out.new.items ≡ out.old.items ++ compact_text
+        (named names.now.names n)) }
 {
     if n < names.len() {
         push_quoted(out, &names.name(n))
@@ -54,7 +55,8 @@ pub(crate) fn push_name_in(
     n: u16,
     after: &[u8],
 ) -> Result<(), AllocError>
-    ensures { OnOk result (out.new.items ≡ out.old.items ++ (before.now ++ (compact_text (named names.now.names n) ++ after.now))) }
+    ensures { OnOk result (out.new.items ≡ out.old.items ++
+        (before.now ++ (compact_text (named names.now.names n) ++ after.now))) }
 {
     push(out, before)?;
     push_name(out, names, n)?;
@@ -82,7 +84,8 @@ fn push_bare(out: &mut Vec<u8>, name: &Name) -> Result<(), AllocError>
 
 /// Adds the names of a plan's users.
 pub(crate) fn push_plan(out: &mut Vec<u8>, users: &NameTable, plan: &Plan) -> Result<(), AllocError>
-    ensures { OnOk result (out.new.items ≡ out.old.items ++ compact_text (plan_data users.now.names plan.now)) }
+    ensures { OnOk result (out.new.items ≡ out.old.items ++ compact_text
+        (plan_data users.now.names plan.now)) }
 {
     push(out, b"[")?;
     'users: for s in 0..plan.len() {
@@ -98,7 +101,8 @@ pub(crate) fn push_roles(
     names: &NameTable,
     roles: &[RoleId],
 ) -> Result<(), AllocError>
-    ensures { OnOk result (out.new.items ≡ out.old.items ++ compact_text (names_data names.now.names roles.now)) }
+    ensures { OnOk result (out.new.items ≡ out.old.items ++ compact_text
+        (names_data names.now.names roles.now)) }
 {
     let mut later = false;
     push(out, b"[")?;
@@ -112,7 +116,8 @@ pub(crate) fn push_roles(
 
 // Adds one more name.
 fn push_next(out: &mut Vec<u8>, later: bool, names: &NameTable, n: u16) -> Result<(), AllocError>
-    ensures { OnOk result (out.new.items ≡ out.old.items ++ (comma_if later ++ compact_text (named names.now.names n))) }
+    ensures { OnOk result (out.new.items ≡ out.old.items ++
+        (comma_if later ++ compact_text (named names.now.names n))) }
 {
     push_comma(out, later)?;
     push_name(out, names, n)?;

@@ -60,7 +60,8 @@ fn branches_value(
     f: FlowId,
     branches: &[Branch],
 ) -> Result<Value, AllocError>
-    ensures { IfOk result (λ v. view v ≡ array (items_of (branches_data p.now f (kids_of_items branches.now)))) }
+    ensures { IfOk result (λ v. view v ≡ array
+        (items_of (branches_data p.now f (kids_of_items branches.now)))) }
 {
     let mut values = Vec::new(alloc);
     'branches: for branch in branches {
@@ -80,7 +81,9 @@ fn twin_value(alloc: Global, p: &Policy, twin: UserId) -> Result<Value, AllocErr
 // The user and the tree of a branch, or the leaf that names a twin.
 #[cycle(tree_value)]
 fn branch_value(alloc: Global, p: &Policy, f: FlowId, branch: &Branch) -> Result<Value, AllocError>
-    ensures { IfOk result (λ v. (rest : Kids) → branches_data p.now f (branch_onto branch.now rest) ≡ view v ∷ branches_data p.now f rest) }
+    ensures { IfOk result (λ v. (rest : Kids)
+        → branches_data p.now f (branch_onto branch.now rest)
+        ≡ view v ∷ branches_data p.now f rest) }
 {
     match &branch.kid {
         Kid::Tree(tree) => {

@@ -15,7 +15,8 @@ use wf_talk::WorkItem;
 
 /// Adds a work list.
 pub(crate) fn push_work(out: &mut Vec<u8>, p: &Policy, items: &[WorkItem]) -> Result<(), AllocError>
-    ensures { OnOk result (out.new.items ≡ out.old.items ++ compact_text (single (codes "worklist") (array (items_of (map (work_data p.now) items.now))))) }
+    ensures { OnOk result (out.new.items ≡ out.old.items ++ compact_text
+        (single (codes "worklist") (array (items_of (map (work_data p.now) items.now))))) }
 {
     push(out, b"{\"worklist\":")?;
     push_items(out, p, items)?;
@@ -25,7 +26,8 @@ pub(crate) fn push_work(out: &mut Vec<u8>, p: &Policy, items: &[WorkItem]) -> Re
 
 /// Adds the cases that an edit would strand.
 pub(crate) fn push_what_if(out: &mut Vec<u8>, cases: &[CaseId]) -> Result<(), AllocError>
-    ensures { OnOk result (out.new.items ≡ out.old.items ++ compact_text (single (codes "what_if") (cases_data cases.now))) }
+    ensures { OnOk result (out.new.items ≡ out.old.items ++ compact_text
+        (single (codes "what_if") (cases_data cases.now))) }
 {
     push(out, b"{\"what_if\":")?;
     push_cases(out, cases)?;
@@ -35,7 +37,8 @@ pub(crate) fn push_what_if(out: &mut Vec<u8>, cases: &[CaseId]) -> Result<(), Al
 
 // Adds the steps of a work list, in order.
 fn push_items(out: &mut Vec<u8>, p: &Policy, items: &[WorkItem]) -> Result<(), AllocError>
-    ensures { OnOk result (out.new.items ≡ out.old.items ++ compact_text (array (items_of (map (work_data p.now) items.now)))) }
+    ensures { OnOk result (out.new.items ≡ out.old.items ++ compact_text
+        (array (items_of (map (work_data p.now) items.now)))) }
 {
     let mut later = false;
     push(out, b"[")?;
@@ -54,7 +57,8 @@ fn push_item_next(
     p: &Policy,
     item: &WorkItem,
 ) -> Result<(), AllocError>
-    ensures { OnOk result (out.new.items ≡ out.old.items ++ (comma_if later ++ compact_text (work_data p.now item.now))) }
+    ensures { OnOk result (out.new.items ≡ out.old.items ++
+        (comma_if later ++ compact_text (work_data p.now item.now))) }
 {
     push_comma(out, later)?;
     push_item(out, p, item)?;
@@ -62,7 +66,8 @@ fn push_item_next(
 }
 
 fn push_item(out: &mut Vec<u8>, p: &Policy, item: &WorkItem) -> Result<(), AllocError>
-    ensures { OnOk result (out.new.items ≡ out.old.items ++ compact_text (work_data p.now item.now)) }
+    ensures { OnOk result (out.new.items ≡ out.old.items ++ compact_text
+        (work_data p.now item.now)) }
 {
     push_case(out, b"[", item.case)?;
     push(out, b",")?;
@@ -87,7 +92,8 @@ fn push_cases(out: &mut Vec<u8>, cases: &[CaseId]) -> Result<(), AllocError>
 
 // Adds one more number.
 fn push_case_next(out: &mut Vec<u8>, later: bool, case: CaseId) -> Result<(), AllocError>
-    ensures { OnOk result (out.new.items ≡ out.old.items ++ (comma_if later ++ compact_text (number (unsigned case)))) }
+    ensures { OnOk result (out.new.items ≡ out.old.items ++
+        (comma_if later ++ compact_text (number (unsigned case)))) }
 {
     push_comma(out, later)?;
     push_case(out, b"", case)?;

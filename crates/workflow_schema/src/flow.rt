@@ -55,12 +55,26 @@ impl Flow {
         order: &[(StepId, StepId)],
         permits: &[(RoleId, StepId)],
     ) -> Result<Flow, FlowFault>
-        requires order_in { All (λ p. (p.0 < length steps.names) × (p.1 < length steps.names)) order.now }
-        requires permits_in { All (λ p. (p.0 < ROLE_LIMIT) × (p.1 < length steps.names)) permits.now }
-        ensures built { IfOk result (λ f. f ≡ record { steps = steps.names; order = set.from_list order.now; permits = set.from_list permits.now }) }
-        ensures too_many { IsErrOf result FlowFault.TooMany ↔ (is_count (length steps.names) ≡ false) }
-        ensures twice { IsErrOf result FlowFault.Twice ↔ ((is_count (length steps.names) ≡ true) × ((has_twice order.now || has_twice permits.now) ≡ true)) }
-        ensures cycle { (s : ℕ) → IsErrOf result (FlowFault.Cycle s) ↔ ((is_count (length steps.names) ≡ true) × ((has_twice order.now || has_twice permits.now) ≡ false) × IsLeastCycle (set.from_list order.now) s) }
+        requires order_in { All (λ p. (p.0 < length steps.names)
+            × (p.1 < length steps.names)) order.now }
+        requires permits_in { All (λ p. (p.0 < ROLE_LIMIT) × (p.1 < length steps.names))
+            permits.now }
+        ensures built { IfOk result (λ f. f
+            ≡ record {
+              steps = steps.names;
+              order = set.from_list order.now;
+              permits = set.from_list
+                  permits.now;
+            }) }
+        ensures too_many { IsErrOf result FlowFault.TooMany
+            ↔ (is_count (length steps.names) ≡ false) }
+        ensures twice { IsErrOf result FlowFault.Twice
+            ↔ ((is_count (length steps.names) ≡ true)
+            × ((has_twice order.now || has_twice permits.now) ≡ true)) }
+        ensures cycle { (s : ℕ) → IsErrOf result (FlowFault.Cycle s)
+            ↔ ((is_count (length steps.names) ≡ true)
+            × ((has_twice order.now || has_twice permits.now) ≡ false)
+            × IsLeastCycle (set.from_list order.now) s) }
     {
         let count = steps.len() as usize;
         if count == 0 || STEP_LIMIT < count {
@@ -114,7 +128,8 @@ impl Flow {
     pub fn permit(&mut self, r: RoleId, s: StepId) -> bool
         requires role_in { r < ROLE_LIMIT }
         requires step_in { s < length self.old.steps }
-        ensures permitted { self.new ≡ record self.old { permits = set.insert self.old.permits (r, s) } }
+        ensures permitted { self.new ≡ record self.old
+            { permits = set.insert self.old.permits (r, s) } }
         ensures changed { result ≡ not (set.contains self.old.permits (r, s)) }
         ensures unchanged { result ≡ false → self.new ≡ self.old }
     {
@@ -127,7 +142,8 @@ impl Flow {
     pub fn forbid(&mut self, r: RoleId, s: StepId) -> bool
         requires role_in { r < ROLE_LIMIT }
         requires step_in { s < length self.old.steps }
-        ensures forbidden { self.new ≡ record self.old { permits = set.remove self.old.permits (r, s) } }
+        ensures forbidden { self.new ≡ record self.old
+            { permits = set.remove self.old.permits (r, s) } }
         ensures changed { result ≡ set.contains self.old.permits (r, s) }
         ensures unchanged { result ≡ false → self.new ≡ self.old }
     {
@@ -154,7 +170,8 @@ fn frame_of(
     order: &[(StepId, StepId)],
     later: [u64; STEP_LIMIT],
 ) -> Result<Shared<Frame>, AllocError>
-    ensures { IfOk result (λ f. f ≡ record { steps = steps; order = set.from_list order.now; later = later }) }
+    ensures { IfOk result (λ f. f ≡ record
+        { steps = steps; order = set.from_list order.now; later = later }) }
 {
     let order = order_set(alloc, order)?;
     Shared::new(

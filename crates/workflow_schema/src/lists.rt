@@ -15,7 +15,10 @@ use wf_names::{RoleId, STEP_LIMIT, StepId};
 /// The table with the flag `t` in row `s` for each pair (s, t), where no pair is repeated.
 pub(crate) fn order_table(order: &[(StepId, StepId)]) -> Option<[u64; STEP_LIMIT]>
     requires { All (λ p. (p.0 < STEP_LIMIT) × (p.1 < STEP_LIMIT)) order.now }
-    ensures { MatchOption result (has_twice order.now ≡ true) (λ rows. (has_twice order.now ≡ false) × (length rows ≡ STEP_LIMIT) × ((s t : ℕ) → table_has rows s t ≡ set.contains (set.from_list {R = pair_cmp} order.now) (s, t))) }
+    ensures { MatchOption result (has_twice order.now ≡ true)
+        (λ rows. (has_twice order.now ≡ false) × (length rows ≡ STEP_LIMIT)
+        × ((s t : ℕ) → table_has rows s t
+        ≡ set.contains (set.from_list {R = pair_cmp} order.now) (s, t))) }
 {
     let mut rows = [0; STEP_LIMIT];
     'pairs: for i in (0..order.len()).rev() {
@@ -31,7 +34,10 @@ pub(crate) fn order_table(order: &[(StepId, StepId)]) -> Option<[u64; STEP_LIMIT
 /// The table with the flag `r` in row `s` for each pair (r, s), where no pair is repeated.
 pub(crate) fn permit_table(permits: &[(RoleId, StepId)]) -> Option<[u64; STEP_LIMIT]>
     requires { All (λ p. (p.0 < ROLE_LIMIT) × (p.1 < STEP_LIMIT)) permits.now }
-    ensures { MatchOption result (has_twice permits.now ≡ true) (λ rows. (has_twice permits.now ≡ false) × (length rows ≡ STEP_LIMIT) × ((s r : ℕ) → table_has rows s r ≡ set.contains (set.from_list {R = pair_cmp} permits.now) (r, s))) }
+    ensures { MatchOption result (has_twice permits.now ≡ true)
+        (λ rows. (has_twice permits.now ≡ false) × (length rows ≡ STEP_LIMIT)
+        × ((s r : ℕ) → table_has rows s r
+        ≡ set.contains (set.from_list {R = pair_cmp} permits.now) (r, s))) }
 {
     let mut rows = [0; STEP_LIMIT];
     'pairs: for i in (0..permits.len()).rev() {

@@ -26,7 +26,8 @@ pub(crate) fn has_flag(rows: &[u64], row: usize, bit: u8) -> bool
 pub(crate) fn set_flag(rows: &mut [u64], row: usize, bit: u8)
     requires row_in { row < length rows.old }
     requires bit_in { bit < WORD_BITS }
-    ensures { (a b : ℕ) → table_has rows.new a b ≡ ((nat_eq a row && nat_eq b bit) || table_has rows.old a b) }
+    ensures { (a b : ℕ) → table_has rows.new a b
+        ≡ ((nat_eq a row && nat_eq b bit) || table_has rows.old a b) }
 {
     rows[row] |= 1 << bit;
 }
@@ -35,7 +36,8 @@ pub(crate) fn set_flag(rows: &mut [u64], row: usize, bit: u8)
 pub(crate) fn clear_flag(rows: &mut [u64], row: usize, bit: u8)
     requires row_in { row < length rows.old }
     requires bit_in { bit < WORD_BITS }
-    ensures { (a b : ℕ) → table_has rows.new a b ≡ (not (nat_eq a row && nat_eq b bit) && table_has rows.old a b) }
+    ensures { (a b : ℕ) → table_has rows.new a b
+        ≡ (not (nat_eq a row && nat_eq b bit) && table_has rows.old a b) }
 {
     rows[row] &= !(1 << bit);
 }
@@ -51,7 +53,8 @@ fn joined(row: u64, k: u8, through: u64) -> u64
 pub(crate) fn join_through(rows: &mut [u64], k: usize)
     requires k_in { k < length rows.old }
     requires few { length rows.old ≤ WORD_BITS }
-    ensures { (a b : ℕ) → table_has rows.new a b ≡ (table_has rows.old a b || (table_has rows.old a k && table_has rows.old k b)) }
+    ensures { (a b : ℕ) → table_has rows.new a b
+        ≡ (table_has rows.old a b || (table_has rows.old a k && table_has rows.old k b)) }
 {
     let through = rows[k];
     'rows: for row in rows.iter_mut() {
@@ -62,7 +65,8 @@ pub(crate) fn join_through(rows: &mut [u64], k: usize)
 /// Closes a table of direct successors: then row `a` has the flag `b` where a chain leads from `a` to `b`.
 pub(crate) fn close(rows: &mut [u64])
     requires { length rows.old ≤ WORD_BITS }
-    ensures { (a b : ℕ) → table_has rows.new a b ≡ leads (length rows.old) (table_has rows.old) a b }
+    ensures { (a b : ℕ) → table_has rows.new a b
+        ≡ leads (length rows.old) (table_has rows.old) a b }
 {
     'steps: for k in 0..rows.len() {
         join_through(rows, k);
@@ -72,7 +76,9 @@ pub(crate) fn close(rows: &mut [u64])
 /// The least row that has its own flag.
 pub(crate) fn first_own_flag(rows: &[u64]) -> Option<StepId>
     requires { length rows.now ≤ WORD_BITS }
-    ensures { MatchOption result ((a : ℕ) → table_has rows.now a a ≡ false) (λ s. (table_has rows.now s s ≡ true) × ((a : ℕ) → a < s → table_has rows.now a a ≡ false)) }
+    ensures { MatchOption result ((a : ℕ) → table_has rows.now a a ≡ false)
+        (λ s. (table_has rows.now s s ≡ true)
+        × ((a : ℕ) → a < s → table_has rows.now a a ≡ false)) }
 {
     'rows: for row in 0..rows.len() {
         if has_flag(rows, row, row as u8) {

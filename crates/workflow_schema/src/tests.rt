@@ -236,7 +236,8 @@ fn fault_of(
     order: &[(StepId, StepId)],
     permits: &[(RoleId, StepId)],
 ) -> Result<Option<FlowFault>, AllocError>
-    requires order { All (λ p. (p.0 < length names.now.names) × (p.1 < length names.now.names)) order.now }
+    requires order { All (λ p. (p.0 < length names.now.names)
+        × (p.1 < length names.now.names)) order.now }
     requires permits { All (λ p. (p.0 < ROLE_LIMIT) × (p.1 < length names.now.names)) permits.now }
 {
     Ok(Flow::build(alloc, names.copy()?, order, permits).err())

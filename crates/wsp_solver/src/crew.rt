@@ -74,7 +74,8 @@ fn all_classes(
 ) -> Result<Vec<UserId>, AllocError>
     requires flow { f < length p.now.flows }
     requires duties { AreDuties (problem_of p.now f) duties.now }
-    ensures { IfOk result (λ classes. AreClassesBelow (problem_of p.now f) (problem_of p.now f).users classes.items) }
+    ensures { IfOk result (λ classes. AreClassesBelow (problem_of p.now f)
+        (problem_of p.now f).users classes.items) }
 {
     let mut classes = Vec::new(alloc);
     'users: for u in 0..p.roster().users().len() {
@@ -97,7 +98,8 @@ fn next_class(
     requires user { u < (problem_of p.now f).users }
     requires duties { AreDuties (problem_of p.now f) duties.now }
     requires classes { AreClassesBelow (problem_of p.now f) u classes.now }
-    ensures alike { (v : ℕ) → v < u → (class_of classes.now v == result) ≡ are_twins (problem_of p.now f) [] v u }
+    ensures alike { (v : ℕ) → v < u → (class_of classes.now v == result)
+        ≡ are_twins (problem_of p.now f) [] v u }
     ensures least { result < u + 1 }
 {
     'earlier: for v in 0..u.0 {
@@ -174,7 +176,9 @@ fn are_related_alike(p: &Policy, f: FlowId, u: UserId, v: UserId) -> bool
 // The first rule that is over the relation of a rule.
 fn first_over(p: &Policy, f: FlowId, k: usize) -> usize
     requires flow { f < length p.now.flows }
-    ensures { (u v : ℕ) → is_rule_alike (problem_of p.now f) u v (slice_get (problem_of p.now f).rules result) ≡ is_rule_alike (problem_of p.now f) u v (slice_get (problem_of p.now f).rules k) }
+    ensures { (u v : ℕ) → is_rule_alike (problem_of p.now f) u v
+        (slice_get (problem_of p.now f).rules result)
+        ≡ is_rule_alike (problem_of p.now f) u v (slice_get (problem_of p.now f).rules k) }
 {
     'earlier: for j in 0..k {
         if are_over_one(p, f, j, k) {
@@ -186,7 +190,8 @@ fn first_over(p: &Policy, f: FlowId, k: usize) -> usize
 
 fn are_over_one(p: &Policy, f: FlowId, j: usize, k: usize) -> bool
     requires flow { f < length p.now.flows }
-    ensures { result ≡ are_over_one (slice_get (problem_of p.now f).rules j) (slice_get (problem_of p.now f).rules k) }
+    ensures { result ≡ are_over_one (slice_get (problem_of p.now f).rules j)
+        (slice_get (problem_of p.now f).rules k) }
 {
     match p.rules(f).as_slice().get(j) {
         Some(rule) => is_over(p, f, k, relation_of(rule)),
@@ -206,7 +211,8 @@ fn is_over(p: &Policy, f: FlowId, k: usize, rho: RelId) -> bool
 
 fn is_rule_alike(p: &Policy, f: FlowId, k: usize, u: UserId, v: UserId) -> bool
     requires flow { f < length p.now.flows }
-    ensures { result ≡ is_rule_alike (problem_of p.now f) u v (slice_get (problem_of p.now f).rules k) }
+    ensures { result ≡ is_rule_alike (problem_of p.now f) u v
+        (slice_get (problem_of p.now f).rules k) }
 {
     match p.rules(f).as_slice().get(k) {
         Some(rule) => treats_alike(p, f, relation_of(rule), u, v),
@@ -215,7 +221,8 @@ fn is_rule_alike(p: &Policy, f: FlowId, k: usize, u: UserId, v: UserId) -> bool
 }
 
 fn treats_alike(p: &Policy, f: FlowId, rho: RelId, u: UserId, v: UserId) -> bool
-    ensures { result ≡ treats_alike (problem_of p.now f).users ((problem_of p.now f).related rho) u v }
+    ensures { result ≡ treats_alike (problem_of p.now f).users
+        ((problem_of p.now f).related rho) u v }
 {
     if !agree(p.holds(rho, u, u), p.holds(rho, v, v)) {
         return false;
@@ -227,7 +234,8 @@ fn treats_alike(p: &Policy, f: FlowId, rho: RelId, u: UserId, v: UserId) -> bool
 }
 
 fn are_alike_to_all(p: &Policy, f: FlowId, rho: RelId, u: UserId, v: UserId) -> bool
-    ensures { result ≡ all_below (problem_of p.now f).users (λ w. (w == u || w == v) || is_alike_to ((problem_of p.now f).related rho) u v w) }
+    ensures { result ≡ all_below (problem_of p.now f).users
+        (λ w. (w == u || w == v) || is_alike_to ((problem_of p.now f).related rho) u v w) }
 {
     'users: for w in 0..p.roster().users().len() {
         if is_treated_apart(p, f, rho, u, v, UserId(w)) {
@@ -257,7 +265,8 @@ fn are_told_apart(p: &Policy, f: FlowId, finder: &Finder, u: UserId, v: UserId) 
 // Whether a rule's relation treats two users differently at a third one.
 fn tells_apart(p: &Policy, f: FlowId, k: u8, u: UserId, v: UserId, w: UserId) -> bool
     requires flow { f < length p.now.flows }
-    ensures { result ≡ is_told_apart (problem_of p.now f) u v w (slice_get (problem_of p.now f).rules k) }
+    ensures { result ≡ is_told_apart (problem_of p.now f) u v w
+        (slice_get (problem_of p.now f).rules k) }
 {
     match p.rules(f).as_slice().get(k as usize) {
         Some(rule) => {

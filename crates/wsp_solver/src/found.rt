@@ -23,7 +23,8 @@ pub(crate) fn found(
 ) -> Result<Option<Plan>, AllocError>
     requires flow { f < length p.now.flows }
     requires within { IsWithin (problem_of p.now f) a.now }
-    ensures { IfOk result (λ found. IfSome found (IsValidPlan (problem_of p.now f) a.now done.now)) }
+    ensures { IfOk result (λ found. IfSome found
+        (IsValidPlan (problem_of p.now f) a.now done.now)) }
 {
     match finder.find(alloc, a, done, RUNS)? {
         Some(plan) => Ok(checked(p, f, a, done, plan)),

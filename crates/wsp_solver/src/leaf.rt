@@ -28,8 +28,11 @@ pub(crate) struct Refutation {
 pub(crate) fn refuting_leaf(p: &Policy, f: FlowId, a: &Assign, done: &StepSet) -> Option<Refutation>
     requires flow { f < length p.now.flows }
     requires within { IsWithin (problem_of p.now f) a.now }
-    ensures leaf { MatchOption result (IsWellFormed (problem_of p.now f) × NoLeafRefutes (problem_of p.now f) a.now done.now) (IsRefutation (problem_of p.now f) a.now done.now) }
-    ensures lean { IfSome result (λ r. IsTrue (is_lean (problem_of p.now f) a.now (shape_of r.tree))) }
+    ensures leaf { MatchOption result (IsWellFormed (problem_of p.now f)
+        × NoLeafRefutes (problem_of p.now f) a.now done.now)
+        (IsRefutation (problem_of p.now f) a.now done.now) }
+    ensures lean { IfSome result (λ r. IsTrue
+        (is_lean (problem_of p.now f) a.now (shape_of r.tree))) }
 {
     if let Some(s) = first_misheld(p, f, a, done) {
         return Some(held_wrongly(s));
@@ -80,7 +83,9 @@ fn steps_of_rule(p: &Policy, f: FlowId, k: u8) -> StepSet
 fn first_misheld(p: &Policy, f: FlowId, a: &Assign, done: &StepSet) -> Option<StepId>
     requires flow { f < length p.now.flows }
     requires within { IsWithin (problem_of p.now f) a.now }
-    ensures { MatchOption result ((s : ℕ) → refutes (problem_of p.now f) a.now done.now (holder s) ≡ false) (λ s. (s < STEP_LIMIT) × IsTrue (refutes (problem_of p.now f) a.now done.now (holder s))) }
+    ensures { MatchOption result ((s : ℕ)
+        → refutes (problem_of p.now f) a.now done.now (holder s) ≡ false)
+        (λ s. (s < STEP_LIMIT) × IsTrue (refutes (problem_of p.now f) a.now done.now (holder s))) }
 {
     'steps: for s in 0..p.flow(f).steps().len() {
         let step = StepId(s as u8);
@@ -96,7 +101,9 @@ fn first_falsified(p: &Policy, f: FlowId, a: &Assign, done: &StepSet) -> Option<
     requires flow { f < length p.now.flows }
     requires within { IsWithin (problem_of p.now f) a.now }
     ensures formed { IsWellFormed (problem_of p.now f) }
-    ensures falsified { MatchOption result ((k : ℕ) → refutes (problem_of p.now f) a.now done.now (rule k) ≡ false) (λ k. IsTrue (refutes (problem_of p.now f) a.now done.now (rule k))) }
+    ensures falsified { MatchOption result
+        ((k : ℕ) → refutes (problem_of p.now f) a.now done.now (rule k) ≡ false)
+        (λ k. IsTrue (refutes (problem_of p.now f) a.now done.now (rule k))) }
 {
     'rules: for k in 0..p.rules(f).len() {
         if check_tree(p, f, a, done, &Tree::Rule(k as u8)) {
@@ -140,7 +147,8 @@ fn falsified_with(
     requires flow { f < length p.now.flows }
     requires within { IsWithin (problem_of p.now f) a.now }
     requires others { NoLeafRefutesWithout (problem_of p.now f) a.now done.now s }
-    ensures { MatchOption result (NoLeafRefutes (problem_of p.now f) a.now done.now) (λ k. IsTrue (refutes (problem_of p.now f) a.now done.now (rule k))) }
+    ensures { MatchOption result (NoLeafRefutes (problem_of p.now f) a.now done.now)
+        (λ k. IsTrue (refutes (problem_of p.now f) a.now done.now (rule k))) }
 {
     if check_tree(p, f, a, done, &Tree::Rule(first)) {
         return Some(first);
@@ -157,7 +165,8 @@ fn falsified_with(
 fn is_falsified_with(p: &Policy, f: FlowId, a: &Assign, done: &StepSet, k: u8, s: StepId) -> bool
     requires flow { f < length p.now.flows }
     requires within { IsWithin (problem_of p.now f) a.now }
-    ensures { result ≡ (is_rule_naming s (slice_get (problem_of p.now f).rules k) && refutes (problem_of p.now f) a.now done.now (rule k)) }
+    ensures { result ≡ (is_rule_naming s (slice_get (problem_of p.now f).rules k) && refutes
+        (problem_of p.now f) a.now done.now (rule k)) }
 {
     names_step(p, f, k, s) && check_tree(p, f, a, done, &Tree::Rule(k))
 }

@@ -86,9 +86,12 @@ fn trim_node(
     requires within { IsWithin (problem_of p.now f) a.now }
     requires room { s < STEP_LIMIT }
     requires free { IsTrue (is_unassigned (problem_of p.now f) a.now s) }
-    requires users { IsTrue (have_users (authorised_users (problem_of p.now f) s) (kids_of_items branches.now)) }
-    requires each { IsTrue (all_refute (problem_of p.now f) a.now done.now s [] (kids_of_items branches.now)) }
-    ensures { IfOk result (IsTrimming (problem_of p.now f) a.now done.now (node s (kids_of_items branches.now))) }
+    requires users { IsTrue (have_users (authorised_users (problem_of p.now f) s)
+        (kids_of_items branches.now)) }
+    requires each { IsTrue (all_refute (problem_of p.now f) a.now done.now s []
+        (kids_of_items branches.now)) }
+    ensures { IfOk result (IsTrimming (problem_of p.now f) a.now done.now
+        (node s (kids_of_items branches.now))) }
 {
     let mut kept = Branches::new(alloc);
     let mut steps = StepSet::empty();

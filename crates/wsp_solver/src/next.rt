@@ -19,7 +19,9 @@ pub(crate) fn next_step(
     depth: u8,
 ) -> Option<StepId>
     requires flow { f < length p.now.flows }
-    ensures { MatchOption result ((s : ℕ) → s < (problem_of p.now f).steps → is_some (user_at a.now s) ≡ true) (λ s. (s < STEP_LIMIT) × IsTrue (is_unassigned (problem_of p.now f) a.now s)) }
+    ensures { MatchOption result ((s : ℕ) → s < (problem_of p.now f).steps
+        → is_some (user_at a.now s) ≡ true)
+        (λ s. (s < STEP_LIMIT) × IsTrue (is_unassigned (problem_of p.now f) a.now s)) }
 {
     match finder.next_step(a, depth) {
         Some(s) if is_unassigned(p, f, a, s) => Some(s),
@@ -39,7 +41,9 @@ pub(crate) fn is_unassigned(p: &Policy, f: FlowId, a: &Assign, s: StepId) -> boo
 // The least step that is not assigned.
 fn first_free(p: &Policy, f: FlowId, a: &Assign) -> Option<StepId>
     requires flow { f < length p.now.flows }
-    ensures { MatchOption result ((s : ℕ) → s < (problem_of p.now f).steps → is_some (user_at a.now s) ≡ true) (λ s. (s < STEP_LIMIT) × IsTrue (is_unassigned (problem_of p.now f) a.now s)) }
+    ensures { MatchOption result ((s : ℕ) → s < (problem_of p.now f).steps
+        → is_some (user_at a.now s) ≡ true)
+        (λ s. (s < STEP_LIMIT) × IsTrue (is_unassigned (problem_of p.now f) a.now s)) }
 {
     'steps: for s in 0..p.flow(f).steps().len() {
         let step = StepId(s as u8);

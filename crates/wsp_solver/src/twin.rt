@@ -27,7 +27,9 @@ pub(crate) fn twin_among(
     requires crew { IsCrewOf (problem_of p.now f) crew.now }
     requires users { AreUsersBelow u branches.now }
     requires user { u < (problem_of p.now f).users }
-    ensures { MatchOption result (has_twin (problem_of p.now f) a.now u (kid_users [] branches.now) ≡ false) (λ v. (is_one_of (kid_users [] branches.now) v ≡ true) × (are_twins (problem_of p.now f) a.now u v ≡ true)) }
+    ensures { MatchOption result (has_twin (problem_of p.now f) a.now u (kid_users [] branches.now)
+        ≡ false) (λ v. (is_one_of (kid_users [] branches.now) v ≡ true)
+        × (are_twins (problem_of p.now f) a.now u v ≡ true)) }
 {
     let class = class_at(&crew.classes, u);
     if class == u {
@@ -60,7 +62,8 @@ fn is_twin_branch(
     requires user { u < (problem_of p.now f).users }
     requires idle { IsTrue (has_no_step a.now u) }
     requires class { class ≡ class_of crew.now.classes.items u }
-    ensures { result ≡ has_twin (problem_of p.now f) a.now u (user_onto branch.now.kid branch.now.user []) }
+    ensures { result ≡ has_twin (problem_of p.now f) a.now u
+        (user_onto branch.now.kid branch.now.user []) }
 {
     match &branch.kid {
         Kid::Tree(_) => are_twins(p, f, a, crew, branch.user, u, class),
