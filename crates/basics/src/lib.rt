@@ -5,8 +5,6 @@
 mod list;
 mod log;
 mod same;
-#[cfg(test)]
-mod tests;
 
 pub use list::List;
 pub use log::Log;

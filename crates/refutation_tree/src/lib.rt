@@ -5,5 +5,3 @@ mod tree;
 
 pub use tree::{Branch, Branches, Kid, Tree};
 
-#[cfg(test)]
-mod tests;

@@ -5,8 +5,6 @@ ghost use Rattle.std.specs.Prelude.{◌≡◌, IfOk};
 ghost use Rattle.std.specs.Borrow.{sem};
 ghost use Rattle.shared_part.specs.Editing.{FollowsEdit};
 
-#[cfg(test)]
-mod tests;
 
 use std::alloc::{AllocError, Global};
 use std::marker::Model;

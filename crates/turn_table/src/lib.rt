@@ -11,8 +11,6 @@ mod lane;
 mod plays;
 mod table;
 mod tabled;
-#[cfg(test)]
-mod tests;
 mod view;
 
 pub use lane::Lane;

@@ -9,8 +9,6 @@ mod name;
 mod states;
 mod stored;
 mod table;
-#[cfg(test)]
-mod tests;
 mod user_set;
 pub mod words;
 

@@ -1,6 +1,6 @@
 //! What no clause shows: that the calls succeed while there is memory.
 
-use crate::PairSet;
+use pair_set::PairSet;
 use std::test::Fail;
 
 #[test]

@@ -1,5 +1,5 @@
 use Rattle.std.proofs.Common.{◌≡◌, Some, ◌++◌, ap, ◌∙◌}
-use Rattle.turn_table.proofs.tests.run.Goals as goal
+use Rattle.value_tests.proofs.turns.run.Goals as goal
 
 pub returns-in-Ok-clause-ok : goal.returns-in-Ok-clause-ok
 returns-in-Ok-clause-ok g c =

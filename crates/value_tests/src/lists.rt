@@ -1,6 +1,6 @@
 //! What no clause shows: that the lists take what they are given while there is memory.
 
-use crate::{List, Log, Same};
+use basics::{List, Log, Same};
 use std::alloc::AllocError;
 use std::test::Fail;
 

@@ -4,11 +4,11 @@ ghost use Rattle.std.specs.List.{Contains};
 ghost use Rattle.std.specs.Thread.{IsSync};
 ghost use Rattle.turn_table.specs.Lists.{StartsWith, GrowsByOne};
 
-use crate::{Lane, Refused, Tabled, TurnTable};
 use std::alloc::{AllocError, AllocFailed, Global};
 use std::sync::Wait;
 use std::test::Fail;
 use std::thread::{Threads, join};
+use turn_table::{Lane, Refused, Tabled, TurnTable};
 
 /// A number, with the lane that wrote it.
 #[derive(Clone, Copy)]

@@ -1,5 +1,5 @@
 use Rattle.std.proofs.Common.{◌+◌, ◌*◌}
-use Rattle.turn_table.proofs.tests.+fn-run_lanes-join+arg3+run_lanes.Given as goal
+use Rattle.value_tests.proofs.turns.+fn-run_lanes-join+arg3+run_lanes.Given as goal
 
 abbrev pub decreases-join+arg3 : goal.decreases-join+arg3
 decreases-join+arg3 g l = 2 * l.count

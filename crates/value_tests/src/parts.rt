@@ -1,7 +1,7 @@
 //! A part that is changed by one holder, and what the others see; and that it goes between threads.
 ghost use Rattle.std.specs.Prelude.{◌≡◌};
 
-use crate::{Copied, Shared};
+use shared_part::{Copied, Shared};
 use std::alloc::{AllocError, Global};
 use std::marker::Model;
 use std::test::Fail;

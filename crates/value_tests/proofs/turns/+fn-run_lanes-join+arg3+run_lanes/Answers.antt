@@ -2,7 +2,7 @@ use Rattle.std.proofs.Common.{Some, inl, ap, ◌∙◌, sym, subst, arith}
 use Rattle.std.specs.List.{Contains}
 use mathlib.Core.Logic.{dite}
 use native.Mathlib.Decide.{ℕ_discrete}
-use Rattle.turn_table.proofs.tests.+fn-run_lanes-join+arg3+run_lanes.Goals as goal
+use Rattle.value_tests.proofs.turns.+fn-run_lanes-join+arg3+run_lanes.Goals as goal
 
 pub returns-clause-joined : goal.returns-clause-joined
 returns-clause-joined g t c = λ n from to. dite (ℕ_discrete n c.args.next)

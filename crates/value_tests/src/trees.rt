@@ -1,6 +1,6 @@
 //! What no clause shows: that trees are built, copied and counted while there is memory.
 
-use crate::{Branch, Branches, Kid, Tree};
+use refutation_tree::{Branch, Branches, Kid, Tree};
 use std::test::Fail;
 use wf_names::{StepId, UserId};
 

@@ -1,10 +1,10 @@
 //! What no clause shows: which texts are names, and that a table's calls succeed while there is memory.
 
-use crate::words::{count_words, join_words, meet_words, strike_words};
-use crate::{Name, NameFault, NameTable, UserId, UserSet};
 use std::alloc::AllocError;
 use std::process::Abort;
 use std::test::Fail;
+use wf_names::words::{count_words, join_words, meet_words, strike_words};
+use wf_names::{Name, NameFault, NameTable, UserId, UserSet};
 
 #[test]
 fn names_are_read_by_their_form(rt: HostRuntime) {
