@@ -1,11 +1,13 @@
 //! The numbers for the names of an edit.
-ghost use Rattle.std.specs.Prelude.{◌≡◌, ◌<◌, length, IfOk};
+ghost use Rattle.std.specs.Prelude.{◌≡◌, ◌<◌, length, Err, IfOk, MatchResult, Ok};
 ghost use Rattle.first_fault.specs.Reading.{check, or_fault};
 ghost use Rattle.policy_book.specs.Policies.{flow_at};
 ghost use Rattle.user_relations.specs.Relations.{known_names};
 ghost use Rattle.wf_names.specs.Table.{place_of};
+ghost use Rattle.wf_talk.specs.declared.edit.Edit.TheVariants as edit;
+ghost use Rattle.admin_edits.specs.declared.amendment.Amendment.TheVariants as amend;
 ghost use Rattle.admin_edits.specs.Edits.{found, is_admin};
-ghost use Rattle.admin_edits.specs.Found.{IsFound};
+ghost use Rattle.admin_edits.specs.Found.{AreMember, ArePair, ArePermit, IsFound};
 
 use crate::{Amendment, EditFault};
 use policy_book::Policy;
@@ -17,19 +19,17 @@ pub(crate) fn find(p: &Policy, e: &Edit) -> Result<Amendment, EditFault>
     ensures found { result ≡ found p.now e.now }
     ensures within { IfOk result (IsFound p.now) }
 {
-    match *e {
-        Edit::AddUser { user } => Ok(Amendment::AddUser { name: user }),
+    match e {
+        Edit::AddUser { user } => Ok(Amendment::AddUser { name: *user }),
         Edit::Leave { user } => Ok(Amendment::Leave {
-            user: find_user(p, &user)?,
+            user: find_user(p, user)?,
         }),
         Edit::Enrol { role, user } => {
-            let user = find_user(p, &user)?;
-            let role = find_role(p, &role)?;
+            let (user, role) = find_member(p, user, role)?;
             Ok(Amendment::Enrol { user, role })
         }
         Edit::Dismiss { role, user } => {
-            let user = find_user(p, &user)?;
-            let role = find_role(p, &role)?;
+            let (user, role) = find_member(p, user, role)?;
             Ok(Amendment::Dismiss { user, role })
         }
         Edit::Relate {
@@ -37,9 +37,7 @@ pub(crate) fn find(p: &Policy, e: &Edit) -> Result<Amendment, EditFault>
             relation,
             second,
         } => {
-            let relation = find_relation(p, &relation)?;
-            let first = find_user(p, &first)?;
-            let second = find_user(p, &second)?;
+            let (relation, first, second) = find_pair(p, relation, first, second)?;
             Ok(Amendment::Relate {
                 relation,
                 first,
@@ -51,9 +49,7 @@ pub(crate) fn find(p: &Policy, e: &Edit) -> Result<Amendment, EditFault>
             relation,
             second,
         } => {
-            let relation = find_relation(p, &relation)?;
-            let first = find_user(p, &first)?;
-            let second = find_user(p, &second)?;
+            let (relation, first, second) = find_pair(p, relation, first, second)?;
             Ok(Amendment::Unrelate {
                 relation,
                 first,
@@ -61,21 +57,76 @@ pub(crate) fn find(p: &Policy, e: &Edit) -> Result<Amendment, EditFault>
             })
         }
         Edit::Permit { flow, role, step } => {
-            let flow = find_flow(p, &flow)?;
-            let step = find_step(p, flow, &step)?;
-            let role = find_role(p, &role)?;
+            let (flow, step, role) = find_permit(p, flow, step, role)?;
             Ok(Amendment::Permit { flow, role, step })
         }
         Edit::Forbid { flow, role, step } => {
-            let flow = find_flow(p, &flow)?;
-            let step = find_step(p, flow, &step)?;
-            let role = find_role(p, &role)?;
+            let (flow, step, role) = find_permit(p, flow, step, role)?;
             Ok(Amendment::Forbid { flow, role, step })
         }
         Edit::Retire { flow } => Ok(Amendment::Retire {
-            flow: find_flow(p, &flow)?,
+            flow: find_flow(p, flow)?,
         }),
     }
+}
+
+/// A user and a role.
+fn find_member(p: &Policy, user: &Name, role: &Name) -> Result<(UserId, RoleId), EditFault>
+    ensures enrol { MatchResult result
+        (λ x. found p.now (edit.Enrol role.now user.now) ≡ Ok (amend.Enrol x.0 x.1))
+        (λ e. found p.now (edit.Enrol role.now user.now) ≡ Err e) }
+    ensures dismiss { MatchResult result
+        (λ x. found p.now (edit.Dismiss role.now user.now) ≡ Ok (amend.Dismiss x.0 x.1))
+        (λ e. found p.now (edit.Dismiss role.now user.now) ≡ Err e) }
+    ensures within { IfOk result (λ x. AreMember p.now x.0 x.1) }
+{
+    let user = find_user(p, user)?;
+    let role = find_role(p, role)?;
+    Ok((user, role))
+}
+
+/// A relation and two users.
+fn find_pair(
+    p: &Policy,
+    relation: &Name,
+    first: &Name,
+    second: &Name,
+) -> Result<(RelId, UserId, UserId), EditFault>
+    ensures relate { MatchResult result
+        (λ x. found p.now (edit.Relate first.now relation.now second.now)
+        ≡ Ok (amend.Relate x.0 x.1 x.2))
+        (λ e. found p.now (edit.Relate first.now relation.now second.now) ≡ Err e) }
+    ensures unrelate { MatchResult result
+        (λ x. found p.now (edit.Unrelate first.now relation.now second.now)
+        ≡ Ok (amend.Unrelate x.0 x.1 x.2))
+        (λ e. found p.now (edit.Unrelate first.now relation.now second.now) ≡ Err e) }
+    ensures within { IfOk result (λ x. ArePair p.now x.1 x.2) }
+{
+    let relation = find_relation(p, relation)?;
+    let first = find_user(p, first)?;
+    let second = find_user(p, second)?;
+    Ok((relation, first, second))
+}
+
+/// A workflow, one of its steps, and a role.
+fn find_permit(
+    p: &Policy,
+    flow: &Name,
+    step: &Name,
+    role: &Name,
+) -> Result<(FlowId, StepId, RoleId), EditFault>
+    ensures permit { MatchResult result
+        (λ x. found p.now (edit.Permit flow.now role.now step.now) ≡ Ok (amend.Permit x.0 x.2 x.1))
+        (λ e. found p.now (edit.Permit flow.now role.now step.now) ≡ Err e) }
+    ensures forbid { MatchResult result
+        (λ x. found p.now (edit.Forbid flow.now role.now step.now) ≡ Ok (amend.Forbid x.0 x.2 x.1))
+        (λ e. found p.now (edit.Forbid flow.now role.now step.now) ≡ Err e) }
+    ensures within { IfOk result (λ x. ArePermit p.now x.0 x.2 x.1) }
+{
+    let flow = find_flow(p, flow)?;
+    let step = find_step(p, flow, step)?;
+    let role = find_role(p, role)?;
+    Ok((flow, step, role))
 }
 
 /// Refuses who does not administer.

@@ -4,7 +4,5 @@
 mod case;
 mod order;
 mod steps;
-#[cfg(test)]
-mod tests;
 
 pub use case::Case;

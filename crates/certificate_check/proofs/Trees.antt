@@ -128,11 +128,6 @@ none_next bs i within =
     let left : kid_count (kids_of_items (drop i bs)) ≡ length bs - i = kid_count-items (drop i bs) ∙ length-drop i bs in
     have_none (kids_of_items (drop i bs)) ∙ ap (λ n. n == 0) left ∙ grind (arith, nat_tests)
 
-pub passing_at : (test : ℕ → Bool) (k n : ℕ) → k < n → passing test k (n - k) ≡ (if test k then k ∷ passing test (k + 1) (n - (k + 1)) else passing test (k + 1) (n - (k + 1)))
-passing_at test k n below =
-    let more : n - k ≡ suc (n - (k + 1)) = omega arith in
-    ap (passing test k) more
-
 pub passing_below : (test : ℕ → Bool) (k n most : ℕ) → k + n ≤ most → (kids : Kids) → have_users (passing test k n) kids ≡ true → AreUsersBelow most kids
 passing_below test k zero most few no_kids h = tt
 passing_below test k zero most few (tree_kid v t kids) h = absurd (false≢true h)

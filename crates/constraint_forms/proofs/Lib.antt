@@ -3,3 +3,4 @@ pub mod SamePlans
 pub mod RuleLaws
 pub mod Exchanges
 pub mod Leaving
+pub mod Members

@@ -4,6 +4,7 @@ use Rattle.std.proofs.lemmas.List.{append_assoc}
 use Rattle.constraint_forms.specs.declared.rule.Rule.{Rule}
 use Rattle.constraint_forms.specs.Rules.{Relating, is_falsified}
 use Rattle.policy_book.specs.Refuting.{passing}
+use Rattle.policy_book.proofs.Passing.{passing_at}
 use Rattle.denial_reasons.specs.Causes.{first_falsified}
 
 -- one rule of the search, of which the first has the number n
@@ -26,11 +27,6 @@ passed_rule related users k rules rule goal here is so_far =
     let same : suc k ≡ k + 1 = omega arith in
     let one = ap (λ b. if b then Some k else first_falsified related users (k + 1) (drop (suc k) rules)) (sym is) ∙ sym (searched related users k rules k rule here) in
     subst (λ n. first_falsified related users (k + 1) (drop n rules) ≡ goal) same (one ∙ so_far)
-
-passing_at : (test : ℕ → Bool) (k n : ℕ) → k < n → passing test k (n - k) ≡ (if test k then k ∷ passing test (k + 1) (n - (k + 1)) else passing test (k + 1) (n - (k + 1)))
-passing_at test k n below =
-    let more : n - k ≡ suc (n - (k + 1)) = omega arith in
-    ap (passing test k) more
 
 -- a number that passes is the next
 pub passes : (test : ℕ → Bool) (k n : ℕ) (so_far goal : List ℕ) → k < n → test k ≡ true → so_far ++ passing test k (n - k) ≡ goal → (so_far ++ k ∷ []) ++ passing test (k + 1) (n - (k + 1)) ≡ goal

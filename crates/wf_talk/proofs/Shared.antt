@@ -1,9 +1,14 @@
 -- Entries and the journal may be handed to other threads and lent to them.
 use denote.Param.Send.{IsSend, IsSync, sendable}
-use denote.Param.SendFields.{declared_send, declared_sync, variants_send, variants_sync}
+use denote.Param.SendFields.{FieldsHave, VariantsHave, declared_send, declared_sync, variants_send, variants_sync}
+use denote.RattleType.{RattleType}
+use denote.Struct.Field.{Field}
+use denote.Struct.Declared as declared
+use denote.Enum.Declared as enum
+use mathlib.Core.List.{List, [], ◌∷◌}
 use denote.Hole.{as_row}
 use Rattle.std.proofs.Crossing.{crosses}
-use Rattle.basics.specs.contracts.list.List as List
+use Rattle.basics.specs.contracts.list.List as Items
 use Rattle.basics.specs.contracts.log.Log as Log
 use Rattle.wf_names.specs.contracts.ids.CaseId as CaseId
 use Rattle.wf_names.specs.contracts.ids.FlowId as FlowId
@@ -25,58 +30,80 @@ use Rattle.wf_talk.specs.contracts.entry.Entry as Entry
 use Rattle.wf_talk.proofs.reply.Face.TheSendSync as faces
 use Rattle.wf_talk.proofs.request.Ask.TheSendSync as asks
 
-case_send : IsSend (as_row CaseId.the_field)
-case_send = search sendable depth 20
+-- a type may be handed to other threads and lent to them
+abbrev Crosses : RattleType → Type 0
+Crosses R = IsSend R × IsSync R
 
-flow_send : IsSend (as_row FlowId.the_field)
-flow_send = search sendable depth 20
+fields_apart : (Fs : List Field) → FieldsHave Crosses Fs → FieldsHave IsSend Fs × FieldsHave IsSync Fs
+fields_apart [] each = (tt, tt)
+fields_apart (F ∷ Fs) each = let rest = fields_apart Fs each.1 in ((each.0.0, rest.0), (each.0.1, rest.1))
 
-roles_send : IsSend (as_row (List.the_field RoleId.the_row))
-roles_send = search (sendable, crosses) depth 20
+variants_apart : (Fss : List (List Field)) → VariantsHave Crosses Fss → VariantsHave IsSend Fss × VariantsHave IsSync Fss
+variants_apart [] each = (tt, tt)
+variants_apart (Fs ∷ Fss) each =
+    let first = fields_apart Fs each.0 in
+    let rest = variants_apart Fss each.1 in
+    ((first.0, rest.0), (first.1, rest.1))
 
-work_send : IsSend (as_row (List.the_field WorkItem.the_row))
-work_send = search (sendable, crosses) depth 20
+-- a struct crosses where each field does, and an enum where each field of each variant does
+both_fields : (T : declared.Declared) → FieldsHave Crosses T.parts → Crosses (declared.row T)
+both_fields T each = let apart = fields_apart T.parts each in (declared_send T apart.0, declared_sync T apart.1)
 
-cases_send : IsSend (as_row (List.the_field CaseId.the_row))
-cases_send = search (sendable, crosses) depth 20
+both_variants : (N : enum.Record) → VariantsHave Crosses N.parts → Crosses (enum.row (enum.declared N))
+both_variants N each = let apart = variants_apart N.parts each in (variants_send N apart.0, variants_sync N apart.1)
 
-step_send : IsSend (as_row StepId.the_field)
-step_send = search sendable depth 20
+case_crosses : Crosses (as_row CaseId.the_field)
+case_crosses = search (sendable, crosses) depth 20
 
-user_send : IsSend (as_row UserId.the_field)
-user_send = search sendable depth 20
+flow_crosses : Crosses (as_row FlowId.the_field)
+flow_crosses = search (sendable, crosses) depth 20
 
-state_send : IsSend (as_row StepState.the_field)
-state_send = search sendable depth 20
+roles_crosses : Crosses (as_row (Items.the_field RoleId.the_row))
+roles_crosses = search (sendable, crosses) depth 20
 
-missing_send : IsSend (as_row Missing.the_field)
-missing_send = search sendable depth 20
+work_crosses : Crosses (as_row (Items.the_field WorkItem.the_row))
+work_crosses = search (sendable, crosses) depth 20
 
-plan_send : IsSend (as_row Plan.the_field)
-plan_send = search sendable depth 20
+cases_crosses : Crosses (as_row (Items.the_field CaseId.the_row))
+cases_crosses = search (sendable, crosses) depth 20
 
-tree_send : IsSend (as_row Tree.the_field)
-tree_send = search (sendable, crosses, knot.crosses) depth 20 fits 20000
+step_crosses : Crosses (as_row StepId.the_field)
+step_crosses = search (sendable, crosses) depth 20
 
-face_send : IsSend (as_row Face.the_field)
-face_send = search (faces.the_field_send, sendable) depth 20
+user_crosses : Crosses (as_row UserId.the_field)
+user_crosses = search (sendable, crosses) depth 20
 
-bad_send : IsSend (as_row Bad.the_field)
-bad_send = search sendable depth 20
+state_crosses : Crosses (as_row StepState.the_field)
+state_crosses = search (sendable, crosses) depth 20
 
-ask_send : IsSend (as_row Ask.the_field)
-ask_send = search (asks.the_field_send, sendable) depth 20
+missing_crosses : Crosses (as_row Missing.the_field)
+missing_crosses = search (sendable, crosses) depth 20
 
-denial_send : IsSend Denial.the_row
-denial_send =
-    variants_send Denial.enum (
+plan_crosses : Crosses (as_row Plan.the_field)
+plan_crosses = search (sendable, crosses) depth 20
+
+tree_crosses : Crosses (as_row Tree.the_field)
+tree_crosses = search (sendable, crosses, knot.crosses) depth 20 fits 20000
+
+face_crosses : Crosses (as_row Face.the_field)
+face_crosses = search (faces.the_field_send, faces.the_field_sync, sendable, crosses) depth 20
+
+bad_crosses : Crosses (as_row Bad.the_field)
+bad_crosses = search (sendable, crosses) depth 20
+
+ask_crosses : Crosses (as_row Ask.the_field)
+ask_crosses = search (asks.the_field_send, asks.the_field_sync, sendable, crosses) depth 20
+
+denial_crosses : Crosses Denial.the_row
+denial_crosses =
+    both_variants Denial.enum (
       tt,
       (
         tt,
         (
           tt,
           (
-            (flow_send, (tree_send, tt)),
+            (flow_crosses, (tree_crosses, tt)),
             (
               tt,
               (
@@ -86,12 +113,12 @@ denial_send =
                   (
                     tt,
                     (
-                      (user_send, tt),
+                      (user_crosses, tt),
                       (
-                        (flow_send, (step_send, tt)),
+                        (flow_crosses, (step_crosses, tt)),
                         (
-                          (roles_send, tt),
-                          ((search sendable, tt), ((flow_send, (tree_send, tt)), ((state_send, tt), (tt, ((missing_send, tt), (tt, (tt, (tt, (tt, ((case_send, (flow_send, (tree_send, tt))), tt)))))))))),
+                          (roles_crosses, tt),
+                          ((search (sendable, crosses), tt), ((flow_crosses, (tree_crosses, tt)), ((state_crosses, tt), (tt, ((missing_crosses, tt), (tt, (tt, (tt, (tt, ((case_crosses, (flow_crosses, (tree_crosses, tt))), tt)))))))))),
                         ),
                       ),
                     ),
@@ -104,29 +131,29 @@ denial_send =
       ),
     )
 
-reply_send : IsSend Reply.the_row
-reply_send =
-    variants_send Reply.enum (
-      (plan_send, tt),
+reply_crosses : Crosses Reply.the_row
+reply_crosses =
+    both_variants Reply.enum (
+      (plan_crosses, tt),
       (
-        (search sendable, tt),
+        (search (sendable, crosses), tt),
         (
           tt,
           (
             tt,
             (
-              (case_send, (plan_send, tt)),
+              (case_crosses, (plan_crosses, tt)),
               (
                 tt,
                 (
-                  (search sendable, tt),
+                  (search (sendable, crosses), tt),
                   (
-                    (face_send, tt),
+                    (face_crosses, tt),
                     (
-                      (work_send, tt),
+                      (work_crosses, tt),
                       (
-                        (cases_send, tt),
-                        ((search (sendable, denial_send), tt), ((search sendable, (search sendable, tt)), (tt, ((bad_send, tt), tt)))),
+                        (cases_crosses, tt),
+                        ((denial_crosses, tt), ((search (sendable, crosses), (search (sendable, crosses), tt)), (tt, ((bad_crosses, tt), tt)))),
                       ),
                     ),
                   ),
@@ -138,127 +165,17 @@ reply_send =
       ),
     )
 
-pub entry_send : IsSend Entry.the_row
-entry_send = declared_send Entry.the_type (search sendable, (search sendable, (search sendable, (ask_send, (search (sendable, reply_send), tt)))))
+entry_crosses : Crosses Entry.the_row
+entry_crosses = both_fields Entry.the_type (search (sendable, crosses), (search (sendable, crosses), (search (sendable, crosses), (ask_crosses, (reply_crosses, tt)))))
+
+entry_send : IsSend Entry.the_row
+entry_send = entry_crosses.0
+
+entry_sync : IsSync Entry.the_row
+entry_sync = entry_crosses.1
 
 pub journal_send : IsSend (Log.the_row Entry.the_row)
 journal_send = search (sendable, crosses, entry_send) depth 20
-
-case_sync : IsSync (as_row CaseId.the_field)
-case_sync = search sendable depth 20
-
-flow_sync : IsSync (as_row FlowId.the_field)
-flow_sync = search sendable depth 20
-
-roles_sync : IsSync (as_row (List.the_field RoleId.the_row))
-roles_sync = search (sendable, crosses) depth 20
-
-work_sync : IsSync (as_row (List.the_field WorkItem.the_row))
-work_sync = search (sendable, crosses) depth 20
-
-cases_sync : IsSync (as_row (List.the_field CaseId.the_row))
-cases_sync = search (sendable, crosses) depth 20
-
-step_sync : IsSync (as_row StepId.the_field)
-step_sync = search sendable depth 20
-
-user_sync : IsSync (as_row UserId.the_field)
-user_sync = search sendable depth 20
-
-state_sync : IsSync (as_row StepState.the_field)
-state_sync = search sendable depth 20
-
-missing_sync : IsSync (as_row Missing.the_field)
-missing_sync = search sendable depth 20
-
-plan_sync : IsSync (as_row Plan.the_field)
-plan_sync = search sendable depth 20
-
-tree_sync : IsSync (as_row Tree.the_field)
-tree_sync = search (sendable, crosses, knot.crosses) depth 20 fits 20000
-
-face_sync : IsSync (as_row Face.the_field)
-face_sync = search (faces.the_field_sync, sendable) depth 20
-
-bad_sync : IsSync (as_row Bad.the_field)
-bad_sync = search sendable depth 20
-
-ask_sync : IsSync (as_row Ask.the_field)
-ask_sync = search (asks.the_field_sync, sendable) depth 20
-
-denial_sync : IsSync Denial.the_row
-denial_sync =
-    variants_sync Denial.enum (
-      tt,
-      (
-        tt,
-        (
-          tt,
-          (
-            (flow_sync, (tree_sync, tt)),
-            (
-              tt,
-              (
-                tt,
-                (
-                  tt,
-                  (
-                    tt,
-                    (
-                      (user_sync, tt),
-                      (
-                        (flow_sync, (step_sync, tt)),
-                        (
-                          (roles_sync, tt),
-                          ((search sendable, tt), ((flow_sync, (tree_sync, tt)), ((state_sync, tt), (tt, ((missing_sync, tt), (tt, (tt, (tt, (tt, ((case_sync, (flow_sync, (tree_sync, tt))), tt)))))))))),
-                        ),
-                      ),
-                    ),
-                  ),
-                ),
-              ),
-            ),
-          ),
-        ),
-      ),
-    )
-
-reply_sync : IsSync Reply.the_row
-reply_sync =
-    variants_sync Reply.enum (
-      (plan_sync, tt),
-      (
-        (search sendable, tt),
-        (
-          tt,
-          (
-            tt,
-            (
-              (case_sync, (plan_sync, tt)),
-              (
-                tt,
-                (
-                  (search sendable, tt),
-                  (
-                    (face_sync, tt),
-                    (
-                      (work_sync, tt),
-                      (
-                        (cases_sync, tt),
-                        ((search (sendable, denial_sync), tt), ((search sendable, (search sendable, tt)), (tt, ((bad_sync, tt), tt)))),
-                      ),
-                    ),
-                  ),
-                ),
-              ),
-            ),
-          ),
-        ),
-      ),
-    )
-
-pub entry_sync : IsSync Entry.the_row
-entry_sync = declared_sync Entry.the_type (search sendable, (search sendable, (search sendable, (ask_sync, (search (sendable, reply_sync), tt)))))
 
 pub journal_sync : IsSync (Log.the_row Entry.the_row)
 journal_sync = search (sendable, crosses, entry_sync) depth 20

@@ -9,8 +9,6 @@ mod lists;
 mod reply;
 mod request;
 mod states;
-#[cfg(test)]
-mod tests;
 
 pub use edit::{Edit, Missing};
 pub use entry::Entry;

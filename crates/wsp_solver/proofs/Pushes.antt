@@ -9,7 +9,7 @@ use Rattle.policy_book.specs.Twins.{are_twins, has_twin, is_one_of}
 use Rattle.policy_book.specs.Refuting.{refutes, all_refute, have_users, mentions, passing}
 use Rattle.policy_book.specs.Lean.{is_lean, are_lean}
 use Rattle.certificate_check.specs.Walks.{AreUsersBelow}
-use Rattle.certificate_check.proofs.Trees.{passing_at}
+use Rattle.policy_book.proofs.Passing.{passing_at}
 use Rattle.wsp_solver.specs.Searches.{AreOfUsersBelow}
 use Rattle.wsp_solver.specs.Trims.{kid_users}
 

@@ -15,7 +15,7 @@ use Rattle.policy_book.specs.Plans.{Problem, IsValidPlan, IsWellFormed, IsWithin
 use Rattle.policy_book.specs.Refuting.{have_users, passing, is_misheld, is_broken, is_rule_naming}
 use Rattle.certificate_check.proofs.Below.{all_pass, each_passes}
 use Rattle.certificate_check.proofs.Assigned.{none_not_some, given_other, given_same}
-use Rattle.certificate_check.proofs.Trees.{passing_at}
+use Rattle.policy_book.proofs.Passing.{passing_at}
 use Rattle.wsp_solver.specs.Searches.{AreOfUsersBelow, IsPlanOf, NoLeafRefutes, NoLeafRefutesWithout, free_count}
 
 -- ---- plans

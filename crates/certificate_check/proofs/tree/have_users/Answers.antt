@@ -2,7 +2,8 @@ use Rattle.std.proofs.Common.{zero, if◌then◌else◌, ◌≡◌, ◌+◌, ◌
 use Rattle.refutation_tree.specs.Views.{kids_of_items}
 use Rattle.policy_book.specs.Policies.{problem_of}
 use Rattle.policy_book.specs.Refuting.{have_users, passing}
-use Rattle.certificate_check.proofs.Trees.{passing_at, users_next, none_next}
+use Rattle.policy_book.proofs.Passing.{passing_at}
+use Rattle.certificate_check.proofs.Trees.{users_next, none_next}
 use Rattle.certificate_check.proofs.tree.have_users.Goals as goal
 
 users_known : (n : ℕ) (names users : List (List ℕ)) → n ≡ length names → names ≡ users → n ≡ length users

@@ -1,12 +1,12 @@
-//! What no clause shows: that values are taken and copied while there is memory.
+//! Requests, replies and their lists: that values are taken and copied while there is memory.
 
-use crate::{
-    Ask, Bad, Denial, Ends, Entry, Job, Jobs, Journal, Line, Reply, Request, RoleList, States,
-};
 use refutation_tree::Tree;
 use std::alloc::{AllocError, Global};
 use std::test::Fail;
 use wf_names::{CaseId, FlowId, Name, RoleId, StepId, StepState, UserId};
+use wf_talk::{
+    Ask, Bad, Denial, Ends, Entry, Job, Jobs, Journal, Line, Reply, Request, RoleList, States,
+};
 
 #[test]
 fn a_journal_with_room_takes_its_entries(rt: HostRuntime) -> Result<(), Fail> {

@@ -1,5 +1,5 @@
 use Rattle.std.proofs.Common.{ℕ, zero, suc, ◌<◌, ◌≤◌, [], ◌∷◌, slice_index_or, arith}
-use Rattle.case_record.proofs.tests.chained.Goals as goal
+use Rattle.case_tests.proofs.record.chained.Goals as goal
 
 within : (n : ℕ) → 3 ≤ n → (k : ℕ) (d : ℕ × ℕ) → k < 2 → ((slice_index_or ((0, 1) ∷ (1, 2) ∷ []) k d).0 < n) × ((slice_index_or ((0, 1) ∷ (1, 2) ∷ []) k d).1 < n)
 within n three zero d h = (omega (arith, three), omega (arith, three))

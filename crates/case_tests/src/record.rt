@@ -1,7 +1,7 @@
-//! What no clause shows: the calls of a case, one after the other, and a workflow's order in them.
+//! The calls of a case, one after the other, and a workflow's order in them.
 ghost use Rattle.std.specs.Prelude.{◌≡◌, length, IfOk, OnOk};
 
-use crate::Case;
+use case_record::Case;
 use constraint_forms::{Assign, StepSet};
 use std::alloc::Global;
 use std::process::Abort;
