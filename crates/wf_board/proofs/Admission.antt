@@ -34,6 +34,7 @@ use Rattle.wf_board.specs.declared.deed.Deed.{Deed}
 use Rattle.wf_board.specs.declared.deed.Deed.TheVariants as deed
 use Rattle.wf_board.specs.declared.verdict.Verdict.{Verdict}
 use Rattle.wf_board.specs.declared.verdict.Verdict.TheVariants as verdict
+use Rattle.wf_board.specs.declared.verdict.View.{View}
 use Rattle.wf_board.specs.Admission.{has_no_tree, when, HasAdmitted, IsNoAnswer, IsVerdictFor}
 use Rattle.wf_board.specs.Admitting.{HasVerdict, rests_on_all}
 use Rattle.wf_board.specs.Boards.{EditionShape, book_of, state_on}
@@ -243,6 +244,18 @@ cause_admitted p t r d given b result kept memory decided test is =
 
 -- ---- verdicts
 
+-- a right verdict on a view that is left, by which the policy stays, is its list
+viewed : (b : Book) (what : Ask) (d : Deed) (v : Verdict) → decision_aside b what ≡ Ok d → ((plan : List ℕ) → ¬ IsPlanFor b (Ok d) plan) → ((tree : Tree) → ¬ IsTreeFor b (Ok d) tree) →
+    ((n : ℕ) (tree : Tree) → ¬ IsStrandingFor b (Ok d) n tree) → ((x : View) → IsViewFor b (Ok d) x → IsVerdictFor b d (verdict.View x)) →
+    IsRight b what v → keeps_policy v ≡ true → (v ≢ verdict.Nothing) × (v ≢ verdict.NoMemory) → IsVerdictFor b d v
+viewed b what d verdict.Nothing aside plan tree strands view is stays some = absurd (some.0 refl)
+viewed b what d verdict.NoMemory aside plan tree strands view is stays some = absurd (some.1 refl)
+viewed b what d (verdict.Plan x) aside plan tree strands view is stays some = absurd (plan x (subst (λ r. IsPlanFor b r x) aside is))
+viewed b what d (verdict.Refuted x) aside plan tree strands view is stays some = absurd (tree x (subst (λ r. IsTreeFor b r x) aside is))
+viewed b what d (verdict.Edited edition) aside plan tree strands view is stays some = cc
+viewed b what d (verdict.Strands n x) aside plan tree strands view is stays some = absurd (strands n x (subst (λ r. IsStrandingFor b r n x) aside is))
+viewed b what d (verdict.View x) aside plan tree strands view is stays some = view x (subst (λ r. IsViewFor b r x) aside is)
+
 -- a right verdict on an edit that is left, by which the policy stays, is the case that the edit strands, and one on a view
 -- that is left is its lists
 pub verdict_for : (b : Book) (s : State) (what : Ask) (given : Reply) (v : Verdict) (d : Deed) → s.book ≡ b → IsRight b what v → keeps_policy v ≡ true → HasVerdict s what given v → given ≢ reply.NoMemory →
@@ -267,27 +280,11 @@ verdict_for b s what given v (deed.Change a) same right keeps has memory decided
     of_change (verdict.Strands n tree) is stays some = subst (λ r. IsStrandingFor b r n tree) aside is
     of_change (verdict.View x) is stays some = absurd (subst (λ r. IsViewFor b r x) aside is)
 verdict_for b s what given v (deed.Work u) same right keeps has memory decided aside =
-    of_work v right keeps (has (ap (λ (x : Book). rests_on_all (decision_of x what)) same ∙ ap rests_on_all decided) memory)
-  where
-    of_work : (x : Verdict) → IsRight b what x → keeps_policy x ≡ true → (x ≢ verdict.Nothing) × (x ≢ verdict.NoMemory) → IsVerdictFor b (deed.Work u) x
-    of_work verdict.Nothing is stays some = absurd (some.0 refl)
-    of_work verdict.NoMemory is stays some = absurd (some.1 refl)
-    of_work (verdict.Plan plan) is stays some = absurd (subst (λ r. IsPlanFor b r plan) aside is)
-    of_work (verdict.Refuted tree) is stays some = absurd (subst (λ r. IsTreeFor b r tree) aside is)
-    of_work (verdict.Edited edition) is stays some = cc
-    of_work (verdict.Strands n tree) is stays some = absurd (subst (λ r. IsStrandingFor b r n tree) aside is)
-    of_work (verdict.View x) is stays some = subst (λ r. IsViewFor b r x) aside is
+    viewed b what (deed.Work u) v aside (λ plan no. no) (λ tree no. no) (λ n tree no. no) (λ x is. is) right keeps
+    (has (ap (λ (x : Book). rests_on_all (decision_of x what)) same ∙ ap rests_on_all decided) memory)
 verdict_for b s what given v (deed.WhatIf a) same right keeps has memory decided aside =
-    of_what_if v right keeps (has (ap (λ (x : Book). rests_on_all (decision_of x what)) same ∙ ap rests_on_all decided) memory)
-  where
-    of_what_if : (x : Verdict) → IsRight b what x → keeps_policy x ≡ true → (x ≢ verdict.Nothing) × (x ≢ verdict.NoMemory) → IsVerdictFor b (deed.WhatIf a) x
-    of_what_if verdict.Nothing is stays some = absurd (some.0 refl)
-    of_what_if verdict.NoMemory is stays some = absurd (some.1 refl)
-    of_what_if (verdict.Plan plan) is stays some = absurd (subst (λ r. IsPlanFor b r plan) aside is)
-    of_what_if (verdict.Refuted tree) is stays some = absurd (subst (λ r. IsTreeFor b r tree) aside is)
-    of_what_if (verdict.Edited edition) is stays some = cc
-    of_what_if (verdict.Strands n tree) is stays some = absurd (subst (λ r. IsStrandingFor b r n tree) aside is)
-    of_what_if (verdict.View x) is stays some = subst (λ r. IsViewFor b r x) aside is
+    viewed b what (deed.WhatIf a) v aside (λ plan no. no) (λ tree no. no) (λ n tree no. no) (λ x is. is) right keeps
+    (has (ap (λ (x : Book). rests_on_all (decision_of x what)) same ∙ ap rests_on_all decided) memory)
 
 -- ---- which replies a deed has
 

@@ -31,7 +31,7 @@ use Rattle.wf_board.specs.Laws.{OutcomeIsFixed, bare}
 use Rattle.wf_board.proofs.Listed.{one_list}
 use Rattle.wf_board.proofs.Exact.{finished_assigned, refuted_claim, stranded_not, well_formed_any}
 use Rattle.wf_board.proofs.Told.{IsTold, told}
-use Rattle.wf_board.proofs.Valid.{none_member}
+use Rattle.constraint_forms.proofs.Members.{none_member}
 
 -- two replies are the same but for their plans or trees, and so are the states after them
 abbrev HasSame : State → Result Deed Denial → Reply → Reply → Type 0

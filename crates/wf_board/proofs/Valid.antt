@@ -1,18 +1,14 @@
 -- A valid plan stays valid where its case is opened, and where a step is claimed, finished or let go of.
 use Rattle.std.proofs.Common.{◌≡◌, ℕ, zero, suc, ◌<◌, Bool, true, false, List, [], ◌∷◌, length, Option, None, Some, slice_set, sym, ap, subst, ◌∙◌}
-use Rattle.wf_names.specs.declared.limits.TheConstants.{STEP_LIMIT}
 use Rattle.wf_names.specs.declared.states.StepState.TheVariants.{Free, Held}
 use Rattle.wf_names.specs.States.{is_held, user_of}
 use Rattle.constraint_forms.specs.Assigned.{is_member, no_steps, no_users, user_at}
+use Rattle.constraint_forms.proofs.Members.{none_member}
 use Rattle.policy_book.specs.Plans.{IsValidPlan, Problem}
 use Rattle.case_record.specs.Cases.{CaseShape, assigned_of, finished_case, finished_of, fresh_case, state_at, with_state}
 use Rattle.case_record.proofs.Laws.{assigned_of-at, assigned_of-finish, assigned_of-hold, assigned_of-release, blank_at, finished_of-finish, finished_of-hold, finished_of-release}
 use Rattle.certificate_check.proofs.Assigned.{none_not_some}
 use Rattle.denial_reasons.specs.Causes.{assigned_with}
-
-pub none_member : (s : ℕ) → is_member no_steps s ≡ false
-unfolding no_steps
-none_member s = blank_at STEP_LIMIT s false
 
 -- nobody has a step of a fresh case
 pub fresh_user : (flow n s : ℕ) → user_at (assigned_of (fresh_case flow n)) s ≡ None

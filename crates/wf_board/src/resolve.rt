@@ -5,6 +5,7 @@ ghost use Rattle.policy_book.specs.Policies.{flow_at};
 ghost use Rattle.case_record.specs.Cases.{CaseShape};
 ghost use Rattle.grant_table.specs.Tables.{case_in};
 ghost use Rattle.admin_edits.specs.declared.amendment.Amendment.{Amendment};
+ghost use Rattle.wf_talk.specs.declared.request.Request.TheVariants as requests;
 ghost use Rattle.wf_board.specs.declared.deed.Deed.{Deed};
 ghost use Rattle.wf_board.specs.Boards.{book_of};
 ghost use Rattle.wf_board.specs.Found.{AreFound, IsAllowed, IsFound, IsOpenAt};
@@ -29,9 +30,9 @@ pub(crate) fn resolve(p: &Policy, cases: &Cases, ask: &Ask) -> Result<Deed, Deni
     ensures deed { result ≡ resolve (book_of p.now cases.now) ask.now }
     ensures found { IfOk result (IsFound p.now cases.now.rows) }
 {
-    match *ask {
-        Ask::Request(request) => resolve_request(p, cases, &request),
-        Ask::Bad(bad) => Ok(Deed::TurnAway { bad }),
+    match ask {
+        Ask::Request(request) => resolve_request(p, cases, request),
+        Ask::Bad(bad) => Ok(Deed::TurnAway { bad: *bad }),
     }
 }
 
@@ -40,8 +41,8 @@ fn resolve_request(p: &Policy, cases: &Cases, request: &Request) -> Result<Deed,
     ensures deed { result ≡ resolve_request (book_of p.now cases.now) request.now }
     ensures found { IfOk result (IsFound p.now cases.now.rows) }
 {
-    match *request {
-        Request::OpenCase { flow } => match p.find_flow(&flow) {
+    match request {
+        Request::OpenCase { flow } => match p.find_flow(flow) {
             Some(flow) => Ok(Deed::Open { flow }),
             None => Err(Denial::NoFlow),
         },
@@ -50,9 +51,9 @@ fn resolve_request(p: &Policy, cases: &Cases, request: &Request) -> Result<Deed,
             step,
             user,
         } => {
-            let (case, step, user) = on_step(p, cases, number, &step, &user)?;
+            let (case, step, user) = on_step(p, cases, *number, step, user)?;
             Ok(Deed::Claim {
-                number,
+                number: *number,
                 case,
                 step,
                 user,
@@ -63,9 +64,9 @@ fn resolve_request(p: &Policy, cases: &Cases, request: &Request) -> Result<Deed,
             step,
             user,
         } => {
-            let (case, step, user) = on_step(p, cases, number, &step, &user)?;
+            let (case, step, user) = on_step(p, cases, *number, step, user)?;
             Ok(Deed::Finish {
-                number,
+                number: *number,
                 case,
                 step,
                 user,
@@ -76,9 +77,9 @@ fn resolve_request(p: &Policy, cases: &Cases, request: &Request) -> Result<Deed,
             step,
             user,
         } => {
-            let (case, step, user) = on_step(p, cases, number, &step, &user)?;
+            let (case, step, user) = on_step(p, cases, *number, step, user)?;
             Ok(Deed::GiveBack {
-                number,
+                number: *number,
                 case,
                 step,
                 user,
@@ -88,33 +89,53 @@ fn resolve_request(p: &Policy, cases: &Cases, request: &Request) -> Result<Deed,
             by,
             case: number,
             step,
-        } => {
-            check_admin(p, &by)?;
-            let case = open_case(p, cases, number)?;
-            let step = step_named(p, &case, &step)?;
-            Ok(Deed::Release { number, case, step })
-        }
-        Request::Withdraw { by, case: number } => {
-            check_admin(p, &by)?;
-            open_case(p, cases, number)?;
-            Ok(Deed::Withdraw { number })
-        }
+        } => release(p, cases, by, *number, step),
+        Request::Withdraw { by, case: number } => withdrawal(p, cases, by, *number),
         Request::Change { by, edit } => {
-            let amendment = change(p, &by, &edit)?;
+            let amendment = change(p, by, edit)?;
             Ok(Deed::Change { amendment })
         }
         Request::Show { case: number } => Ok(Deed::Show {
-            case: case_with(p, cases, number)?,
+            case: case_with(p, cases, *number)?,
         }),
         Request::Worklist { user } => {
-            let user = user_named(p, &user)?;
+            let user = user_named(p, user)?;
             Ok(Deed::Work { user })
         }
         Request::WhatIf { by, edit } => {
-            let amendment = change(p, &by, &edit)?;
+            let amendment = change(p, by, edit)?;
             Ok(Deed::WhatIf { amendment })
         }
     }
+}
+
+/// A step taken from its holder, if an administrator asks for it.
+fn release(p: &Policy, cases: &Cases, by: &Name, n: CaseId, step: &Name) -> Result<Deed, Denial>
+    requires { ArePlanned p.now cases.now.rows }
+    ensures deed { result ≡ resolve_request (book_of p.now cases.now)
+        (requests.Release by.now n step.now) }
+    ensures found { IfOk result (IsFound p.now cases.now.rows) }
+{
+    check_admin(p, by)?;
+    let case = open_case(p, cases, n)?;
+    let step = step_named(p, &case, step)?;
+    Ok(Deed::Release {
+        number: n,
+        case,
+        step,
+    })
+}
+
+/// The end of an open case, if an administrator asks for it.
+fn withdrawal(p: &Policy, cases: &Cases, by: &Name, n: CaseId) -> Result<Deed, Denial>
+    requires { ArePlanned p.now cases.now.rows }
+    ensures deed { result ≡ resolve_request (book_of p.now cases.now)
+        (requests.Withdraw by.now n) }
+    ensures found { IfOk result (IsFound p.now cases.now.rows) }
+{
+    check_admin(p, by)?;
+    open_case(p, cases, n)?;
+    Ok(Deed::Withdraw { number: n })
 }
 
 /// An open case, a step of its workflow and a user.

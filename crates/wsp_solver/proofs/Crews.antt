@@ -1,5 +1,5 @@
 -- What a search knows of each user.
-use Rattle.std.proofs.Common.{◌≡◌, ◌≢◌, refl, sym, ap, ◌∙◌, ℕ, zero, suc, ◌+◌, ◌<◌, ◌≤◌, Bool, true, false, not, ◌&&◌, ◌||◌, ◌==◌, nat_lt, List, [], ◌∷◌, ◌++◌, length, replicate, Option, None, Some, slice_get, slice_set, if◌then◌else◌, eqb, ◌⊎◌, inl, inr, arith}
+use Rattle.std.proofs.Common.{◌≡◌, ◌≢◌, refl, sym, ap, ◌∙◌, ℕ, zero, suc, ◌+◌, ◌<◌, ◌≤◌, Bool, true, false, not, ◌&&◌, ◌||◌, ◌==◌, nat_lt, List, [], ◌∷◌, ◌++◌, length, Option, None, Some, slice_get, slice_set, if◌then◌else◌, eqb, ◌⊎◌, inl, inr, arith}
 use Rattle.std.proofs.lemmas.Bool.{false≢true}
 use Rattle.std.proofs.lemmas.Bool.Decides.{eqb_tells}
 use Rattle.std.proofs.Math.Seq.{get_or-append_seam}
@@ -11,6 +11,7 @@ use Rattle.constraint_forms.specs.declared.rule.Rule.{Rule}
 use Rattle.constraint_forms.specs.Flags.{word_of}
 use Rattle.constraint_forms.specs.Assigned.{is_member, no_steps, user_at}
 use Rattle.constraint_forms.specs.Rules.{relation_of}
+use Rattle.constraint_forms.proofs.Members.{none_member}
 use Rattle.policy_book.specs.Plans.{Problem}
 use Rattle.policy_book.specs.Twins.{agree, are_related_alike, are_twins, has_no_step, has_twin, is_alike_to, is_given_to, is_rule_alike, may_do_the_same, treats_alike}
 use Rattle.certificate_check.proofs.Below.{all_pass, one_fails, same_agree}
@@ -47,18 +48,9 @@ no_steps-length : length no_steps ≡ STEP_LIMIT
 unfolding no_steps
 no_steps-length = length-replicate STEP_LIMIT false
 
-no_steps-none : (s : ℕ) → is_member no_steps s ≡ false
-unfolding no_steps
-no_steps-none s = none_in STEP_LIMIT s
-  where
-    none_in : (n s : ℕ) → is_member (replicate n false) s ≡ false
-    none_in zero s = refl
-    none_in (suc n) zero = refl
-    none_in (suc n) (suc s) = none_in n s
-
 -- the steps of a user tell whether the user is authorised
 pub duties-known : (p : Problem) (u s : ℕ) → p.steps ≤ STEP_LIMIT → s < p.steps → is_member (duties_below p u p.steps) s ≡ p.authorised s u
-duties-known p u s few below = duties-member p u p.steps s no_steps-length no_steps-none few ∙ ap (λ b. b && p.authorised s u) (lt_yes s p.steps below)
+duties-known p u s few below = duties-member p u p.steps s no_steps-length none_member few ∙ ap (λ b. b && p.authorised s u) (lt_yes s p.steps below)
 
 duties-same : (p : Problem) (u v n : ℕ) → ((s : ℕ) → s < n → p.authorised s u ≡ p.authorised s v) → duties_below p u n ≡ duties_below p v n
 duties-same p u v zero same = refl
