@@ -1,19 +1,9 @@
 -- A policy is read from the document that it is written as.
-use Rattle.std.proofs.Common.{◌≡◌, ℕ, zero, suc, ◌<◌, Bool, true, false, List, [], ◌∷◌, length, refl, ap, ◌∙◌, arith}
-use Rattle.std.specs.Prelude.{codes, Some, Ok, slice_index_or}
-use Rattle.std.specs.List.{AllByRecursion}
-use Rattle.toml.specs.Data.{Members, get_member}
-use Rattle.workflow_schema.specs.Laws.{IsDecided}
-use Rattle.policy_book.specs.Shapes.{PolicyShape, WorkflowShape}
-use Rattle.policy_book.specs.Policies.{no_workflow, any_below}
-use Rattle.first_fault.specs.Reading.{◌>>=◌}
-use Rattle.policy_reader.specs.declared.fault.PolicyPart.TheVariants.{File}
+use Rattle.std.proofs.Common.{◌≡◌, ℕ, zero, suc, ◌<◌, Bool, true, false, List, [], ◌∷◌, length, refl, ap, ◌∙◌, arith, codes, Some, Ok, slice_index_or}
+use Rattle.policy_printer.proofs.Words.{AllByRecursion, Members, get_member, IsDecided, PolicyShape, WorkflowShape, no_workflow, any_below, ◌>>=◌, File, written_format, file_keys, IsPrintable, name_at, names_data, users_data, relations_data, flows_data, IsNamedPolicy}
 use Rattle.policy_reader.specs.Parts.{value_at, text_in, name_in, no_others, known_key}
 use Rattle.policy_reader.specs.Files.{document_in, format_of, admin_of, start_over, start_with, start_of, rest_of, policy_in, policy_of_file}
-use Rattle.policy_reader.specs.Formats.{written_format, file_keys}
-use Rattle.policy_reader.specs.Printable.{IsPrintable}
-use Rattle.policy_printer.specs.Documents.{name_at, names_data, users_data, relations_data, flows_data, document_of}
-use Rattle.policy_printer.specs.Named.{IsNamedPolicy}
+use Rattle.policy_printer.specs.Documents.{document_of}
 use Rattle.policy_printer.proofs.Readings.{form_at, number_back}
 use Rattle.policy_printer.proofs.RostersAgain.{roles_back, roster_back}
 use Rattle.policy_printer.proofs.RelationsAgain.{relations_back}

@@ -1,38 +1,17 @@
 -- The workflows are read from what they are written as.
-use Rattle.std.proofs.Common.{◌≡◌, ℕ, zero, suc, ◌<◌, ◌≤◌, Bool, false, List, [], ◌∷◌, length, map, take, refl, sym, ap, ◌∙◌, arith}
-use Rattle.std.specs.Prelude.{codes, Some, None, Ok}
+use Rattle.std.proofs.Common.{◌≡◌, ℕ, zero, suc, ◌<◌, ◌≤◌, Bool, false, List, [], ◌∷◌, length, map, take, refl, sym, ap, ◌∙◌, arith, codes, Some, None, Ok}
 use Rattle.std.specs.FinSet as set
-use Rattle.std.proofs.lemmas.List.{length-map, take_all}
-use Rattle.basics.proofs.Booleans.{not_true, and_both, lt_back, le_back}
-use Rattle.wf_names.specs.Table.{AreNames}
-use Rattle.toml.specs.Data.{Members, get_member}
-use Rattle.wf_names.specs.declared.limits.TheConstants.{STEP_LIMIT, FLOW_LIMIT}
-use Rattle.pair_set.specs.Pairs.{AllPairs}
-use Rattle.user_relations.specs.Relations.{RelationShape, known_names}
-use Rattle.workflow_schema.specs.Flows.{is_before}
-use Rattle.workflow_schema.specs.Laws.{IsDecided}
-use Rattle.policy_book.specs.Shapes.{PolicyShape, WorkflowShape}
-use Rattle.policy_book.specs.Facts.{IsSoundWorkflow}
-use Rattle.policy_book.specs.Policies.{flow_at, no_workflow}
-use Rattle.policy_reader.specs.declared.fault.PolicyPart.TheVariants.{Flows}
+use Rattle.policy_printer.proofs.Words.{length-map, take_all, not_true, and_both, lt_back, le_back, AreNames, Members, get_member, STEP_LIMIT, FLOW_LIMIT, AllPairs, RelationShape, known_names, is_before, IsDecided, PolicyShape, WorkflowShape, IsSoundWorkflow, flow_at, no_workflow, Flows, Ascend, names_data, pair_data, pairs_data, permits_data, rules_data, rows, flow_entry, flows_data, IsNamedWorkflow, least_none}
 use Rattle.policy_reader.specs.Parts.{value_at, array_in, table_in, name_in, no_others, known_key}
 use Rattle.policy_reader.specs.Rules.{rules_of}
 use Rattle.policy_reader.specs.Flows.{order_in, pairs_of, least_below, cycle_at, no_cycle, ordered_in, flow_in, workflow_in, next_flow, flows_of}
-use Rattle.policy_reader.specs.Printable.{Ascend}
-use Rattle.policy_printer.specs.Documents.{names_data, pair_data, pairs_data, permits_data, rules_data, rows, workflow_members, flow_entry, flows_data}
-use Rattle.policy_printer.specs.Named.{IsNamedWorkflow}
+use Rattle.policy_printer.specs.Documents.{workflow_members}
 use Rattle.policy_printer.proofs.RostersAgain.{steps_back}
 use Rattle.policy_printer.proofs.Rows.{pairs_back}
 use Rattle.policy_printer.proofs.PermitsAgain.{permits_back}
 use Rattle.policy_printer.proofs.RulesAgain.{rules_back}
 use Rattle.policy_printer.proofs.Readings.{count_back, upto, upto_length, take_next, items_back, form_at, at_least-ok, at_most-ok}
 use Rattle.policy_printer.proofs.Tabled.{tabled_in_order}
-
--- ---- the order
-
-least_none : (n : ℕ) (test : ℕ → Bool) → ((s : ℕ) → test s ≡ false) → least_below n test ≡ None
-least_none zero test h = refl
-least_none (suc n) test h = rw (least_none n test h, h n) refl
 
 module _ (decided : IsDecided) (f : ℕ) (roles : List (List ℕ)) (relations : List RelationShape) (named : AreNames roles) (related : AreNames (known_names relations))
     (w : WorkflowShape) (h : IsNamedWorkflow w) (sound : IsSoundWorkflow (length roles) (length relations) w) where
@@ -47,7 +26,7 @@ module _ (decided : IsDecided) (f : ℕ) (roles : List (List ℕ)) (relations : 
 
   no_cycle-again : no_cycle f steps w.flow.order ≡ Ok tt
   unfolding no_cycle
-  no_cycle-again = ap (cycle_at f steps) (least_none (length steps) (λ s. is_before w.flow.order s s) (λ s. not_true (is_before w.flow.order s s)
+  no_cycle-again = ap (cycle_at f steps) (least_none (length steps) (λ s. is_before w.flow.order s s) (λ s _. not_true (is_before w.flow.order s s)
       (λ e. h.kept.acyclic s ((decided w.flow.order s s (λ a b pair. (let both = h.kept.orders.each a b pair in omega (arith, few, both.1)))).0 e))))
 
   order_again : order_in f steps (pairs_data steps w.flow.order) ≡ Ok w.flow.order

@@ -1,20 +1,10 @@
 -- The permissions of a workflow are read from what they are written as.
-use Rattle.std.proofs.Common.{◌≡◌, ℕ, ◌<◌, Bool, false, nat_eq, nat_lt, ◌||◌, List, [], ◌∷◌, ◌++◌, length, map, refl, sym, ap, subst, ◌∙◌, arith}
-use Rattle.std.specs.Prelude.{codes, Option, Some, None, Ok}
-use Rattle.std.specs.List.{IsDistinct, list_any}
-use Rattle.std.specs.Cmp.{nat_eq_equiv}
+use Rattle.std.proofs.Common.{◌≡◌, ℕ, ◌<◌, Bool, false, nat_eq, nat_lt, ◌||◌, List, [], ◌∷◌, ◌++◌, length, map, refl, sym, ap, subst, ◌∙◌, arith, codes, Option, Some, None, Ok}
 use Rattle.std.specs.FinSet as set
-use Rattle.std.specs.FinMap.{slice_cmp-IsAntisymmetric, nat_cmp-IsAntisymmetric}
+use Rattle.policy_printer.proofs.Words.{IsDistinct, list_any, nat_eq_equiv, slice_cmp-IsAntisymmetric, nat_cmp-IsAntisymmetric, eq_same, or-false, lt_back, lt_yes, Members, get_member, place_of, AreNames, Pairs, AllPairs, FlowShape, Flows, name_at, chosen, permit_entry, permits_data}
 use Rattle.std.proofs.lemmas.List.Folds.{list_any-append}
-use Rattle.basics.proofs.Booleans.{eq_same, or-false, lt_back, lt_yes}
-use Rattle.toml.specs.Data.{Members, get_member}
-use Rattle.wf_names.specs.Table.{place_of, AreNames}
-use Rattle.pair_set.specs.Pairs.{Pairs, AllPairs}
-use Rattle.workflow_schema.specs.Flows.{FlowShape}
-use Rattle.policy_reader.specs.declared.fault.PolicyPart.TheVariants.{Flows}
 use Rattle.policy_reader.specs.Parts.{value_at, array_in, table_in, text_in, once}
 use Rattle.policy_reader.specs.Flows.{permits_of, next_permit, next_permitted}
-use Rattle.policy_printer.specs.Documents.{name_at, chosen, permit_entry, permits_data}
 use Rattle.policy_printer.proofs.Readings.{list_back, middle, new_middle, items_back, text_at, place_at, number_back}
 use Rattle.policy_printer.proofs.Sets.{by_second, at, lines, line_back, same_part, whole_part, no_part}
 use Rattle.policy_printer.proofs.Tabled.{Apart, numbers, numbers_among, numbers_distinct, tabled}

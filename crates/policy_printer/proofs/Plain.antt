@@ -1,22 +1,9 @@
 -- A document that a policy is written as has no dates and few levels.
-use Rattle.std.proofs.Common.{◌≡◌, ℕ, zero, suc, ◌+◌, ◌≤◌, Bool, true, List, [], ◌∷◌, map, length, Less, Equal, Greater, refl, arith}
-use Rattle.std.specs.Prelude.{Option, Some, None, max, pos}
-use Rattle.std.specs.Ordering.{nat_cmp, match_ordering}
-use Rattle.std.specs.Cmp.Lexicographic.{slice_cmp}
-use Rattle.basics.proofs.Booleans.{and_both, and_from}
-use Rattle.toml.specs.Data.{Data, string, integer, array, table, Members, no_members, member, depth, items_depth, members_depth, has_valid_dates, members_have_valid_dates}
-use Rattle.toml.specs.View.{items_of}
-use Rattle.constraint_forms.specs.declared.rule.Rule.{Rule}
+use Rattle.std.proofs.Common.{◌≡◌, ℕ, zero, suc, ◌+◌, ◌≤◌, Bool, true, List, [], ◌∷◌, map, length, Less, Equal, Greater, refl, arith, Option, Some, None, max, pos}
 use Rattle.constraint_forms.specs.declared.rule.Rule.TheVariants as rule
-use Rattle.rbac_state.specs.Rosters.{has_role}
-use Rattle.user_relations.specs.Relations.{RelationShape, complement_of}
-use Rattle.policy_book.specs.Shapes.{PolicyShape, WorkflowShape}
-use Rattle.policy_book.specs.Policies.{flow_at}
-use Rattle.policy_reader.specs.Formats.{format_number, written_format}
-use Rattle.policy_reader.specs.Relations.{first_declared}
+use Rattle.policy_printer.proofs.Words.{nat_cmp, match_ordering, slice_cmp, and_both, and_from, Data, string, integer, array, table, Members, no_members, member, depth, items_depth, members_depth, has_valid_dates, members_have_valid_dates, items_of, Rule, has_role, RelationShape, complement_of, PolicyShape, WorkflowShape, flow_at, format_number, written_format, first_declared, with_member, table_below, name_at, names_where, pair_data, pairs_data, relation_entry, rule_data, flow_entry, permit_entry, user_entry, Pairs}
 use Rattle.policy_reader.specs.declared.form.Form.{Form}
-use Rattle.policy_printer.specs.Documents.{with_member, table_below, name_at, names_where, pair_data, pairs_data, kind_members, relation_entry, grouped_members, rule_members, rule_data, workflow_members, flow_entry, permit_entry, user_entry, document_of}
-use Rattle.pair_set.specs.Pairs.{Pairs}
+use Rattle.policy_printer.specs.Documents.{kind_members, grouped_members, rule_members, workflow_members, document_of}
 
 record IsPlain (n : ℕ) (d : Data) : Type 0 where
   levels : depth d ≤ n

@@ -1,18 +1,8 @@
 -- Lists that are read back from what they are written as.
-use Rattle.std.proofs.Common.{◌≡◌, ℕ, zero, suc, ◌+◌, ◌<◌, ◌≤◌, Bool, true, false, List, [], ◌∷◌, ◌++◌, length, map, take, refl, sym, ap, ◌∙◌, append_assoc, arith}
-use Rattle.std.specs.Prelude.{Result, Ok, Err, slice_get, slice_index_or, Some, if◌then◌else◌}
-use Rattle.std.specs.List.{AllByRecursion, IsDistinct, list_any}
-use Rattle.std.proofs.lemmas.List.{append-nil, map-append, length-append, take_more}
-use Rattle.std.proofs.lemmas.Option.{slice_get-get_or}
-use Rattle.basics.proofs.Booleans.{or_left, or_right, eq_above, le_yes}
-use Rattle.toml.specs.Data.{Data, string}
-use Rattle.toml.specs.View.{items_of}
-use Rattle.first_fault.specs.Reading.{◌>>=◌, each}
-use Rattle.policy_reader.specs.declared.fault.PolicyPart.{PolicyPart}
-use Rattle.policy_reader.specs.Parts.{items, number_in, at_least_one, at_most}
-use Rattle.policy_printer.specs.Documents.{name_at, chosen}
-use Rattle.wf_names.specs.Names.{is_name}
-use Rattle.wf_names.specs.Table.{place_of, AreNames}
+use Rattle.std.proofs.Common.{◌≡◌, ℕ, zero, suc, ◌+◌, ◌<◌, ◌≤◌, Bool, true, false, List, [], ◌∷◌, ◌++◌, length, map, take, refl, sym, ap, ◌∙◌, append_assoc, arith, Result, Ok, Err, slice_get, slice_index_or, Some, if◌then◌else◌}
+use Rattle.policy_printer.proofs.Words.{AllByRecursion, list_any, append-nil, map-append, length-append, take_more, slice_get-get_or, or_left, or_right, eq_above, le_yes, Data, string, items_of, ◌>>=◌, each, PolicyPart, items, among, name_at, chosen, is_name, place_of, AreNames}
+use Rattle.std.specs.List.{IsDistinct}
+use Rattle.policy_reader.specs.Parts.{number_in, at_least_one, at_most}
 
 -- a list is read back: what was read so far is told by the items before the next
 module _ {X S D F : Type 0} (read : S → D → Result S F) (write : X → D) (state : List X → S) (whole : List X)
@@ -56,10 +46,6 @@ pub count_back : {S D F : Type 0} (read : S → D → Result S F) (write : ℕ �
 count_back read write state bound step = chosen_back read write state (λ _. true) bound (λ n lt e. step n lt) (λ n lt e. cc) bound (omega arith)
 
 -- ---- lists
-
-pub among : {X : Type 0} (P : X → Type 0) (xs : List X) (y : X) (ys : List X) → AllByRecursion P (xs ++ y ∷ ys) → P y
-among P [] y ys h = h.0
-among P (x ∷ xs) y ys h = among P xs y ys h.1
 
 pub upto_length : (n : ℕ) → length (upto n) ≡ n
 upto_length zero = refl

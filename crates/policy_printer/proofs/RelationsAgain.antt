@@ -1,23 +1,10 @@
 -- The relations are read from what they are written as.
-use Rattle.std.proofs.Common.{◌≡◌, ℕ, zero, suc, ◌+◌, true, false, nat_eq, List, [], ◌∷◌, ◌++◌, length, map, refl, sym, ap, subst, ◌∙◌, arith}
-use Rattle.std.specs.Prelude.{codes, Option, Some, None, option_map, Ok, slice_get}
-use Rattle.std.specs.List.{AllByRecursion, IsDistinct}
-use Rattle.std.specs.Cmp.Lexicographic.{pointwise, nat_list_eq_equiv}
-use Rattle.std.proofs.lemmas.Option.{slice_get-map, get_or_from_slice_get}
-use Rattle.std.proofs.lemmas.List.{length-map}
-use Rattle.toml.specs.Data.{Data, string, table, Members, no_members, member, get_member}
-use Rattle.wf_names.specs.Table.{AreNames}
-use Rattle.wf_names.specs.declared.limits.TheConstants.{RELATION_LIMIT, PAIR_LIMIT}
-use Rattle.pair_set.specs.Pairs.{Pairs}
-use Rattle.user_relations.specs.Relations.{RelationKind, listed, complement, RelationShape, known_names, complement_of, kind_of, complemented, has_list, is_listed, listed_pairs}
-use Rattle.user_relations.specs.Soundness.{AreSound}
-use Rattle.policy_book.specs.Facts.{AreOfUsers}
-use Rattle.policy_reader.specs.declared.fault.PolicyPart.TheVariants.{Relations}
-use Rattle.policy_reader.specs.Faults.{Reading}
-use Rattle.policy_reader.specs.Parts.{entries, array_in, table_in, text_in, name_in}
-use Rattle.policy_reader.specs.Relations.{first_declared, names_of, is_built_in, is_complement, entry_of, listed_in, complement_in, kind_in, next_relation, relations_in, relations_of}
-use Rattle.policy_reader.specs.Printable.{Ascend}
-use Rattle.policy_printer.specs.Documents.{name_at, pair_data, pairs_data, rows, table_below, kind_members, relation_entry, relations_data}
+use Rattle.std.proofs.Common.{◌≡◌, ℕ, zero, suc, ◌+◌, true, false, nat_eq, List, [], ◌∷◌, ◌++◌, length, map, refl, sym, ap, subst, ◌∙◌, arith, codes, Option, Some, None, option_map, Ok, slice_get}
+use Rattle.policy_printer.proofs.Words.{AllByRecursion, pointwise, nat_list_eq_equiv, slice_get-map, get_or_from_slice_get, length-map, Data, string, table, Members, no_members, member, get_member, AreNames, RELATION_LIMIT, PAIR_LIMIT, Pairs, RelationKind, listed, complement, RelationShape, known_names, complement_of, kind_of, complemented, has_list, is_listed, listed_pairs, AreSound, AreOfUsers, Relations, Reading, entries, first_declared, names_of, is_built_in, is_complement, entry_of, Ascend, name_at, pair_data, pairs_data, rows, table_below, relation_entry, relations_data}
+use Rattle.std.specs.List.{IsDistinct}
+use Rattle.policy_reader.specs.Parts.{array_in, table_in, text_in, name_in}
+use Rattle.policy_reader.specs.Relations.{listed_in, complement_in, kind_in, next_relation, relations_in, relations_of}
+use Rattle.policy_printer.specs.Documents.{kind_members}
 use Rattle.policy_printer.proofs.Rows.{pairs_back, pairs_count}
 use Rattle.policy_printer.proofs.Readings.{list_back, items_back, upto_map, got_middle, at_most-ok}
 use Rattle.policy_printer.proofs.Tabled.{tabled_in_order}

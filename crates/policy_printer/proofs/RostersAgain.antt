@@ -1,27 +1,13 @@
 -- The users and their roles, and lists of names, are read from what they are written as.
-use Rattle.std.proofs.Common.{◌≡◌, ℕ, suc, ◌<◌, false, nat_lt, List, [], length, map, take, refl, ap, ◌∙◌, arith, ◌≤◌, Bool, nat_eq, ◌∷◌, ◌++◌, get_or, sym}
-use Rattle.std.specs.Prelude.{codes, Some, Ok, is_some, position, slice_get}
+use Rattle.std.proofs.Common.{◌≡◌, ℕ, suc, ◌<◌, false, nat_lt, List, [], length, map, take, refl, ap, ◌∙◌, arith, ◌≤◌, Bool, nat_eq, ◌∷◌, ◌++◌, get_or, sym, codes, Some, Ok, is_some, position, slice_get}
 use Rattle.std.specs.FinSet as set
-use Rattle.std.proofs.lemmas.List.{length-map, length-take-le, take_all}
-use Rattle.basics.proofs.Booleans.{lt_yes, lt_no}
-use Rattle.toml.specs.Data.{Members, get_member, string}
-use Rattle.wf_names.specs.Table.{AreNames, place_of}
-use Rattle.wf_names.specs.declared.limits.TheConstants.{USER_LIMIT, ROLE_LIMIT, STEP_LIMIT}
-use Rattle.pair_set.specs.Pairs.{Pairs}
-use Rattle.rbac_state.specs.Rosters.{RosterShape, has_role, IsSoundRoster}
-use Rattle.first_fault.specs.Reading.{each}
-use Rattle.policy_reader.specs.declared.fault.PolicyPart.TheVariants.{Users, Roles, Flows}
+use Rattle.policy_printer.proofs.Words.{length-map, length-take-le, take_all, lt_yes, lt_no, Members, get_member, string, AreNames, place_of, USER_LIMIT, ROLE_LIMIT, STEP_LIMIT, Pairs, RosterShape, has_role, IsSoundRoster, each, Users, Roles, Flows, Ascend, chosen, user_entry, users_data, names_data, pointwise, none_cons, PolicyPart}
 use Rattle.policy_reader.specs.Parts.{value_at, array_in, table_in, text_in, name_in, once, next_name}
 use Rattle.policy_reader.specs.Rosters.{users_in, roster_of, next_user, next_held, roles_of, next_role}
-use Rattle.policy_reader.specs.Printable.{Ascend}
-use Rattle.policy_printer.specs.Documents.{chosen, user_entry, users_data, names_data}
 use Rattle.policy_printer.proofs.Readings.{count_back, upto, upto_length, take_next, items_back, text_at, form_at, number_back, at_least-ok, at_most-ok, list_back, got_middle}
 use Rattle.policy_printer.proofs.Sets.{by_first, lines, line_back, next_line, whole_part, no_part}
 use Rattle.policy_printer.proofs.Tabled.{tabled_in_order}
-use Rattle.std.specs.Cmp.Lexicographic.{pointwise}
-use Rattle.std.proofs.lemmas.Grind.{common_steps}
 use Rattle.std.proofs.lemmas.List.Quantifiers.{position-Some}
-use Rattle.policy_reader.specs.declared.fault.PolicyPart.{PolicyPart}
 use Rattle.policy_reader.specs.Flows.{steps_of}
 
 module _ (whole : RosterShape) (sound : IsSoundRoster whole) (roles : AreNames whole.roles) (users : AreNames whole.users) where
@@ -61,9 +47,6 @@ module _ (whole : RosterShape) (sound : IsSoundRoster whole) (roles : AreNames w
       (ap (each next_user (state 0)) tabled ∙ count_back next_user (user_entry whole) state total user_again ∙ (λ i. Ok (record { users = take_all total whole.users (omega arith) i; roles = whole.roles; members = all i })))
 
 -- ---- lists of names
-
-none_cons : {X : Type 0} (p : X → Bool) (x : X) (xs : List X) → p x ≡ false → is_some (position p xs) ≡ false → is_some (position p (x ∷ xs)) ≡ false
-none_cons p x xs here none = grind (arith, common_steps)
 
 none_passes : (p : List ℕ → Bool) (before rest : List (List ℕ)) → ((k : ℕ) → k < length before → p (get_or (before ++ rest) k []) ≡ false) → is_some (position p before) ≡ false
 none_passes p [] rest h = refl

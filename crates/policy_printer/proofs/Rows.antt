@@ -1,26 +1,15 @@
 -- The pairs of a set, row by row: they ascend, and are those of the set.
-use Rattle.std.proofs.Common.{◌≡◌, ℕ, zero, suc, ◌<◌, Bool, true, false, ◌||◌, ◌&&◌, cond, List, [], ◌∷◌, ◌++◌, map, Less, Equal, refl, sym, ap, subst, ◌∙◌, append_assoc, arith, length}
-use Rattle.std.specs.Prelude.{if◌then◌else◌, Some, None, T, Ok}
-use Rattle.std.specs.Ordering.{eq_by_cmp, nat_cmp, ordering_then}
-use Rattle.std.specs.Cmp.{nat_cmp_is, eq_by_cmp_equiv}
-use Rattle.std.specs.List.{list_any, AllByRecursion, IsDistinct}
-use Rattle.std.specs.List.Sorted.{IsStrictlySortedBy}
+use Rattle.std.proofs.Common.{◌≡◌, ℕ, zero, suc, ◌<◌, Bool, true, false, ◌||◌, ◌&&◌, cond, List, [], ◌∷◌, ◌++◌, map, Less, Equal, refl, sym, ap, subst, ◌∙◌, append_assoc, arith, length, nat_lt, if◌then◌else◌, Some, None, T, Ok}
 use Rattle.std.specs.FinSet as set
-use Rattle.std.specs.FinMap.{find, is_sorted}
+use Rattle.policy_reader.proofs.Grown.{push_all}
+use Rattle.policy_printer.proofs.Sets as part
+use Rattle.policy_printer.proofs.Words.{eq_by_cmp, nat_cmp, ordering_then, nat_cmp_is, eq_by_cmp_equiv, list_any, AllByRecursion, IsDistinct, find, is_sorted, append-nil, Pairs, pair_cmp, IsAscending, AllPairs, pair_cmp_total, pair_cmp-IsAntisymmetric, ascending_none, row, rows, pair_data, IsDistinct-from_sorted, AreNames, each, PolicyPart, lt_yes, lt_no}
+use Rattle.std.specs.List.Sorted.{IsStrictlySortedBy}
 use Rattle.std.specs.FinMap.Entries.{below_all, same_entries}
-use Rattle.std.proofs.lemmas.List.{append-nil}
-use Rattle.pair_set.specs.Pairs.{Pairs, pair_cmp, IsAscending, AllPairs}
-use Rattle.pair_set.specs.PairLaws.{pair_cmp_total, pair_cmp-IsAntisymmetric}
-use Rattle.policy_printer.specs.Documents.{row, rows, pair_data}
-use Rattle.policy_printer.proofs.Writing.{row_of, no_rows, all_rows, row_begins, row_up, row_same, row_end}
-use Rattle.std.proofs.lemmas.Map.Keys.{IsDistinct-from_sorted}
-use Rattle.wf_names.specs.Table.{AreNames}
 use Rattle.pair_set.proofs.SetOfList.{len-from_list}
-use Rattle.first_fault.specs.Reading.{each}
-use Rattle.policy_reader.specs.declared.fault.PolicyPart.{PolicyPart}
 use Rattle.policy_reader.specs.Parts.{once, next_pair}
 use Rattle.policy_printer.proofs.Readings.{list_back, middle, new_middle, number_back}
-use Rattle.policy_printer.proofs.Sets.{itself}
+use Rattle.policy_printer.proofs.Sets.{itself, by_first, lines}
 
 -- ---- one pair more
 
@@ -30,10 +19,6 @@ pair_below x y lt = ap (λ o. ordering_then o (nat_cmp x.1 y.1)) (sym (nat_cmp_i
 pair_next : (s t : ℕ) → pair_cmp (s, t) (s, suc t) ≡ Less
 pair_next s t = ap (λ o. ordering_then o (nat_cmp t (suc t))) (sym (nat_cmp_is s s Equal refl)) ∙ sym (nat_cmp_is t (suc t) Less (omega arith))
 
-push_all : {X : Type 0} (P : X → Type 0) (xs : List X) (y : X) → AllByRecursion P xs → P y → AllByRecursion P (xs ++ y ∷ [])
-push_all P [] y h here = (here, tt)
-push_all P (x ∷ xs) y h here = (h.0, push_all P xs y h.1 here)
-
 push_ascend : (ps : List (ℕ × ℕ)) (q : ℕ × ℕ) → IsAscending ps → AllByRecursion (λ p. pair_cmp p q ≡ Less) ps → IsAscending (ps ++ q ∷ [])
 unfolding IsStrictlySortedBy
 push_ascend [] q a h = (tt, tt)
@@ -42,6 +27,13 @@ push_ascend (p ∷ ps) q a h = (push_all (λ r. pair_cmp p r ≡ Less) ps q a.0 
 further : (q r : ℕ × ℕ) (ps : List (ℕ × ℕ)) → pair_cmp q r ≡ Less → AllByRecursion (λ p. pair_cmp p q ≡ Less) ps → AllByRecursion (λ p. pair_cmp p r ≡ Less) ps
 further q r [] lt h = tt
 further q r (p ∷ ps) lt h = (pair_cmp_total.trans p q r h.0 lt, further q r ps lt h.1)
+
+-- what a set has before (s, t)
+abbrev row_of : ℕ → ℕ → Pairs → Pairs
+row_of s t pairs = part.row by_first pairs (λ m. nat_lt m s) s (lt_no s s (omega arith)) t
+
+row_begins : (s : ℕ) (pairs : Pairs) → lines by_first pairs (λ m. nat_lt m s) ≡ row_of s 0 pairs
+row_begins s pairs = part.row_none by_first pairs (λ m. nat_lt m s) s (lt_no s s (omega arith))
 
 -- the pairs of a set before (s, t), ascending
 record IsReached (pairs : Pairs) (s t : ℕ) (ps : List (ℕ × ℕ)) : Type 0 where
@@ -56,30 +48,30 @@ reached_row pairs s before h (suc t) =
     let ps : List (ℕ × ℕ) = before ++ row s t pairs in
     elim (set.contains pairs (s, t)) as (λ b. set.contains pairs (s, t) ≡ b → IsReached pairs s (suc t) (before ++ (if b then row s t pairs ++ (s, t) ∷ [] else row s t pairs))) [
       | true ↦ λ here. subst (IsReached pairs s (suc t)) (append_assoc before (row s t pairs) ((s, t) ∷ [])) (record {
-        whole = set.from_list_push pair_cmp_total pair_cmp-IsAntisymmetric ps (s, t) ∙ ap (λ some. set.insert some (s, t)) so_far.whole ∙ sym (row_up s t pairs here);
+        whole = set.from_list_push pair_cmp_total pair_cmp-IsAntisymmetric ps (s, t) ∙ ap (λ some. set.insert some (s, t)) so_far.whole ∙ sym (part.row_more by_first pairs (λ m. nat_lt m s) s (lt_no s s (omega arith)) t here);
         ascend = push_ascend ps (s, t) so_far.ascend so_far.below;
         below = push_all (λ p. pair_cmp p (s, suc t) ≡ Less) ps (s, t) (further (s, t) (s, suc t) ps (pair_next s t) so_far.below) (pair_next s t);
       })
-      | false ↦ λ none. record { whole = so_far.whole ∙ sym (row_same s t pairs none); ascend = so_far.ascend; below = further (s, t) (s, suc t) ps (pair_next s t) so_far.below }
+      | false ↦ λ none. record { whole = so_far.whole ∙ part.row_skip by_first pairs (λ m. nat_lt m s) s (lt_no s s (omega arith)) t none; ascend = so_far.ascend; below = further (s, t) (s, suc t) ps (pair_next s t) so_far.below }
     ] refl
-
-none_ascend : IsAscending []
-unfolding IsStrictlySortedBy
-none_ascend = tt
 
 module _ (n : ℕ) (pairs : Pairs) (within : AllPairs (λ a b. (a < n) × (b < n)) pairs) where
   reached : (m : ℕ) → IsReached pairs m 0 (rows m n pairs)
-  reached zero = record { whole = sym (no_rows pairs) ∙ row_begins 0 pairs; ascend = none_ascend; below = tt }
+  reached zero = record { whole = sym (part.no_part pairs (λ q. nat_lt q.0 0) (λ q. lt_no q.0 0 (omega arith))) ∙ row_begins 0 pairs; ascend = ascending_none; below = tt }
   reached (suc m) =
       let row = reached_row pairs m (rows m n pairs) (reached m) n in
-      record { whole = row.whole ∙ row_end m n pairs within ∙ row_begins (suc m) pairs; ascend = row.ascend; below = further (m, n) (suc m, 0) _ (pair_below (m, n) (suc m, 0) (omega arith)) row.below }
+      record {
+        whole = row.whole ∙ part.row_all by_first pairs (λ k. nat_lt k m) m (lt_no m m (omega arith)) n (λ q here. (within.each q.0 q.1 here).1) ∙ part.next_line pairs m ∙ row_begins (suc m) pairs;
+        ascend = row.ascend;
+        below = further (m, n) (suc m, 0) _ (pair_below (m, n) (suc m, 0) (omega arith)) row.below;
+      }
 
   -- the pairs ascend, and are the whole
   pub rows_ascend : IsAscending (rows n n pairs)
   rows_ascend = (reached n).ascend
 
   pub rows_whole : set.from_list (rows n n pairs) ≡ pairs
-  rows_whole = (reached n).whole ∙ sym (row_begins n pairs) ∙ all_rows n pairs within
+  rows_whole = (reached n).whole ∙ sym (row_begins n pairs) ∙ part.whole_part pairs (λ q. nat_lt q.0 n) (λ q here. lt_yes q.0 n (within.each q.0 q.1 here).0)
 
 -- ---- lists that ascend and have the same pairs are the same
 

@@ -1,24 +1,12 @@
 -- The rules of a workflow are read from what they are written as.
-use Rattle.std.proofs.Common.{◌≡◌, ℕ, zero, suc, ◌+◌, ◌<◌, ◌≤◌, Bool, true, false, cond, nat_eq, List, [], ◌∷◌, ◌++◌, length, map, refl, sym, ap, subst, ◌∙◌, arith}
-use Rattle.std.specs.Prelude.{codes, Option, Some, None, Ok, slice_set, slice_get, replicate}
-use Rattle.std.proofs.lemmas.List.{length-map}
-use Rattle.basics.proofs.Booleans.{not_true, or_right}
-use Rattle.first_fault.specs.Reading.{each}
-use Rattle.toml.specs.Data.{Data, string, Members, get_member}
-use Rattle.wf_names.specs.Table.{AreNames}
-use Rattle.wf_names.specs.declared.limits.TheConstants.{STEP_LIMIT, RULE_LIMIT}
-use Rattle.user_relations.specs.Relations.{RelationShape, known_names}
-use Rattle.constraint_forms.specs.Assigned.{is_member, no_steps}
-use Rattle.constraint_forms.specs.Rules.{any_from}
-use Rattle.constraint_forms.specs.declared.rule.Rule.{Rule}
+use Rattle.std.proofs.Common.{◌≡◌, ℕ, zero, suc, ◌+◌, ◌<◌, ◌≤◌, Bool, true, false, cond, nat_eq, List, [], ◌∷◌, ◌++◌, length, map, refl, sym, ap, subst, ◌∙◌, arith, codes, Option, Some, None, Ok, slice_set, slice_get, replicate}
 use Rattle.constraint_forms.specs.declared.rule.Rule.TheVariants as rule
-use Rattle.policy_book.specs.Facts.{IsSoundRule, AreSoundRules}
-use Rattle.policy_reader.specs.declared.fault.PolicyPart.TheVariants.{Flows}
-use Rattle.policy_reader.specs.Faults.{Reading}
+use Rattle.policy_printer.proofs.Words.{length-map, not_true, or_right, each, Data, string, Members, get_member, AreNames, STEP_LIMIT, RULE_LIMIT, RelationShape, known_names, is_member, Rule, IsSoundRule, AreSoundRules, Flows, Reading, name_at, names_where, chosen, rule_data, rules_data, HasFlags, HaveFlags}
+use Rattle.constraint_forms.specs.Assigned.{no_steps}
+use Rattle.constraint_forms.specs.Rules.{any_from}
 use Rattle.policy_reader.specs.Parts.{value_at, array_in, table_in, text_in, once, no_others, known_key}
 use Rattle.policy_reader.specs.Rules.{relation_in, step_in, next_member, group_in, pair_in, grouped_in, form_in, rule_of_form, rule_in, next_rule, rules_in, rules_of}
-use Rattle.policy_printer.specs.Documents.{name_at, names_where, chosen, rule_members, grouped_members, rule_data, rules_data}
-use Rattle.policy_printer.specs.Named.{HasFlags, HaveFlags}
+use Rattle.policy_printer.specs.Documents.{rule_members, grouped_members}
 use Rattle.policy_printer.proofs.Readings.{list_back, chosen_back, got_middle, items_back, text_at, number_back, at_least-ok, at_most-ok}
 use Rattle.policy_printer.proofs.Writing.{first_in, second_in, some_step_in, all_step_in}
 

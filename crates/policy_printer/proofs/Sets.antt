@@ -1,19 +1,10 @@
 -- Parts of a set of pairs, as they are read or written line by line.
-use Rattle.std.proofs.Common.{◌≡◌, ℕ, suc, ◌<◌, Bool, true, false, ◌||◌, ◌&&◌, nat_eq, nat_lt, map, refl, sym, ap, ◌∙◌, arith}
-use Rattle.std.specs.Prelude.{Result, Ok}
-use Rattle.std.specs.Ordering.{eq_by_cmp, is_eq}
-use Rattle.std.specs.Cmp.{tied_itself}
+use Rattle.std.proofs.Common.{◌≡◌, ℕ, suc, ◌<◌, Bool, true, false, ◌||◌, ◌&&◌, nat_eq, nat_lt, map, refl, sym, ap, ◌∙◌, arith, Result, Ok}
 use Rattle.std.specs.FinSet as set
+use Rattle.policy_printer.proofs.Words.{eq_by_cmp, is_eq, tied_itself, and_same, and_swap, and-false, or-false, eq_same, eq_back, lt_yes, lt_no, Pairs, pair_cmp, pair_cmp_total, pair_cmp-IsAntisymmetric, each, chosen}
 use Rattle.std.proofs.lemmas.Map.Views.{tells_apart}
-use Rattle.basics.proofs.Booleans.{and_same, and_swap, and-false, or-false, eq_same, eq_back, lt_yes, lt_no}
-use Rattle.pair_set.specs.Pairs.{Pairs, pair_cmp}
-use Rattle.pair_set.specs.PairLaws.{pair_cmp_total, pair_cmp-IsAntisymmetric}
-use Rattle.first_fault.specs.Reading.{each}
-use Rattle.policy_printer.specs.Documents.{chosen}
+use Rattle.policy_reader.proofs.PairSets.{same_pairs}
 use Rattle.policy_printer.proofs.Readings.{chosen_back}
-
-pub same_pairs : (s t : Pairs) → ((q : ℕ × ℕ) → set.contains s q ≡ set.contains t q) → s ≡ t
-same_pairs s t h = set.same_set pair_cmp_total pair_cmp-IsAntisymmetric s t h
 
 pub itself : (q : ℕ × ℕ) → eq_by_cmp pair_cmp q q ≡ true
 itself q = ap is_eq (tied_itself pair_cmp_total q)

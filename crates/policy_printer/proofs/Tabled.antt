@@ -1,18 +1,8 @@
 -- The entries of a table that was put together by numbers.
-use Rattle.std.proofs.Common.{◌≡◌, ℕ, zero, suc, ◌<◌, ◌≤◌, true, false, ◌||◌, nat_eq, nat_lt, List, [], ◌∷◌, ◌++◌, length, map, Ordering, Less, Equal, Greater, nat_cmp, refl, sym, ap, ◌∙◌, arith}
-use Rattle.std.specs.Prelude.{IsPermutation}
-use Rattle.std.specs.List.{AllByRecursion, IsDistinct, list_any}
-use Rattle.std.specs.Ordering.{match_ordering, ordering_reverse}
-use Rattle.std.specs.Cmp.{nat_eq_equiv}
-use Rattle.std.specs.Cmp.Lexicographic.{slice_cmp, nat_list_cmp_total}
-use Rattle.std.specs.FinMap.{slice_cmp-IsAntisymmetric, nat_cmp-IsAntisymmetric}
+use Rattle.std.proofs.Common.{◌≡◌, ℕ, zero, suc, ◌<◌, ◌≤◌, true, false, ◌||◌, nat_eq, nat_lt, List, [], ◌∷◌, ◌++◌, length, map, Ordering, Less, Equal, Greater, nat_cmp, refl, sym, ap, ◌∙◌, arith, IsPermutation}
+use Rattle.policy_printer.proofs.Words.{AllByRecursion, list_any, match_ordering, ordering_reverse, nat_eq_equiv, slice_cmp, nat_list_cmp_total, slice_cmp-IsAntisymmetric, nat_cmp-IsAntisymmetric, Less-from_sorted, IsDistinct-cons, IsDistinct-IsPermutation, or_left, or_right, eq_same, eq_above, lt_back, lt_no, Data, Members, no_members, member, entries, Ascend, with_member, table_below, name_at}
+use Rattle.std.specs.List.{IsDistinct}
 use Rattle.std.proofs.lemmas.List.Sorted.{IsPermutation-refl, IsPermutation-cons, IsPermutation-trans, IsPermutation-middle, list_any-IsPermutation}
-use Rattle.std.proofs.lemmas.Map.Keys.{Less-from_sorted, IsDistinct-cons, IsDistinct-IsPermutation}
-use Rattle.basics.proofs.Booleans.{or_left, or_right, eq_same, eq_above, lt_back, lt_no}
-use Rattle.toml.specs.Data.{Data, Members, no_members, member}
-use Rattle.policy_reader.specs.Parts.{entries}
-use Rattle.policy_reader.specs.Printable.{Ascend}
-use Rattle.policy_printer.specs.Documents.{with_member, table_below, name_at}
 use Rattle.policy_printer.proofs.Readings.{upto}
 
 abbrev pub key_cmp : List ℕ → List ℕ → Ordering

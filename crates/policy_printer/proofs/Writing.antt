@@ -1,33 +1,14 @@
 -- Values and tables as they are built.
-use Rattle.std.proofs.Common.{◌≡◌, ℕ, suc, ◌+◌, ◌<◌, Bool, true, false, List, [], ◌∷◌, ◌++◌, length, map, take, get_or, nat_eq, nat_lt, IsTrue, String, Global, Ordering, Less, Equal, Greater, string_bytes, refl, sym, ap, ◌∙◌, arith}
-use Rattle.std.specs.Prelude.{Result, Ok, Err, OnOk, slice_get, Option, Some, None, option_map, zero}
-use Rattle.std.specs.List.{All}
-use Rattle.std.proofs.lemmas.Option.{get_or_from_slice_get, slice_get_past, slice_get_within}
+use Rattle.std.proofs.Common.{◌≡◌, ℕ, suc, ◌+◌, ◌<◌, Bool, true, false, List, [], ◌∷◌, ◌++◌, length, map, take, get_or, nat_eq, nat_lt, IsTrue, String, Global, Ordering, Less, Equal, Greater, string_bytes, refl, sym, ap, ◌∙◌, append_assoc, arith, Result, Ok, Err, OnOk, slice_get, Option, Some, None, option_map, zero, subst, inl, inr}
+use Rattle.std.specs.FinSet as set
+use Rattle.policy_printer.proofs.Words.{All, get_or_from_slice_get, slice_get_past, slice_get_within, or_left, or_right, eq_same, AreNames, first_declared, RELATION_LIMIT, Pairs, AllPairs, RelationShape, RelationKind, listed, complement, kind_of, known_names, has_list, is_listed, complemented, complement_of, listed_pairs, pairs_of, all_empty, AreOfUsers, IsSoundRule, AreSound, match_ordering, get_or_default, length-map, map-append, take_more, Data, Members, member, view, members_view, with_member, table_below, chosen, name_at, row, rows}
 use Rattle.std.proofs.lemmas.Bool.{cases_lt}
-use Rattle.std.proofs.Common.{subst, inl, inr}
-use Rattle.basics.proofs.Booleans.{or_left, or_right, eq_same, lt_yes, lt_no}
 use Rattle.wf_names.specs.Names.{is_name}
-use Rattle.wf_names.specs.Table.{AreNames}
 use Rattle.wf_names.proofs.Places.{are_names}
-use Rattle.policy_reader.specs.Relations.{first_declared}
-use Rattle.policy_printer.specs.Named.{rows_below}
-use Rattle.policy_printer.proofs.Sets.{by_first, row, row_none, row_more, row_skip, row_all, no_part, whole_part, next_line}
-use Rattle.wf_names.specs.declared.limits.TheConstants.{RELATION_LIMIT}
-use Rattle.pair_set.specs.Pairs.{Pairs, AllPairs}
-use Rattle.user_relations.specs.Relations.{RelationShape, RelationKind, listed, complement, kind_of, known_names, has_list, is_listed, complemented, complement_of, listed_pairs, pairs_of}
-use Rattle.pair_set.specs.PairLaws.{all_empty}
-use Rattle.policy_book.specs.Facts.{AreOfUsers, IsSoundRule}
 use Rattle.constraint_forms.specs.declared.rule.Rule.TheVariants.{Pair, SomeOf, AllOf}
-use Rattle.user_relations.specs.Soundness.{AreSound}
 use Rattle.std.specs.BTreeMap.{insert_entry}
 use Rattle.std.specs.String.{string_cmp}
-use Rattle.std.specs.Ordering.{match_ordering}
-use Rattle.std.specs.FinSet as set
-use Rattle.std.proofs.lemmas.List.{get_or_default, length-map, map-append, take_more}
 use Rattle.toml.specs.declared.value.Value.{Value}
-use Rattle.toml.specs.Data.{Data, Members, member}
-use Rattle.toml.specs.View.{view, members_view}
-use Rattle.policy_printer.specs.Documents.{with_member, table_below, chosen, name_at}
 
 abbrev Entry : Type 0
 Entry = String Global × Value
@@ -64,45 +45,16 @@ map_take_more f xs n d lt = ap (map f) (take_more xs n d lt) ∙ map-append f (t
 pub map_take_got : {X Y : Type 0} (f : X → Y) (xs : List X) (n : ℕ) (x : X) → slice_get xs n ≡ Some x → map f (take (n + 1) xs) ≡ map f (take n xs) ++ f x ∷ []
 map_take_got f xs n x e = map_take_more f xs n x (slice_get_within xs n x e) ∙ ap (λ y. map f (take n xs) ++ f y ∷ []) (get_or_from_slice_get xs n x x e)
 
--- ---- the pairs of an order
+-- the pairs of a set, row by row
+pub row_more : {Y : Type 0} (f : ℕ × ℕ → Y) (before : List Y) (s t : ℕ) (pairs : Pairs) → set.contains pairs (s, t) ≡ true
+    → before ++ map f (row s (t + 1) pairs) ≡ (before ++ map f (row s t pairs)) ++ f (s, t) ∷ []
+row_more f before s t pairs here = rw (one_more t, here, map-append f (row s t pairs) ((s, t) ∷ [])) (sym (append_assoc before (map f (row s t pairs)) (f (s, t) ∷ [])))
 
-pub no_rows : (pairs : Pairs) → rows_below 0 pairs ≡ set.empty
-unfolding rows_below
-no_rows pairs = no_part pairs (λ q. nat_lt q.0 0) (λ q. lt_no q.0 0 (omega arith))
+pub row_skip : {Y : Type 0} (f : ℕ × ℕ → Y) (before : List Y) (s t : ℕ) (pairs : Pairs) → set.contains pairs (s, t) ≡ false → before ++ map f (row s (t + 1) pairs) ≡ before ++ map f (row s t pairs)
+row_skip f before s t pairs none = rw (one_more t, none) refl
 
-pub all_rows : (n : ℕ) (pairs : Pairs) → AllPairs (λ s t. (s < n) × (t < n)) pairs → rows_below n pairs ≡ pairs
-unfolding rows_below
-all_rows n pairs h = whole_part pairs (λ q. nat_lt q.0 n) (λ q here. lt_yes q.0 n (h.each q.0 q.1 here).0)
-
--- the rows below s, and of its row the places below t
-unfoldable pub row_of : ℕ → ℕ → Pairs → Pairs
-row_of s t pairs = row by_first pairs (λ m. nat_lt m s) s (lt_no s s (omega arith)) t
-
-pub row_begins : (s : ℕ) (pairs : Pairs) → rows_below s pairs ≡ row_of s 0 pairs
-unfolding rows_below row_of
-row_begins s pairs = row_none by_first pairs (λ m. nat_lt m s) s (lt_no s s (omega arith))
-
-pub row_up : (s t : ℕ) (pairs : Pairs) → set.contains pairs (s, t) ≡ true → row_of s (suc t) pairs ≡ set.insert (row_of s t pairs) (s, t)
-unfolding row_of
-row_up s t pairs here = row_more by_first pairs (λ m. nat_lt m s) s (lt_no s s (omega arith)) t here
-
-pub row_same : (s t : ℕ) (pairs : Pairs) → set.contains pairs (s, t) ≡ false → row_of s (suc t) pairs ≡ row_of s t pairs
-unfolding row_of
-row_same s t pairs none = sym (row_skip by_first pairs (λ m. nat_lt m s) s (lt_no s s (omega arith)) t none)
-
-pub row_end : (s n : ℕ) (pairs : Pairs) → AllPairs (λ a b. (a < n) × (b < n)) pairs → row_of s n pairs ≡ rows_below (suc s) pairs
-unfolding rows_below row_of
-row_end s n pairs h = row_all by_first pairs (λ m. nat_lt m s) s (lt_no s s (omega arith)) n (λ q here. (h.each q.0 q.1 here).1) ∙ next_line pairs s
-
--- the same in the words of a loop
-pub row_grows : (s t : ℕ) (pairs : Pairs) → set.contains pairs (s, t) ≡ true → row_of s (t + 1) pairs ≡ set.insert (row_of s t pairs) (s, t)
-row_grows s t pairs here = rw (one_more t) (row_up s t pairs here)
-
-pub row_stays : (s t : ℕ) (pairs : Pairs) → set.contains pairs (s, t) ≡ false → row_of s (t + 1) pairs ≡ row_of s t pairs
-row_stays s t pairs none = rw (one_more t) (row_same s t pairs none)
-
-pub row_ends : (s n : ℕ) (pairs : Pairs) → AllPairs (λ a b. (a < n) × (b < n)) pairs → rows_below (s + 1) pairs ≡ row_of s n pairs
-row_ends s n pairs h = rw (one_more s) (sym (row_end s n pairs h))
+pub rows_more : {Y : Type 0} (f : ℕ × ℕ → Y) (s n : ℕ) (pairs : Pairs) → map f (rows (s + 1) n pairs) ≡ map f (rows s n pairs) ++ map f (row s n pairs)
+rows_more f s n pairs = rw (one_more s) (map-append f (rows s n pairs) (row s n pairs))
 
 -- ---- names
 

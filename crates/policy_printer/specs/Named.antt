@@ -1,7 +1,5 @@
 -- Inside: what is known of a policy that was written.
-use Rattle.std.specs.Prelude.{◌≡◌, ℕ, ◌<◌, nat_lt, List, length, Some, slice_get}
-use Rattle.std.specs.FinSet as set
-use Rattle.pair_set.specs.Pairs.{Pairs}
+use Rattle.std.specs.Prelude.{◌≡◌, ℕ, ◌<◌, List, length, Some, slice_get}
 use Rattle.wf_names.specs.Table.{AreNames}
 use Rattle.wf_names.specs.declared.limits.TheConstants.{STEP_LIMIT}
 use Rattle.rbac_state.specs.Rosters.{IsSoundRoster}
@@ -37,7 +35,3 @@ pub record IsNamedPolicy (p : PolicyShape) : Type 0 where
   pub related : AreNames (known_names p.relations)
   pub flow_names : AreNames p.flow_names
   pub flows : (f : ℕ) → f < length p.flows → IsNamedWorkflow (flow_at p f)
-
--- the pairs of a set whose first number is below s
-unfoldable pub rows_below : ℕ → Pairs → Pairs
-rows_below s pairs = set.retain pairs (λ q. nat_lt q.0 s)

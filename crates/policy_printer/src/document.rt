@@ -13,7 +13,7 @@ ghost use Rattle.policy_reader.specs.Printable.{IsPrintable};
 ghost use Rattle.policy_printer.specs.Named.{IsNamedPolicy, IsNamedWorkflow};
 
 use crate::flows::flows_value;
-use crate::parts::{names_value, numbered, put};
+use crate::parts::{put, put_name, put_names};
 use crate::rosters::{relations_value, users_value};
 use policy_book::Policy;
 use policy_reader::Format;
@@ -22,7 +22,6 @@ use std::alloc::{AllocError, Global};
 use toml::Value;
 use toml::ser::Error;
 use toml::value::Table;
-use wf_names::NameTable;
 use workflow_schema::laws::order_is_chained;
 
 fn put_users(alloc: Global, table: &mut Table, roster: &Roster) -> Result<(), AllocError>
@@ -32,16 +31,6 @@ fn put_users(alloc: Global, table: &mut Table, roster: &Roster) -> Result<(), Al
 {
     let users = users_value(alloc, roster)?;
     put(alloc, table, "users", users)
-}
-
-fn put_roles(alloc: Global, table: &mut Table, roles: &NameTable) -> Result<(), AllocError>
-    ensures put { OnOk result (table_view table.new
-        ≡ spec.with_member (codes "roles") (spec.names_data roles.now.names)
-        (table_view table.old)) }
-    ensures named { AreNames roles.now.names }
-{
-    let roles = names_value(alloc, roles)?;
-    put(alloc, table, "roles", roles)
 }
 
 fn put_relations(alloc: Global, table: &mut Table, policy: &Policy) -> Result<(), AllocError>
@@ -72,8 +61,8 @@ fn put_admin(alloc: Global, table: &mut Table, policy: &Policy) -> Result<(), Al
         (string (spec.name_at policy.now.roster.roles policy.now.admin)) (table_view table.old)) }
     ensures sound { IsSoundPolicy policy.now }
 {
-    let admin = numbered(alloc, policy.roster().roles(), policy.admin().0 as u16)?;
-    put(alloc, table, "admin", admin)
+    let roles = policy.roster().roles();
+    put_name(alloc, table, "admin", roles, policy.admin().0 as u16)
 }
 
 /// Fills an empty table with the document that a policy is written as.
@@ -85,7 +74,7 @@ fn fill(alloc: Global, table: &mut Table, policy: &Policy) -> Result<(), AllocEr
 {
     let roster = policy.roster();
     put_users(alloc, table, roster)?;
-    put_roles(alloc, table, roster.roles())?;
+    put_names(alloc, table, "roles", roster.roles())?;
     put_relations(alloc, table, policy)?;
     put(
         alloc,

@@ -1,19 +1,19 @@
 //! Writes the workflows.
-ghost use Rattle.std.specs.Prelude.{◌≡◌, ◌<◌, ◌≤◌, ◌+◌, ◌++◌, ◌∷◌, [], ℕ, length, map, true, IfOk, OnOk};
+ghost use Rattle.std.specs.Prelude.{◌≡◌, ◌<◌, ◌≤◌, ◌+◌, ◌++◌, ◌∷◌, [], ℕ, length, map, true, IfOk, OnOk, codes};
 ghost use Rattle.std.specs.FinSet as set;
 ghost use Rattle.policy_book.specs.Facts.{AreSoundRules, IsSoundRule};
 ghost use Rattle.policy_book.specs.Policies.{flow_at};
 ghost use Rattle.wf_names.specs.declared.limits.TheConstants.{ROLE_LIMIT, STEP_LIMIT};
 ghost use Rattle.constraint_forms.specs.Assigned.{is_member};
+ghost use Rattle.toml.specs.Data.{no_members};
 ghost use Rattle.toml.specs.View.{view, table_view};
 ghost use Rattle.wf_names.specs.Table.{AreNames};
 ghost use Rattle.policy_printer.specs.Documents as spec;
-ghost use Rattle.policy_printer.specs.Named.{HasFlags, HaveFlags, IsNamedWorkflow, rows_below};
+ghost use Rattle.policy_printer.specs.Named.{HasFlags, HaveFlags, IsNamedWorkflow};
 
-use crate::parts::{names_value, numbered, pairs_value, push, push_name, put};
-use crate::rosters::relation_value;
+use crate::parts::{push, push_name, push_pair, put, put_name, put_names, put_word};
+use crate::rosters::put_related;
 use constraint_forms::{Rule, Rules, StepSet};
-use pair_set::PairSet;
 use policy_book::Policy;
 use policy_reader::Form;
 use std::alloc::{AllocError, Global};
@@ -23,29 +23,18 @@ use user_relations::Relations;
 use wf_names::{FlowId, Name, NameTable, RelId, RoleId, StepId};
 use workflow_schema::Flow;
 
-/// The pairs of a workflow's order.
-#[tactic(auto, using(crate::proofs::Writing::no_rows, crate::proofs::Writing::all_rows))]
-fn order_pairs(alloc: Global, flow: &Flow) -> Result<PairSet, AllocError>
-    ensures { IfOk result (λ pairs. pairs ≡ flow.now.order) }
-{
-    let mut pairs = PairSet::new(alloc);
-    'steps: for s in 0..flow.steps().len() {
-        if put_row(&mut pairs, flow, s).is_err() {
-            return Err(AllocError);
-        }
-    }
-    Ok(pairs)
-}
-
-/// Adds the pairs of a step with each that comes right after it.
-#[tactic(auto, using(crate::proofs::Writing::row_begins, crate::proofs::Writing::row_grows, crate::proofs::Writing::row_stays, crate::proofs::Writing::row_ends))]
-fn put_row(pairs: &mut PairSet, flow: &Flow, s: u16) -> Result<(), AllocError>
-    requires step { s < length flow.now.steps }
-    requires before { pairs.old ≡ rows_below s flow.now.order }
-    ensures { OnOk result (pairs.new ≡ rows_below (s + 1) flow.now.order) }
+/// Appends the pairs of a step with each that comes right after it.
+#[tactic(auto, using(crate::proofs::Writing::row_more, crate::proofs::Writing::row_skip))]
+fn push_row(alloc: Global, values: &mut Vec<Value>, flow: &Flow, s: u16) -> Result<(), AllocError>
+    requires { s < length flow.now.steps }
+    ensures { OnOk result (map view values.new.items ≡ map view values.old.items
+        ++ map (spec.pair_data flow.now.steps)
+        (spec.row s (length flow.now.steps) flow.now.order)) }
 {
     'steps: for t in 0..flow.steps().len() {
-        if flow.ordered(StepId(s as u8), StepId(t as u8)) && pairs.insert(s, t).is_err() {
+        if flow.ordered(StepId(s as u8), StepId(t as u8))
+            && push_pair(alloc, values, flow.steps(), (s, t)).is_err()
+        {
             return Err(AllocError);
         }
     }
@@ -53,11 +42,17 @@ fn put_row(pairs: &mut PairSet, flow: &Flow, s: u16) -> Result<(), AllocError>
 }
 
 /// An array of the pairs of a workflow's order.
+#[tactic(auto, using(crate::proofs::Writing::rows_more))]
 fn order_value(alloc: Global, flow: &Flow) -> Result<Value, AllocError>
     ensures { IfOk result (λ v. view v ≡ spec.pairs_data flow.now.steps flow.now.order) }
 {
-    let pairs = order_pairs(alloc, flow)?;
-    pairs_value(alloc, flow.steps(), pairs.as_slice())
+    let mut values = Vec::new(alloc);
+    'steps: for s in 0..flow.steps().len() {
+        if push_row(alloc, &mut values, flow, s).is_err() {
+            return Err(AllocError);
+        }
+    }
+    Ok(Value::Array(values))
 }
 
 /// An array of the roles that a step is permitted to.
@@ -133,116 +128,112 @@ fn group_value(alloc: Global, steps: &NameTable, group: &StepSet) -> Result<Valu
     Ok(Value::Array(values))
 }
 
-#[tactic(auto, unfolding(crate::specs::Documents::rule_members))]
-fn pair_table(
+fn put_group(
     alloc: Global,
+    table: &mut Table,
+    steps: &NameTable,
+    group: &StepSet,
+) -> Result<(), AllocError>
+    requires { length steps.now.names ≤ STEP_LIMIT }
+    ensures put { OnOk result (table_view table.new ≡ spec.with_member (codes "group")
+        (spec.names_where steps.now.names (is_member group.now)) (table_view table.old)) }
+    ensures flags { length group.now ≡ STEP_LIMIT }
+{
+    let group = group_value(alloc, steps, group)?;
+    put(alloc, table, "group", group)
+}
+
+#[tactic(auto, unfolding(crate::specs::Documents::rule_members))]
+fn put_pair(
+    alloc: Global,
+    table: &mut Table,
     relations: &Relations,
     steps: &NameTable,
     rho: RelId,
     first: StepId,
     second: StepId,
-) -> Result<Table, AllocError>
+) -> Result<(), AllocError>
+    requires none { table_view table.old ≡ no_members }
     requires relation { rho < length relations.now + 2 }
     requires first { first < length steps.now.names }
     requires second { second < length steps.now.names }
-    ensures { IfOk result (λ t. table_view t
+    ensures { OnOk result (table_view table.new
         ≡ spec.rule_members relations.now steps.now.names (Rule.Pair rho first second)) }
 {
-    let mut table = Table::new(alloc);
-    put(
-        alloc,
-        &mut table,
-        "second",
-        numbered(alloc, steps, second.0 as u16)?,
-    )?;
-    put(
-        alloc,
-        &mut table,
-        "relation",
-        relation_value(alloc, relations, rho)?,
-    )?;
-    put(
-        alloc,
-        &mut table,
-        "form",
-        Value::string(alloc, Form::Pair.word())?,
-    )?;
-    put(
-        alloc,
-        &mut table,
-        "first",
-        numbered(alloc, steps, first.0 as u16)?,
-    )?;
-    Ok(table)
+    put_name(alloc, table, "second", steps, second.0 as u16)?;
+    put_related(alloc, table, "relation", relations, rho)?;
+    put_word(alloc, table, "form", Form::Pair.word())?;
+    put_name(alloc, table, "first", steps, first.0 as u16)
 }
 
 #[tactic(auto, unfolding(crate::specs::Documents::grouped_members))]
-fn grouped_table(
+fn put_grouped(
     alloc: Global,
+    table: &mut Table,
     form: Form,
     relations: &Relations,
     steps: &NameTable,
     rho: RelId,
     group: &StepSet,
     step: StepId,
-) -> Result<Table, AllocError>
+) -> Result<(), AllocError>
+    requires none { table_view table.old ≡ no_members }
     requires few { length steps.now.names ≤ STEP_LIMIT }
     requires relation { rho < length relations.now + 2 }
     requires step { step < length steps.now.names }
-    ensures table { IfOk result (λ t. table_view t
+    ensures table { OnOk result (table_view table.new
         ≡ spec.grouped_members form relations.now steps.now.names rho group.now step) }
-    ensures flags { IfOk result (λ _. length group.now ≡ STEP_LIMIT) }
+    ensures flags { OnOk result (length group.now ≡ STEP_LIMIT) }
 {
-    let mut table = Table::new(alloc);
-    put(
-        alloc,
-        &mut table,
-        "step",
-        numbered(alloc, steps, step.0 as u16)?,
-    )?;
-    put(
-        alloc,
-        &mut table,
-        "relation",
-        relation_value(alloc, relations, rho)?,
-    )?;
-    put(
-        alloc,
-        &mut table,
-        "group",
-        group_value(alloc, steps, group)?,
-    )?;
-    put(
-        alloc,
-        &mut table,
-        "form",
-        Value::string(alloc, form.word())?,
-    )?;
-    Ok(table)
+    put_name(alloc, table, "step", steps, step.0 as u16)?;
+    put_related(alloc, table, "relation", relations, rho)?;
+    put_group(alloc, table, steps, group)?;
+    put_word(alloc, table, "form", form.word())
 }
 
+/// Fills an empty table with a rule.
 #[tactic(auto, unfolding(crate::specs::Documents::rule_members))]
-fn rule_table(
+fn put_rule(
     alloc: Global,
+    table: &mut Table,
     relations: &Relations,
     steps: &NameTable,
     rule: &Rule,
-) -> Result<Table, AllocError>
+) -> Result<(), AllocError>
+    requires none { table_view table.old ≡ no_members }
     requires few { length steps.now.names ≤ STEP_LIMIT }
     requires sound { IsSoundRule (length steps.now.names) (length relations.now) rule.now }
-    ensures table { IfOk result (λ t. table_view t
+    ensures table { OnOk result (table_view table.new
         ≡ spec.rule_members relations.now steps.now.names rule.now) }
-    ensures flags { IfOk result (λ _. HasFlags rule.now) }
+    ensures flags { OnOk result (HasFlags rule.now) }
 {
     match *rule {
         Rule::Pair { rho, first, second } => {
-            pair_table(alloc, relations, steps, rho, first, second)
+            put_pair(alloc, table, relations, steps, rho, first, second)
         }
         Rule::SomeOf { rho, group, step } => {
-            grouped_table(alloc, Form::SomeOf, relations, steps, rho, &group, step)
+            put_grouped(
+                alloc,
+                table,
+                Form::SomeOf,
+                relations,
+                steps,
+                rho,
+                &group,
+                step,
+            )
         }
         Rule::AllOf { rho, group, step } => {
-            grouped_table(alloc, Form::AllOf, relations, steps, rho, &group, step)
+            put_grouped(
+                alloc,
+                table,
+                Form::AllOf,
+                relations,
+                steps,
+                rho,
+                &group,
+                step,
+            )
         }
     }
 }
@@ -281,30 +272,72 @@ fn push_rule(
         ≡ map view values.old.items ++ spec.rule_data relations.now steps.now.names rule.now ∷ []) }
     ensures flags { OnOk result (HasFlags rule.now) }
 {
-    let table = rule_table(alloc, relations, steps, rule)?;
+    let mut table = Table::new(alloc);
+    put_rule(alloc, &mut table, relations, steps, rule)?;
     push(values, Value::Table(table))
 }
 
-/// The table of the workflow with a number.
+fn put_rules(
+    alloc: Global,
+    table: &mut Table,
+    relations: &Relations,
+    steps: &NameTable,
+    rules: &Rules,
+) -> Result<(), AllocError>
+    requires few { length steps.now.names ≤ STEP_LIMIT }
+    requires sound { AreSoundRules (length steps.now.names) (length relations.now) rules.now }
+    ensures put { OnOk result (table_view table.new ≡ spec.with_member (codes "rules")
+        (spec.rules_data relations.now steps.now.names rules.now) (table_view table.old)) }
+    ensures flags { OnOk result (HaveFlags rules.now) }
+{
+    let rules = rules_value(alloc, relations, steps, rules)?;
+    put(alloc, table, "rules", rules)
+}
+
+fn put_permits(
+    alloc: Global,
+    table: &mut Table,
+    roles: &NameTable,
+    flow: &Flow,
+) -> Result<(), AllocError>
+    requires { length roles.now.names ≤ ROLE_LIMIT }
+    ensures { OnOk result (table_view table.new ≡ spec.with_member (codes "permit")
+        (spec.permits_data roles.now.names flow.now) (table_view table.old)) }
+{
+    let permits = permits_value(alloc, roles, flow)?;
+    put(alloc, table, "permit", permits)
+}
+
+fn put_order(alloc: Global, table: &mut Table, flow: &Flow) -> Result<(), AllocError>
+    ensures { OnOk result (table_view table.new ≡ spec.with_member (codes "order")
+        (spec.pairs_data flow.now.steps flow.now.order) (table_view table.old)) }
+{
+    let order = order_value(alloc, flow)?;
+    put(alloc, table, "order", order)
+}
+
+/// Fills an empty table with the workflow with a number.
 #[tactic(auto, unfolding(crate::specs::Documents::workflow_members))]
-fn workflow_table(alloc: Global, policy: &Policy, f: FlowId) -> Result<Table, AllocError>
-    requires { f < length policy.now.flows }
-    ensures table { IfOk result (λ t. table_view t
+fn put_workflow(
+    alloc: Global,
+    table: &mut Table,
+    policy: &Policy,
+    f: FlowId,
+) -> Result<(), AllocError>
+    requires none { table_view table.old ≡ no_members }
+    requires flow { f < length policy.now.flows }
+    ensures table { OnOk result (table_view table.new
         ≡ spec.workflow_members policy.now.roster.roles policy.now.relations
         (flow_at policy.now f)) }
-    ensures named { IfOk result (λ _. IsNamedWorkflow (flow_at policy.now f)) }
+    ensures named { OnOk result (IsNamedWorkflow (flow_at policy.now f)) }
 {
     let flow = policy.flow(f);
     let steps = flow.steps();
     let relations = policy.relations();
-    let mut table = Table::new(alloc);
-    put(alloc, &mut table, "steps", names_value(alloc, steps)?)?;
-    let rules = rules_value(alloc, relations, steps, policy.rules(f))?;
-    put(alloc, &mut table, "rules", rules)?;
-    let permits = permits_value(alloc, policy.roster().roles(), flow)?;
-    put(alloc, &mut table, "permit", permits)?;
-    put(alloc, &mut table, "order", order_value(alloc, flow)?)?;
-    Ok(table)
+    put_names(alloc, table, "steps", steps)?;
+    put_rules(alloc, table, relations, steps, policy.rules(f))?;
+    put_permits(alloc, table, policy.roster().roles(), flow)?;
+    put_order(alloc, table, flow)
 }
 
 /// The name of a workflow.
@@ -323,7 +356,8 @@ fn put_flow(alloc: Global, table: &mut Table, policy: &Policy, f: FlowId) -> Res
         ≡ spec.with_member (spec.flow_entry policy.now f).0 (spec.flow_entry policy.now f).1
         (table_view table.old)) }
 {
-    let workflow = workflow_table(alloc, policy, f)?;
+    let mut workflow = Table::new(alloc);
+    put_workflow(alloc, &mut workflow, policy, f)?;
     let name = flow_name(policy, f);
     put(alloc, table, name.as_str(), Value::Table(workflow))
 }

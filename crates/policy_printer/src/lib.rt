@@ -7,6 +7,3 @@ mod parts;
 mod rosters;
 
 pub use document::print;
-
-#[cfg(test)]
-mod tests;

@@ -22,7 +22,7 @@ pub(crate) fn name_value(alloc: Global, name: &Name) -> Result<Value, AllocError
 
 /// The text of the name with a number.
 #[tactic(auto, using(crate::proofs::Writing::name_found))]
-pub(crate) fn numbered(alloc: Global, names: &NameTable, n: u16) -> Result<Value, AllocError>
+fn numbered(alloc: Global, names: &NameTable, n: u16) -> Result<Value, AllocError>
     requires { n < length names.now.names }
     ensures { IfOk result (λ v. view v ≡ string (spec.name_at names.now.names n)) }
 {
@@ -45,6 +45,51 @@ pub(crate) fn put(
         Ok(_) => Ok(()),
         Err(_) => Err(AllocError),
     }
+}
+
+/// Puts the text of the name with a number into a table at a key.
+pub(crate) fn put_name(
+    alloc: Global,
+    table: &mut Table,
+    key: &str,
+    names: &NameTable,
+    n: u16,
+) -> Result<(), AllocError>
+    requires { n < length names.now.names }
+    ensures { OnOk result (table_view table.new ≡ spec.with_member key.now
+        (string (spec.name_at names.now.names n)) (table_view table.old)) }
+{
+    let value = numbered(alloc, names, n)?;
+    put(alloc, table, key, value)
+}
+
+/// Puts a word into a table at a key.
+pub(crate) fn put_word(
+    alloc: Global,
+    table: &mut Table,
+    key: &str,
+    word: &str,
+) -> Result<(), AllocError>
+    ensures { OnOk result (table_view table.new
+        ≡ spec.with_member key.now (string word.now) (table_view table.old)) }
+{
+    let value = Value::string(alloc, word)?;
+    put(alloc, table, key, value)
+}
+
+/// Puts an array of all names of a table of names into a table at a key.
+pub(crate) fn put_names(
+    alloc: Global,
+    table: &mut Table,
+    key: &str,
+    names: &NameTable,
+) -> Result<(), AllocError>
+    ensures put { OnOk result (table_view table.new
+        ≡ spec.with_member key.now (spec.names_data names.now.names) (table_view table.old)) }
+    ensures named { AreNames names.now.names }
+{
+    let value = names_value(alloc, names)?;
+    put(alloc, table, key, value)
 }
 
 /// Appends the text of the name with a number.
@@ -75,7 +120,7 @@ pub(crate) fn push(values: &mut Vec<Value>, value: Value) -> Result<(), AllocErr
 
 /// An array of all names of a table.
 #[tactic(auto, using(crate::proofs::Writing::map_take_more))]
-pub(crate) fn names_value(alloc: Global, names: &NameTable) -> Result<Value, AllocError>
+fn names_value(alloc: Global, names: &NameTable) -> Result<Value, AllocError>
     ensures value { IfOk result (λ v. view v ≡ spec.names_data names.now.names) }
     ensures named { AreNames names.now.names }
 {
@@ -99,7 +144,8 @@ fn pair_value(alloc: Global, names: &NameTable, pair: (u16, u16)) -> Result<Valu
     Ok(Value::Array(values))
 }
 
-fn push_pair(
+/// Appends a pair of names.
+pub(crate) fn push_pair(
     alloc: Global,
     values: &mut Vec<Value>,
     names: &NameTable,

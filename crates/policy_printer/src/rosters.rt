@@ -11,7 +11,7 @@ ghost use Rattle.wf_names.specs.Table.{AreNames};
 ghost use Rattle.policy_reader.specs.Relations.{first_declared};
 ghost use Rattle.policy_printer.specs.Documents as spec;
 
-use crate::parts::{name_value, pairs_value, push_name, put};
+use crate::parts::{pairs_value, push_name, put, put_word};
 use rbac_state::Roster;
 use std::alloc::{AllocError, Global};
 use toml::Value;
@@ -72,16 +72,20 @@ fn relation_name(relations: &Relations, rho: RelId) -> Name
     relations.name(rho)
 }
 
-/// The text of a relation's name.
-pub(crate) fn relation_value(
+/// Puts the name of a relation into a table at a key.
+pub(crate) fn put_related(
     alloc: Global,
+    table: &mut Table,
+    key: &str,
     relations: &Relations,
     rho: RelId,
-) -> Result<Value, AllocError>
+) -> Result<(), AllocError>
     requires { rho < length relations.now + 2 }
-    ensures { IfOk result (λ v. view v ≡ string (spec.name_at (known_names relations.now) rho)) }
+    ensures { OnOk result (table_view table.new ≡ spec.with_member key.now
+        (string (spec.name_at (known_names relations.now) rho)) (table_view table.old)) }
 {
-    name_value(alloc, &relation_name(relations, rho))
+    let name = relation_name(relations, rho);
+    put_word(alloc, table, key, name.as_str())
 }
 
 #[tactic(auto, unfolding(crate::specs::Documents::kind_members))]
@@ -97,8 +101,7 @@ fn complement_table(
         ≡ spec.kind_members users.now.names relations.now rho (Some other)) }
 {
     let mut table = Table::new(alloc);
-    let name = relation_value(alloc, relations, other)?;
-    put(alloc, &mut table, "complement", name)?;
+    put_related(alloc, &mut table, "complement", relations, other)?;
     Ok(table)
 }
 

@@ -1,12 +1,7 @@
 -- How many items an array and how many entries a table has.
-use Rattle.std.proofs.Common.{◌≡◌, List, [], ◌∷◌, length, String, Global, refl, ap, get_or, ◌≢◌, None, arith, ◌<◌, ◌≤◌, ℕ, true}
+use Rattle.std.proofs.Common.{◌≡◌, List, [], ◌∷◌, length, String, Global, refl, ap, get_or, ◌≢◌, None, arith, ◌<◌, ◌≤◌, ℕ, true, suc}
+use Rattle.policy_reader.proofs.Words.{STEP_LIMIT, is_count, Value, view, items_view, members_view, items, entries, both_texts, texts_of}
 use Rattle.std.proofs.lemmas.Bool.Decides.{nat_tests}
-use Rattle.wf_names.specs.declared.limits.TheConstants.{STEP_LIMIT}
-use Rattle.workflow_schema.specs.Flows.{is_count}
-use Rattle.std.specs.Prelude.{suc}
-use Rattle.toml.specs.declared.value.Value.{Value}
-use Rattle.toml.specs.View.{view, items_view, members_view}
-use Rattle.policy_reader.specs.Parts.{items, entries, both_texts, texts_of}
 
 pub count_items : (vs : List Value) → length (items (items_view vs)) ≡ length vs
 count_items [] = refl

@@ -1,23 +1,11 @@
 -- A loop over a table: its keys ascend, so none is among the names that were read from those before it.
-use Rattle.std.proofs.Common.{◌≡◌, ℕ, suc, Bool, false, List, [], ◌∷◌, ◌++◌, map, String, Global, string_bytes, refl, sym, ap, ◌∙◌, ◌<◌, length, Ok, subst, append_assoc, arith, nat_cmp, is_eq}
+use Rattle.std.proofs.Common.{◌≡◌, ℕ, suc, Bool, false, List, [], ◌∷◌, ◌++◌, map, String, Global, string_bytes, refl, sym, ap, ◌∙◌, ◌<◌, length, Ok, subst, append_assoc, arith, nat_cmp, is_eq, is_some, nat_eq, position, Less}
+use Rattle.policy_reader.proofs.Words.{length-map, length-append, map-append, append-nil, ordering_reverse, slice_cmp, pointwise, nat_list_cmp_total, texts_ties, AllByRecursion, Value, Data, view, members_view, ◌>>=◌, each, Reading, entries, is_among, Ascend}
 use Rattle.std.proofs.lemmas.Grind.{common_steps}
-use Rattle.std.proofs.lemmas.List.{length-map, length-append, map-append, append-nil}
-use Rattle.std.specs.Prelude.{is_some, nat_eq, position}
-use Rattle.std.specs.declared.cmp.Ordering.TheVariants.{Less}
-use Rattle.std.specs.Ordering.{ordering_reverse}
-use Rattle.std.specs.Cmp.Lexicographic.{slice_cmp, pointwise, nat_list_cmp_total, texts_ties}
-use Rattle.std.specs.List.{AllByRecursion}
 use Rattle.std.specs.List.Sorted.{IsStrictlySortedBy}
 use Rattle.std.specs.Map.{keys_of}
 use Rattle.std.specs.String.{string_cmp}
-use Rattle.toml.specs.declared.value.Value.{Value}
-use Rattle.toml.specs.Data.{Data}
-use Rattle.toml.specs.View.{view, members_view}
 use Rattle.wf_names.specs.Table.{place_of}
-use Rattle.first_fault.specs.Reading.{◌>>=◌, each}
-use Rattle.policy_reader.specs.Faults.{Reading}
-use Rattle.policy_reader.specs.Parts.{entries, is_among}
-use Rattle.policy_reader.specs.Printable.{Ascend}
 
 abbrev pub Entry : Type 0
 Entry = String Global × Value
@@ -38,13 +26,13 @@ unfolding IsStrictlySortedBy
 texts_ascend [] h = tt
 texts_ascend (e ∷ es) h = (first_below e.0 es h.0, texts_ascend es h.1)
 
-none_cons : {X : Type 0} (p : X → Bool) (x : X) (xs : List X) → p x ≡ false → is_some (position p xs) ≡ false → is_some (position p (x ∷ xs)) ≡ false
+pub none_cons : {X : Type 0} (p : X → Bool) (x : X) (xs : List X) → p x ≡ false → is_some (position p xs) ≡ false → is_some (position p (x ∷ xs)) ≡ false
 none_cons p x xs here none = grind (arith, common_steps)
 
 differs : (k l : List ℕ) → slice_cmp nat_cmp k l ≡ Less → pointwise nat_eq l k ≡ false
 differs k l below = texts_ties l k ∙ ap is_eq (nat_list_cmp_total.antisymm l k ∙ ap ordering_reverse below)
 
-among : {X : Type 0} (P : X → Type 0) (xs : List X) (y : X) (ys : List X) → AllByRecursion P (xs ++ y ∷ ys) → P y
+pub among : {X : Type 0} (P : X → Type 0) (xs : List X) (y : X) (ys : List X) → AllByRecursion P (xs ++ y ∷ ys) → P y
 among P [] y ys h = h.0
 among P (x ∷ xs) y ys h = among P xs y ys h.1
 

@@ -1,18 +1,14 @@
 -- Policies with more workflows.
 use Rattle.std.proofs.Common.{◌≡◌, ℕ, ◌<◌, false, List, [], ◌∷◌, ◌++◌, length, refl, sym, ◌∙◌, subst}
-use Rattle.std.specs.List.{AllByRecursion}
+use Rattle.policy_reader.proofs.Words.{AllByRecursion, IsGrown, names_of, is_held, Ascend, IsBegun, IsPrintable}
 use Rattle.policy_book.specs.Shapes.{PolicyShape, WorkflowShape}
-use Rattle.policy_reader.specs.Kept.{IsGrown}
-use Rattle.policy_reader.specs.Relations.{names_of}
-use Rattle.policy_reader.specs.Rosters.{is_held}
-use Rattle.policy_reader.specs.Printable.{Ascend, IsBegun, IsPrintable}
 
-active_push : (ws : List WorkflowShape) (w : WorkflowShape) → w.retired ≡ false → AllByRecursion (λ x. x.retired ≡ false) ws → AllByRecursion (λ x. x.retired ≡ false) (ws ++ w ∷ [])
-active_push [] w here h = (here, tt)
-active_push (x ∷ ws) w here h = (h.0, active_push ws w here h.1)
+pub push_all : {X : Type 0} (P : X → Type 0) (xs : List X) (y : X) → AllByRecursion P xs → P y → AllByRecursion P (xs ++ y ∷ [])
+push_all P [] y h here = (here, tt)
+push_all P (x ∷ xs) y h here = (h.0, push_all P xs y h.1 here)
 
 pub grown_push : (p : PolicyShape) (names : List (List ℕ)) (w : WorkflowShape) → w.retired ≡ false → IsGrown p (record p { flow_names = names; flows = p.flows ++ w ∷ [] })
-grown_push p names w here = record { roster = refl; relations = refl; admin = refl; active = active_push p.flows w here }
+grown_push p names w here = record { roster = refl; relations = refl; admin = refl; active = λ h. push_all (λ x. x.retired ≡ false) p.flows w h here }
 
 pub grown_none : (p : PolicyShape) → IsGrown p p
 grown_none p = record { roster = refl; relations = refl; admin = refl; active = λ h. h }

@@ -1,10 +1,6 @@
 -- Whether some number below n passes, found one by one.
-use Rattle.std.proofs.Common.{◌≡◌, ℕ, zero, suc, ◌+◌, ◌<◌, Bool, true, false, refl, subst, inl, inr, arith, ◌&&◌, List, [], ◌∷◌, length}
-use Rattle.std.proofs.lemmas.Bool.{cases_lt}
-use Rattle.basics.proofs.Booleans.{or_left, or_right}
-use Rattle.policy_book.specs.Policies.{any_below}
-use Rattle.std.specs.Prelude.{slice_set}
-use Rattle.constraint_forms.specs.Rules.{any_from}
+use Rattle.std.proofs.Common.{◌≡◌, ℕ, zero, suc, ◌+◌, ◌<◌, Bool, true, false, refl, subst, inl, inr, arith, ◌&&◌, List, [], ◌∷◌, length, slice_set}
+use Rattle.policy_reader.proofs.Words.{cases_lt, or_left, or_right, any_below, any_from}
 
 pub any_none : (n : ℕ) (test : ℕ → Bool) → any_below n test ≡ false → test n ≡ false → any_below (n + 1) test ≡ false
 any_none n test none here = let same : n + 1 ≡ suc n = omega arith in rw (same, none, here) refl

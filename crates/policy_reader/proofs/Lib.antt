@@ -1,6 +1,7 @@
+pub mod Words
 pub mod Counts
 pub mod Fresh
-pub mod PairLists
+pub mod PairSets
 pub mod RuleLists
 pub mod Orders
 pub mod Relating

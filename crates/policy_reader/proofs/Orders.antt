@@ -1,30 +1,15 @@
 -- The order of a workflow, read as a set of pairs: the list of its pairs, and the least step before itself.
-use Rattle.std.proofs.Common.{◌≡◌, ℕ, zero, suc, ◌<◌, ◌≤◌, Bool, true, false, ◌||◌, List, [], ◌∷◌, Option, None, Some, refl, ap, subst, ◌∙◌, inl, inr, arith, length, Ok, Err}
-use Rattle.std.proofs.lemmas.Bool.{cases_lt}
-use Rattle.std.specs.List.{list_any, All, AllByRecursion}
-use Rattle.std.proofs.lemmas.List.Elements.{All-from_recursion}
-use Rattle.std.specs.Ordering.{eq_by_cmp}
-use Rattle.std.specs.declared.cmp.Ordering.TheVariants.{Less}
+use Rattle.std.proofs.Common.{◌≡◌, ℕ, zero, suc, ◌<◌, ◌≤◌, Bool, true, false, ◌||◌, List, [], ◌∷◌, Option, None, Some, refl, ap, subst, ◌∙◌, inl, inr, arith, length, Ok, Err, Less, slice_index_or}
 use Rattle.std.specs.FinSet as set
-use Rattle.std.proofs.lemmas.Map.Keys.{sorted_head, sorted_tail}
-use Rattle.basics.proofs.Booleans.{not_true, or_right}
-use Rattle.wf_names.specs.declared.limits.TheConstants.{STEP_LIMIT}
-use Rattle.pair_set.specs.Pairs.{Pairs, pair_cmp, IsAscending}
-use Rattle.pair_set.specs.PairLaws.{pair_cmp_total, pair_cmp-IsAntisymmetric, all_insert, contains_inserted}
-use Rattle.workflow_schema.specs.Flows.{Precedes, next, through, is_before, IsLeastCycle, has_twice}
+use Rattle.policy_reader.specs.declared.fault.ReadFault.TheVariants as read
+use Rattle.policy_reader.specs.declared.fault.PolicyKind.TheVariants as kind
+use Rattle.policy_reader.proofs.Words.{cases_lt, list_any, All, AllByRecursion, eq_by_cmp, sorted_head, sorted_tail, not_true, or_right, STEP_LIMIT, Pairs, pair_cmp, IsAscending, pair_cmp_total, pair_cmp-IsAntisymmetric, all_insert, contains_inserted, Precedes, next, through, is_before, IsLeastCycle, has_twice, AreBelow, least_below, found_or, cycle_at, Fails, Flows, fault_of, fault_about, IsCycleOrMemory}
+use Rattle.std.proofs.lemmas.List.Elements.{All-from_recursion}
 use Rattle.workflow_schema.specs.Laws.{IsDecided}
-use Rattle.policy_reader.specs.Bounds.{AreBelow}
-use Rattle.policy_reader.specs.Flows.{least_below, found_or, no_cycle, cycle_at}
-use Rattle.std.specs.Prelude.{slice_index_or}
+use Rattle.policy_reader.specs.Flows.{no_cycle}
 use Rattle.workflow_schema.specs.declared.fault.FlowFault.{FlowFault}
 use Rattle.workflow_schema.specs.declared.fault.FlowFault.TheVariants.{TooMany, Twice, Cycle, NoMemory}
-use Rattle.first_fault.specs.Reading.{Fails}
 use Rattle.policy_reader.specs.declared.fault.ReadFault.{ReadFault}
-use Rattle.policy_reader.specs.declared.fault.ReadFault.TheVariants as read
-use Rattle.policy_reader.specs.declared.fault.PolicyPart.TheVariants.{Flows}
-use Rattle.policy_reader.specs.declared.fault.PolicyKind.TheVariants as kind
-use Rattle.policy_reader.specs.Faults.{fault_of, fault_about}
-use Rattle.policy_reader.specs.Kept.{IsCycleOrMemory}
 
 none_above : (x : ℕ × ℕ) (ys : List (ℕ × ℕ)) → AllByRecursion (λ y. pair_cmp x y ≡ Less) ys → list_any (eq_by_cmp pair_cmp x) ys ≡ false
 none_above x [] all = refl

@@ -1,35 +1,16 @@
 -- Relations that were read from the entries of a table, up to the last of them.
-use Rattle.std.proofs.Common.{◌≡◌, ℕ, zero, suc, ◌+◌, ◌<◌, ◌≤◌, Bool, true, false, cond, ◌||◌, List, [], ◌∷◌, ◌++◌, length, map, refl, sym, ap, ◌∙◌, subst, ◌⊎◌, inl, inr, arith}
-use Rattle.std.specs.Prelude.{Option, Some, None, option_map, slice_get, nat_eq, codes, Ok}
-use Rattle.std.specs.List.{IsDistinct, list_any}
-use Rattle.std.specs.Cmp.Lexicographic.{pointwise, nat_list_eq_equiv}
-use Rattle.basics.proofs.Booleans.{or_false, eq_same, eq_below}
-use Rattle.std.proofs.lemmas.List.{length-map, map-append}
-use Rattle.std.proofs.lemmas.Map.Keys.{IsDistinct-push}
-use Rattle.toml.specs.Data.{Data, Members, as_table}
-use Rattle.wf_names.specs.declared.limits.TheConstants.{RELATION_LIMIT, USER_LIMIT}
-use Rattle.pair_set.specs.Pairs.{Pairs, AllPairs}
+use Rattle.std.proofs.Common.{◌≡◌, ℕ, zero, suc, ◌+◌, ◌<◌, ◌≤◌, Bool, true, false, cond, ◌||◌, List, [], ◌∷◌, ◌++◌, length, map, refl, sym, ap, ◌∙◌, subst, ◌⊎◌, inl, inr, arith, Option, Some, None, option_map, slice_get, nat_eq, codes, Ok, string_bytes}
+use Rattle.policy_reader.specs.declared.fault.PolicyKind.TheVariants as kind
+use Rattle.policy_reader.proofs.Words.{list_any, pointwise, nat_list_eq_equiv, or_false, eq_same, eq_below, length-map, map-append, IsDistinct-push, Data, Members, as_table, RELATION_LIMIT, USER_LIMIT, Pairs, AllPairs, AreOfUsers, or_fault, fault, Reading, is_among, entries, AreBelow, first_declared, entry_of, is_complement, is_complement_table, passes, names_of, Ascend, view, members_view, is_marked, IsTarget, IsKept, AreKept}
+use Rattle.std.specs.List.{IsDistinct}
 use Rattle.user_relations.specs.Relations.{RelationShape, RelationKind, listed, complement, kind_of, has_list, known_names}
 use Rattle.user_relations.specs.Soundness.{AreSound}
-use Rattle.policy_book.specs.Facts.{AreOfUsers}
-use Rattle.first_fault.specs.Reading.{or_fault}
 use Rattle.policy_reader.specs.declared.fault.PolicyPart.{PolicyPart}
-use Rattle.policy_reader.specs.declared.fault.PolicyKind.TheVariants as kind
-use Rattle.policy_reader.specs.Faults.{fault}
-use Rattle.policy_reader.specs.Parts.{is_among, table_in}
-use Rattle.policy_reader.specs.Bounds.{AreBelow}
-use Rattle.policy_reader.specs.Relations.{first_declared, entry_of, is_complement, is_complement_table, passes}
+use Rattle.policy_reader.specs.Parts.{table_in}
 use Rattle.std.specs.List.Sorted.{IsStrictlySortedBy}
-use Rattle.policy_reader.specs.Printable.{Ascend}
-use Rattle.std.proofs.Common.{string_bytes}
-use Rattle.toml.specs.View.{view, members_view}
-use Rattle.policy_reader.specs.Faults.{Reading}
-use Rattle.policy_reader.specs.Parts.{entries}
-use Rattle.policy_reader.specs.Relations.{names_of}
 use Rattle.policy_reader.proofs.Counts.{count_entries}
 use Rattle.policy_reader.proofs.Orders.{below_limit}
 use Rattle.policy_reader.proofs.Fresh.{Entry, texts_count, IsLeft}
-use Rattle.policy_reader.specs.Kinds.{is_marked, IsTarget, IsKept, AreKept}
 
 -- ---- one relation more
 

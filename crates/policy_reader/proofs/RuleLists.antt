@@ -1,10 +1,9 @@
 -- Rules with one more at the end.
-use Rattle.std.proofs.Common.{◌≡◌, ℕ, zero, suc, List, [], ◌∷◌, ◌++◌, Some, Result, Ok, Err, subst}
-use Rattle.std.specs.Prelude.{slice_get, OnOk}
+use Rattle.std.proofs.Common.{◌≡◌, ℕ, zero, suc, List, [], ◌∷◌, ◌++◌, Some, Result, Ok, Err, subst, slice_get, OnOk}
+use Rattle.policy_reader.proofs.Words.{IsSoundRule}
 use Rattle.constraint_forms.specs.declared.rule.Rule.{Rule}
-use Rattle.policy_book.specs.Facts.{IsSoundRule}
 
-same_rule : (a b : Rule) → Some a ≡ Some b → a ≡ b
+pub same_rule : (a b : Rule) → Some a ≡ Some b → a ≡ b
 same_rule a b e = cc
 
 pub push_sound : (n m : ℕ) (rules : List Rule) (rule : Rule) → ((k : ℕ) (x : Rule) → slice_get rules k ≡ Some x → IsSoundRule n m x) → IsSoundRule n m rule

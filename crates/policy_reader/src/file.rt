@@ -90,7 +90,10 @@ fn read_rest(
     if let Err(fault) = read_flows(alloc, policy, file) {
         return Err(fault);
     }
-    no_others(file, format.file_keys(), PolicyPart::File, 0)
+    if let Err(fault) = no_others(file, format.file_keys(), PolicyPart::File, 0) {
+        return Err(fault);
+    }
+    Ok(())
 }
 
 /// Reads what a document says after its format and before its workflows.

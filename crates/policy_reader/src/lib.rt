@@ -17,6 +17,3 @@ pub use fault::{PolicyFault, PolicyKind, PolicyPart, ReadFault};
 pub use file::read;
 pub use form::Form;
 pub use format::Format;
-
-#[cfg(test)]
-mod tests;

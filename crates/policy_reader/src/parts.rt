@@ -1,21 +1,17 @@
 //! What the readers of all tables have in common. Each takes the table and the number that its
 //! faults carry.
-ghost use Rattle.std.specs.Prelude.{◌≡◌, ◌<◌, ◌≤◌, ◌+◌, length, map, not, true, IfErr, IfOk, OnOk, option_map};
+ghost use Rattle.std.specs.Prelude.{◌≡◌, ◌<◌, ◌≤◌, ◌+◌, length, map, IfOk, OnOk, option_map};
 ghost use Rattle.toml.specs.View.{view, items_view, table_view, array_view};
 ghost use Rattle.toml.specs.Data.{Data, get_member};
 ghost use Rattle.std.specs.FinSet as set;
-ghost use Rattle.pair_set.specs.Pairs.{pair_cmp};
-ghost use Rattle.policy_reader.specs.declared.fault.ReadFault.TheVariants.{NoMemory};
-ghost use Rattle.std.specs.List.{IsDistinct};
-ghost use Rattle.policy_reader.specs.Bounds.{AreBelow, is_same_pair};
+ghost use Rattle.policy_reader.specs.Bounds.{AreBelow};
 ghost use Rattle.policy_reader.specs.Faults.{fault_of};
 ghost use Rattle.policy_reader.specs.Parts as parts;
 ghost use Rattle.first_fault.specs.Reading.{Gives, each};
 
 use crate::fault::{PolicyKind, PolicyPart, ReadFault, refuse, refuse_text};
-use indexmap::IndexSet;
 use pair_set::PairSet;
-use std::alloc::{AllocError, Global};
+use std::alloc::Global;
 use toml::Value;
 use toml::value::{Array, Table};
 use wf_names::{Name, NameFault, NameTable};
@@ -195,52 +191,34 @@ fn both_texts<'t>(first: &'t Value, second: &'t Value) -> Option<(&'t str, &'t s
     }
 }
 
-/// Notes a pair and answers whether it is new.
-fn put_new(seen: &mut IndexSet<(u16, u16)>, pair: (u16, u16)) -> Result<bool, ReadFault>
-    ensures fresh { IfOk result (λ fresh. fresh
-        ≡ not (set.contains {R = pair_cmp} (set.from_list seen.old.keys) pair)) }
-    ensures put { IfOk result (λ fresh. fresh ≡ true
-        → set.from_list {R = pair_cmp} seen.new.keys
-        ≡ set.insert (set.from_list seen.old.keys) pair) }
-    ensures memory { IfErr result (λ e. e ≡ NoMemory) }
-{
-    match seen.insert(pair) {
-        Ok(fresh) => Ok(fresh),
-        Err(_) => Err(ReadFault::NoMemory),
-    }
-}
-
-/// Notes the next pair of declared names.
+/// Puts the next pair of declared names in.
 #[tactic(auto, unfolding(crate::specs::Parts::next_pair, crate::specs::Parts::once), using(pair_set::specs::PairLaws::all_insert))]
 fn next_pair(
     names: &NameTable,
-    seen: &mut IndexSet<(u16, u16)>,
+    pairs: &mut PairSet,
     value: &Value,
     part: PolicyPart,
     index: u32,
 ) -> Result<(), ReadFault>
-    requires within { AreBelow (length names.now.names) (set.from_list seen.old.keys) }
-    ensures read { Gives fault_of (λ _. set.from_list seen.new.keys) result
-        (parts.next_pair part index names.now.names (set.from_list seen.old.keys)
-        (view value.now)) }
-    ensures within { OnOk result (AreBelow (length names.now.names) (set.from_list seen.new.keys)) }
-    ensures len { OnOk result (set.len {R = pair_cmp} (set.from_list seen.new.keys)
-        ≤ set.len {R = pair_cmp} (set.from_list seen.old.keys) + 1) }
+    requires within { AreBelow (length names.now.names) pairs.old }
+    ensures read { Gives fault_of (λ _. pairs.new) result
+        (parts.next_pair part index names.now.names pairs.old (view value.now)) }
+    ensures within { OnOk result (AreBelow (length names.now.names) pairs.new) }
 {
     let Some((first, second)) = two_texts(value) else {
         return Err(refuse(PolicyKind::Shape, part, index));
     };
     let a = number_of(names, first, part, index)?;
     let b = number_of(names, second, part, index)?;
-    match put_new(seen, (a, b)) {
-        Ok(true) => Ok(()),
-        Ok(false) => Err(refuse_text(PolicyKind::Twice, part, index, first)),
-        Err(fault) => Err(fault),
+    if pairs.insert(a, b)? {
+        Ok(())
+    } else {
+        Err(refuse_text(PolicyKind::Twice, part, index, first))
     }
 }
 
-/// Reads a set of pairs of declared names. The pairs are sorted once, as a file has them in any
-/// order.
+/// Reads a set of pairs of declared names.
+#[tactic(auto, using(pair_set::specs::PairLaws::all_empty))]
 pub(crate) fn read_pairs(
     alloc: Global,
     names: &NameTable,
@@ -252,25 +230,14 @@ pub(crate) fn read_pairs(
         (each (parts.next_pair part index names.now.names) set.empty
         (parts.items (items_view items.now))) }
     ensures within { IfOk result (λ pairs. AreBelow (length names.now.names) pairs) }
-    ensures len { IfOk result (λ pairs. set.len pairs ≤ length items.now) }
 {
-    let mut seen = IndexSet::new(alloc);
+    let mut pairs = PairSet::new(alloc);
     'items: for value in items {
-        if let Err(fault) = next_pair(names, &mut seen, value, part, index) {
+        if let Err(fault) = next_pair(names, &mut pairs, value, part, index) {
             return Err(fault);
         }
     }
-    Ok(set_of(alloc, seen.as_slice())?)
-}
-
-/// The set of some distinct pairs.
-fn set_of(alloc: Global, pairs: &[(u16, u16)]) -> Result<PairSet, AllocError>
-    requires { IsDistinct is_same_pair pairs.now }
-    ensures { IfOk result (λ s. s ≡ set.from_list pairs.now) }
-{
-    let mut sorted = Vec::from_slice(alloc, pairs)?;
-    sorted.sort_unstable();
-    Ok(PairSet::from_sorted(sorted))
+    Ok(pairs)
 }
 
 /// Refuses the least key that is not one of the known ones.

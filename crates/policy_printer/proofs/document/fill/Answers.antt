@@ -1,6 +1,5 @@
 use Rattle.std.proofs.Common.{subst, ap, ◌∙◌}
-use Rattle.rbac_state.specs.Rosters.{RosterShape, IsSoundRoster}
-use Rattle.wf_names.specs.Table.{AreNames}
+use Rattle.policy_printer.proofs.Words.{RosterShape, IsSoundRoster, AreNames}
 use Rattle.policy_printer.proofs.Writing.{on_ok}
 use Rattle.policy_printer.proofs.document.fill.Goals as goal
 
@@ -10,7 +9,7 @@ returns-clause-named c =
     on_ok c.put_admin.result _ (record {
       sound = c.put_admin.ensures.sound;
       roster = subst IsSoundRoster same c.roles.ensures.sound;
-      roles = subst AreNames (c.roles.ensures.names ∙ ap (λ (r : RosterShape). r.roles) same) c.in_ok-put_roles.ensures.named;
+      roles = subst AreNames (c.roles.ensures.names ∙ ap (λ (r : RosterShape). r.roles) same) c.in_ok-put_names.ensures.named;
       users = subst (λ (r : RosterShape). AreNames r.users) same c.in_ok-put_users.ensures.named;
       relations = c.in_ok-put_relations.ensures.sound;
       related = c.in_ok-put_relations.ensures.named;

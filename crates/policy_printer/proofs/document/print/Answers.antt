@@ -1,8 +1,6 @@
-use Rattle.std.proofs.Common.{◌∙◌, sym, ap, arith, refl, ◌≡◌, true, false, Err}
-use Rattle.std.specs.Prelude.{string_bytes}
+use Rattle.std.proofs.Common.{◌∙◌, sym, ap, arith, refl, ◌≡◌, true, false, Err, string_bytes}
+use Rattle.policy_printer.proofs.Words.{members_have_valid_dates, document_of}
 use Rattle.std.proofs.lemmas.Str.{IsUtf8-string_bytes}
-use Rattle.toml.specs.Data.{members_have_valid_dates}
-use Rattle.policy_printer.specs.Documents.{document_of}
 use Rattle.policy_printer.proofs.Plain.{document_plain}
 use Rattle.policy_printer.proofs.Again.{file_back}
 use Rattle.policy_reader.proofs.Ends.{document_in-utf8}

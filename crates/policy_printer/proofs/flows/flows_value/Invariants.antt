@@ -1,8 +1,5 @@
 use Rattle.std.proofs.Common.{◌≡◌, ℕ, ◌<◌}
-use Rattle.toml.specs.View.{table_view}
-use Rattle.policy_book.specs.Policies.{flow_at}
-use Rattle.policy_printer.specs.Documents.{table_below, flow_entry}
-use Rattle.policy_printer.specs.Named.{IsNamedWorkflow}
+use Rattle.policy_printer.proofs.Words.{table_view, flow_at, table_below, flow_entry, IsNamedWorkflow}
 use Rattle.policy_printer.proofs.flows.flows_value.Given as goal
 
 abbrev pub invariant-flows : goal.invariant-flows

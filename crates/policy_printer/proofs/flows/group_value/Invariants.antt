@@ -1,8 +1,5 @@
 use Rattle.std.proofs.Common.{◌≡◌, map}
-use Rattle.toml.specs.Data.{string}
-use Rattle.toml.specs.View.{view}
-use Rattle.constraint_forms.specs.Assigned.{is_member}
-use Rattle.policy_printer.specs.Documents.{name_at, chosen}
+use Rattle.policy_printer.proofs.Words.{string, view, is_member, name_at, chosen}
 use Rattle.policy_printer.proofs.flows.group_value.Given as goal
 
 abbrev pub invariant-steps : goal.invariant-steps

@@ -1,6 +1,5 @@
 use Rattle.std.proofs.Common.{◌≡◌}
-use Rattle.toml.specs.View.{table_view}
-use Rattle.policy_printer.specs.Documents.{table_below, permit_entry}
+use Rattle.policy_printer.proofs.Words.{table_view, table_below, permit_entry}
 use Rattle.policy_printer.proofs.flows.permits_value.Given as goal
 
 abbrev pub invariant-steps : goal.invariant-steps

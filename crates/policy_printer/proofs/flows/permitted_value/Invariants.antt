@@ -1,8 +1,6 @@
 use Rattle.std.proofs.Common.{◌≡◌, map}
-use Rattle.toml.specs.Data.{string}
-use Rattle.toml.specs.View.{view}
 use Rattle.std.specs.FinSet as set
-use Rattle.policy_printer.specs.Documents.{name_at, chosen}
+use Rattle.policy_printer.proofs.Words.{string, view, name_at, chosen}
 use Rattle.policy_printer.proofs.flows.permitted_value.Given as goal
 
 abbrev pub invariant-roles : goal.invariant-roles

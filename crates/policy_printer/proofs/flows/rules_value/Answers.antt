@@ -1,17 +1,11 @@
-use Rattle.std.proofs.Common.{sym, ap, ◌∙◌, ◌++◌, ◌∷◌, [], ◌≡◌, Some, subst, arith}
-use Rattle.std.specs.Prelude.{slice_get}
-use Rattle.std.proofs.lemmas.Option.{slice_get_within}
-use Rattle.constraint_forms.specs.declared.rule.Rule.{Rule}
-use Rattle.policy_printer.specs.Documents.{rule_data}
-use Rattle.policy_printer.specs.Named.{HasFlags}
+use Rattle.std.proofs.Common.{sym, ap, ◌∙◌, ◌++◌, ◌∷◌, [], ◌≡◌, Some, subst, arith, slice_get}
+use Rattle.policy_printer.proofs.Words.{slice_get_within, Rule, rule_data, HasFlags}
 use Rattle.policy_printer.proofs.Writing.{map_take_got, one_further}
+use Rattle.policy_reader.proofs.RuleLists.{same_rule}
 use Rattle.policy_printer.proofs.flows.rules_value.Goals as goal
 
 pub push_rule-requires-clause-sound : goal.push_rule-requires-clause-sound
 push_rule-requires-clause-sound c = c.requires.sound c.rules.k c.get.result.now c.get.ensures
-
-same_rule : (a b : Rule) → Some a ≡ Some b → a ≡ b
-same_rule a b e = cc
 
 pub rules-preserved : goal.rules-preserved
 rules-preserved c =

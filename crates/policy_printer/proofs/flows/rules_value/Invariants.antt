@@ -1,9 +1,5 @@
-use Rattle.std.proofs.Common.{◌≡◌, ℕ, ◌<◌, map, take, Some}
-use Rattle.std.specs.Prelude.{slice_get}
-use Rattle.toml.specs.View.{view}
-use Rattle.constraint_forms.specs.declared.rule.Rule.{Rule}
-use Rattle.policy_printer.specs.Documents.{rule_data}
-use Rattle.policy_printer.specs.Named.{HasFlags}
+use Rattle.std.proofs.Common.{◌≡◌, ℕ, ◌<◌, map, take, Some, slice_get}
+use Rattle.policy_printer.proofs.Words.{view, Rule, rule_data, HasFlags}
 use Rattle.policy_printer.proofs.flows.rules_value.Given as goal
 
 abbrev pub invariant-rules : goal.invariant-rules

@@ -1,6 +1,5 @@
 use Rattle.std.proofs.Common.{◌≡◌, map, take}
-use Rattle.toml.specs.Data.{string}
-use Rattle.toml.specs.View.{view}
+use Rattle.policy_printer.proofs.Words.{string, view}
 use Rattle.policy_printer.proofs.parts.names_value.Given as goal
 
 abbrev pub invariant-names : goal.invariant-names

@@ -1,6 +1,5 @@
 use Rattle.std.proofs.Common.{◌≡◌, map, take}
-use Rattle.toml.specs.View.{view}
-use Rattle.policy_printer.specs.Documents.{pair_data}
+use Rattle.policy_printer.proofs.Words.{view, pair_data}
 use Rattle.policy_printer.proofs.parts.pairs_value.Given as goal
 
 abbrev pub invariant-pairs : goal.invariant-pairs

@@ -1,8 +1,5 @@
 use Rattle.std.proofs.Common.{◌≡◌, map}
-use Rattle.toml.specs.Data.{string}
-use Rattle.toml.specs.View.{view}
-use Rattle.rbac_state.specs.Rosters.{has_role}
-use Rattle.policy_printer.specs.Documents.{name_at, chosen}
+use Rattle.policy_printer.proofs.Words.{string, view, has_role, name_at, chosen}
 use Rattle.policy_printer.proofs.rosters.held_value.Given as goal
 
 abbrev pub invariant-roles : goal.invariant-roles

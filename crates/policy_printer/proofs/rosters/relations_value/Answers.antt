@@ -1,8 +1,5 @@
 use Rattle.std.proofs.Common.{arith, ◌≡◌, true, ℕ, ◌+◌, ap, ◌∙◌, sym}
-use Rattle.user_relations.specs.Relations.{known_names}
-use Rattle.policy_reader.specs.Relations.{first_declared}
-use Rattle.policy_printer.specs.Documents.{name_at, with_member, relation_entry}
-use Rattle.wf_names.specs.Names.{is_name}
+use Rattle.policy_printer.proofs.Words.{known_names, first_declared, name_at, with_member, relation_entry, is_name}
 use Rattle.policy_printer.proofs.Writing.{table_more, one_further, known_named}
 use Rattle.policy_printer.proofs.rosters.relations_value.Goals as goal
 

@@ -1,9 +1,5 @@
 use Rattle.std.proofs.Common.{◌≡◌, ℕ, ◌+◌, ◌<◌, true}
-use Rattle.toml.specs.View.{table_view}
-use Rattle.user_relations.specs.Relations.{known_names}
-use Rattle.policy_reader.specs.Relations.{first_declared}
-use Rattle.policy_printer.specs.Documents.{name_at, table_below, relation_entry}
-use Rattle.wf_names.specs.Names.{is_name}
+use Rattle.policy_printer.proofs.Words.{table_view, known_names, first_declared, name_at, table_below, relation_entry, is_name}
 use Rattle.policy_printer.proofs.rosters.relations_value.Given as goal
 
 abbrev pub invariant-relations : goal.invariant-relations

@@ -1,6 +1,5 @@
 use Rattle.std.proofs.Common.{◌≡◌}
-use Rattle.toml.specs.View.{table_view}
-use Rattle.policy_printer.specs.Documents.{table_below, user_entry}
+use Rattle.policy_printer.proofs.Words.{table_view, table_below, user_entry}
 use Rattle.policy_printer.proofs.rosters.users_value.Given as goal
 
 abbrev pub invariant-users : goal.invariant-users

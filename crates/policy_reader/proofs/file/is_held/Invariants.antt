@@ -1,6 +1,6 @@
 use Rattle.std.proofs.Common.{◌≡◌, false}
 use Rattle.std.specs.FinSet as set
-use Rattle.policy_book.specs.Policies.{any_below}
+use Rattle.policy_reader.proofs.Words.{any_below}
 use Rattle.policy_reader.proofs.file.is_held.Given as goal
 
 abbrev pub invariant-users : goal.invariant-users

@@ -1,8 +1,4 @@
-use Rattle.toml.specs.View.{table_view}
-use Rattle.first_fault.specs.Reading.{each}
-use Rattle.policy_reader.specs.Parts.{entries}
-use Rattle.policy_reader.specs.Flows.{next_flow}
-use Rattle.policy_reader.specs.Kept.{IsGrown}
+use Rattle.policy_reader.proofs.Words.{table_view, each, entries, next_flow, IsGrown}
 use Rattle.policy_reader.proofs.Fresh.{IsLeft}
 use Rattle.policy_reader.proofs.flows.all_flows.Given as goal
 

@@ -1,4 +1,4 @@
-use Rattle.policy_reader.proofs.PairLists.{none_permitted}
+use Rattle.policy_reader.proofs.PairSets.{none_permitted}
 use Rattle.policy_reader.proofs.flows.flow_of.Goals as goal
 
 pub read_permits-requires-clause-roles : goal.read_permits-requires-clause-roles

@@ -1,4 +1,4 @@
-use Rattle.policy_reader.proofs.PairLists.{len_insert}
+use Rattle.policy_reader.proofs.PairSets.{len_insert}
 use Rattle.policy_reader.proofs.pairs.next_user_pair.Goals as goal
 
 pub returns-then-branch-clause-len : goal.returns-then-branch-clause-len

@@ -1,9 +1,6 @@
 use Rattle.std.proofs.Common.{◌≡◌, ◌≤◌, drop, length}
 use Rattle.std.specs.FinSet as set
-use Rattle.toml.specs.View.{items_view}
-use Rattle.first_fault.specs.Reading.{each}
-use Rattle.policy_reader.specs.Bounds.{AreBelow}
-use Rattle.policy_reader.specs.Parts.{items, next_pair}
+use Rattle.policy_reader.proofs.Words.{items_view, each, AreBelow, items, next_pair}
 use Rattle.policy_reader.proofs.pairs.read_user_pairs.Given as goal
 
 abbrev pub invariant-items : goal.invariant-items

@@ -1,5 +1,5 @@
 use Rattle.std.proofs.Common.{◌≡◌, map, drop}
-use Rattle.policy_reader.specs.Parts.{is_among}
+use Rattle.policy_reader.proofs.Words.{is_among}
 use Rattle.policy_reader.proofs.parts.is_among.Given as goal
 
 abbrev pub invariant-texts : goal.invariant-texts

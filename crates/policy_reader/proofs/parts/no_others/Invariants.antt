@@ -1,7 +1,5 @@
 use Rattle.std.proofs.Common.{◌≡◌, map}
-use Rattle.toml.specs.View.{members_view, table_view}
-use Rattle.first_fault.specs.Reading.{each}
-use Rattle.policy_reader.specs.Parts.{entries, known_key}
+use Rattle.policy_reader.proofs.Words.{members_view, table_view, each, entries, known_key}
 use Rattle.policy_reader.proofs.parts.no_others.Given as goal
 
 abbrev pub invariant-entries : goal.invariant-entries

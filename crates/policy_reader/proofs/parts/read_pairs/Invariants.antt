@@ -1,14 +1,9 @@
-use Rattle.std.proofs.Common.{◌≡◌, ◌≤◌, drop, length}
+use Rattle.std.proofs.Common.{◌≡◌, drop, length}
 use Rattle.std.specs.FinSet as set
-use Rattle.toml.specs.View.{items_view}
-use Rattle.first_fault.specs.Reading.{each}
-use Rattle.pair_set.specs.Pairs.{pair_cmp}
-use Rattle.policy_reader.specs.Bounds.{AreBelow}
-use Rattle.policy_reader.specs.Parts.{items, next_pair}
+use Rattle.policy_reader.proofs.Words.{items_view, each, AreBelow, items, next_pair}
 use Rattle.policy_reader.proofs.parts.read_pairs.Given as goal
 
 abbrev pub invariant-items : goal.invariant-items
 invariant-items l =
-    (each (next_pair l.part l.index l.names.names) (set.from_list l.seen.keys) (items (items_view (drop l.value-index l.items))) ≡ each (next_pair l.part l.index l.names.names) set.empty (items (items_view l.items)))
-    × AreBelow (length l.names.names) (set.from_list l.seen.keys)
-    × (set.len {R = pair_cmp} (set.from_list l.seen.keys) ≤ l.value-index)
+    (each (next_pair l.part l.index l.names.names) l.pairs (items (items_view (drop l.value-index l.items))) ≡ each (next_pair l.part l.index l.names.names) set.empty (items (items_view l.items)))
+    × AreBelow (length l.names.names) l.pairs

@@ -1,8 +1,5 @@
 use Rattle.std.proofs.Common.{length, refl, [], arith}
-use Rattle.toml.specs.View.{table_view}
-use Rattle.user_relations.specs.View.{shapes}
-use Rattle.policy_reader.specs.Parts.{entries}
-use Rattle.policy_reader.specs.Relations.{next_relation, names_of}
+use Rattle.policy_reader.proofs.Words.{table_view, shapes, entries, next_relation, names_of}
 use Rattle.policy_reader.proofs.Counts.{count_entries}
 use Rattle.policy_reader.proofs.Fresh.{left_start, left_none, left_next, left_ascend, left_count}
 use Rattle.policy_reader.proofs.Relating.{kept_none, marked_next, sound_of, related_of, names_count}

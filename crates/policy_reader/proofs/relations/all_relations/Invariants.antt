@@ -1,10 +1,5 @@
-use Rattle.toml.specs.View.{table_view}
 use Rattle.std.proofs.Common.{length, []}
-use Rattle.user_relations.specs.View.{shapes}
-use Rattle.first_fault.specs.Reading.{each}
-use Rattle.policy_reader.specs.Parts.{entries}
-use Rattle.policy_reader.specs.Relations.{next_relation, names_of}
-use Rattle.policy_reader.specs.Kinds.{AreKept}
+use Rattle.policy_reader.proofs.Words.{table_view, shapes, each, entries, next_relation, names_of, AreKept}
 use Rattle.policy_reader.proofs.Fresh.{IsLeft}
 use Rattle.policy_reader.proofs.relations.all_relations.Given as goal
 

@@ -1,6 +1,5 @@
 use Rattle.std.proofs.Common.{◌∙◌, sym, ap, Some}
-use Rattle.toml.specs.View.{table_view}
-use Rattle.policy_reader.specs.Parts.{entries}
+use Rattle.policy_reader.proofs.Words.{table_view, entries}
 use Rattle.policy_reader.proofs.Relating.{target_of}
 use Rattle.policy_reader.proofs.relations.complement_of.Goals as goal
 

@@ -1,8 +1,5 @@
 use Rattle.std.proofs.Common.{◌≡◌, ◌≤◌, ◌+◌, length}
-use Rattle.toml.specs.View.{members_view, table_view}
-use Rattle.wf_names.specs.declared.limits.TheConstants.{RELATION_LIMIT}
-use Rattle.policy_reader.specs.Parts.{entries}
-use Rattle.policy_reader.specs.Relations.{first_declared, entry_of}
+use Rattle.policy_reader.proofs.Words.{members_view, table_view, RELATION_LIMIT, entries, first_declared, entry_of}
 use Rattle.policy_reader.proofs.relations.entry_of.Given as goal
 
 abbrev pub invariant-entries : goal.invariant-entries

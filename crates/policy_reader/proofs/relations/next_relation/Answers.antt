@@ -1,8 +1,5 @@
 use Rattle.std.proofs.Common.{◌∙◌, sym, subst, length}
-use Rattle.toml.specs.View.{table_view}
-use Rattle.user_relations.specs.View.{kind_view, shapes}
-use Rattle.policy_reader.specs.Parts.{entries}
-use Rattle.policy_reader.specs.Kinds.{IsKept}
+use Rattle.policy_reader.proofs.Words.{table_view, kind_view, shapes, entries, IsKept}
 use Rattle.policy_reader.proofs.Relating.{table_told, kept_push}
 use Rattle.policy_reader.proofs.RuleLists.{on_ok}
 use Rattle.policy_reader.proofs.relations.next_relation.Goals as goal

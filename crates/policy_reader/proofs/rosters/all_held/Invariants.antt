@@ -1,8 +1,5 @@
 use Rattle.std.proofs.Common.{◌≡◌, drop}
-use Rattle.toml.specs.View.{items_view}
-use Rattle.first_fault.specs.Reading.{each}
-use Rattle.policy_reader.specs.Parts.{items}
-use Rattle.policy_reader.specs.Rosters.{next_held}
+use Rattle.policy_reader.proofs.Words.{items_view, each, items, next_held}
 use Rattle.policy_reader.proofs.rosters.all_held.Given as goal
 
 abbrev pub invariant-items : goal.invariant-items

@@ -1,9 +1,5 @@
 use Rattle.std.proofs.Common.{◌≡◌, ◌+◌, drop, length}
-use Rattle.toml.specs.View.{items_view}
-use Rattle.wf_names.specs.declared.limits.TheConstants.{ROLE_LIMIT}
-use Rattle.first_fault.specs.Reading.{each}
-use Rattle.policy_reader.specs.Parts.{items}
-use Rattle.policy_reader.specs.Rosters.{next_role}
+use Rattle.policy_reader.proofs.Words.{items_view, ROLE_LIMIT, each, items, next_role}
 use Rattle.policy_reader.proofs.rosters.all_roles.Given as goal
 
 abbrev pub invariant-items : goal.invariant-items

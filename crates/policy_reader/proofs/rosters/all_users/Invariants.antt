@@ -1,8 +1,5 @@
 use Rattle.std.proofs.Common.{◌≡◌}
-use Rattle.toml.specs.View.{table_view}
-use Rattle.first_fault.specs.Reading.{each}
-use Rattle.policy_reader.specs.Parts.{entries}
-use Rattle.policy_reader.specs.Rosters.{next_user}
+use Rattle.policy_reader.proofs.Words.{table_view, each, entries, next_user}
 use Rattle.policy_reader.proofs.Fresh.{IsLeft}
 use Rattle.policy_reader.proofs.rosters.all_users.Given as goal
 

@@ -1,12 +1,6 @@
-use Rattle.std.proofs.Common.{◌≡◌, ◌<◌, drop, length, true}
-use Rattle.std.specs.Prelude.{IsTrue}
-use Rattle.toml.specs.View.{items_view}
-use Rattle.constraint_forms.specs.Rules.{any_from}
+use Rattle.std.proofs.Common.{◌≡◌, ◌<◌, drop, length, true, IsTrue}
+use Rattle.policy_reader.proofs.Words.{items_view, any_from, each, HasStepsBelow, items, next_member}
 use Rattle.constraint_forms.specs.Assigned.{no_steps}
-use Rattle.first_fault.specs.Reading.{each}
-use Rattle.policy_reader.specs.Kept.{HasStepsBelow}
-use Rattle.policy_reader.specs.Parts.{items}
-use Rattle.policy_reader.specs.Rules.{next_member}
 use Rattle.policy_reader.proofs.rules.all_members.Given as goal
 
 abbrev pub invariant-items : goal.invariant-items

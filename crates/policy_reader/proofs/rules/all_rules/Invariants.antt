@@ -1,9 +1,5 @@
 use Rattle.std.proofs.Common.{◌≡◌, drop, length, []}
-use Rattle.toml.specs.View.{items_view}
-use Rattle.first_fault.specs.Reading.{each}
-use Rattle.policy_book.specs.Facts.{AreSoundRules}
-use Rattle.policy_reader.specs.Parts.{items}
-use Rattle.policy_reader.specs.Rules.{next_rule}
+use Rattle.policy_reader.proofs.Words.{items_view, each, AreSoundRules, items, next_rule}
 use Rattle.policy_reader.proofs.rules.all_rules.Given as goal
 
 abbrev pub invariant-items : goal.invariant-items

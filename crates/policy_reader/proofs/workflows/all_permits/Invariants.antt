@@ -1,9 +1,5 @@
 use Rattle.std.proofs.Common.{◌≡◌, length}
-use Rattle.toml.specs.View.{members_view, table_view}
-use Rattle.first_fault.specs.Reading.{each}
-use Rattle.policy_book.specs.Facts.{PermitsRolesBelow}
-use Rattle.policy_reader.specs.Parts.{entries}
-use Rattle.policy_reader.specs.Flows.{next_permit}
+use Rattle.policy_reader.proofs.Words.{members_view, table_view, each, PermitsRolesBelow, entries, next_permit}
 use Rattle.policy_reader.proofs.workflows.all_permits.Given as goal
 
 abbrev pub invariant-entries : goal.invariant-entries

@@ -1,9 +1,5 @@
 use Rattle.std.proofs.Common.{◌≡◌, drop, length}
-use Rattle.toml.specs.View.{items_view}
-use Rattle.first_fault.specs.Reading.{each}
-use Rattle.policy_book.specs.Facts.{PermitsRolesBelow}
-use Rattle.policy_reader.specs.Parts.{items}
-use Rattle.policy_reader.specs.Flows.{next_permitted}
+use Rattle.policy_reader.proofs.Words.{items_view, each, PermitsRolesBelow, items, next_permitted}
 use Rattle.policy_reader.proofs.workflows.all_permitted.Given as goal
 
 abbrev pub invariant-items : goal.invariant-items

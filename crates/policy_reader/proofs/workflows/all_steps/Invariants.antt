@@ -1,9 +1,5 @@
 use Rattle.std.proofs.Common.{◌≡◌, drop, length, []}
-use Rattle.toml.specs.View.{items_view}
-use Rattle.wf_names.specs.declared.limits.TheConstants.{STEP_LIMIT}
-use Rattle.first_fault.specs.Reading.{each}
-use Rattle.policy_reader.specs.declared.fault.PolicyPart.TheVariants.{Flows}
-use Rattle.policy_reader.specs.Parts.{items, next_name}
+use Rattle.policy_reader.proofs.Words.{items_view, STEP_LIMIT, each, Flows, items, next_name}
 use Rattle.policy_reader.proofs.workflows.all_steps.Given as goal
 
 abbrev pub invariant-items : goal.invariant-items

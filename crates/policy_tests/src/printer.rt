@@ -1,7 +1,7 @@
 //! A policy that is printed and read again.
 
-use crate::print;
 use policy_book::Policy;
+use policy_printer::print;
 use policy_reader::read;
 use rbac_state::Roster;
 use std::alloc::Global;

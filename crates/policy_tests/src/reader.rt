@@ -1,7 +1,7 @@
 //! Each check of the file by a text that breaks it, as rows of data, and a file that is read.
 
-use crate::{ReadFault, read};
 use policy_book::Policy;
+use policy_reader::{ReadFault, read};
 use std::alloc::{AllocError, Global};
 use std::test::Fail;
 use toml::Value;

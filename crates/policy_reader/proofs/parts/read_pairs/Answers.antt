@@ -1,8 +1,0 @@
-use Rattle.std.proofs.Common.{refl, arith}
-use Rattle.std.specs.FinSet as set
-use Rattle.pair_set.specs.Pairs.{pair_cmp}
-use Rattle.pair_set.specs.PairLaws.{all_empty}
-use Rattle.policy_reader.proofs.parts.read_pairs.Goals as goal
-
-pub items-init : goal.items-init
-items-init c = rw c.new-seen.ensures.empty (refl, all_empty _, rw (set.len-empty pair_cmp) (omega arith))
