@@ -7,8 +7,6 @@ mod finding;
 mod forms;
 mod laws;
 mod reading;
-#[cfg(test)]
-mod tests;
 
 pub use command::{Command, Options};
 pub use laws::usage_is_read;

@@ -32,9 +32,27 @@ impl Model for Maker {
     ghost view = { λ m. record { state = m.draws; jobs = m.jobs } };
 }
 
-/// The jobs for so many cases.
+/// The jobs for so many cases, and the ends of their batches.
+#[tactic(auto, using(crate::proofs::Growing::rounds_count, crate::proofs::Growing::openings_count))]
+pub(crate) fn batches_of(
+    alloc: Global,
+    draws: Generator,
+    cases: u16,
+) -> Result<(Jobs, Ends), AllocError>
+    requires some { 1 ≤ cases }
+    requires few { cases ≤ 40 }
+    ensures jobs { IfOk result (λ made. made.0 ≡ (rounds cases 24
+        (record { state = draws; jobs = openings cases })).jobs) }
+    ensures ends { IfOk result (λ made. made.1 ≡ batch_ends cases (length made.0)) }
+{
+    let jobs = jobs_of(alloc, draws, cases)?;
+    let ends = batch_ends(alloc, cases as u32, jobs.len() as u32)?;
+    Ok((jobs, ends))
+}
+
+// The jobs for so many cases.
 #[tactic(auto, using(crate::proofs::Growing::rounds_none, crate::proofs::Growing::rounds_more, crate::proofs::Growing::rounds_count, crate::proofs::Growing::openings_count))]
-pub(crate) fn jobs_of(alloc: Global, draws: Generator, cases: u16) -> Result<Jobs, AllocError>
+fn jobs_of(alloc: Global, draws: Generator, cases: u16) -> Result<Jobs, AllocError>
     requires { cases ≤ 40 }
     ensures { IfOk result (λ jobs. jobs ≡ (rounds cases 24
         (record { state = draws; jobs = openings cases })).jobs) }

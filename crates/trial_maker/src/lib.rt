@@ -13,8 +13,6 @@ mod people;
 mod policy;
 mod related;
 mod steps;
-#[cfg(test)]
-mod tests;
 
 use draws::Generator;
 use policy_book::Policy;
@@ -40,7 +38,6 @@ pub fn make(alloc: Global, seed: u64, cases: u16) -> Result<Trial, AllocError>
 {
     let mut draws = Generator::of(seed);
     let policy = policy::policy_of(alloc, &mut draws)?;
-    let jobs = jobs::jobs_of(alloc, draws, cases)?;
-    let ends = jobs::batch_ends(alloc, cases as u32, jobs.len() as u32)?;
+    let (jobs, ends) = jobs::batches_of(alloc, draws, cases)?;
     Ok(Trial { policy, jobs, ends })
 }

@@ -26,10 +26,24 @@ pub(crate) fn roster_of(alloc: Global, draws: &mut Generator) -> Result<Roster, 
     ensures drawn { OnOk result (draws.new ≡ after 60 draws.old) }
 {
     let mut roster = Roster::new(alloc, role_table(alloc)?)?;
-    add_users(&mut roster)?;
-    draw_roles(&mut roster, draws)?;
-    give(&mut roster, UserId(0), ADMIN)?;
+    fill(&mut roster, draws)?;
     Ok(roster)
+}
+
+// Adds the users, and gives them their roles.
+fn fill(roster: &mut Roster, draws: &mut Generator) -> Result<(), AllocError>
+    requires users { roster.old.users ≡ [] }
+    requires roles { length roster.old.roles ≡ 6 }
+    requires none { roster.old.members ≡ set.empty }
+    ensures filled { OnOk result (roster.new ≡ record roster.old {
+      users = map user_name (range_with_len 0 60);
+      members = set.insert (drawn_members draws.old 60) (0, 5);
+    }) }
+    ensures drawn { OnOk result (draws.new ≡ after 60 draws.old) }
+{
+    add_users(roster)?;
+    draw_roles(roster, draws)?;
+    give(roster, UserId(0), ADMIN)
 }
 
 // The names of the roles.

@@ -16,15 +16,40 @@ use wf_names::NameFault;
 use workflow_schema::Flow;
 
 /// The policy, whose roles are drawn.
-#[tactic(auto, using(crate::proofs::Peers::related_users, crate::proofs::Peers::roster_roles, crate::proofs::Peers::relation_count), unfolding(crate::specs::TrialPolicy::trial_policy))]
+#[tactic(auto, using(crate::proofs::Peers::roster_roles, crate::proofs::Peers::relation_count), unfolding(crate::specs::TrialPolicy::trial_policy))]
 pub(crate) fn policy_of(alloc: Global, draws: &mut Generator) -> Result<Policy, AllocError>
     ensures policy { IfOk result (λ p. p ≡ trial_policy draws.old) }
     ensures drawn { OnOk result (draws.new ≡ after 60 draws.old) }
 {
-    let roster = roster_of(alloc, draws)?;
-    let mut policy = Policy::start(alloc, roster, relations_of(alloc)?, ADMIN)?;
-    add_flow(&mut policy, flow_of(alloc)?, rules_of(alloc)?)?;
+    let mut policy = started(alloc, draws)?;
+    add_workflow(alloc, &mut policy)?;
     Ok(policy)
+}
+
+// The policy before its workflow.
+#[tactic(auto, using(crate::proofs::Peers::related_users, crate::proofs::Peers::roster_roles), unfolding(crate::specs::TrialPolicy::trial_policy))]
+fn started(alloc: Global, draws: &mut Generator) -> Result<Policy, AllocError>
+    ensures policy { IfOk result (λ p. p
+        ≡ record (trial_policy draws.old) { flow_names = []; flows = [] }) }
+    ensures drawn { OnOk result (draws.new ≡ after 60 draws.old) }
+{
+    let roster = roster_of(alloc, draws)?;
+    Policy::start(alloc, roster, relations_of(alloc)?, ADMIN)
+}
+
+// Makes the workflow, and adds it to a policy without any.
+fn add_workflow(alloc: Global, policy: &mut Policy) -> Result<(), AllocError>
+    requires roles { length policy.old.roster.roles ≡ 6 }
+    requires related { length policy.old.relations ≡ 2 }
+    requires unnamed { policy.old.flow_names ≡ [] }
+    requires bare { policy.old.flows ≡ [] }
+    ensures { OnOk result (policy.new ≡ record policy.old {
+      flow_names = flow_name ∷ [];
+      flows = record { flow = trial_flow; rules = trial_rules; retired = false } ∷ [];
+    }) }
+{
+    let flow = flow_of(alloc)?;
+    add_flow(policy, flow, rules_of(alloc)?)
 }
 
 // Adds the workflow to a policy without any.

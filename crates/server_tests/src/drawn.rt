@@ -1,20 +1,24 @@
 //! What no clause shows: that a trial is made while there is memory. The values are those that
 //! another program worked out from the description of trials.
 
-use crate::{Trial, make};
 use policy_book::Policy;
 use std::test::Fail;
+use trial_maker::{Trial, make};
 use wf_names::{RoleId, UserId};
 use wf_talk::{Ask, Edit, Job, Jobs, Request};
 
 #[test]
 fn a_trial_has_what_is_drawn(rt: HostRuntime) -> Result<(), Fail> {
     let trial = make(rt.alloc(), 7, 40)?;
-    assert!(rt; has_ends(&trial, 1_965, &[40, 1_064, 1_965]));
-    assert!(rt; has_roles_of_seed_7(&trial.policy));
-    assert!(rt; has_claims_of_seed_7(&trial.jobs));
-    assert!(rt; has_edits_of_seed_7(&trial.jobs));
+    assert!(rt; is_of_seed_7(&trial));
     Ok(())
+}
+
+fn is_of_seed_7(trial: &Trial) -> bool {
+    has_ends(trial, 1_965, &[40, 1_064, 1_965])
+        && has_roles_of_seed_7(&trial.policy)
+        && has_claims_of_seed_7(&trial.jobs)
+        && has_edits_of_seed_7(&trial.jobs)
 }
 
 #[test]

@@ -1,5 +1,6 @@
 //! The spellings that are read, and some that are not.
-use crate::{Command, Options, read_words};
+
+use command_words::{Command, Options, read_words};
 use std::alloc::{AllocError, Global};
 
 /// What the words of a line are read as; one blank parts two words.
