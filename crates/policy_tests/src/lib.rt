@@ -1,0 +1,13 @@
+//! Tests of a policy and its parts: what no clause of theirs shows.
+#![tactic(auto)]
+
+#[cfg(test)]
+mod policies;
+#[cfg(test)]
+mod relations;
+#[cfg(test)]
+mod roster;
+#[cfg(test)]
+mod rules;
+#[cfg(test)]
+mod workflows;
