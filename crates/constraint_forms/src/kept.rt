@@ -24,6 +24,15 @@ pub trait RelatedRows: Holds {
         ensures { (v : ℕ) → has_user result v ≡ (nat_lt v users && Self.related self.now rho v u) };
 }
 
+// What is asked of a rule: who among the users below `users` may be given the step `s`, beside those
+// that are given already.
+#[derive(Clone, Copy)]
+struct Asked {
+    given: Assign,
+    s: StepId,
+    users: u16,
+}
+
 /// Keeps the users of a set who may be given a step: those with whom the rule is not falsified.
 pub fn keep_unfalsified<R: RelatedRows>(
     rule: &Rule,
@@ -40,15 +49,18 @@ pub fn keep_unfalsified<R: RelatedRows>(
         ≡ (has_user set.old u && not (is_falsified (R.related rows.now) rule.now
         (user_at (slice_set a.now s (Some u))))) }
 {
+    let asked = &Asked {
+        given: *a,
+        s,
+        users,
+    };
     match *rule {
-        Rule::Pair { rho, first, second } => {
-            keep_related(rows, rho, a, first, second, s, users, set)
-        }
+        Rule::Pair { rho, first, second } => keep_related(rows, rho, asked, first, second, set),
         Rule::SomeOf { rho, group, step } => {
-            keep_related_to_some(rows, rho, a, &group, step, s, users, set)
+            keep_related_to_some(rows, rho, asked, &group, step, set)
         }
         Rule::AllOf { rho, group, step } => {
-            keep_related_to_all(rows, rho, a, &group, step, s, users, set)
+            keep_related_to_all(rows, rho, asked, &group, step, set)
         }
     }
 }
@@ -57,22 +69,20 @@ pub fn keep_unfalsified<R: RelatedRows>(
 fn keep_related_to_some<R: RelatedRows>(
     rows: &R,
     rho: RelId,
-    a: &Assign,
+    asked: &Asked,
     group: &StepSet,
     step: StepId,
-    s: StepId,
-    users: u16,
     set: &mut UserSet,
 )
-    requires step { s < STEP_LIMIT }
-    requires users { users ≤ USER_LIMIT }
-    requires below { IsBelow users set.old }
+    requires step { asked.now.s < STEP_LIMIT }
+    requires users { asked.now.users ≤ USER_LIMIT }
+    requires below { IsBelow asked.now.users set.old }
     ensures { (u : ℕ) → has_user set.new u
         ≡ (has_user set.old u && not (is_falsified (R.related rows.now) (SomeOf rho group.now step)
-        (user_at (slice_set a.now s (Some u))))) }
+        (user_at (slice_set asked.now.given asked.now.s (Some u))))) }
 {
-    if a.at(step).is_some() || s == step {
-        keep_related_to_member(rows, rho, a, group, step, s, users, set);
+    if asked.given.at(step).is_some() || asked.s == step {
+        keep_related_to_member(rows, rho, asked, group, step, set);
     }
 }
 
@@ -80,19 +90,17 @@ fn keep_related_to_some<R: RelatedRows>(
 fn keep_related_to_member<R: RelatedRows>(
     rows: &R,
     rho: RelId,
-    a: &Assign,
+    asked: &Asked,
     group: &StepSet,
     step: StepId,
-    s: StepId,
-    users: u16,
     set: &mut UserSet,
 )
-    requires step { s < STEP_LIMIT }
-    requires users { users ≤ USER_LIMIT }
-    requires below { IsBelow users set.old }
+    requires step { asked.now.s < STEP_LIMIT }
+    requires users { asked.now.users ≤ USER_LIMIT }
+    requires below { IsBelow asked.now.users set.old }
     ensures { (u : ℕ) → has_user set.new u
         ≡ (has_user set.old u && not (all_from 0 group.now
-        (λ x. are_unrelated_with (R.related rows.now) rho a.now x step s u))) }
+        (λ x. are_unrelated_with (R.related rows.now) rho asked.now.given x step asked.now.s u))) }
 {
     let limit = group.limit();
     let mut kept = UserSet::empty();
@@ -100,7 +108,7 @@ fn keep_related_to_member<R: RelatedRows>(
         let member = StepId(x as u8);
         if group.has(member) {
             let mut related = *set;
-            keep_related(rows, rho, a, member, step, s, users, &mut related);
+            keep_related(rows, rho, asked, member, step, &mut related);
             kept.join(&related);
         }
     }
@@ -111,25 +119,23 @@ fn keep_related_to_member<R: RelatedRows>(
 fn keep_related_to_all<R: RelatedRows>(
     rows: &R,
     rho: RelId,
-    a: &Assign,
+    asked: &Asked,
     group: &StepSet,
     step: StepId,
-    s: StepId,
-    users: u16,
     set: &mut UserSet,
 )
-    requires step { s < STEP_LIMIT }
-    requires users { users ≤ USER_LIMIT }
-    requires below { IsBelow users set.old }
+    requires step { asked.now.s < STEP_LIMIT }
+    requires users { asked.now.users ≤ USER_LIMIT }
+    requires below { IsBelow asked.now.users set.old }
     ensures { (u : ℕ) → has_user set.new u
         ≡ (has_user set.old u && not (any_from 0 group.now
-        (λ x. are_unrelated_with (R.related rows.now) rho a.now x step s u))) }
+        (λ x. are_unrelated_with (R.related rows.now) rho asked.now.given x step asked.now.s u))) }
 {
     let limit = group.limit();
     'members: for x in 0..limit {
         let member = StepId(x as u8);
         if group.has(member) {
-            keep_related(rows, rho, a, member, step, s, users, set);
+            keep_related(rows, rho, asked, member, step, set);
         }
     }
 }
@@ -138,24 +144,23 @@ fn keep_related_to_all<R: RelatedRows>(
 fn keep_related<R: RelatedRows>(
     rows: &R,
     rho: RelId,
-    a: &Assign,
+    asked: &Asked,
     x: StepId,
     y: StepId,
-    s: StepId,
-    users: u16,
     set: &mut UserSet,
 )
-    requires step { s < STEP_LIMIT }
-    requires users { users ≤ USER_LIMIT }
-    requires below { IsBelow users set.old }
+    requires step { asked.now.s < STEP_LIMIT }
+    requires users { asked.now.users ≤ USER_LIMIT }
+    requires below { IsBelow asked.now.users set.old }
     ensures { (u : ℕ) → has_user set.new u
-        ≡ (has_user set.old u && not (are_unrelated_with (R.related rows.now) rho a.now x y s u)) }
+        ≡ (has_user set.old u
+        && not (are_unrelated_with (R.related rows.now) rho asked.now.given x y asked.now.s u)) }
 {
-    let (u, v) = (a.at(x), a.at(y));
-    match (x == s, y == s) {
-        (true, true) => keep_related_to_self(rows, rho, users, set),
-        (true, false) => keep_ahead(rows, rho, v, users, set),
-        (false, true) => keep_after(rows, rho, u, users, set),
+    let (u, v) = (asked.given.at(x), asked.given.at(y));
+    match (x == asked.s, y == asked.s) {
+        (true, true) => keep_related_to_self(rows, rho, asked.users, set),
+        (true, false) => keep_ahead(rows, rho, v, asked.users, set),
+        (false, true) => keep_after(rows, rho, u, asked.users, set),
         (false, false) => {
             if is_unrelated(rows, rho, u, v) {
                 *set = UserSet::empty();

@@ -10,8 +10,6 @@ mod plan;
 mod rule;
 mod rules;
 mod step_set;
-#[cfg(test)]
-mod tests;
 
 pub use assign::Assign;
 pub use evaluate::{falsified, satisfied};

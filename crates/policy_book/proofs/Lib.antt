@@ -1,4 +1,3 @@
 pub mod Keeping
 pub mod Counting
-pub mod Apart
 pub mod Passing

@@ -5,8 +5,6 @@ mod authority;
 mod candidates;
 mod policy;
 mod related;
-#[cfg(test)]
-mod tests;
 mod workflow;
 
 pub use constraint_forms::{Assign, Holds, Plan, RelatedRows, Rule, Rules, StepSet};

@@ -103,17 +103,11 @@ impl Policy {
         ensures unchanged { OnErr result (self.new ≡ self.old) }
     {
         let place = free_place(&self.names, &name)?;
-        if self.flows.reserve(1).is_err() {
-            return Err(NameFault::NoMemory);
-        }
         let Ok(workflow) = Workflow::new(self.alloc, flow, rules) else {
             return Err(NameFault::NoMemory);
         };
-        self.names.add(name)?;
-        match self.flows.push(workflow) {
-            Ok(()) => Ok(place),
-            Err(_) => unreachable!(),
-        }
+        put_flow(&mut self.names, &mut self.flows, name, workflow)?;
+        Ok(place)
     }
 
     /// Whether a user is authorised for a step of a workflow: some role is held by the user and
@@ -385,6 +379,32 @@ fn free_place(names: &NameTable, name: &Name) -> Result<FlowId, NameFault>
         return Err(NameFault::Full);
     }
     Ok(FlowId(count as u8))
+}
+
+// Adds a workflow with its name, where there is memory for both.
+fn put_flow(
+    names: &mut NameTable,
+    flows: &mut Vec<Workflow>,
+    name: Name,
+    workflow: Workflow,
+) -> Result<(), NameFault>
+    ensures named { OnOk result (names.new
+        ≡ record names.old { names = names.old.names ++ name ∷ [] }) }
+    ensures added { OnOk result (flows.new.items ≡ flows.old.items ++ workflow ∷ []) }
+    ensures twice { IsErrOf result NameFault.Twice
+        → is_some (place_of names.old.names name) ≡ true }
+    ensures full { IsErrOf result NameFault.Full → length names.old.names ≡ names.old.limit }
+    ensures unchanged { OnErr result ((names.new ≡ names.old)
+        × (flows.new.items ≡ flows.old.items)) }
+{
+    if flows.reserve(1).is_err() {
+        return Err(NameFault::NoMemory);
+    }
+    names.add(name)?;
+    match flows.push(workflow) {
+        Ok(()) => Ok(()),
+        Err(_) => unreachable!(),
+    }
 }
 
 fn copy_people(roster: &Roster, relations: &Relations) -> Result<(Roster, Relations), AllocError>

@@ -9,8 +9,6 @@ ghost use Rattle.wf_names.specs.UserSets.{has_user};
 ghost use Rattle.rbac_state.specs.Rosters.{RosterShape, has_role, IsSoundRoster};
 
 mod members;
-#[cfg(test)]
-mod tests;
 
 use crate::members::Members;
 use shared_part::Shared;

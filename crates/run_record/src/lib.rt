@@ -3,8 +3,6 @@
 
 mod fault;
 mod report;
-#[cfg(test)]
-mod tests;
 
 pub use fault::{InputFault, RunFault};
 pub use report::{Report, bare_report};

@@ -4,6 +4,7 @@ use Rattle.std.specs.Prelude.{IsTrue}
 use Rattle.std.specs.FinSet as set
 use Rattle.std.proofs.lemmas.Bool.{cases_lt, lt-ltb, le-ltb, ltb-true, eqb-true, eq-eqb}
 use Rattle.std.proofs.lemmas.List.{get_or_past}
+use Rattle.basics.proofs.Booleans.{and-false, and_same, and_swap}
 use Rattle.pair_set.specs.Pairs.{Pairs, pair_cmp}
 use Rattle.pair_set.specs.PairLaws.{pair_cmp_total}
 use Rattle.pair_set.specs.Tables.{contains_set_of, set_of_none, set_of_insert, set_of_remove, len_set_of}
@@ -52,20 +53,6 @@ rows_none blocks whole none = record {
   turned = λ u v. none v u ∙ sym (none u v);
   counted = sym (ap set.len (pairs_none blocks none) ∙ set.len-empty pair_cmp);
 }
-
-and_false : (b : Bool) → (b && false) ≡ false
-and_false true = refl
-and_false false = refl
-
-masked : (p a b : Bool) → (p ≡ true → a ≡ b) → (p && a) ≡ (p && b)
-masked true a b same = same refl
-masked false a b same = refl
-
-and_swap : (a b : Bool) → (a && b) ≡ (b && a)
-and_swap true true = refl
-and_swap true false = refl
-and_swap false true = refl
-and_swap false false = refl
 
 module _ (ahead behind new_ahead new_behind : List Block) (count u v : ℕ) (rows : AreRows ahead behind count) (whole : length new_ahead ≡ length ahead) (whole_behind : length new_behind ≡ length behind) where
   -- a pair that was not there is put in
@@ -131,16 +118,16 @@ module _ (blocks : List Block) (u v users : ℕ) (most : users ≤ USER_LIMIT) w
 
   no_pair : (USER_LIMIT ≤ u) ⊎ (USER_LIMIT ≤ v) → set.contains (pairs_in blocks) (u, v) ≡ false
   no_pair (inl past) = contains_set_of (row_bit blocks) USER_LIMIT USER_LIMIT u v ∙ ap (λ b. b && (nat_lt v USER_LIMIT && row_bit blocks u v)) (le-ltb u USER_LIMIT past)
-  no_pair (inr past) = contains_set_of (row_bit blocks) USER_LIMIT USER_LIMIT u v ∙ ap (λ b. nat_lt u USER_LIMIT && (b && row_bit blocks u v)) (le-ltb v USER_LIMIT past) ∙ and_false (nat_lt u USER_LIMIT)
+  no_pair (inr past) = contains_set_of (row_bit blocks) USER_LIMIT USER_LIMIT u v ∙ ap (λ b. nat_lt u USER_LIMIT && (b && row_bit blocks u v)) (le-ltb v USER_LIMIT past) ∙ and-false (nat_lt u USER_LIMIT)
 
   pub row_told : (USER_LIMIT ≤ u → row_bit blocks u v ≡ false) → (nat_lt v users && row_bit blocks u v) ≡ (nat_lt v users && set.contains (pairs_in blocks) (u, v))
-  row_told none = masked (nat_lt v users) (row_bit blocks u v) (set.contains (pairs_in blocks) (u, v)) (λ e. elim (cases_lt u USER_LIMIT) [
+  row_told none = and_same (nat_lt v users) (row_bit blocks u v) (set.contains (pairs_in blocks) (u, v)) (λ e. elim (cases_lt u USER_LIMIT) [
     | inl first ↦ is_pair first (omega (arith, most, ltb-true v users e))
     | inr past ↦ none past ∙ sym (no_pair (inl past))
   ])
 
   pub column_told : (USER_LIMIT ≤ v → row_bit blocks u v ≡ false) → (nat_lt u users && row_bit blocks u v) ≡ (nat_lt u users && set.contains (pairs_in blocks) (u, v))
-  column_told none = masked (nat_lt u users) (row_bit blocks u v) (set.contains (pairs_in blocks) (u, v)) (λ e. elim (cases_lt v USER_LIMIT) [
+  column_told none = and_same (nat_lt u users) (row_bit blocks u v) (set.contains (pairs_in blocks) (u, v)) (λ e. elim (cases_lt v USER_LIMIT) [
     | inl second ↦ is_pair (omega (arith, most, ltb-true u users e)) second
     | inr past ↦ none past ∙ sym (no_pair (inr past))
   ])
@@ -158,7 +145,7 @@ ahead_told ahead behind count u v users rows most =
 
 -- a set without pairs
 pub none_told : (s : Pairs) (b : Bool) (q : ℕ × ℕ) → s ≡ set.empty → false ≡ (b && set.contains s q)
-none_told s b q none = sym (ap (λ c. b && c) (ap (λ t. set.contains t q) none ∙ set.contains-empty pair_cmp q) ∙ and_false b)
+none_told s b q none = sym (ap (λ c. b && c) (ap (λ t. set.contains t q) none ∙ set.contains-empty pair_cmp q) ∙ and-false b)
 
 both_inside : (p r c : Bool) → (p && (r && c)) ≡ true → (p ≡ true) × (r ≡ true)
 both_inside true true c e = (refl, refl)

@@ -1,5 +1,5 @@
 -- Inside: rows of bits, kept in blocks.
-use Rattle.std.specs.Prelude.{◌≡◌, ℕ, ◌<◌, ◌/◌, ◌%◌, Bool, List, [], length, slice_index_or}
+use Rattle.std.specs.Prelude.{◌≡◌, ℕ, ◌<◌, ◌/◌, ◌%◌, Bool, true, false, List, [], length, slice_index_or}
 use Rattle.std.proofs.Common.{◌⊎◌}
 use Rattle.std.specs.FinSet as set
 use Rattle.std.specs.List.{All}
@@ -17,6 +17,11 @@ block_bit block k v = has_user (slice_index_or block.rows k []) v
 -- the bit v of row u: that of row u % BLOCK_ROWS of block u / BLOCK_ROWS
 abbrev pub row_bit : List Block → ℕ → ℕ → Bool
 row_bit blocks u v = block_bit (slice_index_or blocks (u / BLOCK_ROWS) (record { rows = [] })) (u % BLOCK_ROWS) v
+
+-- a bit where it is written, and elsewhere what was there
+abbrev pub written : Bool → Bool → Bool → Bool
+written bit true old = bit
+written bit false old = old
 
 -- the pairs (u, v) whose bits are set
 abbrev pub pairs_in : List Block → Pairs

@@ -1,11 +1,11 @@
 //! Rows of bits in blocks. A block that copies share is copied once one of them changes it.
-ghost use Rattle.std.specs.Prelude.{◌≡◌, ◌≢◌, ◌<◌, ◌≤◌, ◌+◌, ◌%◌, ◌==◌, ◌&&◌, ◌||◌, not, nat_lt, ℕ, [], length, replicate, IfOk, OnOk, OnErr, IsTrue, false};
+ghost use Rattle.std.specs.Prelude.{◌≡◌, ◌≢◌, ◌<◌, ◌≤◌, ◌+◌, ◌%◌, ◌==◌, ◌&&◌, ◌||◌, not, nat_lt, ℕ, [], length, replicate, IfOk, OnOk, OnErr, MatchOption, IsTrue, false};
 ghost use Rattle.std.specs.FinSet as set;
 ghost use Rattle.pair_set.specs.Pairs.{IsAscending};
 ghost use Rattle.wf_names.specs.declared.limits.TheConstants.{USER_LIMIT};
 ghost use Rattle.wf_names.specs.UserSets.{has_user};
 ghost use Rattle.user_relations.specs.declared.blocks.TheConstants.{BLOCKS, BLOCK_ROWS};
-ghost use Rattle.user_relations.specs.Rows.{block_bit, row_bit, pairs_in, AreListedTo};
+ghost use Rattle.user_relations.specs.Rows.{block_bit, row_bit, written, pairs_in, AreListedTo};
 
 use shared_part::{Copied, Shared};
 use std::alloc::{AllocError, Global};
@@ -49,8 +49,8 @@ pub(crate) fn has(blocks: &[Shared<Block>], u: UserId, v: UserId) -> bool
     ensures bit { result ≡ row_bit blocks.now u v }
     ensures within { IsTrue result → v < USER_LIMIT }
 {
-    match blocks.get(u.0 as usize / BLOCK_ROWS) {
-        Some(block) => block.get().rows[u.0 as usize % BLOCK_ROWS].has(v),
+    match row_at(blocks, u) {
+        Some(row) => row.has(v),
         None => false,
     }
 }
@@ -59,9 +59,19 @@ pub(crate) fn has(blocks: &[Shared<Block>], u: UserId, v: UserId) -> bool
 pub(crate) fn row(blocks: &[Shared<Block>], u: UserId) -> UserSet
     ensures { (v : ℕ) → has_user result v ≡ row_bit blocks.now u v }
 {
-    match blocks.get(u.0 as usize / BLOCK_ROWS) {
-        Some(block) => block.get().rows[u.0 as usize % BLOCK_ROWS],
+    match row_at(blocks, u) {
+        Some(row) => *row,
         None => UserSet::empty(),
+    }
+}
+
+fn row_at(blocks: &[Shared<Block>], u: UserId) -> Option<&UserSet>
+    ensures { MatchOption result ((v : ℕ) → row_bit blocks.now u v ≡ false)
+        (λ row. (v : ℕ) → has_user row.now v ≡ row_bit blocks.now u v) }
+{
+    match blocks.get(u.0 as usize / BLOCK_ROWS) {
+        Some(block) => Some(&block.get().rows[u.0 as usize % BLOCK_ROWS]),
+        None => None,
     }
 }
 
@@ -96,89 +106,60 @@ pub(crate) fn copy(
     Ok(copies)
 }
 
-/// Sets bit v of row u ahead, and bit u of row v behind.
-pub(crate) fn join(
+/// Sets bit v of row u ahead and bit u of row v behind, or clears both.
+pub(crate) fn write(
     ahead: &mut [Shared<Block>],
     behind: &mut [Shared<Block>],
     u: UserId,
     v: UserId,
+    bit: bool,
 ) -> Result<(), AllocError>
     requires users { (u < USER_LIMIT) × (v < USER_LIMIT) }
     requires ahead_whole { length ahead.old ≡ BLOCKS }
     requires behind_whole { length behind.old ≡ BLOCKS }
     ensures ahead { OnOk result ((x y : ℕ)
-        → row_bit ahead.new x y ≡ ((x == u && y == v) || row_bit ahead.old x y)) }
+        → row_bit ahead.new x y ≡ written bit (x == u && y == v) (row_bit ahead.old x y)) }
     ensures behind { OnOk result ((y x : ℕ)
-        → row_bit behind.new y x ≡ ((y == v && x == u) || row_bit behind.old y x)) }
+        → row_bit behind.new y x ≡ written bit (y == v && x == u) (row_bit behind.old y x)) }
     ensures unchanged { OnErr result ((ahead.new ≡ ahead.old) × (behind.new ≡ behind.old)) }
 {
     let there = &mut ahead[u.0 as usize / BLOCK_ROWS];
     let back = &mut behind[v.0 as usize / BLOCK_ROWS];
-    join_blocks(there, back, u, v)
+    write_both(there, back, u, v, bit)
 }
 
-fn join_blocks(
+fn write_both(
     ahead: &mut Shared<Block>,
     behind: &mut Shared<Block>,
     u: UserId,
     v: UserId,
+    bit: bool,
 ) -> Result<(), AllocError>
     requires users { (u < USER_LIMIT) × (v < USER_LIMIT) }
     ensures ahead { OnOk result ((k y : ℕ)
-        → block_bit ahead.new k y ≡ ((k == u % BLOCK_ROWS && y == v) || block_bit ahead.old k y)) }
+        → block_bit ahead.new k y
+        ≡ written bit (k == u % BLOCK_ROWS && y == v) (block_bit ahead.old k y)) }
     ensures behind { OnOk result ((k x : ℕ)
-        → block_bit behind.new k x ≡ ((k == v % BLOCK_ROWS && x == u) || block_bit
-        behind.old k x)) }
+        → block_bit behind.new k x
+        ≡ written bit (k == v % BLOCK_ROWS && x == u) (block_bit behind.old k x)) }
     ensures unchanged { OnErr result ((ahead.new ≡ ahead.old) × (behind.new ≡ behind.old)) }
 {
     let there = ahead.edit()?;
     let back = behind.edit()?;
-    there.rows[u.0 as usize % BLOCK_ROWS].insert(v);
-    back.rows[v.0 as usize % BLOCK_ROWS].insert(u);
+    write_row(&mut there.rows[u.0 as usize % BLOCK_ROWS], v, bit);
+    write_row(&mut back.rows[v.0 as usize % BLOCK_ROWS], u, bit);
     Ok(())
 }
 
-/// Clears bit v of row u ahead, and bit u of row v behind.
-pub(crate) fn part(
-    ahead: &mut [Shared<Block>],
-    behind: &mut [Shared<Block>],
-    u: UserId,
-    v: UserId,
-) -> Result<(), AllocError>
-    requires users { (u < USER_LIMIT) × (v < USER_LIMIT) }
-    requires ahead_whole { length ahead.old ≡ BLOCKS }
-    requires behind_whole { length behind.old ≡ BLOCKS }
-    ensures ahead { OnOk result ((x y : ℕ)
-        → row_bit ahead.new x y ≡ (not (x == u && y == v) && row_bit ahead.old x y)) }
-    ensures behind { OnOk result ((y x : ℕ)
-        → row_bit behind.new y x ≡ (not (y == v && x == u) && row_bit behind.old y x)) }
-    ensures unchanged { OnErr result ((ahead.new ≡ ahead.old) × (behind.new ≡ behind.old)) }
+fn write_row(row: &mut UserSet, v: UserId, bit: bool)
+    requires { v < USER_LIMIT }
+    ensures { (y : ℕ) → has_user row.new y ≡ written bit (y == v) (has_user row.old y) }
 {
-    let there = &mut ahead[u.0 as usize / BLOCK_ROWS];
-    let back = &mut behind[v.0 as usize / BLOCK_ROWS];
-    part_blocks(there, back, u, v)
-}
-
-fn part_blocks(
-    ahead: &mut Shared<Block>,
-    behind: &mut Shared<Block>,
-    u: UserId,
-    v: UserId,
-) -> Result<(), AllocError>
-    requires users { (u < USER_LIMIT) × (v < USER_LIMIT) }
-    ensures ahead { OnOk result ((k y : ℕ)
-        → block_bit ahead.new k y ≡ (not (k == u % BLOCK_ROWS && y == v) && block_bit
-        ahead.old k y)) }
-    ensures behind { OnOk result ((k x : ℕ)
-        → block_bit behind.new k x ≡ (not (k == v % BLOCK_ROWS && x == u) && block_bit
-        behind.old k x)) }
-    ensures unchanged { OnErr result ((ahead.new ≡ ahead.old) × (behind.new ≡ behind.old)) }
-{
-    let there = ahead.edit()?;
-    let back = behind.edit()?;
-    there.rows[u.0 as usize % BLOCK_ROWS].remove(v);
-    back.rows[v.0 as usize % BLOCK_ROWS].remove(u);
-    Ok(())
+    if bit {
+        row.insert(v);
+    } else {
+        row.remove(v);
+    }
 }
 
 /// The pairs of each row's number and the users of the row, in ascending order.

@@ -402,10 +402,27 @@ pub(crate) fn copy(alloc: Global, declared: &[Relation]) -> Result<Vec<Relation>
     ensures { IfOk result (λ copies. shapes copies.items ≡ shapes declared.now) }
 {
     let mut copies = Vec::with_capacity(alloc, declared.len())?;
-    'copying: for relation in declared {
-        copies.push(copy_one(relation)?)?;
-    }
+    push_copies(&mut copies, declared)?;
     Ok(copies)
+}
+
+fn push_copies(copies: &mut Vec<Relation>, declared: &[Relation]) -> Result<(), AllocError>
+    requires { copies.old.items ≡ [] }
+    ensures { OnOk result (shapes copies.new.items ≡ shapes declared.now) }
+{
+    'copying: for relation in declared {
+        push_copy(copies, relation)?;
+    }
+    Ok(())
+}
+
+fn push_copy(copies: &mut Vec<Relation>, relation: &Relation) -> Result<(), AllocError>
+    ensures { OnOk result (shapes copies.new.items
+        ≡ shapes copies.old.items ++ relation_view relation.now ∷ []) }
+{
+    let copy = copy_one(relation)?;
+    copies.push(copy)?;
+    Ok(())
 }
 
 fn copy_one(relation: &Relation) -> Result<Relation, AllocError>

@@ -16,8 +16,6 @@ ghost use Rattle.user_relations.specs.Faults.{relate_fault, unrelate_fault, Answ
 mod blocks;
 mod kinds;
 mod masks;
-#[cfg(test)]
-mod tests;
 mod user_pairs;
 
 pub use kinds::{Kind, Relation};

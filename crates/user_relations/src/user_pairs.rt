@@ -84,7 +84,7 @@ impl UserPairs {
         if self.has(u, v) {
             return Ok(false);
         }
-        blocks::join(&mut self.ahead, &mut self.behind, u, v)?;
+        blocks::write(&mut self.ahead, &mut self.behind, u, v, true)?;
         self.count += 1;
         Ok(true)
     }
@@ -101,7 +101,7 @@ impl UserPairs {
         if !self.has(u, v) {
             return Ok(false);
         }
-        blocks::part(&mut self.ahead, &mut self.behind, u, v)?;
+        blocks::write(&mut self.ahead, &mut self.behind, u, v, false)?;
         self.count -= 1;
         Ok(true)
     }

@@ -1,7 +1,9 @@
-//! Tests of the lowest crates, those of values that are no part of a policy: what no clause of
-//! theirs shows.
+//! Tests of low crates, those of values that are no part of a policy: what no clause of theirs
+//! shows.
 #![tactic(auto)]
 
+#[cfg(test)]
+mod endings;
 #[cfg(test)]
 mod lists;
 #[cfg(test)]

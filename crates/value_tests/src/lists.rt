@@ -7,14 +7,22 @@ use std::test::Fail;
 #[test]
 fn a_list_keeps_what_it_takes(rt: HostRuntime) -> Result<(), Fail> {
     let mut list = List::new(rt.alloc());
+    fill(&mut list)?;
+    assert!(rt; copies_three(&list)?);
+    Ok(())
+}
+
+fn fill(list: &mut List<u32>) -> Result<(), Fail> {
     list.push(3)?;
     list.add(&5)?;
     list.push_all(&[8, 9])?;
     list.truncate(3);
-    let copy = list.copy()?;
-    assert!(rt; copy.as_slice() == [3u32, 5, 8].as_slice());
-    assert!(rt; (copy.len(), *copy.get(1)) == (3, 5));
     Ok(())
+}
+
+fn copies_three(list: &List<u32>) -> Result<bool, Fail> {
+    let copy = list.copy()?;
+    Ok(copy.as_slice() == [3u32, 5, 8].as_slice() && copy.len() == 3 && *copy.get(1) == 5)
 }
 
 #[test]

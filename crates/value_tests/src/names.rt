@@ -1,6 +1,6 @@
 //! What no clause shows: which texts are names, and that a table's calls succeed while there is memory.
+ghost use Rattle.std.specs.Prelude.{◌≡◌, ◌≤◌, length};
 
-use std::alloc::AllocError;
 use std::process::Abort;
 use std::test::Fail;
 use wf_names::words::{count_words, join_words, meet_words, strike_words};
@@ -31,22 +31,32 @@ fn names_are_read_by_their_form(rt: HostRuntime) {
 fn a_table_numbers_its_names(rt: HostRuntime) -> Result<(), Fail> {
     let mut table = NameTable::new(rt.alloc(), 2)?;
     add_names(&rt, &mut table)?;
-    assert!(rt; copies_both(&table, &read("bob")?, &read("cyd")?)?);
+    assert!(rt; copies_both(&table)?);
     Ok(())
 }
 
 fn add_names(rt: &impl Abort, table: &mut NameTable) -> Result<(), Fail> {
-    let (ann, bob) = (read("ann")?, read("bob")?);
-    assert!(rt; table.add(ann) == Ok(0) && table.add(ann) == Err(NameFault::Twice));
-    assert!(rt; table.add(bob) == Ok(1) && table.add(bob) == Err(NameFault::Twice));
-    assert!(rt; table.add(read("cyd")?) == Err(NameFault::Full));
+    assert!(rt; add(table, "ann")? == Ok(0));
+    assert!(rt; add(table, "ann")? == Err(NameFault::Twice));
+    assert!(rt; add(table, "bob")? == Ok(1));
+    assert!(rt; add(table, "bob")? == Err(NameFault::Twice));
+    assert!(rt; add(table, "cyd")? == Err(NameFault::Full));
     Ok(())
 }
 
-// Whether a copy has two names, the second of them `there`, and not the other.
-fn copies_both(table: &NameTable, there: &Name, other: &Name) -> Result<bool, AllocError> {
+fn add(table: &mut NameTable, text: &str) -> Result<Result<u16, NameFault>, Fail> {
+    Ok(table.add(read(text)?))
+}
+
+// Whether a copy has two names, the second of them bob, and not cyd.
+fn copies_both(table: &NameTable) -> Result<bool, Fail> {
     let copy = table.copy()?;
-    Ok(copy.len() == 2 && copy.find(there) == Some(1) && copy.find(other).is_none())
+    Ok(has_both(&copy)?)
+}
+
+fn has_both(table: &NameTable) -> Result<bool, Fail> {
+    let (there, other) = (table.find(&read("bob")?), table.find(&read("cyd")?));
+    Ok(table.len() == 2 && there == Some(1) && other.is_none())
 }
 
 fn read(text: &str) -> Result<Name, Fail> {
@@ -101,24 +111,63 @@ fn kernels_do_as_one_word_does(rt: HostRuntime) {
     }
 }
 
-fn kernels_agree(own: &[u64], by: &[u64]) -> bool {
-    let (mut met, mut struck, mut joined) = ([0; 70], [0; 70], [0; 70]);
-    let len = own.len();
-    if len > 70 || by.len() != len {
-        return false;
-    }
-    met[..len].copy_from_slice(own);
-    struck[..len].copy_from_slice(own);
-    joined[..len].copy_from_slice(own);
-    meet_words(&mut met[..len], by);
-    strike_words(&mut struck[..len], by);
-    join_words(&mut joined[..len], by);
-    let mut ones: u64 = 0;
-    for i in 0..len {
-        ones = ones.wrapping_add(own[i].count_ones() as u64);
-        if met[i] != own[i] & by[i] || struck[i] != own[i] & !by[i] || joined[i] != own[i] | by[i] {
+fn kernels_agree(own: &[u64], by: &[u64]) -> bool
+    requires lengths { length own.now ≡ length by.now }
+    requires room { length own.now ≤ 70 }
+{
+    let mut room = [0; 70];
+    let words = &mut room[..own.len()];
+    meets(words, own, by) && strikes(words, own, by) && joins(words, own, by) && counts(own)
+}
+
+fn meets(words: &mut [u64], own: &[u64], by: &[u64]) -> bool
+    requires own { length own.now ≡ length words.old }
+    requires by { length by.now ≡ length words.old }
+{
+    words.copy_from_slice(own);
+    meet_words(words, by);
+    for i in 0..words.len() {
+        if words[i] != own[i] & by[i] {
             return false;
         }
+    }
+    true
+}
+
+fn strikes(words: &mut [u64], own: &[u64], by: &[u64]) -> bool
+    requires own { length own.now ≡ length words.old }
+    requires by { length by.now ≡ length words.old }
+{
+    words.copy_from_slice(own);
+    strike_words(words, by);
+    for i in 0..words.len() {
+        if words[i] != own[i] & !by[i] {
+            return false;
+        }
+    }
+    true
+}
+
+fn joins(words: &mut [u64], own: &[u64], by: &[u64]) -> bool
+    requires own { length own.now ≡ length words.old }
+    requires by { length by.now ≡ length words.old }
+{
+    words.copy_from_slice(own);
+    join_words(words, by);
+    for i in 0..words.len() {
+        if words[i] != own[i] | by[i] {
+            return false;
+        }
+    }
+    true
+}
+
+fn counts(own: &[u64]) -> bool
+    requires { length own.now ≤ 70 }
+{
+    let mut ones: u64 = 0;
+    for word in own {
+        ones = ones.wrapping_add(word.count_ones() as u64);
     }
     count_words(own) == ones
 }

@@ -1,6 +1,9 @@
 //! What no clause shows: that the ones in memory give, take and fail as they are told, and that
 //! calls succeed while there is memory.
+ghost use Rattle.std.specs.Prelude.{◌≡◌, ◌<◌, []};
 
+use std::alloc::{AllocError, Global};
+use std::process::Abort;
 use std::test::Fail;
 use wf_outside::{
     LoadFault, Loaded, MemFile, MemShelf, MemSink, MemSource, Shelf, Sink, Source, put_all,
@@ -10,98 +13,117 @@ use wf_outside::{
 // Nine bytes come in pieces of 2, the last one shorter.
 #[test]
 fn all_is_taken_in_pieces(rt: HostRuntime) -> Result<(), Fail> {
-    let alloc = rt.alloc();
-    let mut source = MemSource::new(b"nine char".to_vec(alloc)?, 2, Vec::new(alloc));
-    let bytes = take_all(alloc, &mut source, 9, 5)?;
-    assert_eq!(rt; bytes.as_bytes(), b"nine char".as_slice());
+    let mut source = nine_bytes(rt.alloc(), 2, &[])?;
+    let bytes = take_all(rt.alloc(), &mut source, 9, 5)?;
+    assert!(rt; bytes.as_bytes() == b"nine char".as_slice());
     Ok(())
 }
 
 #[test]
 fn a_source_tells_its_faults(rt: HostRuntime) -> Result<(), Fail> {
-    let alloc = rt.alloc();
-    let mut long = MemSource::new(b"nine char".to_vec(alloc)?, 4, Vec::new(alloc));
-    let too_long = take_all(alloc, &mut long, 8, 5).err();
-    let mut failing = MemSource::new(b"nine char".to_vec(alloc)?, 4, [1].to_vec(alloc)?);
-    let failed = take_all(alloc, &mut failing, 9, 5).err();
-    assert_eq!(rt;
-        (too_long, failed, failing.faults(), failing.left()),
-        (
-            Some(LoadFault::TooLong),
-            Some(LoadFault::Failed),
-            1,
-            b" char".as_slice()
-        )
-    );
+    let mut long = nine_bytes(rt.alloc(), 4, &[])?;
+    assert!(rt; take_all(rt.alloc(), &mut long, 8, 5).err() == Some(LoadFault::TooLong));
     Ok(())
+}
+
+#[test]
+fn a_failing_source_keeps_the_rest(rt: HostRuntime) -> Result<(), Fail> {
+    let mut failing = nine_bytes(rt.alloc(), 4, &[1])?;
+    assert!(rt; take_all(rt.alloc(), &mut failing, 9, 5).err() == Some(LoadFault::Failed));
+    assert!(rt; failing.faults() == 1 && failing.left() == b" char".as_slice());
+    Ok(())
+}
+
+fn nine_bytes(alloc: Global, most: usize, failing: &[u64]) -> Result<MemSource, AllocError>
+    requires { 0 < most }
+{
+    let bytes = b"nine char".to_vec(alloc)?;
+    Ok(MemSource::new(bytes, most, failing.to_vec(alloc)?))
 }
 
 #[test]
 fn all_is_put_in_pieces(rt: HostRuntime) -> Result<(), Fail> {
-    let alloc = rt.alloc();
-    let mut sink = MemSink::new(alloc, 16, 2, Vec::new(alloc))?;
-    put_all(&mut sink, b"valid")?;
-    put_all(&mut sink, b"\n")?;
-    assert_eq!(rt; sink.bytes(), b"valid\n".as_slice());
+    let mut sink = MemSink::new(rt.alloc(), 16, 2, Vec::new(rt.alloc()))?;
+    assert!(rt; takes_both(&mut sink)?);
     Ok(())
+}
+
+fn takes_both(sink: &mut MemSink) -> Result<bool, Fail> {
+    put_all(sink, b"valid")?;
+    put_all(sink, b"\n")?;
+    Ok(sink.bytes() == b"valid\n".as_slice())
 }
 
 #[test]
 fn a_failing_second_put_leaves_a_prefix(rt: HostRuntime) -> Result<(), Fail> {
-    let alloc = rt.alloc();
-    let mut sink = MemSink::new(alloc, 16, 2, [1].to_vec(alloc)?)?;
-    let failed = put_all(&mut sink, b"valid\n").is_err();
-    let mut closed = MemSink::new(alloc, 16, 0, Vec::new(alloc))?;
-    let none = put_all(&mut closed, b"valid\n").is_err();
-    assert_eq!(rt;
-        (failed, sink.bytes(), sink.faults(), none, closed.faults()),
-        (true, b"va".as_slice(), 1, true, 1)
-    );
+    assert!(rt; is_put(rt.alloc(), 2, &[1], b"va")?);
+    assert!(rt; is_put(rt.alloc(), 0, &[], b"")?);
     Ok(())
+}
+
+// Whether so much is put of `valid` and LF before the one fault of a sink.
+fn is_put(alloc: Global, most: usize, failing: &[u64], bytes: &[u8]) -> Result<bool, Fail> {
+    let mut sink = MemSink::new(alloc, 16, most, failing.to_vec(alloc)?)?;
+    let failed = put_all(&mut sink, b"valid\n").is_err();
+    Ok(failed && sink.faults() == 1 && sink.bytes() == bytes)
 }
 
 #[test]
 fn a_shelf_finds_its_files(rt: HostRuntime) -> Result<(), Fail> {
-    let alloc = rt.alloc();
-    let mut files = Vec::new(alloc);
-    files.push(MemFile {
-        name: String::from_str(alloc, "pay.toml")?,
-        bytes: b"format = 1\n".to_vec(alloc)?,
-    })?;
-    let mut shelf = MemShelf::new(files, [3].to_vec(alloc)?);
-    let loaded = shelf.load(alloc, "pay.toml", 11)?;
-    let too_long = shelf.load(alloc, "pay.toml", 10).err();
-    let missing = shelf.load(alloc, "pay", 11).err();
-    let failing = shelf.load(alloc, "pay.toml", 11).err();
-    assert_eq!(rt;
-        (
-            loaded.as_bytes(),
-            too_long,
-            missing,
-            failing,
-            shelf.faults()
-        ),
-        (
-            b"format = 1\n".as_slice(),
-            Some(LoadFault::TooLong),
-            Some(LoadFault::Failed),
-            Some(LoadFault::Failed),
-            2
-        )
-    );
+    let files = one_file(rt.alloc())?;
+    let mut shelf = MemShelf::new(files, [3].to_vec(rt.alloc())?);
+    finds_its_file(&rt, rt.alloc(), &mut shelf)?;
+    refuses(&rt, rt.alloc(), &mut shelf);
     Ok(())
+}
+
+fn one_file(alloc: Global) -> Result<Vec<MemFile>, Fail> {
+    let mut files = Vec::new(alloc);
+    files.push(policy_file(alloc)?)?;
+    Ok(files)
+}
+
+fn policy_file(alloc: Global) -> Result<MemFile, Fail> {
+    let name = String::from_str(alloc, "pay.toml")?;
+    Ok(MemFile {
+        name,
+        bytes: b"format = 1\n".to_vec(alloc)?,
+    })
+}
+
+fn finds_its_file(rt: &impl Abort, alloc: Global, shelf: &mut MemShelf) -> Result<(), Fail> {
+    let loaded = shelf.load(alloc, "pay.toml", 11)?;
+    assert!(rt; loaded.as_bytes() == b"format = 1\n".as_slice());
+    Ok(())
+}
+
+fn refuses(rt: &impl Abort, alloc: Global, shelf: &mut MemShelf) {
+    assert!(rt; fault_of(alloc, shelf, "pay.toml", 10) == Some(LoadFault::TooLong));
+    assert!(rt; fault_of(alloc, shelf, "pay", 11) == Some(LoadFault::Failed));
+    assert!(rt; fault_of(alloc, shelf, "pay.toml", 11) == Some(LoadFault::Failed));
+    assert!(rt; shelf.faults() == 2);
+}
+
+fn fault_of(alloc: Global, shelf: &mut MemShelf, name: &str, limit: usize) -> Option<LoadFault> {
+    shelf.load(alloc, name, limit).err()
 }
 
 #[test]
 fn loaded_bytes_are_a_list(rt: HostRuntime) -> Result<(), Fail> {
-    let alloc = rt.alloc();
-    let mut bytes = Loaded::new(alloc);
+    let mut bytes = Loaded::new(rt.alloc());
+    assert!(rt; adds_both(&mut bytes)? && copies_both(&bytes)?);
+    Ok(())
+}
+
+fn adds_both(bytes: &mut Loaded) -> Result<bool, Fail>
+    requires { bytes.old ≡ [] }
+{
     bytes.push(b'h')?;
     bytes.push(b'i')?;
+    Ok(bytes.len() == 2 && *bytes.get(1) == b'i')
+}
+
+fn copies_both(bytes: &Loaded) -> Result<bool, Fail> {
     let same = bytes.copy()?;
-    assert_eq!(rt;
-        (bytes.len(), *bytes.get(1), same.as_bytes()),
-        (2, b'i', b"hi".as_slice())
-    );
-    Ok(())
+    Ok(same.as_bytes() == b"hi".as_slice())
 }

@@ -6,8 +6,6 @@ mod flow;
 pub mod laws;
 mod lists;
 mod table;
-#[cfg(test)]
-mod tests;
 
 pub use fault::FlowFault;
 pub use flow::Flow;

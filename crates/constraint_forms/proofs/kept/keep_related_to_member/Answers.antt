@@ -9,7 +9,7 @@ pub members-preserved : goal.members-preserved
 members-preserved g c u =
     let x = c.members.x in
     let group = c.args.group.now in
-    let p = λ (y : ℕ). are_unrelated_with (g.R.Holds.related c.args.rows.now) c.args.rho c.args.a.now y c.args.step c.args.s u in
+    let p = λ (y : ℕ). are_unrelated_with (g.R.Holds.related c.args.rows.now) c.args.rho c.args.asked.now.given y c.args.step c.args.asked.now.s u in
     let within : x < length group = omega (arith, c.members-test.true, c.limit-limit.ensures.limit, c.limit-limit.ensures.len) in
     elim c.if-has.branch [
       | then-has w ↦

@@ -6,5 +6,5 @@ use Rattle.constraint_forms.proofs.kept.keep_related_to_member.Given as goal
 
 abbrev pub invariant-members : goal.invariant-members
 invariant-members g l =
-    let p = λ (u x : ℕ). are_unrelated_with (g.R.Holds.related l.rows) l.rho l.a x l.step l.s u in
+    let p = λ (u x : ℕ). are_unrelated_with (g.R.Holds.related l.rows) l.rho l.asked.given x l.step l.asked.s u in
     (u : ℕ) → (has_user l.kept u || (has_user l.set u && not (all_from l.x (drop l.x l.group) (p u)))) ≡ (has_user l.set u && not (all_from 0 l.group (p u)))

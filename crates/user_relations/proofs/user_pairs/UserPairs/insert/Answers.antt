@@ -1,12 +1,13 @@
-use Rattle.std.proofs.Common.{◌∙◌, ◌==◌, ◌&&◌, ◌||◌, ◌+◌, ap, sym, subst, length, List, arith}
+use Rattle.std.proofs.Common.{◌∙◌, ◌==◌, ◌&&◌, ◌||◌, ◌+◌, ap, sym, subst, length, List, arith, true}
 use Rattle.std.specs.FinSet as set
 use Rattle.pair_set.specs.PairLaws.{pair_cmp_total, pair_cmp-IsAntisymmetric, insert_held}
 use Rattle.pair_set.specs.Tables.{set_of_insert}
 use Rattle.wf_names.specs.declared.limits.TheConstants.{USER_LIMIT}
 use Rattle.user_relations.specs.declared.blocks.Block.{Block}
-use Rattle.user_relations.specs.Rows.{row_bit, pairs_in, AreRows}
+use Rattle.user_relations.specs.Rows.{row_bit, written, pairs_in, AreRows}
 use Rattle.std.specs.Vec.{with_items}
 use Rattle.std.proofs.lemmas.List.{with_items_is}
+use Rattle.user_relations.proofs.RowBits.{put_is}
 use Rattle.user_relations.proofs.RowSets.{rows_put, few_pairs}
 use Rattle.user_relations.proofs.user_pairs.UserPairs.insert.Goals as goal
 
@@ -22,23 +23,23 @@ invariant_of-self-2 c =
     let v = c.args.v in
     let ahead = c.self.inside.ahead in
     let behind = c.self.inside.behind in
-    let new_ahead = with_items_is ahead c.join.new.ahead (c.join.auto.ahead ∙ c.deref_mut.ensures.len) in
-    let new_behind = with_items_is behind c.join.new.behind (c.join.auto.behind ∙ c.deref_mut-2.ensures.len) in
+    let new_ahead = with_items_is ahead c.write.new.ahead (c.write.auto.ahead ∙ c.deref_mut.ensures.len) in
+    let new_behind = with_items_is behind c.write.new.behind (c.write.auto.behind ∙ c.deref_mut-2.ensures.len) in
     let free = ap (λ s. set.contains s (u, v)) c.self.view_is ∙ sym c.has.ensures ∙ c.if-has.false in
-    let rows = rows_put ahead.items behind.items c.join.new.ahead c.join.new.behind c.self.inside.count u v c.self.invariant
-    (c.join.auto.ahead ∙ ap length c.deref_mut.ensures.value) (c.join.auto.behind ∙ ap length c.deref_mut-2.ensures.value)
+    let rows = rows_put ahead.items behind.items c.write.new.ahead c.write.new.behind c.self.inside.count u v c.self.invariant
+    (c.write.auto.ahead ∙ ap length c.deref_mut.ensures.value) (c.write.auto.behind ∙ ap length c.deref_mut-2.ensures.value)
     c.requires.first c.requires.second free
-    (λ x y. c.in_ok-join.ensures.ahead x y ∙ ap (λ bs. (x == u && y == v) || row_bit bs x y) c.deref_mut.ensures.value)
-    (λ y x. c.in_ok-join.ensures.behind y x ∙ ap (λ bs. (y == v && x == u) || row_bit bs y x) c.deref_mut-2.ensures.value)
+    (λ x y. c.in_ok-write.ensures.ahead x y ∙ ap (λ bs. written true (x == u && y == v) (row_bit bs x y)) c.deref_mut.ensures.value ∙ put_is (x == u && y == v) (row_bit c.self.inside.ahead.items x y))
+    (λ y x. c.in_ok-write.ensures.behind y x ∙ ap (λ bs. written true (y == v && x == u) (row_bit bs y x)) c.deref_mut-2.ensures.value ∙ put_is (y == v && x == u) (row_bit c.self.inside.behind.items y x))
     in
-    subst (λ (bs : List Block). AreRows bs (with_items behind c.join.new.behind).items (c.self.inside.count + 1)) (sym new_ahead)
-    (subst (λ (bs : List Block). AreRows c.join.new.ahead bs (c.self.inside.count + 1)) (sym new_behind) rows)
+    subst (λ (bs : List Block). AreRows bs (with_items behind c.write.new.behind).items (c.self.inside.count + 1)) (sym new_ahead)
+    (subst (λ (bs : List Block). AreRows c.write.new.ahead bs (c.self.inside.count + 1)) (sym new_behind) rows)
 
 pub returns-clause-added : goal.returns-clause-added
 returns-clause-added c =
     let u = c.args.u in
     let v = c.args.v in
-    ap pairs_in (with_items_is c.self.inside.ahead c.join.new.ahead (c.join.auto.ahead ∙ c.deref_mut.ensures.len))
-    ∙ set_of_insert (row_bit c.self.inside.ahead.items) (row_bit c.join.new.ahead) USER_LIMIT USER_LIMIT u v c.requires.first c.requires.second
-    (λ x y. c.in_ok-join.ensures.ahead x y ∙ ap (λ bs. (x == u && y == v) || row_bit bs x y) c.deref_mut.ensures.value)
+    ap pairs_in (with_items_is c.self.inside.ahead c.write.new.ahead (c.write.auto.ahead ∙ c.deref_mut.ensures.len))
+    ∙ set_of_insert (row_bit c.self.inside.ahead.items) (row_bit c.write.new.ahead) USER_LIMIT USER_LIMIT u v c.requires.first c.requires.second
+    (λ x y. c.in_ok-write.ensures.ahead x y ∙ ap (λ bs. written true (x == u && y == v) (row_bit bs x y)) c.deref_mut.ensures.value ∙ put_is (x == u && y == v) (row_bit c.self.inside.ahead.items x y))
     ∙ ap (λ s. set.insert s (u, v)) c.self.view_is

@@ -2,7 +2,7 @@
 
 ghost use Rattle.std.specs.Prelude.{◌≡◌, ◌+◌, IfOk, OnOk, length};
 
-use crate::{Roster, RosterFault};
+use rbac_state::{Roster, RosterFault};
 use std::alloc::Global;
 use std::process::Abort;
 use std::test::Fail;
@@ -20,26 +20,29 @@ const USERS: u16 = 70;
 const ROLES: u8 = 2;
 
 #[test]
-fn users_are_added(rt: HostRuntime) -> Result<(), Fail> {
-    let mut roster = two_roles(rt.alloc())?;
-    add_two(&mut roster)?;
-    let again = roster.add_user(read("ann")?);
-    assert!(rt; again == Err(NameFault::Twice));
-    assert!(rt; (roster.users().len(), roster.roles().len()) == (2, 2));
-    Ok(())
+fn a_roster_answers_its_calls(rt: HostRuntime) -> Result<(), Fail> {
+    let mut roster = two_users(rt.alloc())?;
+    answers_its_calls(&rt, &mut roster)
 }
 
-#[test]
-fn a_role_is_given_and_taken_away_once(rt: HostRuntime) -> Result<(), Fail> {
-    let mut roster = two_roles(rt.alloc())?;
-    add_two(&mut roster)?;
-    change_a_role(&rt, &mut roster);
+fn answers_its_calls(rt: &impl Abort, roster: &mut Roster) -> Result<(), Fail>
+    requires users { length roster.old.users ≡ 2 }
+    requires roles { length roster.old.roles ≡ 2 }
+{
+    change_a_role(rt, roster);
+    assert!(rt; roster.enrol(BOB, CLERK) == Ok(()));
+    tell_the_holders(rt, roster);
+    assert!(rt; copies_the_roles(roster)?);
+    assert!(rt; fault_of(roster, "ann")? == Some(NameFault::Twice));
+    assert!(rt; (roster.users().len(), roster.roles().len()) == (2, 2));
     Ok(())
 }
 
 fn change_a_role(rt: &impl Abort, roster: &mut Roster)
     requires users { length roster.old.users ≡ 2 }
     requires roles { length roster.old.roles ≡ 2 }
+    ensures users { length roster.new.users ≡ 2 }
+    ensures roles { length roster.new.roles ≡ 2 }
 {
     assert!(rt; roster.enrol(BOB, CLERK) == Ok(()));
     assert!(rt; roster.enrol(BOB, CLERK) == Err(RosterFault::Already));
@@ -47,23 +50,14 @@ fn change_a_role(rt: &impl Abort, roster: &mut Roster)
     assert!(rt; roster.dismiss(BOB, CLERK) == Err(RosterFault::Absent));
 }
 
-#[test]
-fn a_copy_keeps_the_roles(rt: HostRuntime) -> Result<(), Fail> {
-    let mut roster = two_roles(rt.alloc())?;
-    add_two(&mut roster)?;
-    let enrolled = roster.enrol(BOB, CLERK);
-    assert!(rt; enrolled == Ok(()) && copies_the_roles(&roster)?);
-    Ok(())
+fn tell_the_holders(rt: &impl Abort, roster: &Roster) {
+    assert!(rt; holds_alone(roster, CLERK, BOB));
+    assert!(rt; roster.holders(ADMIN).count() == 0 && roster.holders(RoleId(64)).count() == 0);
 }
 
-#[test]
-fn the_holders_of_a_role_are_known(rt: HostRuntime) -> Result<(), Fail> {
-    let mut roster = two_roles(rt.alloc())?;
-    add_two(&mut roster)?;
-    let enrolled = roster.enrol(BOB, CLERK);
-    assert!(rt; enrolled == Ok(()) && holds_alone(&roster, CLERK, BOB));
-    assert!(rt; roster.holders(ADMIN).count() == 0 && roster.holders(RoleId(64)).count() == 0);
-    Ok(())
+// Why a user is not added.
+fn fault_of(roster: &mut Roster, name: &str) -> Result<Option<NameFault>, Fail> {
+    Ok(roster.add_user(read(name)?).err())
 }
 
 fn holds_alone(roster: &Roster, r: RoleId, u: UserId) -> bool {
@@ -73,9 +67,13 @@ fn holds_alone(roster: &Roster, r: RoleId, u: UserId) -> bool {
 
 #[test]
 fn rows_agree_with_a_list_of_pairs(rt: HostRuntime) -> Result<(), Fail> {
-    let mut roster = crowd(rt.alloc())?;
-    assert!(rt; changes_agree(rt.alloc(), &mut roster)?);
+    assert!(rt; crowd_agrees(rt.alloc())?);
     Ok(())
+}
+
+fn crowd_agrees(alloc: Global) -> Result<bool, Fail> {
+    let mut roster = crowd(alloc)?;
+    changes_agree(alloc, &mut roster)
 }
 
 // Whether a roster answers as a list of pairs does, through random changes of both.
@@ -169,14 +167,30 @@ fn copies_the_roles(roster: &Roster) -> Result<bool, Fail> {
     Ok(copy.has(BOB, CLERK) && !copy.has(BOB, ADMIN))
 }
 
+// A roster of two roles and two users.
+fn two_users(alloc: Global) -> Result<Roster, Fail>
+    ensures users { IfOk result (λ roster. length roster.users ≡ 2) }
+    ensures roles { IfOk result (λ roster. length roster.roles ≡ 2) }
+{
+    let mut roster = two_roles(alloc)?;
+    add_two(&mut roster)?;
+    Ok(roster)
+}
+
 // A roster of two roles, without users.
 fn two_roles(alloc: Global) -> Result<Roster, Fail>
     ensures users { IfOk result (λ roster. length roster.users ≡ 0) }
     ensures roles { IfOk result (λ roster. length roster.roles ≡ 2) }
 {
+    Ok(Roster::new(alloc, role_names(alloc)?)?)
+}
+
+fn role_names(alloc: Global) -> Result<NameTable, Fail>
+    ensures { IfOk result (λ roles. length roles.names ≡ 2) }
+{
     let mut roles = NameTable::new(alloc, 64)?;
     add_roles(&mut roles)?;
-    Ok(Roster::new(alloc, roles)?)
+    Ok(roles)
 }
 
 fn add_roles(roles: &mut NameTable) -> Result<(), Fail>
@@ -212,12 +226,20 @@ fn add_two(roster: &mut Roster) -> Result<(), Fail>
     ensures users { OnOk result (length roster.new.users ≡ 2) }
     ensures roles { length roster.new.roles ≡ length roster.old.roles }
 {
-    let ann = roster.add_user(read("ann")?).ok().ok_or("no room")?;
-    let bob = roster.add_user(read("bob")?).ok().ok_or("no room")?;
+    let ann = add(roster, "ann")?;
+    let bob = add(roster, "bob")?;
     if (ann, bob) != (UserId(0), UserId(1)) {
         Err::<(), &str>("other numbers")?;
     }
     Ok(())
+}
+
+fn add(roster: &mut Roster, name: &str) -> Result<UserId, Fail>
+    ensures users { OnOk result (length roster.new.users ≡ length roster.old.users + 1) }
+    ensures roles { length roster.new.roles ≡ length roster.old.roles }
+{
+    let name = read(name)?;
+    Ok(roster.add_user(name).ok().ok_or("no room")?)
 }
 
 fn read(text: &str) -> Result<Name, Fail> {

@@ -1,9 +1,10 @@
 //! Rules of example policies, whose verdicts were worked out by hand, and each call once.
-ghost use Rattle.std.specs.Prelude.{◌≡◌, ℕ, ◌==◌, ◌&&◌, ◌<◌, ◌≤◌, nat_lt, true, not, if◌then◌else◌};
+ghost use Rattle.std.specs.Prelude.{◌≡◌, ℕ, ◌==◌, ◌&&◌, ◌<◌, ◌≤◌, nat_lt, true, not, length, if◌then◌else◌};
+ghost use Rattle.constraint_forms.specs.Rules.{IsRuleOf};
 ghost use Rattle.wf_names.specs.UserSets.{has_user};
 ghost use Rattle.wf_names.specs.declared.limits.TheConstants.{STEP_LIMIT, USER_LIMIT};
 
-use crate::{
+use constraint_forms::{
     Assign, Holds, Plan, RelatedRows, Rule, Rules, StepSet, falsified, keep_unfalsified, satisfied,
 };
 use std::test::Fail;
@@ -123,10 +124,20 @@ fn duo_falsifies_a_pair_once_both_steps_are_assigned(rt: HostRuntime) {
         ("kl", false, true),
     ];
     for (row, breaks_other, breaks_same) in rows {
-        let a = assigned(row);
-        assert!(rt; falsified(&other, &Mentors, &a) == breaks_other, "{row}");
-        assert!(rt; falsified(&same, &Mentors, &a) == breaks_same, "{row}");
+        assert!(rt;
+            broken_by(&other, &same, row) == (breaks_other, breaks_same),
+            "{row}"
+        );
     }
+}
+
+// Whether the assignment of a row falsifies each of two rules.
+fn broken_by(first: &Rule, second: &Rule, row: &str) -> (bool, bool) {
+    let a = assigned(row);
+    (
+        falsified(first, &Mentors, &a),
+        falsified(second, &Mentors, &a),
+    )
 }
 
 #[test]
@@ -148,9 +159,10 @@ fn trio_mentor_falsifies_some_once_all_are_assigned(rt: HostRuntime) {
         ("kl-", false, false),
     ];
     for (row, breaks_some, breaks_all) in rows {
-        let a = assigned(row);
-        assert!(rt; falsified(&some, &Mentors, &a) == breaks_some, "{row}");
-        assert!(rt; falsified(&all, &Mentors, &a) == breaks_all, "{row}");
+        assert!(rt;
+            broken_by(&some, &all, row) == (breaks_some, breaks_all),
+            "{row}"
+        );
     }
 }
 
@@ -159,10 +171,15 @@ fn trio_plans_satisfy_or_not(rt: HostRuntime) {
     let (rho, group, step) = (LISTED, StepSet::empty().with(A).with(B), C);
     let some = Rule::SomeOf { rho, group, step };
     let all = Rule::AllOf { rho, group, step };
-    assert!(rt; satisfied(&some, &Mentors, &Plan::of(&[KIM, MAX, LEE])));
-    assert!(rt; !satisfied(&some, &Mentors, &Plan::of(&[MAX, MAX, LEE])));
-    assert!(rt; !satisfied(&all, &Mentors, &Plan::of(&[KIM, MAX, LEE])));
-    assert!(rt; satisfied(&all, &Mentors, &Plan::of(&[KIM, KIM, LEE])));
+    assert!(rt; satisfies(&some, &[KIM, MAX, LEE]) && !satisfies(&some, &[MAX, MAX, LEE]));
+    assert!(rt; !satisfies(&all, &[KIM, MAX, LEE]) && satisfies(&all, &[KIM, KIM, LEE]));
+}
+
+fn satisfies(rule: &Rule, users: &[UserId]) -> bool
+    requires plan { length users.now ≤ STEP_LIMIT }
+    requires rule { IsRuleOf (length users.now) rule.now }
+{
+    satisfied(rule, &Mentors, &Plan::of(users))
 }
 
 #[test]
@@ -175,15 +192,23 @@ fn a_clear_pair_is_satisfied_by_one_user(rt: HostRuntime) {
 }
 
 #[test]
-fn rules_are_listed_with_their_steps(rt: HostRuntime) -> Result<(), Fail> {
+fn rules_are_listed(rt: HostRuntime) -> Result<(), Fail> {
     let mut rules = Rules::new(rt.alloc());
+    assert!(rt; lists_both(&mut rules)?);
+    Ok(())
+}
+
+fn lists_both(rules: &mut Rules) -> Result<bool, Fail> {
     rules.push(pair())?;
     rules.push(some())?;
-    assert!(rt; copies_both(&rules)?);
+    copies_both(rules)
+}
+
+#[test]
+fn rules_know_their_steps(rt: HostRuntime) {
     assert!(rt; names_of(&pair()) == [true, false, true]);
     assert!(rt; names_of(&some()) == [false, true, true]);
     assert!(rt; pair().reads(RelId::OTHER) && !pair().reads(LISTED) && some().reads(LISTED));
-    Ok(())
 }
 
 // A pair over the first and the last step.
@@ -280,9 +305,10 @@ fn rules_leave_the_users_who_do_not_falsify_them(rt: HostRuntime) {
     ];
     for (row, s, by_some, by_all, by_pair) in rows {
         let a = assigned(row);
-        assert!(rt; left(&some, &a, s) == by_some, "{row}");
-        assert!(rt; left(&all, &a, s) == by_all, "{row}");
-        assert!(rt; left(&pair, &a, s) == by_pair, "{row}");
+        let right = left(&some, &a, s) == by_some
+            && left(&all, &a, s) == by_all
+            && left(&pair, &a, s) == by_pair;
+        assert!(rt; right, "{row}");
     }
 }
 

@@ -1,7 +1,7 @@
 use Rattle.std.proofs.Common.{ap, ◌∙◌}
 use Rattle.std.specs.FinSet as set
 use Rattle.pair_set.specs.Pairs.{Pairs, pair_cmp}
-use Rattle.policy_book.proofs.tests.start.Goals as goal
+use Rattle.policy_tests.proofs.policies.put_in.Goals as goal
 
 pub add_flow-requires-clause-roles : goal.add_flow-requires-clause-roles
 add_flow-requires-clause-roles c = λ r s here.

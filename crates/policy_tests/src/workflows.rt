@@ -3,11 +3,11 @@ ghost use Rattle.std.specs.Prelude.{◌≡◌, ◌<◌, length, IfOk, OnOk};
 ghost use Rattle.std.specs.List.{All};
 ghost use Rattle.wf_names.specs.declared.limits.TheConstants.{ROLE_LIMIT};
 
-use crate::{Flow, FlowFault};
 use std::alloc::{AllocError, Global};
 use std::process::Abort;
 use std::test::Fail;
 use wf_names::{Name, NameTable, RoleId, StepId};
+use workflow_schema::{Flow, FlowFault};
 
 const A: StepId = StepId(0);
 
@@ -68,12 +68,17 @@ fn add_four(names: &mut NameTable) -> Result<(), Fail>
     ensures { OnOk result (length names.new.names ≡ 4) }
 {
     for text in ["a", "b", "c", "d"] {
-        let name = Name::read(text).ok_or("not a name")?;
-        names.add(name).ok().ok_or("not added")?;
+        add(names, text)?;
     }
     if names.len() != 4 {
         Err::<(), &str>("not four names")?;
     }
+    Ok(())
+}
+
+fn add(names: &mut NameTable, text: &str) -> Result<(), Fail> {
+    let name = Name::read(text).ok_or("not a name")?;
+    names.add(name).ok().ok_or("not added")?;
     Ok(())
 }
 

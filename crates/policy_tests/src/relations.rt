@@ -1,13 +1,14 @@
 //! What no clause shows: that the calls succeed while there is memory, up to the limits; and rows
 //! of bits beside a plain list of pairs.
-ghost use Rattle.std.specs.Prelude.{◌≡◌, ◌+◌, ◌++◌, ◌∷◌, [], IfOk, OnOk, length};
+ghost use Rattle.std.specs.Prelude.{◌≡◌, ◌<◌, ◌+◌, ◌++◌, ◌∷◌, [], IfOk, OnOk, length};
 ghost use Rattle.std.specs.FinSet as set;
+ghost use Rattle.wf_names.specs.declared.limits.TheConstants.{USER_LIMIT};
 ghost use Rattle.user_relations.specs.Relations.{RelationShape, listed};
 
-use crate::{RelationFault, Relations, UserPairs};
 use std::alloc::{AllocError, Global};
 use std::process::Abort;
 use std::test::Fail;
+use user_relations::{RelationFault, Relations, UserPairs};
 use wf_names::{Name, NameFault, RelId, UserId, UserSet};
 
 const ANN: UserId = UserId(0);
@@ -25,19 +26,28 @@ const LAST: RelId = RelId(33);
 #[test]
 fn pairs_are_related(rt: HostRuntime) -> Result<(), Fail> {
     let mut relations = Relations::new(rt.alloc())?;
-    relate_mentors(&rt, &mut relations)?;
-    assert!(rt; a_copy_has_both(&relations)?);
-    unrelate_mentors(&rt, &mut relations);
+    relate_and_unrelate(&rt, &mut relations)
+}
+
+fn relate_and_unrelate(rt: &impl Abort, relations: &mut Relations) -> Result<(), Fail> {
+    relate_mentors(rt, relations)?;
+    assert!(rt; a_copy_has_both(relations)?);
+    unrelate_mentors(rt, relations);
     Ok(())
 }
 
 fn relate_mentors(rt: &impl Abort, relations: &mut Relations) -> Result<(), Fail> {
-    assert!(rt; relations.add_listed(read("mentor")?) == Ok(FIRST));
+    let mentor = relations.add_listed(read("mentor")?);
+    assert!(rt; mentor == Ok(FIRST));
+    relate_both(rt, relations);
+    Ok(())
+}
+
+fn relate_both(rt: &impl Abort, relations: &mut Relations) {
     assert!(rt; relations.relate(FIRST, ANN, BOB) == Ok(()));
     assert!(rt; relations.relate(FIRST, ANN, BOB) == Err(RelationFault::Already));
     assert!(rt; relations.relate(FIRST, BOB, CYD) == Ok(()));
     assert!(rt; relations.relate(RelId::OTHER, ANN, BOB) == Err(RelationFault::Fixed));
-    Ok(())
 }
 
 fn unrelate_mentors(rt: &impl Abort, relations: &mut Relations) {
@@ -64,10 +74,15 @@ fn lists_both(relations: &Relations) -> Result<bool, AllocError> {
 #[test]
 fn a_complement_may_come_before_its_relation(rt: HostRuntime) -> Result<(), Fail> {
     let mut relations = Relations::new(rt.alloc())?;
-    clear_of_conflict(&mut relations)?;
-    relate_conflict(&rt, &mut relations)?;
-    known_by_names(&rt, &relations)?;
-    Ok(())
+    complement_first(&rt, &mut relations)
+}
+
+fn complement_first(rt: &impl Abort, relations: &mut Relations) -> Result<(), Fail>
+    requires { relations.old ≡ [] }
+{
+    clear_of_conflict(relations)?;
+    relate_conflict(rt, relations)?;
+    known_by_names(rt, relations)
 }
 
 fn clear_of_conflict(relations: &mut Relations) -> Result<(), Fail>
@@ -80,8 +95,18 @@ fn clear_of_conflict(relations: &mut Relations) -> Result<(), Fail>
 }
 
 fn relate_conflict(rt: &impl Abort, relations: &mut Relations) -> Result<(), Fail> {
-    assert!(rt; relations.add_listed(read("clear")?) == Err(NameFault::Twice));
-    assert!(rt; relations.add_listed(read("same")?) == Err(NameFault::Twice));
+    assert!(rt; fault_of(relations, "clear")? == Some(NameFault::Twice));
+    assert!(rt; fault_of(relations, "same")? == Some(NameFault::Twice));
+    relate_second(rt, relations);
+    Ok(())
+}
+
+// Why a relation is not declared.
+fn fault_of(relations: &mut Relations, name: &str) -> Result<Option<NameFault>, Fail> {
+    Ok(relations.add_listed(read(name)?).err())
+}
+
+fn relate_second(rt: &impl Abort, relations: &mut Relations) {
     assert!(rt; relations.holds(FIRST, ANN, BOB));
     assert!(rt; relations.relate(SECOND, ANN, BOB) == Ok(()));
     assert!(rt; relations.relate(FIRST, ANN, BOB) == Err(RelationFault::Fixed));
@@ -89,7 +114,6 @@ fn relate_conflict(rt: &impl Abort, relations: &mut Relations) -> Result<(), Fai
     assert!(rt; !relations.holds(FIRST, ANN, BOB) && relations.holds(FIRST, BOB, ANN));
     assert!(rt; relations.after(FIRST, ANN, 3) == of(&[0, 2]));
     assert!(rt; relations.ahead(FIRST, ANN, 3) == of(&[0, 1, 2]));
-    Ok(())
 }
 
 fn known_by_names(rt: &impl Abort, relations: &Relations) -> Result<(), Fail> {
@@ -104,8 +128,13 @@ fn known_by_names(rt: &impl Abort, relations: &Relations) -> Result<(), Fail> {
 #[test]
 fn the_limits_are_met(rt: HostRuntime) -> Result<(), Fail> {
     let mut relations = Relations::new(rt.alloc())?;
-    declare_all(&rt, rt.alloc(), &mut relations)?;
-    relate_all(&rt, &mut relations);
+    fill(&rt, rt.alloc(), &mut relations)
+}
+
+fn fill(rt: &impl Abort, alloc: Global, relations: &mut Relations) -> Result<(), Fail> {
+    declare_all(rt, alloc, relations)?;
+    relate_all(rt, relations);
+    change_when_full(rt, relations);
     Ok(())
 }
 
@@ -124,6 +153,9 @@ fn relate_all(rt: &impl Abort, relations: &mut Relations) {
         let (u, v) = ((n / 1_024) as u16, (n % 1_024) as u16);
         assert!(rt; relations.relate(LAST, UserId(u), UserId(v)) == Ok(()));
     }
+}
+
+fn change_when_full(rt: &impl Abort, relations: &mut Relations) {
     let (last, next) = (UserId(1_023), UserId(64));
     assert!(rt; relations.relate(LAST, UserId(63), last) == Err(RelationFault::Already));
     assert!(rt; relations.relate(LAST, next, ANN) == Err(RelationFault::Full));
@@ -137,10 +169,17 @@ fn relate_all(rt: &impl Abort, relations: &mut Relations) {
 #[test]
 fn rows_do_as_a_list_does(rt: HostRuntime) -> Result<(), Fail> {
     let mut pairs = UserPairs::new(rt.alloc())?;
-    let mut list = Vec::new(rt.alloc());
-    assert!(rt; changes_agree(&mut pairs, &mut list)?);
-    assert!(rt; lists_agree(&pairs, &mut list)? && rows_agree(&pairs, &list));
+    assert!(rt; does_as_a_list(rt.alloc(), &mut pairs)?);
     Ok(())
+}
+
+fn does_as_a_list(alloc: Global, pairs: &mut UserPairs) -> Result<bool, AllocError> {
+    let mut list = Vec::new(alloc);
+    all_agree(pairs, &mut list)
+}
+
+fn all_agree(pairs: &mut UserPairs, list: &mut Vec<(u16, u16)>) -> Result<bool, AllocError> {
+    Ok(changes_agree(pairs, list)? && lists_agree(pairs, list)? && rows_agree(pairs, list))
 }
 
 fn changes_agree(pairs: &mut UserPairs, list: &mut Vec<(u16, u16)>) -> Result<bool, AllocError> {
@@ -163,17 +202,42 @@ fn change_agrees(
 ) -> Result<bool, AllocError> {
     let u = ((drawn >> 24) % 39 * 26 + 3) as u16;
     let v = ((drawn >> 40) % 39 * 26 + 29) as u16;
-    let place = list.iter().position(|pair| *pair == (u, v));
     if drawn >> 63 == 0 {
-        if place.is_none() {
-            list.push((u, v))?;
-        }
-        Ok(pairs.insert(UserId(u), UserId(v))? == place.is_none())
+        inserted_alike(pairs, list, u, v)
     } else {
-        if let Some(place) = place {
+        removed_alike(pairs, list, u, v)
+    }
+}
+
+fn inserted_alike(
+    pairs: &mut UserPairs,
+    list: &mut Vec<(u16, u16)>,
+    u: u16,
+    v: u16,
+) -> Result<bool, AllocError>
+    requires { (u < USER_LIMIT) × (v < USER_LIMIT) }
+{
+    let fresh = pairs.insert(UserId(u), UserId(v))?;
+    if list.contains(&(u, v)) {
+        return Ok(!fresh);
+    }
+    list.push((u, v))?;
+    Ok(fresh)
+}
+
+fn removed_alike(
+    pairs: &mut UserPairs,
+    list: &mut Vec<(u16, u16)>,
+    u: u16,
+    v: u16,
+) -> Result<bool, AllocError> {
+    let found = pairs.remove(UserId(u), UserId(v))?;
+    match list.iter().position(|pair| *pair == (u, v)) {
+        Some(place) => {
             list.swap_remove(place);
+            Ok(found)
         }
-        Ok(pairs.remove(UserId(u), UserId(v))? == place.is_some())
+        None => Ok(!found),
     }
 }
 

@@ -1,7 +1,7 @@
 //! The texts of the endings.
 
-use crate::{InputFault, RunFault};
 use policy_reader::{PolicyFault, PolicyKind, PolicyPart};
+use run_record::{InputFault, RunFault};
 use std::test::Fail;
 
 #[test]

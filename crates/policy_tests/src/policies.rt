@@ -6,8 +6,8 @@ ghost use Rattle.constraint_forms.specs.declared.rule.Rule.TheVariants.{Pair};
 ghost use Rattle.policy_book.specs.Policies.{flow_at, problem_of};
 ghost use Rattle.policy_book.specs.Refuting.{is_unassigned};
 
-use crate::{Assign, Flow, Policy, RelatedRows, Relations, Roster, Rule, Rules};
 use constraint_forms::falsified;
+use policy_book::{Assign, Flow, Policy, RelatedRows, Relations, Roster, Rule, Rules};
 use std::alloc::Global;
 use std::test::Fail;
 use wf_names::{FlowId, Name, NameTable, RelId, RoleId, StepId, UserId};
@@ -128,39 +128,77 @@ fn rows_are_right(p: &Policy) -> bool {
 }
 
 fn policy(alloc: Global) -> Result<Policy, Fail> {
-    let roster = roster(alloc)?;
-    start(alloc, roster, flow(alloc)?)
-}
-
-#[tactic(auto, using(crate::proofs::Apart::apart_is_sound))]
-fn start(alloc: Global, roster: Roster, flow: Flow) -> Result<Policy, Fail>
-    requires steps { length flow.steps ≡ 2 }
-    requires permits { flow.permits ≡ set.empty }
-{
-    if roster.roles().len() == 0 {
-        return Err("no roles")?;
-    }
-    let rules = apart(alloc)?;
-    let mut p = Policy::start(alloc, roster, Relations::new(alloc)?, CLERK)?;
-    p.add_flow(read("pay")?, flow, rules).ok().ok_or("no flow")?;
+    let mut p = without_flows(alloc)?;
+    add_pay(alloc, &mut p)?;
     Ok(p)
 }
 
-fn roster(alloc: Global) -> Result<Roster, Fail> {
-    let mut roles = NameTable::new(alloc, 4)?;
-    roles.add(read("clerk")?).ok().ok_or("no room")?;
-    if roles.len() > 4 {
-        return Err("too many roles")?;
-    }
-    let mut roster = Roster::new(alloc, roles)?;
+fn without_flows(alloc: Global) -> Result<Policy, Fail> {
+    let roster = roster(alloc)?;
+    with_relations(alloc, roster, Relations::new(alloc)?)
+}
+
+fn with_relations(alloc: Global, roster: Roster, relations: Relations) -> Result<Policy, Fail>
+    requires roles { length roster.roles ≡ 1 }
+    requires relations { relations ≡ [] }
+{
+    Ok(Policy::start(alloc, roster, relations, CLERK)?)
+}
+
+fn add_pay(alloc: Global, p: &mut Policy) -> Result<(), Fail> {
+    let name = read("pay")?;
+    let flow = flow(alloc)?;
+    put_in(p, name, flow, apart(alloc)?)
+}
+
+#[tactic(auto, using(crate::proofs::Apart::apart_is_sound))]
+fn put_in(p: &mut Policy, name: Name, flow: Flow, rules: Rules) -> Result<(), Fail>
+    requires steps { length flow.steps ≡ 2 }
+    requires permits { flow.permits ≡ set.empty }
+    requires rules { rules ≡ Pair 1 0 1 ∷ [] }
+{
+    p.add_flow(name, flow, rules).ok().ok_or("no flow")?;
+    Ok(())
+}
+
+fn roster(alloc: Global) -> Result<Roster, Fail>
+    ensures { IfOk result (λ roster. length roster.roles ≡ 1) }
+{
+    let mut roster = Roster::new(alloc, clerks(alloc)?)?;
     add_users(&mut roster)?;
     Ok(roster)
 }
 
-fn add_users(roster: &mut Roster) -> Result<(), Fail> {
-    for name in ["ann", "bob", "cyd"] {
-        roster.add_user(read(name)?).ok().ok_or("no room")?;
-    }
+// The role of clerks alone.
+fn clerks(alloc: Global) -> Result<NameTable, Fail>
+    ensures { IfOk result (λ roles. length roles.names ≡ 1) }
+{
+    let mut roles = NameTable::new(alloc, 4)?;
+    add_clerk(&mut roles)?;
+    Ok(roles)
+}
+
+fn add_clerk(roles: &mut NameTable) -> Result<(), Fail>
+    ensures { OnOk result (length roles.new.names ≡ length roles.old.names + 1) }
+{
+    roles.add(read("clerk")?).ok().ok_or("no room")?;
+    Ok(())
+}
+
+fn add_users(roster: &mut Roster) -> Result<(), Fail>
+    ensures { length roster.new.roles ≡ length roster.old.roles }
+{
+    add(roster, "ann")?;
+    add(roster, "bob")?;
+    add(roster, "cyd")?;
+    Ok(())
+}
+
+fn add(roster: &mut Roster, name: &str) -> Result<(), Fail>
+    ensures { length roster.new.roles ≡ length roster.old.roles }
+{
+    let name = read(name)?;
+    roster.add_user(name).ok().ok_or("no room")?;
     Ok(())
 }
 
@@ -168,9 +206,16 @@ fn flow(alloc: Global) -> Result<Flow, Fail>
     ensures steps { IfOk result (λ f. length f.steps ≡ 2) }
     ensures permits { IfOk result (λ f. f.permits ≡ set.empty) }
 {
+    let steps = two_steps(alloc)?;
+    Ok(Flow::build(alloc, steps, &[], &[]).ok().ok_or("no flow")?)
+}
+
+fn two_steps(alloc: Global) -> Result<NameTable, Fail>
+    ensures { IfOk result (λ steps. length steps.names ≡ 2) }
+{
     let mut steps = NameTable::new(alloc, 4)?;
     add_steps(&mut steps)?;
-    Ok(Flow::build(alloc, steps, &[], &[]).ok().ok_or("no flow")?)
+    Ok(steps)
 }
 
 fn add_steps(steps: &mut NameTable) -> Result<(), Fail>
