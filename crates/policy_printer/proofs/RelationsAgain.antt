@@ -1,6 +1,6 @@
 -- The relations are read from what they are written as.
 use Rattle.std.proofs.Common.{◌≡◌, ℕ, zero, suc, ◌+◌, true, false, nat_eq, List, [], ◌∷◌, ◌++◌, length, map, refl, sym, ap, subst, ◌∙◌, arith, codes, Option, Some, None, option_map, Ok, slice_get}
-use Rattle.policy_printer.proofs.Words.{AllByRecursion, pointwise, nat_list_eq_equiv, slice_get-map, get_or_from_slice_get, length-map, Data, string, table, Members, no_members, member, get_member, AreNames, RELATION_LIMIT, PAIR_LIMIT, Pairs, RelationKind, listed, complement, RelationShape, known_names, complement_of, kind_of, complemented, has_list, is_listed, listed_pairs, AreSound, AreOfUsers, Relations, Reading, entries, first_declared, names_of, is_built_in, is_complement, entry_of, Ascend, name_at, pair_data, pairs_data, rows, table_below, relation_entry, relations_data}
+use Rattle.policy_printer.proofs.Words.{AllByRecursion, pointwise, nat_list_eq_equiv, slice_get-map, get_or_from_slice_get, length-map, Data, string, table, Members, no_members, member, get_member, AreNames, RELATION_LIMIT, PAIR_LIMIT, Pairs, RelationKind, listed, complement, RelationShape, known_names, complement_of, kind_of, complemented, has_list, is_listed, listed_pairs, AreSound, AreOfUsers, Relations, entries, first_declared, names_of, is_built_in, is_complement, entry_of, Ascend, name_at, pair_data, pairs_data, rows, table_below, relation_entry, relations_data}
 use Rattle.std.specs.List.{IsDistinct}
 use Rattle.policy_reader.specs.Parts.{array_in, table_in, text_in, name_in}
 use Rattle.policy_reader.specs.Relations.{listed_in, complement_in, kind_in, next_relation, relations_in, relations_of}
