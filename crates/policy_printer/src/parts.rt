@@ -161,7 +161,7 @@ pub(crate) fn push_pair(
 }
 
 /// An array of pairs of names.
-#[tactic(auto, using(crate::proofs::Writing::map_take_more))]
+#[tactic(auto, using(crate::proofs::Writing::pairs_more))]
 pub(crate) fn pairs_value(
     alloc: Global,
     names: &NameTable,
