@@ -12,9 +12,6 @@ use Rattle.policy_printer.proofs.Tabled.{tabled_in_order}
 two_more : (i : ℕ) → first_declared + i ≡ suc (suc i)
 two_more i = omega arith
 
-itself : (name : List ℕ) → pointwise nat_eq name name ≡ true
-itself name = nat_list_eq_equiv.refl name
-
 all_at : (P : List ℕ → Type 0) (rs : List RelationShape) (i : ℕ) (r : RelationShape) → slice_get rs i ≡ Some r → AllByRecursion P (names_of rs) → P r.name
 all_at P [] i r e h = cc
 all_at P (x ∷ rs) zero r e h = let same : x ≡ r = cc in subst (λ y. P y.name) same h.0
@@ -56,7 +53,7 @@ module _ (users : List (List ℕ)) (whole : List RelationShape) where
       let same : x ≡ r = cc in
       let none : n ≡ n + zero = omega arith in
       subst (λ y. entry_of n y.name (map entry' (x ∷ rs)) ≡ Some (n + zero, is_complement (entry' y).1)) same
-      (rw (itself x.name) (ap (λ k. Some (k, is_complement (entry' x).1)) none))
+      (rw (nat_list_eq_equiv.refl x.name) (ap (λ k. Some (k, is_complement (entry' x).1)) none))
   entry_found n (x ∷ rs) (suc i) r e d =
       let apart : pointwise nat_eq r.name x.name ≡ false = nat_list_eq_equiv.symm r.name x.name ∙ all_at (λ y. pointwise nat_eq x.name y ≡ false) rs i r e d.0 in
       let next : (n + 1) + i ≡ n + suc i = omega arith in
