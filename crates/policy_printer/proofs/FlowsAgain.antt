@@ -1,10 +1,10 @@
 -- The workflows are read from what they are written as.
-use Rattle.std.proofs.Common.{◌≡◌, ℕ, zero, suc, ◌<◌, ◌≤◌, Bool, false, List, [], ◌∷◌, length, map, take, refl, sym, ap, ◌∙◌, arith, codes, Some, None, Ok}
+use Rattle.std.proofs.Common.{◌≡◌, ℕ, suc, ◌<◌, ◌≤◌, false, List, [], ◌∷◌, length, map, take, refl, sym, ap, ◌∙◌, arith, codes, Some, Ok}
 use Rattle.std.specs.FinSet as set
 use Rattle.policy_printer.proofs.Words.{length-map, take_all, not_true, and_both, lt_back, le_back, AreNames, Members, get_member, STEP_LIMIT, FLOW_LIMIT, AllPairs, RelationShape, known_names, is_before, IsDecided, PolicyShape, WorkflowShape, IsSoundWorkflow, flow_at, no_workflow, Flows, Ascend, names_data, pair_data, pairs_data, permits_data, rules_data, rows, flow_entry, flows_data, IsNamedWorkflow, least_none}
 use Rattle.policy_reader.specs.Parts.{value_at, array_in, table_in, name_in, no_others, known_key}
 use Rattle.policy_reader.specs.Rules.{rules_of}
-use Rattle.policy_reader.specs.Flows.{order_in, pairs_of, least_below, cycle_at, no_cycle, ordered_in, flow_in, workflow_in, next_flow, flows_of}
+use Rattle.policy_reader.specs.Flows.{order_in, pairs_of, cycle_at, no_cycle, ordered_in, flow_in, workflow_in, next_flow, flows_of}
 use Rattle.policy_printer.specs.Documents.{workflow_members}
 use Rattle.policy_printer.proofs.RostersAgain.{steps_back}
 use Rattle.policy_printer.proofs.Rows.{pairs_back}

@@ -1,5 +1,5 @@
 -- The permissions of a workflow are read from what they are written as.
-use Rattle.std.proofs.Common.{◌≡◌, ℕ, ◌<◌, Bool, false, nat_eq, nat_lt, ◌||◌, List, [], ◌∷◌, ◌++◌, length, map, refl, sym, ap, subst, ◌∙◌, arith, codes, Option, Some, None, Ok}
+use Rattle.std.proofs.Common.{◌≡◌, ℕ, ◌<◌, Bool, false, nat_eq, nat_lt, ◌||◌, List, [], ◌∷◌, ◌++◌, length, map, refl, sym, ap, subst, ◌∙◌, arith, codes, Some, Ok}
 use Rattle.std.specs.FinSet as set
 use Rattle.policy_printer.proofs.Words.{IsDistinct, list_any, nat_eq_equiv, slice_cmp-IsAntisymmetric, nat_cmp-IsAntisymmetric, eq_same, or-false, lt_back, lt_yes, Members, get_member, place_of, AreNames, Pairs, AllPairs, FlowShape, Flows, name_at, chosen, permit_entry, permits_data}
 use Rattle.std.proofs.lemmas.List.Folds.{list_any-append}
@@ -8,10 +8,6 @@ use Rattle.policy_reader.specs.Flows.{permits_of, next_permit, next_permitted}
 use Rattle.policy_printer.proofs.Readings.{list_back, middle, new_middle, items_back, text_at, place_at, number_back}
 use Rattle.policy_printer.proofs.Sets.{by_second, at, lines, line_back, same_part, whole_part, no_part}
 use Rattle.policy_printer.proofs.Tabled.{Apart, numbers, numbers_among, numbers_distinct, tabled}
-
-abbrev number_or : ℕ → Option ℕ → ℕ
-number_or n None = n
-number_or n (Some m) = m
 
 module _ (f : ℕ) (roles : List (List ℕ)) (whole : FlowShape) (named : AreNames roles) (steps : AreNames whole.steps) (within : AllPairs (λ r s. (r < length roles) × (s < length whole.steps)) whole.permits) where
   abbrev with_permits : Pairs → FlowShape
@@ -38,7 +34,7 @@ module _ (f : ℕ) (roles : List (List ℕ)) (whole : FlowShape) (named : AreNam
   apart i j lt below e =
       let same : name_at whole.steps j ≡ name_at whole.steps i = slice_cmp-IsAntisymmetric nat_cmp-IsAntisymmetric _ _ e in
       let places : Some j ≡ Some i = sym (place_at whole.steps j steps below) ∙ ap (place_of whole.steps) same ∙ place_at whole.steps i steps (omega (arith, lt, below)) in
-      let equal : j ≡ i = ap (number_or i) places in
+      let equal : j ≡ i = cc in
       omega (arith, lt, equal)
 
   among : (m : ℕ) → list_any (nat_eq m) order ≡ nat_lt m total

@@ -1,6 +1,6 @@
 -- The relations are read from what they are written as.
 use Rattle.std.proofs.Common.{◌≡◌, ℕ, zero, suc, ◌+◌, true, false, nat_eq, List, [], ◌∷◌, ◌++◌, length, map, refl, sym, ap, subst, ◌∙◌, arith, codes, Option, Some, None, option_map, Ok, slice_get}
-use Rattle.policy_printer.proofs.Words.{AllByRecursion, pointwise, nat_list_eq_equiv, slice_get-map, get_or_from_slice_get, length-map, Data, string, table, Members, no_members, member, get_member, AreNames, RELATION_LIMIT, PAIR_LIMIT, Pairs, RelationKind, listed, complement, RelationShape, known_names, complement_of, kind_of, complemented, has_list, is_listed, listed_pairs, AreSound, AreOfUsers, Relations, Reading, entries, first_declared, names_of, is_built_in, is_complement, entry_of, Ascend, name_at, pair_data, pairs_data, rows, table_below, relation_entry, relations_data}
+use Rattle.policy_printer.proofs.Words.{AllByRecursion, pointwise, nat_list_eq_equiv, slice_get-map, get_or_from_slice_get, length-map, Data, string, table, Members, no_members, member, get_member, AreNames, RELATION_LIMIT, PAIR_LIMIT, Pairs, RelationKind, listed, complement, RelationShape, known_names, complement_of, kind_of, complemented, has_list, is_listed, listed_pairs, AreSound, AreOfUsers, Relations, entries, first_declared, names_of, is_built_in, is_complement, entry_of, Ascend, name_at, pair_data, pairs_data, rows, table_below, relation_entry, relations_data}
 use Rattle.std.specs.List.{IsDistinct}
 use Rattle.policy_reader.specs.Parts.{array_in, table_in, text_in, name_in}
 use Rattle.policy_reader.specs.Relations.{listed_in, complement_in, kind_in, next_relation, relations_in, relations_of}
@@ -11,9 +11,6 @@ use Rattle.policy_printer.proofs.Tabled.{tabled_in_order}
 
 two_more : (i : ℕ) → first_declared + i ≡ suc (suc i)
 two_more i = omega arith
-
-itself : (name : List ℕ) → pointwise nat_eq name name ≡ true
-itself name = nat_list_eq_equiv.refl name
 
 all_at : (P : List ℕ → Type 0) (rs : List RelationShape) (i : ℕ) (r : RelationShape) → slice_get rs i ≡ Some r → AllByRecursion P (names_of rs) → P r.name
 all_at P [] i r e h = cc
@@ -56,7 +53,7 @@ module _ (users : List (List ℕ)) (whole : List RelationShape) where
       let same : x ≡ r = cc in
       let none : n ≡ n + zero = omega arith in
       subst (λ y. entry_of n y.name (map entry' (x ∷ rs)) ≡ Some (n + zero, is_complement (entry' y).1)) same
-      (rw (itself x.name) (ap (λ k. Some (k, is_complement (entry' x).1)) none))
+      (rw (nat_list_eq_equiv.refl x.name) (ap (λ k. Some (k, is_complement (entry' x).1)) none))
   entry_found n (x ∷ rs) (suc i) r e d =
       let apart : pointwise nat_eq r.name x.name ≡ false = nat_list_eq_equiv.symm r.name x.name ∙ all_at (λ y. pointwise nat_eq x.name y ≡ false) rs i r e d.0 in
       let next : (n + 1) + i ≡ n + suc i = omega arith in

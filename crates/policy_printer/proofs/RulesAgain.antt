@@ -1,7 +1,7 @@
 -- The rules of a workflow are read from what they are written as.
-use Rattle.std.proofs.Common.{◌≡◌, ℕ, zero, suc, ◌+◌, ◌<◌, ◌≤◌, Bool, true, false, cond, nat_eq, List, [], ◌∷◌, ◌++◌, length, map, refl, sym, ap, subst, ◌∙◌, arith, codes, Option, Some, None, Ok, slice_set, slice_get, replicate}
+use Rattle.std.proofs.Common.{◌≡◌, ℕ, zero, suc, ◌+◌, ◌<◌, ◌≤◌, Bool, true, false, cond, nat_eq, List, [], ◌∷◌, ◌++◌, length, map, refl, sym, ap, ◌∙◌, arith, codes, Some, Ok, slice_set, slice_get, replicate}
 use Rattle.constraint_forms.specs.declared.rule.Rule.TheVariants as rule
-use Rattle.policy_printer.proofs.Words.{length-map, not_true, or_right, each, Data, string, Members, get_member, AreNames, STEP_LIMIT, RULE_LIMIT, RelationShape, known_names, is_member, Rule, IsSoundRule, AreSoundRules, Flows, Reading, name_at, names_where, chosen, rule_data, rules_data, HasFlags, HaveFlags}
+use Rattle.policy_printer.proofs.Words.{length-map, not_true, or_right, each, string, Members, get_member, AreNames, STEP_LIMIT, RULE_LIMIT, RelationShape, known_names, is_member, Rule, IsSoundRule, AreSoundRules, Flows, name_at, names_where, chosen, rule_data, rules_data, HasFlags, HaveFlags}
 use Rattle.constraint_forms.specs.Assigned.{no_steps}
 use Rattle.constraint_forms.specs.Rules.{any_from}
 use Rattle.policy_reader.specs.Parts.{value_at, array_in, table_in, text_in, once, no_others, known_key}

@@ -1,7 +1,7 @@
 -- Values and tables as they are built.
-use Rattle.std.proofs.Common.{◌≡◌, ℕ, suc, ◌+◌, ◌<◌, Bool, true, false, List, [], ◌∷◌, ◌++◌, length, map, take, get_or, nat_eq, nat_lt, IsTrue, String, Global, Ordering, Less, Equal, Greater, string_bytes, refl, sym, ap, ◌∙◌, append_assoc, arith, Result, Ok, Err, OnOk, slice_get, Option, Some, None, option_map, zero, subst, inl, inr}
+use Rattle.std.proofs.Common.{◌≡◌, ℕ, suc, ◌+◌, ◌<◌, Bool, true, false, List, [], ◌∷◌, ◌++◌, length, map, take, get_or, nat_eq, IsTrue, String, Global, Ordering, Less, Equal, Greater, string_bytes, refl, sym, ap, ◌∙◌, append_assoc, arith, Result, Ok, Err, OnOk, slice_get, Option, Some, None, option_map, zero, subst, inl, inr}
 use Rattle.std.specs.FinSet as set
-use Rattle.policy_printer.proofs.Words.{All, get_or_from_slice_get, slice_get_past, slice_get_within, or_left, or_right, eq_same, AreNames, first_declared, RELATION_LIMIT, Pairs, AllPairs, RelationShape, RelationKind, listed, complement, kind_of, known_names, has_list, is_listed, complemented, complement_of, listed_pairs, pairs_of, all_empty, AreOfUsers, IsSoundRule, AreSound, match_ordering, get_or_default, length-map, map-append, take_more, Data, Members, member, view, members_view, with_member, table_below, chosen, name_at, row, rows}
+use Rattle.policy_printer.proofs.Words.{All, get_or_from_slice_get, slice_get_past, slice_get_within, or_left, or_right, eq_same, AreNames, first_declared, RELATION_LIMIT, Pairs, AllPairs, RelationShape, RelationKind, listed, complement, kind_of, known_names, has_list, is_listed, complemented, complement_of, listed_pairs, pairs_of, all_empty, AreOfUsers, IsSoundRule, AreSound, match_ordering, get_or_default, length-map, map-append, take_more, Data, Members, member, view, members_view, with_member, table_below, chosen, name_at, row, rows, string, pair_data}
 use Rattle.std.proofs.lemmas.Bool.{cases_lt}
 use Rattle.wf_names.specs.Names.{is_name}
 use Rattle.wf_names.proofs.Places.{are_names}
@@ -41,6 +41,12 @@ table_more n entry = rw (one_more n) refl
 -- one item more under a map
 pub map_take_more : {X Y : Type 0} (f : X → Y) (xs : List X) (n : ℕ) (d : X) → n < length xs → map f (take (n + 1) xs) ≡ map f (take n xs) ++ f (get_or xs n d) ∷ []
 map_take_more f xs n d lt = ap (map f) (take_more xs n d lt) ∙ map-append f (take n xs) (get_or xs n d ∷ [])
+
+pub names_more : (names : List (List ℕ)) (n : ℕ) → n < length names → map string (take (n + 1) names) ≡ map string (take n names) ++ string (name_at names n) ∷ []
+names_more names n lt = map_take_more string names n [] lt
+
+pub pairs_more : (names : List (List ℕ)) (pairs : List (ℕ × ℕ)) (n : ℕ) → n < length pairs → map (pair_data names) (take (n + 1) pairs) ≡ map (pair_data names) (take n pairs) ++ pair_data names (get_or pairs n (0, 0)) ∷ []
+pairs_more names pairs n lt = map_take_more (pair_data names) pairs n (0, 0) lt
 
 pub map_take_got : {X Y : Type 0} (f : X → Y) (xs : List X) (n : ℕ) (x : X) → slice_get xs n ≡ Some x → map f (take (n + 1) xs) ≡ map f (take n xs) ++ f x ∷ []
 map_take_got f xs n x e = map_take_more f xs n x (slice_get_within xs n x e) ∙ ap (λ y. map f (take n xs) ++ f y ∷ []) (get_or_from_slice_get xs n x x e)

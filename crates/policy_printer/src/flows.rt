@@ -239,7 +239,6 @@ fn put_rule(
 }
 
 /// An array of the rules of a workflow.
-#[tactic(auto, using(crate::proofs::Writing::map_take_more))]
 fn rules_value(
     alloc: Global,
     relations: &Relations,

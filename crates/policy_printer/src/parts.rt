@@ -119,7 +119,7 @@ pub(crate) fn push(values: &mut Vec<Value>, value: Value) -> Result<(), AllocErr
 }
 
 /// An array of all names of a table.
-#[tactic(auto, using(crate::proofs::Writing::map_take_more))]
+#[tactic(auto, using(crate::proofs::Writing::names_more))]
 fn names_value(alloc: Global, names: &NameTable) -> Result<Value, AllocError>
     ensures value { IfOk result (λ v. view v ≡ spec.names_data names.now.names) }
     ensures named { AreNames names.now.names }
@@ -161,7 +161,7 @@ pub(crate) fn push_pair(
 }
 
 /// An array of pairs of names.
-#[tactic(auto, using(crate::proofs::Writing::map_take_more))]
+#[tactic(auto, using(crate::proofs::Writing::pairs_more))]
 pub(crate) fn pairs_value(
     alloc: Global,
     names: &NameTable,

@@ -1,5 +1,5 @@
 -- The order of a workflow, read as a set of pairs: the list of its pairs, and the least step before itself.
-use Rattle.std.proofs.Common.{◌≡◌, ℕ, zero, suc, ◌<◌, ◌≤◌, Bool, true, false, ◌||◌, List, [], ◌∷◌, Option, None, Some, refl, ap, subst, ◌∙◌, inl, inr, arith, length, Ok, Err, Less, slice_index_or}
+use Rattle.std.proofs.Common.{◌≡◌, ℕ, zero, suc, ◌<◌, ◌≤◌, Bool, true, false, List, [], ◌∷◌, Option, None, Some, refl, ap, subst, ◌∙◌, inl, inr, arith, length, Ok, Err, Less, slice_index_or}
 use Rattle.std.specs.FinSet as set
 use Rattle.policy_reader.specs.declared.fault.ReadFault.TheVariants as read
 use Rattle.policy_reader.specs.declared.fault.PolicyKind.TheVariants as kind

@@ -1,7 +1,7 @@
 -- Relations that were read from the entries of a table, up to the last of them.
-use Rattle.std.proofs.Common.{◌≡◌, ℕ, zero, suc, ◌+◌, ◌<◌, ◌≤◌, Bool, true, false, cond, ◌||◌, List, [], ◌∷◌, ◌++◌, length, map, refl, sym, ap, ◌∙◌, subst, ◌⊎◌, inl, inr, arith, Option, Some, None, option_map, slice_get, nat_eq, codes, Ok, string_bytes}
+use Rattle.std.proofs.Common.{◌≡◌, ℕ, zero, suc, ◌+◌, ◌<◌, ◌≤◌, Bool, true, false, cond, List, [], ◌∷◌, ◌++◌, length, map, refl, sym, ap, ◌∙◌, subst, ◌⊎◌, inl, inr, arith, Option, Some, None, option_map, slice_get, nat_eq, codes, Ok, string_bytes}
 use Rattle.policy_reader.specs.declared.fault.PolicyKind.TheVariants as kind
-use Rattle.policy_reader.proofs.Words.{list_any, pointwise, nat_list_eq_equiv, or_false, eq_same, eq_below, length-map, map-append, IsDistinct-push, Data, Members, as_table, RELATION_LIMIT, USER_LIMIT, Pairs, AllPairs, AreOfUsers, or_fault, fault, Reading, is_among, entries, AreBelow, first_declared, entry_of, is_complement, is_complement_table, passes, names_of, Ascend, view, members_view, is_marked, IsTarget, IsKept, AreKept}
+use Rattle.policy_reader.proofs.Words.{list_any, pointwise, nat_list_eq_equiv, or_false, eq_same, eq_below, length-map, map-append, IsDistinct-push, Data, Members, as_table, RELATION_LIMIT, USER_LIMIT, AreOfUsers, or_fault, fault, Reading, is_among, entries, first_declared, entry_of, is_complement, is_complement_table, passes, names_of, Ascend, view, members_view, is_marked, IsTarget, IsKept, AreKept}
 use Rattle.std.specs.List.{IsDistinct}
 use Rattle.user_relations.specs.Relations.{RelationShape, RelationKind, listed, complement, kind_of, has_list, known_names}
 use Rattle.user_relations.specs.Soundness.{AreSound}
@@ -102,16 +102,13 @@ sound_of users all rs h le same few = record {
 
 -- ---- numbers of entries
 
-same_some : {X : Type 0} (x y : X) → Some x ≡ Some y → x ≡ y
-same_some x y e = cc
-
 entry_target : (n : ℕ) (key : List ℕ) (es : List (List ℕ × Data)) (m : ℕ) (b : Bool) → entry_of n key es ≡ Some (m, b) → (is_marked n es m ≡ b) × (n ≤ m) × (m < n + length es)
 entry_target n key [] m b e = cc
 entry_target n key (x ∷ es) m b e =
     elim (pointwise nat_eq key x.0) as (λ t. cond t (Some (n, is_complement x.1)) (entry_of (n + 1) key es) ≡ Some (m, b) → (is_marked n (x ∷ es) m ≡ b) × (n ≤ m) × (m < n + length (x ∷ es))) [
       | true ↦ λ found.
           let made : ℕ × Bool = (n, is_complement x.1) in
-          let p : made ≡ (m, b) = same_some made (m, b) found in
+          let p : made ≡ (m, b) = cc in
           let number : n ≡ m = ap (λ (q : ℕ × Bool). q.0) p in
           let told : is_complement x.1 ≡ b = ap (λ (q : ℕ × Bool). q.1) p in
           (subst (λ k. cond (nat_eq n k) (is_complement x.1) (is_marked (n + 1) es k) ≡ b) number (rw (eq_same n) told), omega (arith, number), omega (arith, number))

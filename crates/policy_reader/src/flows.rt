@@ -1,9 +1,9 @@
 //! Reads the workflows of a policy file. Their faults carry the workflow's number.
-ghost use Rattle.std.specs.Prelude.{◌≡◌, ◌<◌, ◌≤◌, ◌++◌, ◌∷◌, [], length, is_some, IfOk, OnOk, false, true};
+ghost use Rattle.std.specs.Prelude.{◌≡◌, ◌<◌, ◌≤◌, ◌++◌, ◌∷◌, [], length, is_some, IfErr, IfOk, OnOk, false, true};
 ghost use Rattle.toml.specs.View.{view, table_view};
 ghost use Rattle.wf_names.specs.declared.limits.TheConstants.{FLOW_LIMIT, ROLE_LIMIT, RULE_LIMIT};
 ghost use Rattle.wf_names.specs.Table.{place_of};
-ghost use Rattle.policy_book.specs.Facts.{PermitsRolesBelow};
+ghost use Rattle.policy_book.specs.Facts.{AreSoundRules, PermitsRolesBelow};
 ghost use Rattle.std.specs.FinSet as set;
 ghost use Rattle.workflow_schema.specs.Flows.{is_count};
 ghost use Rattle.policy_reader.specs.Kept.{IsGrown};
@@ -11,12 +11,14 @@ ghost use Rattle.policy_reader.specs.Printable.{IsBegun, IsPrintable};
 ghost use Rattle.policy_reader.specs.Faults.{fault_of};
 ghost use Rattle.policy_reader.specs.Parts.{entries};
 ghost use Rattle.policy_reader.specs.Flows as spec;
+ghost use Rattle.policy_reader.specs.declared.fault.ReadFault.TheVariants.{NoMemory};
 ghost use Rattle.first_fault.specs.Reading.{Gives, each};
 
 use crate::fault::{PolicyPart, ReadFault};
 use crate::parts::{at_least_one, at_most, name_of, no_others, table_of, value_at};
 use crate::rules::read_rules;
 use crate::workflows::{make_flow, read_order, read_permits, read_steps};
+use constraint_forms::Rules;
 use policy_book::Policy;
 use std::alloc::Global;
 use toml::Value;
@@ -60,7 +62,7 @@ fn ordered_flow(
 }
 
 /// Reads the workflow in a table and adds it under its name.
-#[tactic(auto, unfolding(crate::specs::Flows::workflow_in), using(crate::proofs::Counts::few_steps, crate::proofs::Grown::grown_push))]
+#[tactic(auto, unfolding(crate::specs::Flows::workflow_in), using(crate::proofs::Counts::few_steps))]
 fn add_workflow(
     alloc: Global,
     policy: &mut Policy,
@@ -83,6 +85,23 @@ fn add_workflow(
     )?;
     let made = flow_of(alloc, policy.roster().roles(), table, number)?;
     let rules = read_rules(alloc, table, policy.relations(), made.steps(), number)?;
+    push_workflow(policy, name, made, rules)
+}
+
+#[tactic(auto, using(crate::proofs::Grown::grown_push))]
+fn push_workflow(policy: &mut Policy, name: Name, made: Flow, rules: Rules) -> Result<(), ReadFault>
+    requires fresh { is_some (place_of policy.old.flow_names name) ≡ false }
+    requires room { length policy.old.flows < FLOW_LIMIT }
+    requires roles { PermitsRolesBelow (length policy.old.roster.roles) made }
+    requires few { length rules ≤ RULE_LIMIT }
+    requires ruled { AreSoundRules (length made.steps) (length policy.old.relations) rules }
+    ensures added { OnOk result (policy.new ≡ record policy.old {
+      flow_names = policy.old.flow_names ++ name ∷ [];
+      flows = policy.old.flows ++ record { flow = made; rules = rules; retired = false } ∷ [];
+    }) }
+    ensures grown { OnOk result (IsGrown policy.old policy.new) }
+    ensures memory { IfErr result (λ e. e ≡ NoMemory) }
+{
     match policy.add_flow(name, made, rules) {
         Ok(_) => Ok(()),
         Err(NameFault::NoMemory) => Err(ReadFault::NoMemory),

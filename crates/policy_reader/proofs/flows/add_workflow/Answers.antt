@@ -1,4 +1,4 @@
 use Rattle.policy_reader.proofs.flows.add_workflow.Goals as goal
 
-pub add_flow-requires-clause-ruled : goal.add_flow-requires-clause-ruled
-add_flow-requires-clause-ruled c = rw (← c.steps.ensures.names, ← c.relations.ensures.relations) c.in_ok-rules.ensures.sound
+pub push_workflow-requires-clause-ruled : goal.push_workflow-requires-clause-ruled
+push_workflow-requires-clause-ruled c = rw (← c.steps.ensures.names, ← c.relations.ensures.relations) c.in_ok-rules.ensures.sound
