@@ -4,4 +4,3 @@
 mod tree;
 
 pub use tree::{Branch, Branches, Kid, Tree};
-

@@ -5,7 +5,6 @@ ghost use Rattle.std.specs.Prelude.{◌≡◌, IfOk};
 ghost use Rattle.std.specs.Borrow.{sem};
 ghost use Rattle.shared_part.specs.Editing.{FollowsEdit};
 
-
 use std::alloc::{AllocError, Global};
 use std::marker::Model;
 use std::sync::Arc;
