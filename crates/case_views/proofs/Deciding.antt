@@ -1,5 +1,5 @@
 -- What the decider finds on a deed.
-use Rattle.std.proofs.Common.{◌≡◌, ℕ, ◌<◌, Bool, true, false, List, [], ◌∷◌, length, Option, None, Some, Result, Ok, Err, slice_set, refl, sym, ap, subst, ◌∙◌}
+use Rattle.std.proofs.Common.{◌≡◌, ℕ, ◌<◌, Bool, true, false, List, length, Option, None, Some, Result, Ok, Err, slice_set, refl, sym, ap, subst, ◌∙◌}
 use Rattle.std.specs.Option.{option_map}
 use Rattle.std.proofs.lemmas.Bool.Decides.{eqb_tells}
 use Rattle.first_fault.specs.Reading.{Gives}
