@@ -5,4 +5,8 @@
 #[cfg(test)]
 mod record;
 #[cfg(test)]
+mod table;
+#[cfg(test)]
 mod talk;
+#[cfg(test)]
+mod views;

@@ -1,7 +1,6 @@
 -- What the decider finds on a deed.
-use Rattle.std.proofs.Common.{◌≡◌, ℕ, ◌<◌, Bool, true, false, List, [], ◌∷◌, length, Option, None, Some, Result, Ok, Err, slice_set, refl, sym, ap, subst, ◌∙◌}
+use Rattle.std.proofs.Common.{◌≡◌, ℕ, ◌<◌, Bool, true, false, List, length, Option, None, Some, Result, Ok, Err, slice_set, refl, sym, ap, subst, ◌∙◌}
 use Rattle.std.specs.Option.{option_map}
-use Rattle.std.specs.Prelude.{nat_eq, if◌then◌else◌}
 use Rattle.std.proofs.lemmas.Bool.Decides.{eqb_tells}
 use Rattle.first_fault.specs.Reading.{Gives}
 use Rattle.constraint_forms.specs.Assigned.{no_steps, no_users, planned, user_at}
@@ -29,22 +28,12 @@ use Rattle.wf_board.specs.Refusals.{denial_in}
 use Rattle.wf_board.specs.Verdicts.{Decides as IsDecided}
 use Rattle.wf_talk.specs.declared.request.Ask.{Ask}
 use Rattle.std.proofs.lemmas.Bool.{false≢true}
-use Rattle.wf_board.specs.Kept.{ArePlanned, EachRow, IsOfPolicy, IsPlanned}
+use Rattle.wf_board.specs.Kept.{ArePlanned, IsOfPolicy, IsPlanned}
+use Rattle.wf_board.proofs.Rows.{each_at}
 use Rattle.wf_board.proofs.Within.{claimed_within, planned_within}
 use Rattle.wf_board.proofs.Exact.{finished_assigned}
 use Rattle.admin_edits.specs.declared.amendment.Amendment.{Amendment}
 use Rattle.case_views.specs.Deciding.{DecidesChange, DecidesDeed, DecidesFor, DecidesWhatIf, DecidesWork, IsVerdictOf}
-
-each_at : (P : Row → Type 0) (n : ℕ) (rows : List Row) (r : Row) → EachRow P rows → row_at n rows ≡ Some r → P r
-each_at P n [] r each is = cc
-each_at P n (x ∷ xs) r each is = at_first (nat_eq x.number n) is (each_at P n xs r each.1)
-  where
-    unsome : (y : Row) → Some y ≡ Some r → y ≡ r
-    unsome y e = cc
-
-    at_first : (b : Bool) → (if b then Some x else row_at n xs) ≡ Some r → (row_at n xs ≡ Some r → P r) → P r
-    at_first true e rest = subst P (unsome x e) each.0
-    at_first false e rest = rest e
 
 -- a row that is there, with its case
 found_row : (o : Option Row) (c : CaseShape) → option_map (λ (r : Row). r.case) o ≡ Some c → (r : Row) × ((o ≡ Some r) × (r.case ≡ c))

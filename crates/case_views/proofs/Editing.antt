@@ -1,8 +1,8 @@
 -- What a change of the policy leaves the open cases.
 use Rattle.std.proofs.Common.{◌≡◌, ℕ, zero, suc, ◌+◌, ◌<◌, inl, inr, Bool, true, false, List, [], ◌∷◌, ◌++◌, length, take, drop, get_or, Option, None, Some, refl, sym, ap, subst, ◌∙◌, arith}
 use Rattle.std.proofs.lemmas.List.{append_assoc, append-nil, take-append-drop}
-use Rattle.std.proofs.Math.Seq.{take-suc}
 use Rattle.basics.proofs.Booleans.{bool_cases}
+use Rattle.basics.proofs.Lists.{take_next}
 use Rattle.refutation_tree.specs.declared.tree.Tree.{Tree}
 use Rattle.policy_book.specs.Shapes.{PolicyShape}
 use Rattle.policy_book.specs.Policies.{problem_of}
@@ -57,12 +57,6 @@ stranded_after p [] fs [] e tree plans shows = inl (refl, (refl, shows))
 stranded_after p [] fs (plan ∷ ps) e tree plans shows = absurd plans
 stranded_after p (x ∷ es) fs [] e tree plans shows = absurd plans
 stranded_after p (x ∷ es) fs (plan ∷ ps) e tree plans shows = inr ((plan, plans.0), stranded_after p es fs ps e tree plans.1 shows)
-
--- the rows so far with one more
-pub take_next : (rows : List Row) (i : ℕ) (r : Row) → i < length rows → r ≡ get_or rows i r → take (i + 1) rows ≡ take i rows ++ r ∷ []
-take_next rows i r below is =
-    let same : i + 1 ≡ suc i = omega arith in
-    ap (λ (n : ℕ). take n rows) same ∙ take-suc rows i r below ∙ ap (λ (x : Row). take i rows ++ x ∷ []) (sym is)
 
 -- plans for the rows so far, with those for one more
 pub plans_more : (p : PolicyShape) (rows : List Row) (i : ℕ) (r : Row) (ps more all : List (List ℕ)) → i < length rows → r ≡ get_or rows i r →

@@ -2,6 +2,7 @@
 use Rattle.std.proofs.Common.{◌≡◌, ℕ, ◌+◌, ◌<◌, true, false, Bool, List, [], ◌∷◌, ◌++◌, length, take, get_or, Option, None, Some, refl, sym, ap, subst, ◌∙◌}
 use Rattle.std.specs.Prelude.{MatchBool, is_some, option_map}
 use Rattle.std.proofs.lemmas.List.{append-nil}
+use Rattle.basics.proofs.Lists.{take_next}
 use Rattle.wf_names.specs.States.{user_of}
 use Rattle.wf_names.specs.declared.states.StepState.{StepState}
 use Rattle.wf_names.specs.declared.states.StepState.TheVariants.{Free, Held, Finished}
@@ -27,7 +28,7 @@ use Rattle.wf_board.specs.States.{Numbered}
 use Rattle.wf_board.specs.Views.{AreThose, IsGrantable, Place, item_of, steps_from, steps_of}
 use Rattle.wf_board.proofs.Exact.{claimed_assigned, finished_assigned, well_formed_any}
 use Rattle.case_views.specs.Listing.{AreGrantable, AreStrandedIn, HasListed, IsLeftAt, IsWorkIn, is_plan, open_in}
-use Rattle.case_views.proofs.Editing.{open_append, take_next}
+use Rattle.case_views.proofs.Editing.{open_append}
 use Rattle.case_views.proofs.Lists.{none_those, one_those, place, steps_append, steps_more, those_append}
 
 -- the one open case of a row

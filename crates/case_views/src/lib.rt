@@ -8,8 +8,6 @@ mod found;
 mod spread;
 mod spread_parts;
 mod stranded;
-#[cfg(test)]
-mod tests;
 mod work_lists;
 
 pub use decider::PlainDecider;

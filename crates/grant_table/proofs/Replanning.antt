@@ -1,8 +1,9 @@
 -- How the open cases of a table get other plans.
 use Rattle.std.proofs.Common.{◌≡◌, ℕ, suc, ◌+◌, ◌<◌, ◌≤◌, true, false, inl, inr, List, [], ◌∷◌, ◌++◌, length, take, drop, get_or, slice_set, refl, sym, ap, ◌∙◌, arith}
-use Rattle.std.proofs.lemmas.List.{append_assoc, drop-set-lt, drop_all, take-append-drop, take_more, take_more_set}
+use Rattle.std.proofs.lemmas.List.{append_assoc, drop-set-lt, drop_all, take-append-drop, take_more_set}
 use Rattle.std.proofs.Math.Seq.{drop-cons}
 use Rattle.basics.proofs.Booleans.{bool_cases}
+use Rattle.basics.proofs.Lists.{take_next}
 use Rattle.grant_table.specs.declared.rows.Row.{Row}
 use Rattle.grant_table.specs.Tables.{is_open_row, open_count, replanned, replanned_row}
 use Rattle.grant_table.specs.Kept.{AreNumberedBelow, ArePlanned, AscendFrom, IsSoundTable}
@@ -26,10 +27,6 @@ replanned_open r rs plan plans live = rw live refl
 -- how far a loop over the rows has come
 abbrev pub replanned_so_far : List Row → ℕ → List (List ℕ) → ℕ → List Row
 replanned_so_far rows i plans k = take i rows ++ replanned (drop i rows) (drop k plans)
-
--- the first items, with the next one
-pub take_next : {A : Type 0} (xs : List A) (i : ℕ) (x : A) → i < length xs → x ≡ get_or xs i x → take (i + 1) xs ≡ take i xs ++ x ∷ []
-take_next xs i x below is = take_more xs i x below ∙ ap (λ y. take i xs ++ y ∷ []) (sym is)
 
 -- the row that comes next is passed over
 pub passes_over : (rows : List Row) (i : ℕ) (plans : List (List ℕ)) (k : ℕ) (r : Row) → i < length rows → r ≡ get_or rows i r →

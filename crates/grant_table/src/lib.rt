@@ -5,8 +5,6 @@ mod cases;
 mod changes;
 mod planned;
 mod rows;
-#[cfg(test)]
-mod tests;
 
 pub use cases::Cases;
 pub use rows::Row;

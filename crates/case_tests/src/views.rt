@@ -1,7 +1,7 @@
 //! The views of one case, by both deciders, with ample memory.
 
-use crate::{PlainDecider, SpreadDecider, what_if, worklist};
 use admin_edits::edit_cause;
+use case_views::{PlainDecider, SpreadDecider, what_if, worklist};
 use std::alloc::{AllocError, Global};
 use std::test::Fail;
 use std::thread::Threads;

@@ -1,14 +1,39 @@
-//! What no clause shows: the calls of a table, one after the other, and that a reserved opening succeeds.
-ghost use Rattle.std.specs.Prelude.{◌≡◌, true, IsSomeAnd};
-ghost use Rattle.case_record.specs.Cases.{is_open};
+//! The calls of a table of cases, one after the other, and that a reserved opening succeeds.
+ghost use Rattle.std.specs.Prelude.{◌≡◌, ◌<◌, ℕ, length, slice_set, true, IfSome, IsSomeAnd, Some};
+ghost use Rattle.wf_names.specs.declared.limits.TheConstants.{STEP_LIMIT};
+ghost use Rattle.constraint_forms.specs.Assigned.{no_steps, no_users};
+ghost use Rattle.policy_book.specs.Plans.{IsValidPlan, IsWithin};
+ghost use Rattle.policy_book.specs.Policies.{problem_of};
+ghost use Rattle.case_record.specs.Cases.{assigned_of, finished_of, is_open};
 ghost use Rattle.grant_table.specs.Tables.{case_at, HasFreeStep, HasHeldStep};
 
-use crate::Cases;
-use constraint_forms::Plan;
+use case_record::Case;
+use certificate_check::is_valid_plan;
+use constraint_forms::{Assign, Plan, StepSet};
+use grant_table::Cases;
+use policy_book::Policy;
 use std::alloc::{AllocError, Global};
 use std::process::Abort;
 use std::test::Fail;
-use wf_names::{CASE_LIMIT, CaseId, FlowId, OPEN_CASE_LIMIT, Phase, StepId, StepState, UserId};
+use wf_names::{
+    CASE_LIMIT, CaseId, FlowId, Name, OPEN_CASE_LIMIT, Phase, STEP_LIMIT, StepId, StepState, UserId,
+};
+
+// A workflow of two steps, each of which each of three users may perform.
+const TWO: &str = r#"
+format = 1
+admin = "clerk"
+roles = ["clerk"]
+
+[users]
+ann = ["clerk"]
+bob = ["clerk"]
+cyd = ["clerk"]
+
+[flows.two]
+steps = ["first", "second"]
+permit = { first = ["clerk"], second = ["clerk"] }
+"#;
 
 const FIRST: StepId = StepId(0);
 
@@ -22,26 +47,32 @@ const CYD: UserId = UserId(2);
 
 #[test]
 fn cases_keep_their_numbers_and_plans(rt: HostRuntime) -> Result<(), Fail> {
-    let mut table = table_with_room(rt.alloc(), 3)?;
-    three_are_apart(&rt, &mut table);
+    let p = policy_reader::read(rt.alloc(), TWO.as_bytes())?;
+    keep_numbers(&rt, rt.alloc(), &p)?;
     Ok(())
 }
 
-fn three_are_apart(rt: &impl Abort, table: &mut Cases) {
-    open_three(rt, table);
-    work_on_two(rt, table);
+fn keep_numbers(rt: &impl Abort, alloc: Global, p: &Policy) -> Result<(), AllocError> {
+    let mut table = table_with_room(alloc, 3)?;
+    three_are_apart(rt, p, &mut table);
+    Ok(())
+}
+
+fn three_are_apart(rt: &impl Abort, p: &Policy, table: &mut Cases) {
+    open_three(rt, p, table);
+    work_on_two(rt, p, table);
     keep_apart(rt, table);
 }
 
-fn open_three(rt: &impl Abort, table: &mut Cases) {
+fn open_three(rt: &impl Abort, p: &Policy, table: &mut Cases) {
     for number in 0..3 {
-        assert!(rt; opened(table, Plan::of(&[ANN, BOB])) == Some(CaseId(number)));
+        assert!(rt; opened(p, table, Plan::of(&[ANN, BOB])) == Some(CaseId(number)));
     }
 }
 
-fn work_on_two(rt: &impl Abort, table: &mut Cases) {
-    assert!(rt; held(table, CaseId(1), FIRST, ANN, Plan::of(&[ANN, CYD])));
-    assert!(rt; held(table, CaseId(2), SECOND, BOB, Plan::of(&[ANN, BOB])));
+fn work_on_two(rt: &impl Abort, p: &Policy, table: &mut Cases) {
+    assert!(rt; held(p, table, CaseId(1), FIRST, ANN, Plan::of(&[ANN, CYD])));
+    assert!(rt; held(p, table, CaseId(2), SECOND, BOB, Plan::of(&[ANN, BOB])));
     assert!(rt; finished(table, CaseId(1), FIRST) == Some(false));
 }
 
@@ -66,15 +97,20 @@ fn is_live_with(
 
 #[test]
 fn a_table_counts_its_open_cases(rt: HostRuntime) -> Result<(), Fail> {
-    let mut table = table_with_room(rt.alloc(), 3)?;
-    count_the_open(&rt, &mut table);
-    copy_in_part(&rt, rt.alloc(), &table)?;
+    let p = policy_reader::read(rt.alloc(), TWO.as_bytes())?;
+    count_and_copy(&rt, rt.alloc(), &p)?;
     Ok(())
 }
 
-fn count_the_open(rt: &impl Abort, table: &mut Cases) {
-    open_three(rt, table);
-    finish_the_first(rt, table);
+fn count_and_copy(rt: &impl Abort, alloc: Global, p: &Policy) -> Result<(), AllocError> {
+    let mut table = table_with_room(alloc, 3)?;
+    count_the_open(rt, p, &mut table);
+    copy_in_part(rt, alloc, &table)
+}
+
+fn count_the_open(rt: &impl Abort, p: &Policy, table: &mut Cases) {
+    open_three(rt, p, table);
+    finish_the_first(rt, p, table);
     assert!(rt; (table.live(), table.ever()) == (2, 3));
     assert!(rt; table.next_live(0) == Some(CaseId(1)) && table.next_live(3).is_none());
 }
@@ -86,10 +122,10 @@ fn copy_in_part(rt: &impl Abort, alloc: Global, table: &Cases) -> Result<(), All
     Ok(())
 }
 
-fn finish_the_first(rt: &impl Abort, table: &mut Cases) {
+fn finish_the_first(rt: &impl Abort, p: &Policy, table: &mut Cases) {
     let plan = Plan::of(&[ANN, BOB]);
-    assert!(rt; held(table, CaseId(0), FIRST, ANN, plan));
-    assert!(rt; held(table, CaseId(0), SECOND, BOB, plan));
+    assert!(rt; held(p, table, CaseId(0), FIRST, ANN, plan));
+    assert!(rt; held(p, table, CaseId(0), SECOND, BOB, plan));
     assert!(rt; finished(table, CaseId(0), FIRST) == Some(false));
     assert!(rt; finished(table, CaseId(0), SECOND) == Some(true));
 }
@@ -120,21 +156,27 @@ fn has_the_open_cases(copy: &Cases) -> bool {
 
 #[test]
 fn steps_are_given_back_and_cases_withdrawn(rt: HostRuntime) -> Result<(), Fail> {
-    let mut table = table_with_room(rt.alloc(), 3)?;
-    take_back(&rt, &mut table);
+    let p = policy_reader::read(rt.alloc(), TWO.as_bytes())?;
+    take_two_back(&rt, rt.alloc(), &p)?;
     Ok(())
 }
 
-fn take_back(rt: &impl Abort, table: &mut Cases) {
-    open_three(rt, table);
-    give_back_and_withdraw(table);
+fn take_two_back(rt: &impl Abort, alloc: Global, p: &Policy) -> Result<(), AllocError> {
+    let mut table = table_with_room(alloc, 3)?;
+    take_back(rt, p, &mut table);
+    Ok(())
+}
+
+fn take_back(rt: &impl Abort, p: &Policy, table: &mut Cases) {
+    open_three(rt, p, table);
+    give_back_and_withdraw(p, table);
     let plan = Plan::of(&[ANN, BOB]);
     assert!(rt; is_live_with(table, CaseId(0), StepState::Free, StepState::Free, &plan));
     assert!(rt; is_withdrawn(table, CaseId(1)) && table.live() == 2);
 }
 
-fn give_back_and_withdraw(table: &mut Cases) {
-    held(table, CaseId(0), FIRST, ANN, Plan::of(&[ANN, BOB]));
+fn give_back_and_withdraw(p: &Policy, table: &mut Cases) {
+    held(p, table, CaseId(0), FIRST, ANN, Plan::of(&[ANN, BOB]));
     if holds(table, CaseId(0), FIRST) {
         table.give_back(CaseId(0), FIRST);
     }
@@ -149,10 +191,16 @@ fn withdraw_the_second(table: &mut Cases) {
 
 #[test]
 fn open_cases_get_other_plans_in_order(rt: HostRuntime) -> Result<(), Fail> {
-    let mut table = table_with_room(rt.alloc(), 3)?;
-    open_three(&rt, &mut table);
+    let p = policy_reader::read(rt.alloc(), TWO.as_bytes())?;
+    replan_two(&rt, rt.alloc(), &p)?;
+    Ok(())
+}
+
+fn replan_two(rt: &impl Abort, alloc: Global, p: &Policy) -> Result<(), AllocError> {
+    let mut table = table_with_room(alloc, 3)?;
+    open_three(rt, p, &mut table);
     withdraw_the_second(&mut table);
-    replan_the_others(&rt, &mut table);
+    replan_the_others(rt, &mut table);
     Ok(())
 }
 
@@ -201,20 +249,87 @@ fn seen(table: &Cases, c: CaseId) -> Option<Seen> {
 }
 
 // Opens a case of two steps where there is room.
-fn opened(table: &mut Cases, plan: Plan) -> Option<CaseId> {
+fn opened(p: &Policy, table: &mut Cases, plan: Plan) -> Option<CaseId> {
     if table.spare() == 0 || table.live() >= OPEN_CASE_LIMIT || table.ever() >= CASE_LIMIT {
         return None;
     }
-    Some(table.open_fresh(FlowId(0), 2, plan))
+    let f = two(p)?;
+    if !is_opening_plan(p, f, &plan) {
+        return None;
+    }
+    Some(table.open_case(p, f, plan))
 }
 
-// Gives a step of an open case to a user where it is free.
-fn held(table: &mut Cases, c: CaseId, s: StepId, u: UserId, plan: Plan) -> bool {
-    if !has_free(table, c, s) {
+// The workflow of two steps.
+fn two(p: &Policy) -> Option<FlowId>
+    ensures { IfSome result (λ f. f < length p.now.flows) }
+{
+    p.find_flow(&Name::read("two")?)
+}
+
+fn is_opening_plan(p: &Policy, f: FlowId, plan: &Plan) -> bool
+    requires { f < length p.now.flows }
+    ensures { result ≡ true → IsValidPlan (problem_of p.now f) no_users no_steps plan.now }
+{
+    let assigned = Assign::empty();
+    let finished = StepSet::empty();
+    is_valid_plan(p, f, &assigned, &finished, plan)
+}
+
+// Gives a step of an open case to a user where it is free and the plan is valid then.
+fn held(p: &Policy, table: &mut Cases, c: CaseId, s: StepId, u: UserId, plan: Plan) -> bool {
+    if !has_free(table, c, s) || !can_hold(p, table, c, s, u, &plan) {
         return false;
     }
-    table.hold_step(c, s, u, plan);
+    table.hold(p, c, s, u, plan);
     true
+}
+
+fn can_hold(p: &Policy, table: &Cases, c: CaseId, s: StepId, u: UserId, plan: &Plan) -> bool
+    ensures { result ≡ true → IsSomeAnd (case_at table.now c)
+        (λ k. IsValidPlan (problem_of p.now k.flow) (slice_set (assigned_of k) s (Some u))
+        (finished_of k) plan.now) }
+{
+    let (Some(case), Some(f)) = (table.case(c), two(p)) else {
+        return false;
+    };
+    case.flow() == f && (s.0 as usize) < STEP_LIMIT && is_valid_with(p, f, case, s, u, plan)
+}
+
+fn is_valid_with(p: &Policy, f: FlowId, case: &Case, s: StepId, u: UserId, plan: &Plan) -> bool
+    requires flow { f < length p.now.flows }
+    requires its { case.now.flow ≡ f }
+    requires step { s < STEP_LIMIT }
+    ensures { result ≡ true → IsValidPlan (problem_of p.now case.now.flow)
+        (slice_set (assigned_of case.now) s (Some u))
+        (finished_of case.now) plan.now }
+{
+    let assigned = case.assigned().with(s, u);
+    is_within(p, f, &assigned) && is_valid_plan(p, f, &assigned, &case.finished(), plan)
+}
+
+// Whether steps of a workflow alone are assigned, and to users of the policy.
+fn is_within(p: &Policy, f: FlowId, a: &Assign) -> bool
+    requires { f < length p.now.flows }
+    ensures { result ≡ true → IsWithin (problem_of p.now f) a.now }
+{
+    'steps: for s in 0..STEP_LIMIT {
+        if !is_known(p, f, StepId(s as u8), a.at(StepId(s as u8))) {
+            return false;
+        }
+    }
+    true
+}
+
+fn is_known(p: &Policy, f: FlowId, s: StepId, user: Option<UserId>) -> bool
+    requires { f < length p.now.flows }
+    ensures { result ≡ true → (u : ℕ) → user ≡ Some u
+        → (s < (problem_of p.now f).steps) × (u < (problem_of p.now f).users) }
+{
+    match user {
+        Some(u) => (s.0 as u16) < p.flow(f).steps().len() && u.0 < p.roster().users().len(),
+        None => true,
+    }
 }
 
 // Finishes a step of an open case where it is held.
