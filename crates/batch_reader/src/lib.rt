@@ -2,7 +2,5 @@
 #![tactic(auto)]
 
 mod reader;
-#[cfg(test)]
-mod tests;
 
 pub use reader::{Paused, Reader, Reading};

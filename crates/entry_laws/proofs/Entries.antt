@@ -23,6 +23,7 @@ use Rattle.wf_board.proofs.Counted.{end_within}
 use Rattle.wf_board.proofs.Keeping.{step_keeps}
 use Rattle.wf_board.proofs.Told.{HoldsOf, IsTold, told}
 use Rattle.wire_json.specs.Replies.{entry_text, reply_data}
+use Rattle.wire_json.proofs.Lines.{text_same}
 use Rattle.entry_reader.specs.Lines.{IsEntry, concerned}
 use Rattle.entry_laws.specs.Laws.{EntriesAreLines, HasFewSteps, IsLastOf, flows_of}
 use Rattle.entry_laws.proofs.Numbers.{step_serial}
@@ -103,15 +104,6 @@ reply_same p q (reply.Denied d) same = ap (λ x. reply_data x (reply.Denied d)) 
 reply_same p q (reply.Again n place) same = refl
 reply_same p q reply.NoMemory same = refl
 reply_same p q (reply.Bad b) same = refl
-
-text_same : (p q : PolicyShape) (e : Entry) → reply_data q e.reply ≡ reply_data p e.reply → entry_text q e ≡ entry_text p e
-unfolding entry_text
-text_same p q e same =
-    ap (λ d. compact_text (object
-    (member (codes "at") (number (unsigned e.at))
-    (member (codes "lane") (number (unsigned e.lane))
-    (member (codes "line") (number (unsigned e.line))
-    (member (codes "reply") d no_members))))) ++ 10 ∷ []) same
 
 -- the text of an entry is the same with the names of the policy after it
 pub text_stays : (start : State) (entries : List Entry) (e : Entry)

@@ -13,13 +13,13 @@ use Rattle.wf_talk.specs.declared.reply.Reply.{Reply}
 use Rattle.wf_talk.specs.declared.reply.Reply.TheVariants as reply
 use Rattle.wf_talk.specs.declared.reply.Denial.{Denial}
 use Rattle.wf_talk.specs.declared.reply.Denial.TheVariants as denial
-use Rattle.denial_reasons.specs.Causes.{unless}
 use Rattle.wf_board.specs.declared.deed.Deed.{Deed}
 use Rattle.wf_board.specs.declared.deed.Deed.TheVariants as deed
 use Rattle.wf_board.specs.States.{Book, Numbered, State, case_at, is_full, open_cases, open_count, with_case_changed}
 use Rattle.wf_board.specs.Decisions.{cause_full, decision_aside, decision_of}
 use Rattle.wf_board.specs.Steps.{state_after_decision, state_after_deed, state_after_step}
-use Rattle.wf_board.proofs.Told.{HoldsOf, then_holds, unless_holds}
+use Rattle.admin_edits.proofs.Keeping.{always}
+use Rattle.wf_board.proofs.Told.{HoldsOf, then_holds, unless_holds, unless_tells}
 
 -- these cases have the numbers from k on
 abbrev pub AreFrom : ℕ → List Numbered → Type 0
@@ -80,17 +80,13 @@ abbrev HasRoom : Book → Deed → Type 0
 HasRoom b (deed.Open f) = b.ever < CASE_LIMIT
 HasRoom b given = Unit {0}
 
-not_denied : (b : Bool) (d : Denial) → unless b d ≡ None → b ≡ true
-not_denied true d is = refl
-not_denied false d is = cc
-
 room_left : (b : Book) → is_full b ≡ false → b.ever < CASE_LIMIT
 room_left b free =
     let few = (or_false (nat_le OPEN_CASE_LIMIT (open_count b.cases)) (nat_le CASE_LIMIT b.ever) free).1 in
     grind arith
 
 room_of : (b : Book) (given : Deed) → cause_full b given ≡ None → HasRoom b given
-room_of b (deed.Open f) none = room_left b (not_yes (is_full b) (not_denied (not (is_full b)) denial.Full none))
+room_of b (deed.Open f) none = room_left b (not_yes (is_full b) (unless_tells (not (is_full b)) denial.Full none))
 room_of b (deed.Claim n c t u) none = tt
 room_of b (deed.Finish n c t u) none = tt
 room_of b (deed.GiveBack n c t u) none = tt
@@ -101,10 +97,6 @@ room_of b (deed.Show c) none = tt
 room_of b (deed.Work u) none = tt
 room_of b (deed.WhatIf a) none = tt
 room_of b (deed.TurnAway bad) none = tt
-
-always : {A F : Type 0} (r : Result A F) → HoldsOf (λ _. Unit {0}) r
-always (Ok x) = tt
-always (Err d) = tt
 
 decided_room : (b : Book) (what : Ask) → HoldsOf (HasRoom b) (decision_of b what)
 decided_room b what =

@@ -29,10 +29,12 @@ use Rattle.denial_reasons.specs.Causes.{assigned_with, first_falsified, permitte
 use Rattle.wf_talk.specs.declared.request.Bad.{Bad}
 use Rattle.wf_talk.specs.declared.request.Bad.TheVariants as bad
 use Rattle.wf_board.specs.Kept.{IsOfPolicy}
+use Rattle.wf_board.proofs.Below.{AllBelow, passing_all, planned_below}
+use Rattle.wf_board.proofs.Within.{user_known}
 use Rattle.wire_json.specs.Entries.{bad_data, named, phase_data, seen_data, state_data}
 use Rattle.entry_reader.specs.Within.{IsPlan, IsRole, IsState}
 use Rattle.entry_laws.specs.Laws.{HasFewSteps}
-use Rattle.entry_laws.proofs.Trees.{AllBelow, IsProblemOf, passing_all}
+use Rattle.entry_laws.proofs.Trees.{IsProblemOf}
 
 -- ---- lists
 
@@ -41,16 +43,7 @@ all_from n [] below k d lt = absurd (omega (arith, lt))
 all_from n (u ∷ us) below zero d lt = below.0
 all_from n (u ∷ us) below (suc k) d lt = all_from n us below.1 k d (omega (arith, lt))
 
--- names nest nothing
-pub names_flat : (names : List (List ℕ)) (ns : List ℕ) → items_depth (items_of (map (named names) ns)) ≡ 0
-names_flat names [] = refl
-names_flat names (n ∷ ns) = let rest = names_flat names ns in omega (arith, rest)
-
 -- ---- plans
-
-planned_below : (n : ℕ) (plan : List ℕ) → ((s : ℕ) → s < length plan → planned plan s < n) → AllBelow n plan
-planned_below n [] known = tt
-planned_below n (u ∷ us) known = (known 0 (omega arith), planned_below n us (λ s below. known (suc s) (omega (arith, below))))
 
 -- the users of a valid plan are users of the policy, as many as the workflow has steps
 pub plan_fits : (p : PolicyShape) (f : ℕ) (pr : Problem) (a : List (Option ℕ)) (finished : List Bool) (plan : List ℕ) → IsProblemOf p f pr → pr.steps ≤ STEP_LIMIT
@@ -91,10 +84,6 @@ pub case_few : (p : PolicyShape) (c : CaseShape) → HasFewSteps p → IsOfPolic
 case_few p c few of = subst (λ n. n ≤ STEP_LIMIT) (sym of.steps) (few c.flow of.flow)
 
 -- ---- where steps stand
-
--- the users of a case are users of its policy
-pub user_known : (p : PolicyShape) (c : CaseShape) (t u : ℕ) → IsOfPolicy p c → user_of (state_at c t) ≡ Some u → u < length p.roster.users
-user_known p c t u of is = of.users.users t u (assigned_of-at c t ∙ is)
 
 state_stands : (p : PolicyShape) (x : StepState) → ((u : ℕ) → user_of x ≡ Some u → u < length p.roster.users) → IsState p x
 state_stands p Free known = tt

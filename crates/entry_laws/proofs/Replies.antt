@@ -17,6 +17,7 @@ use Rattle.wf_talk.specs.declared.reply.Reply.{Reply}
 use Rattle.wf_talk.specs.declared.reply.Reply.TheVariants as reply
 use Rattle.wf_talk.specs.declared.reply.Denial.{Denial}
 use Rattle.wf_talk.specs.declared.reply.Denial.TheVariants as denial
+use Rattle.wf_talk.specs.Jobs.{IsNamedAsk}
 use Rattle.denial_reasons.specs.Causes.{assigned_with}
 use Rattle.admin_edits.specs.declared.amendment.Amendment.{Amendment}
 use Rattle.admin_edits.specs.Edits.{amended}
@@ -30,17 +31,18 @@ use Rattle.wf_board.specs.Steps.{Answers, IsReplyTo, IsStep, face_of}
 use Rattle.wf_board.specs.Views.{AreStranded, IsWorkOf}
 use Rattle.wf_board.specs.Kept.{IsOfPolicy, IsSoundState, KeepsCompletable}
 use Rattle.wf_board.proofs.Told.{HoldsOf, IsTold, told}
+use Rattle.wf_board.proofs.Faring.{Fares}
 use Rattle.wire_json.specs.Replies.{reply_data}
 use Rattle.entry_reader.specs.Within.{IsBad, IsReply}
 use Rattle.entry_reader.specs.Lines.{concerned}
-use Rattle.entry_laws.specs.Asks.{IsNamedAsk}
+use Rattle.entry_reader.proofs.PlainLines.{names_flat}
 use Rattle.entry_laws.specs.Laws.{HasFewSteps, flows_of}
 use Rattle.entry_laws.proofs.Trees.{tree_fits}
-use Rattle.entry_laws.proofs.Parts.{bad_nests, case_few, case_stands, given_long, names_flat, no_users_long, phase_flat, plan_fits, problem_fits, states_nest}
+use Rattle.entry_laws.proofs.Parts.{bad_nests, case_few, case_stands, given_long, no_users_long, phase_flat, plan_fits, problem_fits, states_nest}
 use Rattle.entry_laws.proofs.Listed.{numbers_flat, stranded_stand, work_nests, work_stands}
 use Rattle.entry_laws.proofs.Numbers.{AreSerial}
 use Rattle.entry_laws.proofs.Stranded.{stranded_fits}
-use Rattle.entry_laws.proofs.Told.{Fares, FitsDenial, IsDeedFor, IsOn, decision_fares}
+use Rattle.entry_laws.proofs.Told.{FitsDenial, IsDeedFor, IsOn, decision_fares}
 
 -- what is known of a state that a session reaches
 pub record IsReached (s : State) : Type 0 where

@@ -18,6 +18,7 @@ use Rattle.wf_talk.specs.declared.request.Bad.{Bad}
 use Rattle.wf_talk.specs.declared.request.Bad.TheVariants as bad
 use Rattle.wf_talk.specs.declared.reply.Denial.{Denial}
 use Rattle.wf_talk.specs.declared.reply.Denial.TheVariants as denial
+use Rattle.wf_talk.specs.Jobs.{IsNamedAsk, IsNamedBad}
 use Rattle.denial_reasons.specs.Causes.{assigned_with, first_cause, first_falsified, first_of, permitted_roles, unless}
 use Rattle.admin_edits.specs.declared.amendment.Amendment.{Amendment}
 use Rattle.admin_edits.specs.declared.fault.EditFault.{EditFault}
@@ -30,56 +31,14 @@ use Rattle.wf_board.specs.Resolved.{edit_denial, on_edit, on_step, open_case_at,
 use Rattle.wf_board.specs.Decisions.{cause_aside, cause_full, decision_aside, decision_of, unless_denied}
 use Rattle.wf_board.specs.Kept.{IsOfPolicy, IsSoundState}
 use Rattle.wf_board.proofs.Told.{place_within}
+use Rattle.wf_board.proofs.Faring.{Fares, IsCauseSo, check_fares, four_so, map_so, or_fares, then_fares, unless_fares, unless_so}
+use Rattle.wf_board.proofs.Within.{user_known}
 use Rattle.wire_json.specs.Replies.{denial_data}
 use Rattle.entry_reader.specs.Within.{IsBad, IsDenial}
 use Rattle.entry_reader.specs.Lines.{concerned}
-use Rattle.entry_laws.specs.Asks.{IsNamedAsk, IsNamedBad}
+use Rattle.entry_reader.proofs.PlainLines.{names_flat}
 use Rattle.entry_laws.specs.Laws.{flows_of}
-use Rattle.entry_laws.proofs.Parts.{falsified_there, missing_there, names_flat, roles_stand, state_nests, step_stands, user_known}
-
--- P holds of what was read, and Q of why it was not
-abbrev pub Fares : {A F : Type 0} → (A → Type 0) → (F → Type 0) → Result A F → Type 0
-Fares P Q (Ok x) = P x
-Fares P Q (Err d) = Q d
-
-then_fares : {A B F : Type 0} (P : A → Type 0) (R : B → Type 0) (Q : F → Type 0) (r : Result A F) (f : A → Result B F) → Fares P Q r
-    → ((x : A) → P x → Fares R Q (f x)) → Fares R Q (r >>= f)
-then_fares P R Q (Ok x) f has each = each x has
-then_fares P R Q (Err d) f has each = has
-
-or_fares : {A F : Type 0} (Q : F → Type 0) (o : Option A) (d : F) → Q d → Fares (λ x. o ≡ Some x) Q (or_fault o d)
-or_fares Q (Some x) d none = refl
-or_fares Q None d none = none
-
-check_fares : {F : Type 0} (Q : F → Type 0) (b : Bool) (d : F) → Q d → Fares (λ _. Unit {0}) Q (check b d)
-check_fares Q true d failed = tt
-check_fares Q false d failed = failed
-
--- Q holds of the cause, if there is one
-abbrev IsCauseSo : (Denial → Type 0) → Option Denial → Type 0
-IsCauseSo Q None = Unit {0}
-IsCauseSo Q (Some d) = Q d
-
-abbrev AreCausesSo : (Denial → Type 0) → List (Option Denial) → Type 0
-AreCausesSo Q [] = Unit {0}
-AreCausesSo Q (o ∷ os) = IsCauseSo Q o × AreCausesSo Q os
-
-first_so : (Q : Denial → Type 0) (os : List (Option Denial)) → AreCausesSo Q os → IsCauseSo Q (first_of os)
-first_so Q [] all = tt
-first_so Q (Some d ∷ os) all = all.0
-first_so Q (None ∷ os) all = first_so Q os all.1
-
-four_so : (Q : Denial → Type 0) (first second third fourth : Option Denial) → IsCauseSo Q first → IsCauseSo Q second → IsCauseSo Q third → IsCauseSo Q fourth
-    → IsCauseSo Q (first_of (first ∷ second ∷ third ∷ fourth ∷ []))
-four_so Q first second third fourth a b c d = first_so Q (first ∷ second ∷ third ∷ fourth ∷ []) (a, (b, (c, (d, tt))))
-
-unless_so : (Q : Denial → Type 0) (b : Bool) (d : Denial) → Q d → IsCauseSo Q (unless b d)
-unless_so Q true d so = tt
-unless_so Q false d so = so
-
-map_so : {A : Type 0} (Q : Denial → Type 0) (f : A → Denial) (o : Option A) → ((x : A) → o ≡ Some x → Q (f x)) → IsCauseSo Q (option_map f o)
-map_so Q f None so = tt
-map_so Q f (Some x) so = so x refl
+use Rattle.entry_laws.proofs.Parts.{falsified_there, missing_there, roles_stand, state_nests, step_stands}
 
 -- ---- what is known
 
@@ -251,10 +210,6 @@ full_so s o (deed.Show c) = tt
 full_so s o (deed.Work u) = tt
 full_so s o (deed.WhatIf a) = tt
 full_so s o (deed.TurnAway b) = tt
-
-unless_fares : (P : Deed → Type 0) (Q : Denial → Type 0) (given : Deed) (o : Option Denial) → P given → IsCauseSo Q o → Fares P Q (unless_denied given o)
-unless_fares P Q given None has so = has
-unless_fares P Q given (Some d) has so = so
 
 -- what is decided is a deed of what is asked, or a denial that fits
 pub decision_fares : (s : State) (what : Ask) → IsSoundState s → IsNamedAsk what

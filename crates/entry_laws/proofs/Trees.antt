@@ -15,6 +15,7 @@ use Rattle.policy_book.specs.Plans.{Problem}
 use Rattle.policy_book.specs.Twins.{are_twins, is_one_of}
 use Rattle.policy_book.specs.Refuting.{all_refute, authorised_users, have_users, is_broken, is_unassigned, passing, refutes}
 use Rattle.certificate_check.proofs.Assigned.{not_some}
+use Rattle.wf_board.proofs.Below.{AllBelow, one_below, passing_all}
 use Rattle.wire_json.specs.Trees.{branches_data, tree_data}
 use Rattle.entry_reader.specs.Within.{AreKids, IsStep, IsTree}
 
@@ -96,27 +97,6 @@ pub record IsProblemOf (p : PolicyShape) (f : ℕ) (pr : Problem) : Type 0 where
   pub steps : pr.steps ≡ length (flow_at p f).flow.steps
   pub users : pr.users ≡ length p.roster.users
   pub rules : length pr.rules < 2 ^ 8
-
--- each of these is below n
-abbrev pub AllBelow : ℕ → List ℕ → Type 0
-AllBelow n [] = Unit {0}
-AllBelow n (u ∷ us) = (u < n) × AllBelow n us
-
-below_if : (n k : ℕ) (b : Bool) (us : List ℕ) → k < n → AllBelow n us → AllBelow n (if b then k ∷ us else us)
-below_if n k true us here rest = (here, rest)
-below_if n k false us here rest = rest
-
-pub passing_all : (n : ℕ) (test : ℕ → Bool) (k count : ℕ) → k + count ≤ n → AllBelow n (passing test k count)
-passing_all n test k zero within = tt
-passing_all n test k (suc count) within =
-    below_if n k (test k) (passing test (k + 1) count) (omega (arith, within)) (passing_all n test (k + 1) count (omega (arith, within)))
-
-one_below : (n : ℕ) (us : List ℕ) (v : ℕ) → AllBelow n us → is_one_of us v ≡ true → v < n
-one_below n [] v below one = cc
-one_below n (u ∷ us) v below one = elim (or_cases (u == v) (is_one_of us v) one) [
-  | inl here ↦ subst (λ m. m < n) (eq_back u v here) below.0
-  | inr later ↦ one_below n us v below.1 later
-]
 
 broken_there : (pr : Problem) (a : List (Option ℕ)) (k : ℕ) (o : Option Rule) → slice_get pr.rules k ≡ o → is_broken pr a o ≡ true → k < length pr.rules
 broken_there pr a k None is broken = cc

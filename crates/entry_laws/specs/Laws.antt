@@ -6,11 +6,11 @@ use Rattle.policy_book.specs.Shapes.{PolicyShape}
 use Rattle.policy_book.specs.Policies.{flow_at}
 use Rattle.policy_book.specs.Facts.{IsSoundPolicy}
 use Rattle.wf_talk.specs.declared.entry.Entry.{Entry}
+use Rattle.wf_talk.specs.Jobs.{IsNamedAsk}
 use Rattle.wf_board.specs.States.{State, case_at, opening_state}
 use Rattle.wf_board.specs.Histories.{IsLegal, state_after}
 use Rattle.wire_json.specs.Replies.{entry_text}
 use Rattle.entry_reader.specs.Lines.{IsLineOf}
-use Rattle.entry_laws.specs.Asks.{IsNamedAsk}
 
 -- which workflow each case of a state is of
 abbrev pub flows_of : State → ℕ → Option ℕ

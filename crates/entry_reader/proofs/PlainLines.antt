@@ -28,7 +28,7 @@ all_within n (x ∷ xs) e zero d lt = ltb-true x n (and_both (nat_lt x n) (list_
 all_within n (x ∷ xs) e (suc k) d lt = all_within n xs (and_both (nat_lt x n) (list_all (λ y. nat_lt y n) xs) e).1 k d (omega (arith, lt))
 
 -- names nest in nothing
-names_flat : (names : List (List ℕ)) (ns : List ℕ) → items_depth (items_of (map (named names) ns)) ≡ 0
+pub names_flat : (names : List (List ℕ)) (ns : List ℕ) → items_depth (items_of (map (named names) ns)) ≡ 0
 names_flat names [] = refl
 names_flat names (n ∷ ns) = ap (max 0) (names_flat names ns)
 

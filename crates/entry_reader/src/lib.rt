@@ -10,8 +10,6 @@ mod parts;
 mod place;
 mod plain;
 mod reply;
-#[cfg(test)]
-mod tests;
 mod tree;
 
 pub use fault::TextFault;

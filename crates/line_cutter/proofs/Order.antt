@@ -5,9 +5,10 @@ use Rattle.std.proofs.lemmas.Grind.{common_steps}
 use Rattle.std.proofs.lemmas.List.{length-append}
 use Rattle.wf_names.specs.declared.limits.TheConstants.{LINE_LIMIT, SESSION_LINE_LIMIT, BATCH_LINE_LIMIT}
 use Rattle.wf_talk.specs.declared.job.Job.{Job}
+use Rattle.wf_talk.specs.Jobs.{AreOfLanes}
 use Rattle.wire_json.specs.RequestLaws.{lane_below}
 use Rattle.line_cutter.specs.Jobs.{Cut, start, without_cr, job_of, end_batch, end_full_batch, next_line, with_job, end_line, step, cut_all, flush, jobs_of_input}
-use Rattle.line_cutter.specs.Laws.{AscendFrom, AreOfLanes, LeadTo, AreInOrder, JobsAreInOrder}
+use Rattle.line_cutter.specs.Laws.{AscendFrom, LeadTo, AreInOrder, JobsAreInOrder}
 
 -- the line after the last of the jobs
 abbrev after_lines : ℕ → List Job → ℕ
@@ -47,6 +48,21 @@ keeps_if : (lanes spare : ℕ) (b : Bool) (c d : Cut) → (b ≡ true → Keeps 
 keeps_if lanes spare true c d first second = first refl
 keeps_if lanes spare false c d first second = second refl
 
+-- a batch that may have one line more stays open
+keeps_open : (lanes : ℕ) (c : Cut) → Keeps lanes 1 c → length c.jobs < c.from + BATCH_LINE_LIMIT → Keeps lanes 0 c
+keeps_open lanes c k room = record {
+  same = k.same;
+  number = k.number;
+  within = k.within;
+  few = k.few;
+  lines = k.lines;
+  next = k.next;
+  of_lanes = k.of_lanes;
+  ends = k.ends;
+  begins = k.begins;
+  batch = omega (arith, room);
+}
+
 keeps_end : (lanes : ℕ) (c : Cut) → Keeps lanes 1 c → Keeps lanes 0 (end_batch c)
 unfolding end_batch
 keeps_end lanes c k =
@@ -67,18 +83,7 @@ keeps_end lanes c k =
     })
     (λ none.
     let same : length c.jobs ≤ c.from = grind (arith, common_steps) in
-    record {
-      same = k.same;
-      number = k.number;
-      within = k.within;
-      few = k.few;
-      lines = k.lines;
-      next = k.next;
-      of_lanes = k.of_lanes;
-      ends = k.ends;
-      begins = k.begins;
-      batch = omega arith;
-    })
+    keeps_open lanes c k (omega (arith, same)))
 
 keeps_full : (lanes : ℕ) (c : Cut) → Keeps lanes 1 c → Keeps lanes 0 (end_full_batch c)
 unfolding end_full_batch
@@ -86,19 +91,7 @@ keeps_full lanes c k =
     keeps_if lanes 0 (nat_le (c.from + BATCH_LINE_LIMIT) (length c.jobs)) (end_batch c) c
     (λ full. keeps_end lanes c k)
     (λ room.
-    let below : length c.jobs < c.from + BATCH_LINE_LIMIT = grind (arith, common_steps) in
-    record {
-      same = k.same;
-      number = k.number;
-      within = k.within;
-      few = k.few;
-      lines = k.lines;
-      next = k.next;
-      of_lanes = k.of_lanes;
-      ends = k.ends;
-      begins = k.begins;
-      batch = omega arith;
-    })
+    keeps_open lanes c k (grind (arith, common_steps)))
 
 keeps_next : (lanes : ℕ) (c : Cut) → Keeps lanes 0 c → c.number < SESSION_LINE_LIMIT → Keeps lanes 1 (next_line c)
 keeps_next lanes c k within = record {

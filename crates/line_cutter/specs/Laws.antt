@@ -1,23 +1,14 @@
 -- What the jobs of every input meet.
-use Rattle.std.specs.Prelude.{◌≡◌, ℕ, ◌+◌, ◌<◌, ◌≤◌, Bool, List, [], ◌∷◌, length, IsTrue}
-use Rattle.wf_names.specs.Names.{is_name}
+use Rattle.std.specs.Prelude.{◌≡◌, ℕ, ◌+◌, ◌<◌, ◌≤◌, Bool, List, [], ◌∷◌, length}
 use Rattle.wf_names.specs.declared.limits.TheConstants.{SESSION_LINE_LIMIT, BATCH_LINE_LIMIT}
 use Rattle.wf_talk.specs.declared.job.Job.{Job}
-use Rattle.wf_talk.specs.declared.request.Ask.{Ask}
-use Rattle.wf_talk.specs.declared.request.Ask.TheVariants as ask
-use Rattle.wf_talk.specs.declared.request.Bad.{Bad}
-use Rattle.wf_talk.specs.declared.request.Bad.TheVariants as bad
+pub use Rattle.wf_talk.specs.Jobs.{AreOfLanes, IsNamedAsk, IsNamedBad}
 use Rattle.line_cutter.specs.Jobs.{jobs_of_input}
 
 -- the lines of the jobs ascend strictly, from this number on
 abbrev pub AscendFrom : ℕ → List Job → Type 0
 AscendFrom number [] = Unit {0}
 AscendFrom number (job ∷ jobs) = (number ≤ job.line) × AscendFrom (job.line + 1) jobs
-
--- each job is of one of the lanes
-abbrev pub AreOfLanes : ℕ → List Job → Type 0
-AreOfLanes lanes [] = Unit {0}
-AreOfLanes lanes (job ∷ jobs) = (job.lane < lanes) × AreOfLanes lanes jobs
 
 -- the ends of batches lead from a count of jobs to a total: each batch has a job, and at most so many as it may have lines
 abbrev pub LeadTo : ℕ → List ℕ → ℕ → Type 0
@@ -36,16 +27,7 @@ abbrev pub JobsAreInOrder : ℕ → Type 0
 JobsAreInOrder lanes =
     (bytes : List ℕ) (ended : Bool) → AreInOrder lanes (jobs_of_input bytes ended lanes).jobs (jobs_of_input bytes ended lanes).ends
 
--- the key that a bad line lacks has the form of a name
-abbrev pub IsNamedBad : Bad → Type 0
-IsNamedBad (bad.Key key) = IsTrue (is_name key)
-IsNamedBad b = Unit {0}
-
-abbrev pub IsNamedAsk : Ask → Type 0
-IsNamedAsk (ask.Bad b) = IsNamedBad b
-IsNamedAsk (ask.Request request) = Unit {0}
-
--- in each of these jobs
+-- the key that a bad line lacks has the form of a name, in each of these jobs
 abbrev pub AreNamedJobs : List Job → Type 0
 AreNamedJobs [] = Unit {0}
 AreNamedJobs (j ∷ js) = IsNamedAsk j.ask × AreNamedJobs js

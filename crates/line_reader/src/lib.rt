@@ -3,8 +3,6 @@
 
 mod read;
 mod reader;
-#[cfg(test)]
-mod tests;
 
 pub use read::Read;
 pub use reader::LineReader;

@@ -7,22 +7,17 @@ use Rattle.basics.proofs.Booleans.{bool_cases, eq_is}
 use Rattle.wf_names.specs.declared.limits.TheConstants.{LANE_LIMIT}
 use Rattle.wf_talk.specs.declared.entry.Entry.{Entry}
 use Rattle.wf_talk.specs.declared.job.Job.{Job}
-use Rattle.wf_talk.specs.declared.request.Ask.{Ask}
-use Rattle.wf_talk.specs.declared.request.Ask.TheVariants as ask
-use Rattle.wf_talk.specs.declared.request.Bad.{Bad}
-use Rattle.wf_talk.specs.declared.request.Bad.TheVariants as bad
+use Rattle.wf_talk.specs.Jobs.{IsNamedAsk}
 use Rattle.wf_board.specs.Histories.{IsRightAfter, job_of_entry, lane_jobs}
 use Rattle.wf_board.specs.HistoryLaws.{each_more}
 use Rattle.wf_board.specs.States.{opening_state}
 use Rattle.line_cutter.specs.Laws.{AreNamedJobs}
 use Rattle.wf_desk.specs.Desks.{served_jobs}
-use Rattle.line_cutter.specs.Laws as cut
 use Rattle.entry_reader.specs.declared.place.Place.{Place}
 use Rattle.entry_reader.specs.Named.{HasNames}
 use Rattle.entry_reader.specs.Places.{place_of_line}
 use Rattle.entry_reader.specs.Lines.{IsLineOf, entry_at}
 use Rattle.entry_reader.proofs.LinesBack.{line_placed}
-use Rattle.entry_laws.specs.Asks as asks
 use Rattle.entry_laws.specs.Laws.{EntriesAreLines, IsLastOf, IsOneLine, TextsAreLines}
 use Rattle.transcript_audit.specs.declared.fault.AuditKind.{AuditKind}
 use Rattle.transcript_audit.specs.declared.fault.AuditKind.TheVariants.{Text, At, Job as WrongJob, Reply as WrongReply, Missing}
@@ -69,21 +64,9 @@ each_next P a lane j each next =
     each_got P (lane_jobs lane (present_jobs a)) _ j
     (each_lane P lane (present_jobs a) (each_rest P (present_start a) (take stop a.jobs) (each_first P stop a.jobs each))) next
 
-named_bad : (b : Bad) → cut.IsNamedBad b → asks.IsNamedBad b
-named_bad (bad.Key key) named = named
-named_bad bad.Syntax named = tt
-named_bad bad.Object named = tt
-named_bad bad.Do named = tt
-named_bad bad.Lane named = tt
-named_bad bad.Extra named = tt
-
-named_ask : (what : Ask) → cut.IsNamedAsk what → asks.IsNamedAsk what
-named_ask (ask.Bad b) named = named_bad b named
-named_ask (ask.Request request) named = tt
-
-named_each : (jobs : List Job) → AreNamedJobs jobs → EachJob (λ j. asks.IsNamedAsk j.ask) jobs
+named_each : (jobs : List Job) → AreNamedJobs jobs → EachJob (λ j. IsNamedAsk j.ask) jobs
 named_each [] named = tt
-named_each (j ∷ js) named = (named_ask j.ask named.0, named_each js named.1)
+named_each (j ∷ js) named = (named.0, named_each js named.1)
 
 small_each : (jobs : List Job) → HaveSmallLines jobs → EachJob (λ j. j.line < 2 ^ 32) jobs
 small_each [] small = tt
@@ -120,7 +103,7 @@ last_of a k e is next =
       few_entries = omega (arith, few);
       lane = omega (arith, lane);
       line = each_next (λ j. j.line < 2 ^ 32) a e.lane (job_of_entry e) (small_each a.jobs is.session.small) next.answers;
-      named = each_next (λ j. asks.IsNamedAsk j.ask) a e.lane (job_of_entry e) (named_each a.jobs is.session.named) next.answers;
+      named = each_next (λ j. IsNamedAsk j.ask) a e.lane (job_of_entry e) (named_each a.jobs is.session.named) next.answers;
     }
 
 -- it is a line of the entry

@@ -1,16 +1,9 @@
 -- The last entry of a lane, looked for from the end.
 use Rattle.std.proofs.Common.{◌≡◌, ◌≢◌, inl, inr, ℕ, ◌+◌, ◌-◌, ◌<◌, ◌≤◌, max, true, false, nat_eq, List, [], ◌∷◌, ◌++◌, length, take, get_or, if◌then◌else◌, sym, ap, ◌∙◌, arith}
 use Rattle.std.proofs.lemmas.List.{length-take-le, take_more}
-use Rattle.basics.proofs.Booleans.{bool_cases, eq_back}
 use Rattle.wf_talk.specs.declared.entry.Entry.{Entry}
 use Rattle.wf_board.specs.Counting.{lane_end}
 use Rattle.wf_board.proofs.Counted.{end_more, end_within}
-
-pub differs_test : (m n : ℕ) → m ≢ n → nat_eq m n ≡ false
-differs_test m n other = elim (bool_cases (nat_eq m n)) [
-  | inl same ↦ absurd (other (eq_back m n same))
-  | inr is ↦ is
-]
 
 ended_at : (lane : ℕ) (entries : List Entry) (i : ℕ) (e : Entry) → i < length entries → e ≡ get_or entries i e →
     lane_end lane (take (i + 1) entries) ≡ (if nat_eq e.lane lane then i + 1 else lane_end lane (take i entries))

@@ -15,8 +15,6 @@ mod flaw;
 mod flows;
 pub mod laws;
 mod record;
-#[cfg(test)]
-mod tests;
 mod verdict;
 
 pub use auditor::Auditor;

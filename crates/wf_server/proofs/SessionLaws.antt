@@ -10,7 +10,7 @@ use Rattle.line_cutter.specs.declared.stop.Stop.TheVariants as stop
 use Rattle.line_cutter.specs.Jobs.{start, jobs_of_input, last_or}
 use Rattle.line_cutter.specs.Cutter.{after_handing, ends_after}
 use Rattle.line_cutter.specs.Laws.{JobsAreInOrder, LeadTo}
-use Rattle.line_cutter.specs.Laws as cutting
+use Rattle.wf_talk.specs.Jobs as cutting
 use Rattle.batch_reader.specs.declared.reader.Paused.{Paused}
 use Rattle.batch_reader.specs.declared.reader.Paused.TheVariants as paused
 use Rattle.batch_reader.specs.Reading.{ReaderShape, Handed, handed_more, HasRead, IsReadUp, ReadsTo, CountsAs}

@@ -4,3 +4,4 @@ pub mod Branches
 pub mod Texts
 pub mod PlainLines
 pub mod Keys
+pub mod Lines

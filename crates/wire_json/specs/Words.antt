@@ -1,5 +1,5 @@
 -- Inside: the rows of requests and of edits by the words that the code knows.
-use Rattle.std.specs.Prelude.{ℕ, [], slice_index_or, Result, Ok}
+use Rattle.std.specs.Prelude.{ℕ, [], ◌∷◌, codes, slice_index_or, Result, Ok}
 use Rattle.serde_json.specs.Data.{Data}
 use Rattle.first_fault.specs.Reading.{◌>>=◌, check, each}
 use Rattle.wf_talk.specs.declared.request.Request.{Request}
@@ -12,7 +12,9 @@ use Rattle.wire_json.specs.declared.word.Word.{Word}
 use Rattle.wire_json.specs.declared.word.Word.TheVariants as word
 use Rattle.wire_json.specs.declared.word.EditWord.{EditWord}
 use Rattle.wire_json.specs.declared.word.EditWord.TheVariants as edit
-use Rattle.wire_json.specs.Requests.{Row, Reading, rows, edits, row, has_form, asked_by, change_by, what_if_in}
+use Rattle.wire_json.specs.declared.plain.Act.{Act}
+use Rattle.wire_json.specs.Plain.{request_of}
+use Rattle.wire_json.specs.Requests.{Row, Reading, rows, edits, row, has_form, the_case, the_name, case, step, user, request_by, asked_by, change_by, what_if_in}
 
 abbrev row_at : ℕ → Row Request
 row_at n = slice_index_or rows n (row [] [] (λ d. Show 0))
@@ -43,6 +45,11 @@ reading_of_word word.View = asked_by (row_at 6)
 reading_of_word word.Worklist = asked_by (row_at 7)
 reading_of_word (word.Change e) = change_by (row_of_edit e)
 reading_of_word word.WhatIf = what_if_in
+
+-- what a user asks of a step
+abbrev pub act_by : Act → Reading
+act_by a =
+    request_by (codes "do" ∷ codes "lane" ∷ []) (case ∷ step ∷ user ∷ []) (λ d. request_of a (the_case d) (the_name step d) (the_name user d))
 
 -- an edit by its row
 abbrev pub edit_by : Row Edit → Data → Result Edit Bad

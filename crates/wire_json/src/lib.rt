@@ -6,12 +6,8 @@ mod denial;
 mod entry;
 mod finding;
 mod plain;
-#[cfg(test)]
-mod reading_tests;
 mod reply;
 mod request;
-#[cfg(test)]
-mod tests;
 mod text;
 mod tree;
 mod value;

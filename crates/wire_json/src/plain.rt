@@ -12,9 +12,9 @@ use std::str;
 use wf_names::{CaseId, Name};
 use wf_talk::{Ask, Request};
 
-// What is asked of a step by its user.
+/// What is asked of a step by its user.
 #[derive(Clone, Copy)]
-enum Act {
+pub(crate) enum Act {
     Claim,
     Finish,
     GiveBack,
@@ -41,7 +41,8 @@ pub(crate) fn read_plain(line: &[u8], lanes: u8) -> Option<Asked>
 }
 
 impl Act {
-    fn request(self, case: CaseId, step: Name, user: Name) -> Request
+    /// The request.
+    pub(crate) fn request(self, case: CaseId, step: Name, user: Name) -> Request
         ensures { result ≡ request_of self case step user }
     {
         match self {

@@ -8,10 +8,10 @@ ghost use Rattle.first_fault.specs.Reading.{Gives, or_fault, check};
 ghost use Rattle.wf_names.specs.Names.{is_name};
 ghost use Rattle.wf_talk.specs.declared.request.Bad.TheVariants as bad;
 ghost use Rattle.wire_json.specs.Requests as read;
-ghost use Rattle.wire_json.specs.Words.{reading_of_word};
+ghost use Rattle.wire_json.specs.Words.{act_by, reading_of_word};
 
 use crate::change::{change_in, what_if_in};
-use crate::plain::read_plain;
+use crate::plain::{Act, read_plain};
 use crate::value::read_value;
 use crate::word::Word;
 use serde_json::{Map, Value};
@@ -124,9 +124,9 @@ fn request_named(word: Word, value: &Value, members: &Map<String, Value>) -> Res
 {
     match word {
         Word::Open => open_in(value, members),
-        Word::Claim => claim_in(value, members),
-        Word::Finish => finish_in(value, members),
-        Word::GiveBack => give_back_in(value, members),
+        Word::Claim => act_in(Act::Claim, value, members),
+        Word::Finish => act_in(Act::Finish, value, members),
+        Word::GiveBack => act_in(Act::GiveBack, value, members),
         Word::Release => release_in(value, members),
         Word::Withdraw => withdraw_in(value, members),
         Word::View => view_in(value, members),
@@ -146,40 +146,17 @@ fn open_in(value: &Value, members: &Map<String, Value>) -> Result<Request, Bad>
     Ok(Request::OpenCase { flow })
 }
 
+// What a user asks of a step.
 #[tactic(auto, unfolding(crate::specs::Requests::request_by, wf_names::specs::Names::is_name))]
-fn claim_in(value: &Value, members: &Map<String, Value>) -> Result<Request, Bad>
-    ensures { Gives Some (λ r. r) result (reading_of_word Word.Claim (view value.now)
+fn act_in(act: Act, value: &Value, members: &Map<String, Value>) -> Result<Request, Bad>
+    ensures { Gives Some (λ r. r) result (act_by act (view value.now)
         (members_view members.now.entries)) }
 {
     let case = case_at(value)?;
     let step = name_at(value, "step")?;
     let user = name_at(value, "user")?;
     no_others(members, &["do", "lane"], &["case", "step", "user"])?;
-    Ok(Request::Claim { case, step, user })
-}
-
-#[tactic(auto, unfolding(crate::specs::Requests::request_by, wf_names::specs::Names::is_name))]
-fn finish_in(value: &Value, members: &Map<String, Value>) -> Result<Request, Bad>
-    ensures { Gives Some (λ r. r) result (reading_of_word Word.Finish (view value.now)
-        (members_view members.now.entries)) }
-{
-    let case = case_at(value)?;
-    let step = name_at(value, "step")?;
-    let user = name_at(value, "user")?;
-    no_others(members, &["do", "lane"], &["case", "step", "user"])?;
-    Ok(Request::Finish { case, step, user })
-}
-
-#[tactic(auto, unfolding(crate::specs::Requests::request_by, wf_names::specs::Names::is_name))]
-fn give_back_in(value: &Value, members: &Map<String, Value>) -> Result<Request, Bad>
-    ensures { Gives Some (λ r. r) result (reading_of_word Word.GiveBack (view value.now)
-        (members_view members.now.entries)) }
-{
-    let case = case_at(value)?;
-    let step = name_at(value, "step")?;
-    let user = name_at(value, "user")?;
-    no_others(members, &["do", "lane"], &["case", "step", "user"])?;
-    Ok(Request::GiveBack { case, step, user })
+    Ok(act.request(case, step, user))
 }
 
 #[tactic(auto, unfolding(crate::specs::Requests::request_by, wf_names::specs::Names::is_name))]

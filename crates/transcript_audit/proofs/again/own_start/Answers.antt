@@ -1,7 +1,7 @@
 use Rattle.std.proofs.Common.{ap, sym, ◌∙◌, arith}
-use Rattle.basics.proofs.Booleans.{eq_is}
+use Rattle.basics.proofs.Booleans.{eq_is, eq_other}
 use Rattle.wf_talk.specs.declared.entry.Entry.{Entry}
-use Rattle.transcript_audit.proofs.Looking.{differs_test, own_hit, own_miss, own_none}
+use Rattle.transcript_audit.proofs.Looking.{own_hit, own_miss, own_none}
 use Rattle.transcript_audit.proofs.again.own_start.Goals as goal
 
 pub returns-then-entries-place-clause-own : goal.returns-then-entries-place-clause-own
@@ -17,7 +17,7 @@ looking-preserved c =
       (
         omega (arith, some),
         own_miss c.args.lane c.args.start c.args.entries.now c.looking.place c.index-entries-place.result some within c.index-entries-place.is
-            (differs_test c.index-entries-place.result.lane c.args.lane (λ same. c.if-entries-place.false (sym (ap (λ (e : Entry). e.lane) c.index-entries-place.is) ∙ same))) c.looking.invariant.1.1,
+            (eq_other c.index-entries-place.result.lane c.args.lane (λ same. c.if-entries-place.false (sym (ap (λ (e : Entry). e.lane) c.index-entries-place.is) ∙ same))) c.looking.invariant.1.1,
       ),
     )
 

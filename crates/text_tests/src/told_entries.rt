@@ -1,14 +1,15 @@
 //! What no clause shows: that lines are read while there is memory.
-ghost use Rattle.std.specs.Prelude.{◌≡◌, ◌≤◌, ℕ, Some, length, IfOk};
-ghost use Rattle.std.specs.FinSet as set;
+ghost use Rattle.std.specs.Prelude.{Some};
 
-use crate::{Place, TextFault, guess_place, read_place, read_plain, read_reply, tree_of};
-use policy_book::{Flow, Policy, Relations, Roster, Rules};
+use crate::fixture::{line_with, policy, read};
+use entry_reader::{Place, TextFault, guess_place, read_place, read_plain, read_reply, tree_of};
+use policy_book::Policy;
 use refutation_tree::Tree;
 use serde_json::Value;
 use std::alloc::{AllocError, Global};
+use std::process::Abort;
 use std::test::Fail;
-use wf_names::{CaseId, FlowId, Name, NameTable, RoleId};
+use wf_names::{CaseId, FlowId};
 use wf_talk::{Ask, FlowOf, Reply, Request};
 
 // Each case is of the first workflow.
@@ -25,8 +26,12 @@ impl FlowOf for OneFlow {
 #[test]
 fn replies_are_read(rt: HostRuntime) -> Result<(), Fail> {
     let p = policy(rt.alloc())?;
+    read_replies(&rt, rt.alloc(), &p)
+}
+
+fn read_replies(rt: &impl Abort, alloc: Global, p: &Policy) -> Result<(), Fail> {
     for reply in replies() {
-        assert!(rt; is_told(rt.alloc(), &p, reply)?, "{reply}");
+        assert!(rt; is_told(alloc, p, reply)?, "{reply}");
     }
     Ok(())
 }
@@ -59,28 +64,37 @@ fn replies() -> [&'static str; 20] {
 #[test]
 fn denials_are_read(rt: HostRuntime) -> Result<(), Fail> {
     let p = policy(rt.alloc())?;
+    read_denials(&rt, rt.alloc(), &p)
+}
+
+fn read_denials(rt: &impl Abort, alloc: Global, p: &Policy) -> Result<(), Fail> {
     for denial in denials() {
-        assert!(rt; is_denied(rt.alloc(), &p, denial)?, "{denial}");
+        assert!(rt; is_denied(alloc, p, denial)?, "{denial}");
     }
     Ok(())
 }
 
-// A line at place 4 of lane 1, for line 7.
+const PLACE: Place = Place {
+    at: 4,
+    lane: 1,
+    line: 7,
+};
+
+// A line at this place.
 const GRANTED: &str =
     "{\"at\":4,\"lane\":1,\"line\":7,\"reply\":{\"granted\":{\"plan\":[\"ann\",\"cyd\",\"bob\"]}}}\n";
 
 #[test]
 fn plain_lines_are_guessed(rt: HostRuntime) -> Result<(), Fail> {
+    assert!(rt; guess_place(GRANTED.as_bytes()) == Some(PLACE));
     let p = policy(rt.alloc())?;
-    let place = Place {
-        at: 4,
-        lane: 1,
-        line: 7,
-    };
-    assert!(rt; guess_place(GRANTED.as_bytes()) == Some(place));
-    assert!(rt; is_guessed(rt.alloc(), &p, place, GRANTED)?);
-    assert!(rt; !is_guessed(rt.alloc(), &p, place, &GRANTED[..GRANTED.len() - 1])?);
-    assert!(rt; !is_guessed(rt.alloc(), &p, Place { at: 5, ..place }, GRANTED)?);
+    guess_granted(&rt, rt.alloc(), &p)
+}
+
+fn guess_granted(rt: &impl Abort, alloc: Global, p: &Policy) -> Result<(), Fail> {
+    assert!(rt; is_guessed(alloc, p, PLACE, GRANTED)?);
+    assert!(rt; !is_guessed(alloc, p, PLACE, &GRANTED[..GRANTED.len() - 1])?);
+    assert!(rt; !is_guessed(alloc, p, Place { at: 5, ..PLACE }, GRANTED)?);
     Ok(())
 }
 
@@ -107,11 +121,20 @@ fn denials() -> [&'static str; 9] {
 #[test]
 fn other_texts_are_not_read(rt: HostRuntime) -> Result<(), Fail> {
     let p = policy(rt.alloc())?;
+    refuse_others(&rt, rt.alloc(), &p)
+}
+
+fn refuse_others(rt: &impl Abort, alloc: Global, p: &Policy) -> Result<(), Fail> {
     for text in other_texts() {
-        assert!(rt; is_refused(rt.alloc(), &p, text)?, "{text}");
+        assert!(rt; is_refused(alloc, p, text)?, "{text}");
     }
-    assert!(rt; is_refused(rt.alloc(), &p, &deep_text(rt.alloc())?)?);
+    assert!(rt; is_deep_refused(alloc, p)?);
     Ok(())
+}
+
+fn is_deep_refused(alloc: Global, p: &Policy) -> Result<bool, Fail> {
+    let text = deep_text(alloc)?;
+    is_refused(alloc, p, &text)
 }
 
 // Lines that are the text of no entry for a claim.
@@ -145,6 +168,12 @@ fn deep_text(alloc: Global) -> Result<String, AllocError> {
         alloc,
         "{\"at\":4,\"lane\":1,\"line\":7,\"reply\":{\"denied\":{\"stranded\":",
     )?;
+    push_tree(&mut text)?;
+    text.push_str("}}}\n")?;
+    Ok(text)
+}
+
+fn push_tree(text: &mut String) -> Result<(), AllocError> {
     for _ in 0..200u32 {
         text.push_str("{\"step\":\"pay\",\"users\":[[\"ann\",")?;
     }
@@ -152,19 +181,13 @@ fn deep_text(alloc: Global) -> Result<String, AllocError> {
     for _ in 0..200u32 {
         text.push_str("]]}")?;
     }
-    text.push_str("}}}\n")?;
-    Ok(text)
+    Ok(())
 }
 
 #[test]
 fn places_are_read(rt: HostRuntime) -> Result<(), Fail> {
-    let place = Place {
-        at: 4,
-        lane: 1,
-        line: 7,
-    };
     let line = b" {\"reply\":0,\"line\":7,\"at\":4,\"lane\":1} \n";
-    assert!(rt; read_place(rt.alloc(), line.as_slice()) == Ok(place));
+    assert!(rt; read_place(rt.alloc(), line.as_slice()) == Ok(PLACE));
     let other = b"{\"at\":4.0,\"lane\":1,\"line\":7}\n";
     assert!(rt; read_place(rt.alloc(), other.as_slice()) == Err(TextFault::NotText));
     Ok(())
@@ -173,8 +196,12 @@ fn places_are_read(rt: HostRuntime) -> Result<(), Fail> {
 #[test]
 fn a_tree_is_read(rt: HostRuntime) -> Result<(), Fail> {
     let p = policy(rt.alloc())?;
-    assert!(rt; is_rule(rt.alloc(), &p, "{\"rule\":255}", 255)?);
-    assert!(rt; !is_rule(rt.alloc(), &p, "{\"rule\":256}", 0)?);
+    read_rules(&rt, rt.alloc(), &p)
+}
+
+fn read_rules(rt: &impl Abort, alloc: Global, p: &Policy) -> Result<(), Fail> {
+    assert!(rt; is_rule(alloc, p, "{\"rule\":255}", 255)?);
+    assert!(rt; !is_rule(alloc, p, "{\"rule\":256}", 0)?);
     Ok(())
 }
 
@@ -186,7 +213,7 @@ fn is_rule(alloc: Global, p: &Policy, text: &str, rule: u8) -> Result<bool, Fail
 
 // Whether the line with a reply is read.
 fn is_told(alloc: Global, p: &Policy, reply: &str) -> Result<bool, Fail> {
-    let text = format!(in alloc; "{{\"at\":4,\"lane\":1,\"line\":7,\"reply\":{reply}}}\n")?;
+    let text = line_with(alloc, reply)?;
     Ok(told(alloc, p, text.as_bytes())?.is_ok())
 }
 
@@ -206,55 +233,4 @@ fn told(alloc: Global, p: &Policy, text: &[u8]) -> Result<Result<Reply, TextFaul
         user: read("ann")?,
     });
     Ok(read_reply(alloc, p, &OneFlow, &ask, text))
-}
-
-// A policy of four users with one workflow of three steps.
-fn policy(alloc: Global) -> Result<Policy, Fail> {
-    let roster = roster(alloc)?;
-    let flow = flow(alloc)?;
-    start(alloc, roster, flow)
-}
-
-fn roster(alloc: Global) -> Result<Roster, Fail> {
-    let roles = names(alloc, &["boss", "chief", "clerk"])?;
-    let mut roster = Roster::new(alloc, roles)?;
-    for name in ["ann", "bob", "cyd", "eve"] {
-        roster.add_user(read(name)?)?;
-    }
-    Ok(roster)
-}
-
-fn flow(alloc: Global) -> Result<Flow, Fail>
-    ensures { IfOk result (λ f. f.permits ≡ set.empty) }
-{
-    let steps = names(alloc, &["prepare", "approve", "pay"])?;
-    Ok(Flow::build(alloc, steps, &[], &[])?)
-}
-
-fn start(alloc: Global, roster: Roster, flow: Flow) -> Result<Policy, Fail>
-    requires { flow.permits ≡ set.empty }
-{
-    if roster.roles().len() == 0 {
-        return Err("no roles")?;
-    }
-    let mut p = Policy::start(alloc, roster, Relations::new(alloc)?, RoleId(0))?;
-    p.add_flow(read("pay")?, flow, Rules::new(alloc))?;
-    Ok(p)
-}
-
-fn names(alloc: Global, texts: &[&str]) -> Result<NameTable, Fail>
-    ensures { IfOk result (λ t. length t.names ≤ 4) }
-{
-    let mut table = NameTable::new(alloc, 4)?;
-    for text in texts {
-        table.add(read(text)?)?;
-    }
-    if 4 < table.len() {
-        return Err("too many names")?;
-    }
-    Ok(table)
-}
-
-fn read(text: &str) -> Result<Name, Fail> {
-    Ok(Name::read(text).ok_or("not a name")?)
 }

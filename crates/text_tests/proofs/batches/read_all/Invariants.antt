@@ -1,5 +1,5 @@
 use Rattle.batch_reader.specs.Reading.{IsReady, left_to_read}
-use Rattle.batch_reader.proofs.tests.read_all.Given as goal
+use Rattle.text_tests.proofs.batches.read_all.Given as goal
 
 abbrev pub invariant-reading : goal.invariant-reading
 invariant-reading l = IsReady l.reader

@@ -1,9 +1,11 @@
 //! What no clause shows: that transcripts are taken while there is memory.
 
-use crate::{AuditFault, AuditKind, Auditor};
+use crate::fixture::policy;
 use line_cutter::jobs_of;
 use std::alloc::Global;
+use std::process::Abort;
 use std::test::Fail;
+use transcript_audit::{AuditFault, AuditKind, Auditor};
 use wf_board::{Decider, Deed, Snap, Verdict, decision_aside};
 use wf_names::LANE_LIMIT;
 use wf_talk::Ask;
@@ -25,28 +27,6 @@ impl Decider for Idle {
         }
     }
 }
-
-const PAY: &str = r#"
-format = 1
-admin = "chief"
-roles = ["boss", "chief", "clerk"]
-
-[users]
-ann = ["clerk"]
-bob = ["clerk", "boss"]
-cyd = ["boss"]
-eve = ["chief"]
-
-[flows.pay]
-steps = ["prepare", "approve", "pay"]
-order = [["prepare", "approve"], ["approve", "pay"]]
-permit = { prepare = ["clerk"], approve = ["boss"], pay = ["clerk"] }
-rules = [
-  { form = "pair", relation = "other", first = "prepare", second = "approve" },
-  { form = "pair", relation = "other", first = "approve", second = "pay" },
-  { form = "pair", relation = "other", first = "prepare", second = "pay" },
-]
-"#;
 
 const REQUESTS: &str = r#"{"do":"open","flow":"pay"}
 {"do":"claim","case":0,"step":"prepare","user":"ann"}
@@ -118,10 +98,14 @@ fn other_denials_are_faults(rt: HostRuntime) -> Result<(), Fail> {
 #[test]
 fn the_first_fault_stays(rt: HostRuntime) -> Result<(), Fail> {
     let mut audit = begun(rt.alloc())?;
+    stays_at_its_fault(&rt, rt.alloc(), &mut audit)
+}
+
+fn stays_at_its_fault(rt: &impl Abort, alloc: Global, audit: &mut Auditor) -> Result<(), Fail> {
     let invalid = r#"{"at":1,"lane":0,"line":1,"reply":{"granted":{"plan":["ann","cyd"]}}}"#;
-    assert!(rt; taken(rt.alloc(), &mut audit, OPENED)? == Ok(()));
-    assert!(rt; taken(rt.alloc(), &mut audit, invalid)? == at(1, AuditKind::Reply));
-    assert!(rt; taken(rt.alloc(), &mut audit, GRANTED)? == at(1, AuditKind::Reply));
+    assert!(rt; taken(alloc, audit, OPENED)? == Ok(()));
+    assert!(rt; taken(alloc, audit, invalid)? == at(1, AuditKind::Reply));
+    assert!(rt; taken(alloc, audit, GRANTED)? == at(1, AuditKind::Reply));
     assert!(rt; audit.end() == at(1, AuditKind::Reply));
     Ok(())
 }
@@ -137,8 +121,12 @@ fn a_line_ends_with_a_line_end(rt: HostRuntime) -> Result<(), Fail> {
 // What an audit of lines comes to.
 fn ended(alloc: Global, lines: &[&str]) -> Result<Ended, Fail> {
     let mut audit = begun(alloc)?;
+    ended_by(alloc, &mut audit, lines)
+}
+
+fn ended_by(alloc: Global, audit: &mut Auditor, lines: &[&str]) -> Result<Ended, Fail> {
     for line in lines {
-        let end = taken(alloc, &mut audit, line)?;
+        let end = taken(alloc, audit, line)?;
         if end != Ok(()) {
             return Ok(end);
         }
@@ -147,9 +135,9 @@ fn ended(alloc: Global, lines: &[&str]) -> Result<Ended, Fail> {
 }
 
 fn begun(alloc: Global) -> Result<Auditor, Fail> {
-    let policy = policy_reader::read(alloc, PAY.as_bytes())?;
+    let opening = policy(alloc)?;
     let batch = jobs_of(alloc, REQUESTS.as_bytes(), LANE_LIMIT)?;
-    Ok(Auditor::new(alloc, policy, batch.jobs, batch.ends, 1)?)
+    Ok(Auditor::new(alloc, opening, batch.jobs, batch.ends, 1)?)
 }
 
 fn taken(alloc: Global, audit: &mut Auditor, line: &str) -> Result<Ended, Fail> {

@@ -1,16 +1,14 @@
 //! What no clause shows: that entries are written while there is memory.
-ghost use Rattle.std.specs.Prelude.{◌≡◌, ◌≤◌, length, IfOk};
-ghost use Rattle.std.specs.FinSet as set;
-
-use crate::write_entry;
-use policy_book::{Flow, Plan, Policy, Relations, Roster, Rules};
+use crate::fixture::{line_with, policy, read};
+use policy_book::{Plan, Policy};
 use refutation_tree::Tree;
 use std::alloc::{AllocError, Global};
 use std::test::Fail;
-use wf_names::{CaseId, FlowId, Name, NameTable, Phase, RoleId, StepId, StepState, UserId};
+use wf_names::{CaseId, FlowId, Name, Phase, RoleId, StepId, StepState, UserId};
 use wf_talk::{
     Ask, Bad, CaseList, Denial, Entry, Face, Missing, Reply, RoleList, States, WorkItem, WorkList,
 };
+use wire_json::write_entry;
 
 #[test]
 fn entries_have_their_texts(rt: HostRuntime) -> Result<(), Fail> {
@@ -303,57 +301,6 @@ fn is_written(alloc: Global, p: &Policy, reply: Reply, wanted: &str) -> Result<b
 }
 
 fn is_line(alloc: Global, p: &Policy, entry: &Entry, wanted: &str) -> Result<bool, Fail> {
-    let text = format!(in alloc; "{{\"at\":4,\"lane\":1,\"line\":7,\"reply\":{wanted}}}\n")?;
+    let text = line_with(alloc, wanted)?;
     Ok(write_entry(alloc, p, entry)?.as_bytes() == text.as_bytes())
-}
-
-// A policy of four users with one workflow of three steps.
-fn policy(alloc: Global) -> Result<Policy, Fail> {
-    let roster = roster(alloc)?;
-    let flow = flow(alloc)?;
-    start(alloc, roster, flow)
-}
-
-fn roster(alloc: Global) -> Result<Roster, Fail> {
-    let roles = names(alloc, &["boss", "chief", "clerk"])?;
-    let mut roster = Roster::new(alloc, roles)?;
-    for name in ["ann", "bob", "cyd", "eve"] {
-        roster.add_user(read(name)?)?;
-    }
-    Ok(roster)
-}
-
-fn flow(alloc: Global) -> Result<Flow, Fail>
-    ensures { IfOk result (λ f. f.permits ≡ set.empty) }
-{
-    let steps = names(alloc, &["prepare", "approve", "pay"])?;
-    Ok(Flow::build(alloc, steps, &[], &[])?)
-}
-
-fn start(alloc: Global, roster: Roster, flow: Flow) -> Result<Policy, Fail>
-    requires { flow.permits ≡ set.empty }
-{
-    if roster.roles().len() == 0 {
-        return Err("no roles")?;
-    }
-    let mut p = Policy::start(alloc, roster, Relations::new(alloc)?, RoleId(0))?;
-    p.add_flow(read("pay")?, flow, Rules::new(alloc))?;
-    Ok(p)
-}
-
-fn names(alloc: Global, texts: &[&str]) -> Result<NameTable, Fail>
-    ensures { IfOk result (λ t. length t.names ≤ 4) }
-{
-    let mut table = NameTable::new(alloc, 4)?;
-    for text in texts {
-        table.add(read(text)?)?;
-    }
-    if 4 < table.len() {
-        return Err("too many names")?;
-    }
-    Ok(table)
-}
-
-fn read(text: &str) -> Result<Name, Fail> {
-    Ok(Name::read(text).ok_or("not a name")?)
 }

@@ -3,7 +3,7 @@
 ghost use Rattle.std.specs.Prelude.{◌<◌};
 ghost use Rattle.batch_reader.specs.Reading.{IsReady};
 
-use crate::{Paused, Reader};
+use batch_reader::{Paused, Reader};
 use line_cutter::Stop;
 use std::alloc::{AllocError, Global};
 use std::test::Fail;

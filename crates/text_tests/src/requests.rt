@@ -1,9 +1,10 @@
 //! What no clause shows: that lines are read while there is memory.
-use crate::{Asked, read_request};
+use crate::fixture::read;
 use std::alloc::{AllocError, Global};
 use std::test::Fail;
 use wf_names::{CaseId, Name};
 use wf_talk::{Ask, Bad, Edit, Request};
+use wire_json::{Asked, read_request};
 
 #[test]
 fn requests_are_read(rt: HostRuntime) -> Result<(), Fail> {
@@ -344,8 +345,4 @@ fn is_fault(asked: &Asked, wanted: &str) -> bool {
         Ask::Bad(Bad::Key(key)) => wanted == key.as_str(),
         Ask::Bad(Bad::Extra) => wanted == "extra",
     }
-}
-
-fn read(text: &str) -> Result<Name, Fail> {
-    Ok(Name::read(text).ok_or("not a name")?)
 }
