@@ -36,14 +36,6 @@ impl PairSet {
         }
     }
 
-    /// The set of the pairs of an ascending list. Takes no memory.
-    pub fn from_sorted(pairs: Vec<(u16, u16)>) -> PairSet
-        requires { IsAscending pairs.items }
-        ensures { result ≡ set.from_list pairs.items }
-    {
-        PairSet { pairs }
-    }
-
     /// Whether the pair `(a, b)` is in the set.
     pub fn has(&self, a: u16, b: u16) -> bool
         ensures { result ≡ set.contains self.now (a, b) }
