@@ -3,6 +3,18 @@
 #![tactic(auto)]
 
 #[cfg(test)]
+mod changes;
+#[cfg(test)]
 mod drawn;
+#[cfg(test)]
+mod edits;
+#[cfg(test)]
+mod policies;
+#[cfg(test)]
+mod searches;
+#[cfg(test)]
+mod trees;
+#[cfg(test)]
+mod trials;
 #[cfg(test)]
 mod words;

@@ -5,7 +5,5 @@ mod counts;
 mod run;
 mod session;
 mod summary;
-#[cfg(test)]
-mod tests;
 
 pub use run::run_trial;
