@@ -2,7 +2,8 @@
 use Rattle.std.proofs.Common.{◌≡◌, ℕ, ◌≤◌, List, [], ◌∷◌, arith}
 use Rattle.wf_names.specs.declared.limits.TheConstants.{LANE_LIMIT}
 use Rattle.wf_talk.specs.declared.job.Job.{Job}
-use Rattle.line_cutter.specs.Laws.{AreInOrder, AreOfLanes}
+use Rattle.wf_talk.specs.Jobs.{AreOfLanes}
+use Rattle.line_cutter.specs.Laws.{AreInOrder}
 
 of_more_lanes : (lanes more : ℕ) (jobs : List Job) → lanes ≤ more → AreOfLanes lanes jobs → AreOfLanes more jobs
 of_more_lanes lanes more [] within all = tt

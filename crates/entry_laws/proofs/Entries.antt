@@ -1,7 +1,6 @@
 -- The text of each entry of a legal history is a line of it.
-use Rattle.std.proofs.Common.{◌≡◌, ℕ, ◌+◌, ◌<◌, ◌≤◌, ◌^◌, ◌⊎◌, inl, inr, false, List, [], ◌∷◌, ◌++◌, length, Option, Result, Ok, Err, refl, sym, ap, subst, ◌∙◌, arith, codes, append_assoc, append-nil}
-use Rattle.serde_json.specs.Data.{depth, number, object, member, no_members, unsigned}
-use Rattle.serde_json.specs.Written.{compact_text}
+use Rattle.std.proofs.Common.{◌≡◌, ℕ, ◌+◌, ◌<◌, ◌≤◌, ◌^◌, ◌⊎◌, inl, inr, false, List, [], ◌∷◌, ◌++◌, length, Option, Result, Ok, Err, refl, sym, ap, subst, ◌∙◌, arith, append_assoc, append-nil}
+use Rattle.serde_json.specs.Data.{depth}
 use Rattle.policy_book.specs.Shapes.{PolicyShape}
 use Rattle.policy_book.specs.Facts.{IsSoundPolicy}
 use Rattle.wf_names.specs.declared.limits.TheConstants.{STEP_LIMIT}

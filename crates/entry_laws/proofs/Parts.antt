@@ -24,14 +24,13 @@ use Rattle.certificate_check.proofs.Assigned.{none_not_some, same_some}
 use Rattle.case_record.specs.Cases.{CaseShape, assigned_of, state_at}
 use Rattle.case_record.specs.Cells.{all_steps}
 use Rattle.case_record.specs.Ready.{first_missing_from}
-use Rattle.case_record.proofs.Laws.{assigned_of-at}
 use Rattle.denial_reasons.specs.Causes.{assigned_with, first_falsified, permitted_roles}
 use Rattle.wf_talk.specs.declared.request.Bad.{Bad}
 use Rattle.wf_talk.specs.declared.request.Bad.TheVariants as bad
 use Rattle.wf_board.specs.Kept.{IsOfPolicy}
 use Rattle.wf_board.proofs.Below.{AllBelow, passing_all, planned_below}
 use Rattle.wf_board.proofs.Within.{user_known}
-use Rattle.wire_json.specs.Entries.{bad_data, named, phase_data, seen_data, state_data}
+use Rattle.wire_json.specs.Entries.{bad_data, phase_data, seen_data, state_data}
 use Rattle.entry_reader.specs.Within.{IsPlan, IsRole, IsState}
 use Rattle.entry_laws.specs.Laws.{HasFewSteps}
 use Rattle.entry_laws.proofs.Trees.{IsProblemOf}

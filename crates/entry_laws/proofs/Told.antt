@@ -1,8 +1,8 @@
 -- What is decided on in a state: a deed of what is asked, or a denial that stands for something and nests little.
-use Rattle.std.proofs.Common.{◌≡◌, ℕ, ◌<◌, ◌≤◌, Bool, true, false, List, [], ◌∷◌, length, Option, None, Some, Result, Ok, Err, refl, sym, ap, subst, arith}
+use Rattle.std.proofs.Common.{◌≡◌, ℕ, ◌<◌, ◌≤◌, List, length, Option, None, Some, Result, Ok, Err, sym, ap, subst, arith}
 use Rattle.std.specs.Option.{option_map}
 use Rattle.serde_json.specs.Data.{depth}
-use Rattle.first_fault.specs.Reading.{◌>>=◌, check, or_fault}
+use Rattle.first_fault.specs.Reading.{check, or_fault}
 use Rattle.wf_names.specs.States.{user_of}
 use Rattle.constraint_forms.specs.Assigned.{user_at}
 use Rattle.policy_book.specs.Shapes.{PolicyShape}
@@ -19,7 +19,7 @@ use Rattle.wf_talk.specs.declared.request.Bad.TheVariants as bad
 use Rattle.wf_talk.specs.declared.reply.Denial.{Denial}
 use Rattle.wf_talk.specs.declared.reply.Denial.TheVariants as denial
 use Rattle.wf_talk.specs.Jobs.{IsNamedAsk, IsNamedBad}
-use Rattle.denial_reasons.specs.Causes.{assigned_with, first_cause, first_falsified, first_of, permitted_roles, unless}
+use Rattle.denial_reasons.specs.Causes.{assigned_with, first_cause, first_falsified, permitted_roles}
 use Rattle.admin_edits.specs.declared.amendment.Amendment.{Amendment}
 use Rattle.admin_edits.specs.declared.fault.EditFault.{EditFault}
 use Rattle.admin_edits.specs.declared.fault.EditFault.TheVariants as fault
@@ -28,7 +28,7 @@ use Rattle.wf_board.specs.declared.deed.Deed.{Deed}
 use Rattle.wf_board.specs.declared.deed.Deed.TheVariants as deed
 use Rattle.wf_board.specs.States.{State, case_at, flow_named, step_named, user_named}
 use Rattle.wf_board.specs.Resolved.{edit_denial, on_edit, on_step, open_case_at, resolve}
-use Rattle.wf_board.specs.Decisions.{cause_aside, cause_full, decision_aside, decision_of, unless_denied}
+use Rattle.wf_board.specs.Decisions.{cause_aside, cause_full, decision_aside, decision_of}
 use Rattle.wf_board.specs.Kept.{IsOfPolicy, IsSoundState}
 use Rattle.wf_board.proofs.Told.{place_within}
 use Rattle.wf_board.proofs.Faring.{Fares, IsCauseSo, check_fares, four_so, map_so, or_fares, then_fares, unless_fares, unless_so}

@@ -1,10 +1,10 @@
 -- A tree that refutes stands for something, and nests three levels for each step that nobody has and one more.
-use Rattle.std.proofs.Common.{◌≡◌, ℕ, zero, suc, ◌+◌, ◌*◌, ◌<◌, ◌≤◌, ◌^◌, max, nat_lt, inl, inr, Bool, true, false, ◌&&◌, ◌==◌, List, [], ◌∷◌, length, Option, None, Some, slice_get, slice_set, if◌then◌else◌, refl, sym, ap, subst, arith}
+use Rattle.std.proofs.Common.{◌≡◌, ℕ, zero, suc, ◌+◌, ◌*◌, ◌<◌, ◌≤◌, ◌^◌, max, nat_lt, Bool, true, ◌&&◌, ◌==◌, List, [], ◌∷◌, length, Option, None, Some, slice_get, slice_set, refl, sym, ap, subst, arith}
 use Rattle.std.proofs.lemmas.Option.{slice_get_within}
 use Rattle.std.proofs.lemmas.List.{length-set}
 use Rattle.serde_json.specs.Data.{depth, items_depth}
 use Rattle.serde_json.specs.View.{items_of}
-use Rattle.basics.proofs.Booleans.{and_both, eq_back, lt_back, or_cases}
+use Rattle.basics.proofs.Booleans.{and_both, eq_back, lt_back}
 use Rattle.wf_names.specs.declared.limits.TheConstants.{STEP_LIMIT}
 use Rattle.constraint_forms.specs.declared.rule.Rule.{Rule}
 use Rattle.constraint_forms.specs.Assigned.{user_at}
@@ -13,7 +13,7 @@ use Rattle.policy_book.specs.Shapes.{PolicyShape}
 use Rattle.policy_book.specs.Policies.{flow_at}
 use Rattle.policy_book.specs.Plans.{Problem}
 use Rattle.policy_book.specs.Twins.{are_twins, is_one_of}
-use Rattle.policy_book.specs.Refuting.{all_refute, authorised_users, have_users, is_broken, is_unassigned, passing, refutes}
+use Rattle.policy_book.specs.Refuting.{all_refute, authorised_users, have_users, is_broken, is_unassigned, refutes}
 use Rattle.certificate_check.proofs.Assigned.{not_some}
 use Rattle.wf_board.proofs.Below.{AllBelow, one_below, passing_all}
 use Rattle.wire_json.specs.Trees.{branches_data, tree_data}

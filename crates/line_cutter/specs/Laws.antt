@@ -2,7 +2,7 @@
 use Rattle.std.specs.Prelude.{◌≡◌, ℕ, ◌+◌, ◌<◌, ◌≤◌, Bool, List, [], ◌∷◌, length}
 use Rattle.wf_names.specs.declared.limits.TheConstants.{SESSION_LINE_LIMIT, BATCH_LINE_LIMIT}
 use Rattle.wf_talk.specs.declared.job.Job.{Job}
-pub use Rattle.wf_talk.specs.Jobs.{AreOfLanes, IsNamedAsk, IsNamedBad}
+use Rattle.wf_talk.specs.Jobs.{AreOfLanes, IsNamedAsk}
 use Rattle.line_cutter.specs.Jobs.{jobs_of_input}
 
 -- the lines of the jobs ascend strictly, from this number on

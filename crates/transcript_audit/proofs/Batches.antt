@@ -1,12 +1,14 @@
 -- Batches among the jobs.
-use Rattle.std.proofs.Common.{◌≡◌, ℕ, zero, suc, ◌+◌, ◌-◌, ◌<◌, ◌≤◌, inl, inr, true, false, nat_eq, nat_le, nat_lt, List, [], ◌∷◌, length, take, drop, slice_index_or, refl, sym, ap, ◌∙◌, arith}
+use Rattle.std.proofs.Common.{◌≡◌, ℕ, zero, suc, ◌+◌, ◌-◌, ◌<◌, ◌≤◌, inl, inr, true, false, nat_le, nat_lt, List, [], ◌∷◌, length, take, drop, slice_index_or, refl, sym, ap, ◌∙◌, arith}
 use Rattle.std.proofs.lemmas.Grind.{common_steps}
 use Rattle.std.proofs.lemmas.List.{drop-take, length-drop, length-take-le}
 use Rattle.basics.proofs.Booleans.{bool_cases}
 use Rattle.wf_talk.specs.declared.job.Job.{Job}
 use Rattle.wf_board.specs.Histories.{batch_start, lane_jobs}
-use Rattle.line_cutter.specs.Laws.{AreOfLanes, LeadTo}
+use Rattle.wf_talk.specs.Jobs.{AreOfLanes}
+use Rattle.line_cutter.specs.Laws.{LeadTo}
 use Rattle.wf_desk.specs.BatchLaws.{EndAt}
+use Rattle.wf_desk.specs.DocketLaws.{none_of_lanes}
 use Rattle.transcript_audit.specs.Audits.{end_at, start_at}
 use Rattle.transcript_audit.specs.Keeping.{IsBatchOf, end_of, part}
 
@@ -225,13 +227,7 @@ rest_of_lanes lanes zero jobs of_lanes = of_lanes
 rest_of_lanes lanes (suc n) [] of_lanes = tt
 rest_of_lanes lanes (suc n) (j ∷ js) of_lanes = rest_of_lanes lanes n js of_lanes.1
 
-none_past : (lanes lane : ℕ) (jobs : List Job) → AreOfLanes lanes jobs → lanes ≤ lane → lane_jobs lane jobs ≡ []
-none_past lanes lane [] of_lanes past = refl
-none_past lanes lane (j ∷ js) of_lanes past =
-    let other : nat_eq j.lane lane ≡ false = let below = of_lanes.0 in grind (arith, common_steps) in
-    rw other (none_past lanes lane js of_lanes.1 past)
-
 -- no job of a part is of a lane past the number of lanes
 pub part_none : (lanes lane from end : ℕ) (jobs : List Job) → AreOfLanes lanes jobs → lanes ≤ lane → lane_jobs lane (part from end jobs) ≡ []
 part_none lanes lane from end jobs of_lanes past =
-    none_past lanes lane (part from end jobs) (rest_of_lanes lanes from (take end jobs) (part_of_lanes lanes end jobs of_lanes)) past
+    none_of_lanes lanes lane (part from end jobs) (rest_of_lanes lanes from (take end jobs) (part_of_lanes lanes end jobs of_lanes)) past

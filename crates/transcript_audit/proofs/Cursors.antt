@@ -14,6 +14,7 @@ use Rattle.wf_desk.specs.Desks.{served_jobs}
 use Rattle.wf_desk.specs.Keeping.{IsPlace}
 use Rattle.wf_desk.specs.Places.{IsNextPlace}
 use Rattle.wf_desk.specs.DocketLaws.{lane_both, lane_own, next_at, served_other, served_own}
+use Rattle.wf_desk.proofs.DeskLaws.{differs}
 use Rattle.transcript_audit.specs.declared.cursor.Cursor.{Cursor}
 use Rattle.transcript_audit.specs.Audits.{AuditShape, ComesNext, audit_of, next_job, present_jobs, present_start, with_entry}
 use Rattle.transcript_audit.specs.Keeping.{HasGoneOn, IsAtFirst, IsPlaceIn, IsRecord, IsSoundAudit, end_of, jobs_in, part}
@@ -93,9 +94,6 @@ place_short a c lane j is next =
     subst (λ js. slice_index_or c.places lane 0 < length js) (sym (batch_is a c is ∙ present_is a c is)) (slice_get_within jobs (slice_index_or c.places lane 0) j there)
 
 -- ---- one more entry
-
-differs : (m n : ℕ) → nat_eq m n ≡ false → n ≢ m
-differs m n other same = let is : nat_eq m n ≡ true = eq_is m n (sym same) in absurd (cc)
 
 own_place : (start : ℕ) (entries : List Entry) (jobs : List Job) (e : Entry) (from place : ℕ) → start ≤ length entries → IsPlaceIn jobs start entries e.lane from →
     slice_get jobs from ≡ Some (job_of_entry e) → IsNextPlace jobs e.lane (from + 1) place → IsPlaceIn jobs start (entries ++ e ∷ []) e.lane place

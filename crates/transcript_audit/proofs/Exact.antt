@@ -12,7 +12,8 @@ use Rattle.wf_board.specs.States.{State, opening_state}
 use Rattle.wire_json.specs.Replies.{entry_text}
 use Rattle.line_cutter.specs.Laws.{AreInOrder}
 use Rattle.wf_desk.specs.DocketLaws.{lane_both, lane_own}
-use Rattle.transcript_audit.specs.Audits.{AreNext, AuditShape, ComesNext, IsTranscript, audit_of, end_at, next_job, present_start, state_now, texts_of, with_entry}
+use Rattle.entry_laws.specs.Transcripts.{texts_of}
+use Rattle.transcript_audit.specs.Audits.{AreNext, AuditShape, ComesNext, IsTranscript, audit_of, end_at, next_job, present_start, state_now, with_entry}
 use Rattle.transcript_audit.specs.Laws.{AuditIsExact}
 use Rattle.transcript_audit.specs.Keeping.{IsBatchOf, IsSoundAudit}
 use Rattle.transcript_audit.proofs.Batches.{batch_there, end_is, end_read, start_is}

@@ -11,6 +11,7 @@ use Rattle.wire_json.specs.Replies.{entry_text}
 use Rattle.entry_reader.specs.declared.place.Place.{Place}
 use Rattle.entry_reader.specs.Places.{place_of_line}
 use Rattle.entry_reader.specs.Lines.{HasNoReply, HasReply, entry_at}
+use Rattle.entry_laws.specs.Transcripts.{texts_of}
 use Rattle.transcript_audit.specs.declared.fault.AuditKind.{AuditKind}
 use Rattle.transcript_audit.specs.declared.fault.AuditKind.TheVariants.{Text, At, Job as WrongJob, Reply as WrongReply, Missing}
 
@@ -111,13 +112,6 @@ abbrev pub AreNext : AuditShape → List (List ℕ) → List Entry → Type 0
 AreNext a [] [] = Unit {0}
 AreNext a (line ∷ lines) (e ∷ es) = IsNext a line e × AreNext (with_entry a e) lines es
 AreNext a lines es = ⊥
-
--- the texts of a history's entries, each with the names of the policy after it
-abbrev pub texts_of : State → List Entry → List (List ℕ)
-texts_of s [] = []
-texts_of s (e ∷ es) =
-    let after = state_after s (e ∷ []) in
-    entry_text after.book.policy e ∷ texts_of after es
 
 -- the lines are those of a legal history that fills the jobs
 pub record IsTranscript (p : PolicyShape) (rounds : ℕ) (jobs : List Job) (batch_ends : List ℕ) (lines : List (List ℕ)) : Type 0 where

@@ -28,7 +28,7 @@ with_entry d e b spare = record d { entries = d.entries ++ e ∷ []; board = b; 
 
 -- ---- losses
 
-differs : (m n : ℕ) → nat_eq m n ≡ false → n ≢ m
+pub differs : (m n : ℕ) → nat_eq m n ≡ false → n ≢ m
 differs m n other same = let is : nat_eq m n ≡ true = eq_is m n (sym same) in absurd (cc)
 
 set_own : {A : Type 0} (P : A → Type 0) (xs : List A) (i : ℕ) (y d : A) → P y → P d → P (get_or (set xs i y) i d)

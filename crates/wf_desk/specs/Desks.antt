@@ -6,6 +6,7 @@ use Rattle.wf_talk.specs.declared.entry.Entry.{Entry}
 use Rattle.wf_talk.specs.declared.job.Job.{Job}
 use Rattle.wf_talk.specs.declared.reply.Reply.{Reply}
 use Rattle.wf_talk.specs.declared.reply.Reply.TheVariants.{NoMemory}
+pub use Rattle.wf_talk.specs.Jobs.{AreOfLanes}
 use Rattle.wf_board.specs.Boards.{BoardShape, state_on}
 use Rattle.wf_board.specs.States.{State, opening_state}
 use Rattle.wf_board.specs.Histories.{AreWantsRightful, EachAfter, IsLegal, RestsFrom, job_of_entry, lane_jobs, state_after}
@@ -61,11 +62,6 @@ pub record IsSoundDesk (d : DeskShape) : Type 0 where
   pub rests : EachAfter (RestsFrom d.start) (take d.start d.entries) (drop d.start d.entries)
   pub wants : AreWantsRightful d.entries
   pub room : d.start + length d.jobs ≤ length d.entries + d.board.cases.spare
-
--- each of these jobs is of one of so many lanes
-abbrev pub AreOfLanes : ℕ → List Job → Type 0
-AreOfLanes lanes [] = Unit {0}
-AreOfLanes lanes (j ∷ js) = (j.lane < lanes) × AreOfLanes lanes js
 
 -- a lane's next job was not lost so far
 abbrev pub no_loss : Loss

@@ -93,7 +93,8 @@ left_at d lane place is =
     let done = ap length is.before in
     omega (arith, whole, done)
 
-none_of_lanes : (lanes lane : ℕ) (jobs : List Job) → AreOfLanes lanes jobs → lanes ≤ lane → lane_jobs lane jobs ≡ []
+-- a lane past the last has no jobs
+pub none_of_lanes : (lanes lane : ℕ) (jobs : List Job) → AreOfLanes lanes jobs → lanes ≤ lane → lane_jobs lane jobs ≡ []
 none_of_lanes lanes lane [] of_lanes past = refl
 none_of_lanes lanes lane (j ∷ js) of_lanes past =
     let other : nat_eq j.lane lane ≡ false = let below = of_lanes.0 in grind (arith, common_steps) in

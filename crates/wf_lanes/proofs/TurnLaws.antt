@@ -9,7 +9,7 @@ use Rattle.wf_board.specs.Histories.{lane_jobs}
 use Rattle.wf_board.specs.HistoryLaws.{once_all, step_once}
 use Rattle.wf_desk.specs.Desks.{AreOfLanes, DeskShape, IsDone, IsSoundDesk, next_job}
 use Rattle.wf_desk.specs.Commits.{HasServed}
-use Rattle.wf_desk.specs.DocketLaws.{batch_within}
+use Rattle.wf_desk.specs.DocketLaws.{batch_within, none_of_lanes}
 use Rattle.wf_desk.specs.Schedules.{HasGrown}
 use Rattle.wf_lanes.specs.Turns.{HasServedOn, left_at}
 
@@ -78,13 +78,6 @@ turned_passed a b c lane had turned served = record {
   some = λ e. rw served.1 (turned.some e);
 }
 
--- a lane past the last has no jobs
-none_past : (lanes lane : ℕ) (jobs : List Job) → AreOfLanes lanes jobs → lanes ≤ lane → lane_jobs lane jobs ≡ []
-none_past lanes lane [] of_lanes past = refl
-none_past lanes lane (j ∷ js) of_lanes past =
-    let other : nat_eq j.lane lane ≡ false = let below = of_lanes.0 in grind (arith, common_steps) in
-    rw other (none_past lanes lane js of_lanes.1 past)
-
 past_next : (d : DeskShape) (lane n : ℕ) → lane_jobs lane d.jobs ≡ [] → next_job d lane ≡ None
 past_next d lane n none = rw none refl
 
@@ -94,7 +87,7 @@ turned_done a c lanes turned all of_lanes lane =
     let none = turned.none refl in
     subst (λ d. next_job d lane ≡ None) (sym none.0) (elim (bool_cases (nat_lt lane lanes)) [
       | inl below ↦ none.1 lane (grind (arith, nat_tests))
-      | inr past ↦ past_next a lane 0 (none_past a.lanes lane a.jobs of_lanes (grind (arith, nat_tests, all)))
+      | inr past ↦ past_next a lane 0 (none_of_lanes a.lanes lane a.jobs of_lanes (grind (arith, nat_tests, all)))
     ])
 
 -- where one had, fewer are left

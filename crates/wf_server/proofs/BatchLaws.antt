@@ -20,7 +20,7 @@ use Rattle.run_record.specs.declared.fault.RunFault.{RunFault}
 use Rattle.run_record.specs.declared.fault.RunFault.TheVariants as fault
 use Rattle.run_record.specs.Report.{Told}
 use Rattle.wf_server.specs.Sessions.{Setting, WritesPart, last_start}
-use Rattle.wf_server.specs.Transcripts.{transcript_text}
+use Rattle.entry_laws.specs.Transcripts.{transcript_text}
 use Rattle.wf_server.specs.Names.{KeepsTexts}
 use Rattle.wf_server.specs.Ways.{setting_of}
 use Rattle.wf_server.specs.declared.batch.Answered.{Answered}

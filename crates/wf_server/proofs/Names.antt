@@ -1,7 +1,5 @@
 -- The entries of a legal history are written with the names of the policy after them all.
-use Rattle.std.proofs.Common.{◌≡◌, ℕ, ◌⊎◌, inl, inr, List, [], ◌∷◌, ◌++◌, length, refl, sym, ap, subst, ◌∙◌, append_assoc, codes}
-use Rattle.serde_json.specs.Data.{number, object, member, no_members, unsigned}
-use Rattle.serde_json.specs.Written.{compact_text}
+use Rattle.std.proofs.Common.{◌≡◌, ℕ, ◌⊎◌, inl, inr, List, [], ◌∷◌, ◌++◌, length, refl, sym, ap, subst, ◌∙◌, append_assoc}
 use Rattle.policy_book.specs.Shapes.{PolicyShape}
 use Rattle.wf_talk.specs.declared.entry.Entry.{Entry}
 use Rattle.wf_talk.specs.declared.request.Ask.{Ask}
@@ -17,8 +15,9 @@ use Rattle.wf_board.specs.HistoryLaws.{after_all, after_more, again_stays, each_
 use Rattle.wf_board.specs.Kept.{IsSoundState, KeepsCompletable}
 use Rattle.wf_board.specs.Laws.{StepsKeepCompletable}
 use Rattle.wire_json.specs.Replies.{entry_text, reply_data}
+use Rattle.wire_json.proofs.Lines.{text_same}
 use Rattle.wf_desk.specs.Desks.{DeskShape, IsSoundDesk}
-use Rattle.wf_server.specs.Transcripts.{transcript_text}
+use Rattle.entry_laws.specs.Transcripts.{transcript_text}
 use Rattle.wf_server.specs.Batches.{entries_text}
 use Rattle.wf_server.specs.Names.{IsKeptState, KeepsTexts, TextsStay}
 use Rattle.wf_server.proofs.NamesKept.{keeps_same, keeps_then}
@@ -78,15 +77,6 @@ goes_on s what given steps names is (inr again) =
       text = λ q keeps. subst (λ x. reply_data q x ≡ reply_data s.book.policy x) (sym again.1.1) refl;
     }
 
-entry_same : (p q : PolicyShape) (e : Entry) → reply_data q e.reply ≡ reply_data p e.reply → entry_text q e ≡ entry_text p e
-unfolding entry_text
-entry_same p q e same =
-    ap (λ d. compact_text (object
-    (member (codes "at") (number (unsigned e.at))
-    (member (codes "lane") (number (unsigned e.lane))
-    (member (codes "line") (number (unsigned e.line))
-    (member (codes "reply") d no_members))))) ++ 10 ∷ []) same
-
 texts : (s : State) (es : List Entry) → StepsKeepCompletable → ChangesKeepNames → IsNamed s → AreSteps s es
     → KeepsNames s.book.policy (state_after s es).book.policy × (transcript_text s es ≡ entries_text (state_after s es).book.policy es)
 texts s [] steps names is all = (keeps_same s.book.policy s.book.policy refl, refl)
@@ -96,7 +86,7 @@ texts s (e ∷ es) steps names is all =
     let gone = goes_on s e.ask e.reply steps names is all.0 in
     let rest = texts t es steps names gone.next all.1 in
     let keeps = keeps_then s.book.policy t.book.policy q gone.names rest.0 in
-    let here : entry_text t.book.policy e ≡ entry_text q e = sym (entry_same t.book.policy q e (gone.text q keeps ∙ sym (gone.text t.book.policy gone.names))) in (
+    let here : entry_text t.book.policy e ≡ entry_text q e = sym (text_same t.book.policy q e (gone.text q keeps ∙ sym (gone.text t.book.policy gone.names))) in (
       keeps,
       ap (λ x. x ++ transcript_text t es) here ∙ ap (λ x. entry_text q e ++ x) rest.1,
     )

@@ -10,7 +10,6 @@ use Rattle.line_cutter.specs.declared.stop.Stop.TheVariants as stop
 use Rattle.line_cutter.specs.Jobs.{start, jobs_of_input, last_or}
 use Rattle.line_cutter.specs.Cutter.{after_handing, ends_after}
 use Rattle.line_cutter.specs.Laws.{JobsAreInOrder, LeadTo}
-use Rattle.wf_talk.specs.Jobs as cutting
 use Rattle.batch_reader.specs.declared.reader.Paused.{Paused}
 use Rattle.batch_reader.specs.declared.reader.Paused.TheVariants as paused
 use Rattle.batch_reader.specs.Reading.{ReaderShape, Handed, handed_more, HasRead, IsReadUp, ReadsTo, CountsAs}
@@ -38,15 +37,11 @@ counts_le (paused.Stopped stop) before after counts = omega (arith, counts)
 counts_le paused.NoMemory before after counts = counts
 
 -- each job of a part is of one of the lanes
-rest_of_lanes : (lanes : ℕ) (front jobs : List Job) → cutting.AreOfLanes lanes (front ++ jobs) → AreOfLanes lanes jobs
-rest_of_lanes lanes [] jobs all = same jobs all
-  where
-    same : (xs : List Job) → cutting.AreOfLanes lanes xs → AreOfLanes lanes xs
-    same [] all = tt
-    same (x ∷ xs) all = (all.0, same xs all.1)
+rest_of_lanes : (lanes : ℕ) (front jobs : List Job) → AreOfLanes lanes (front ++ jobs) → AreOfLanes lanes jobs
+rest_of_lanes lanes [] jobs all = all
 rest_of_lanes lanes (j ∷ front) jobs all = rest_of_lanes lanes front jobs all.1
 
-first_of_lanes : (lanes n : ℕ) (jobs : List Job) → cutting.AreOfLanes lanes jobs → cutting.AreOfLanes lanes (take n jobs)
+first_of_lanes : (lanes n : ℕ) (jobs : List Job) → AreOfLanes lanes jobs → AreOfLanes lanes (take n jobs)
 first_of_lanes lanes zero jobs all = tt
 first_of_lanes lanes (suc n) [] all = tt
 first_of_lanes lanes (suc n) (j ∷ jobs) all = (all.0, first_of_lanes lanes n jobs all.1)
@@ -78,7 +73,7 @@ next_batch lanes before after told more order closed up =
     record {
       few = omega (arith, few, length-append told.jobs more, simp length-take at front);
       short = short_batch (length told.jobs) up.up.ends.0 (length all.jobs) more told.batch_ends all.ends whole.ends closed up.up.ends.1;
-      of_lanes = rest_of_lanes lanes told.jobs more (subst (cutting.AreOfLanes lanes) (sym up.up.within) (first_of_lanes lanes _ all.jobs whole.of_lanes));
+      of_lanes = rest_of_lanes lanes told.jobs more (subst (AreOfLanes lanes) (sym up.up.within) (first_of_lanes lanes _ all.jobs whole.of_lanes));
     }
 
 -- what is told with one more batch

@@ -23,7 +23,7 @@ use Rattle.run_record.specs.Report.{Told}
 use Rattle.run_record.specs.Run.{Streams}
 use Rattle.wf_server.specs.declared.batch.Answered.{Answered}
 use Rattle.wf_server.specs.Sessions.{Setting, handed_in, last_start, ReadsFor, WritesFor, WritesPart}
-use Rattle.wf_server.specs.Transcripts.{transcript_text}
+use Rattle.entry_laws.specs.Transcripts.{transcript_text}
 use Rattle.wf_server.specs.Ways.{setting_of}
 
 -- the texts of entries, in order, with the names of one policy

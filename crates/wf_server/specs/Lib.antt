@@ -1,4 +1,3 @@
-pub mod Transcripts
 pub mod Sessions
 pub mod Ways
 pub mod Batches

@@ -6,7 +6,7 @@ use Rattle.wf_board.specs.States.{State, opening_state}
 use Rattle.wf_board.specs.Histories.{IsLegal, state_after}
 use Rattle.wf_board.specs.Kept.{IsSoundState, KeepsCompletable}
 use Rattle.wf_desk.specs.Desks.{DeskShape}
-use Rattle.wf_server.specs.Transcripts.{transcript_text}
+use Rattle.entry_laws.specs.Transcripts.{transcript_text}
 use Rattle.wf_server.specs.Batches.{entries_text}
 
 -- all that a board keeps of its state

@@ -15,7 +15,7 @@ use Rattle.run_record.specs.declared.fault.RunFault.TheVariants.{Nothing, Read, 
 use Rattle.run_record.specs.Fault.{CountsReads, CountsWrites}
 use Rattle.run_record.specs.Report.{Told}
 use Rattle.run_record.specs.Run.{Streams}
-use Rattle.wf_server.specs.Transcripts.{transcript_text}
+use Rattle.entry_laws.specs.Transcripts.{transcript_text}
 
 -- how a session is served: the policy at its beginning, how many lanes there are, and after how many rounds a request
 -- that could not be decided is answered again
