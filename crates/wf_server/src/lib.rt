@@ -2,30 +2,10 @@
 #![tactic(auto)]
 
 mod batch;
-#[cfg(test)]
-mod change_tests;
-#[cfg(test)]
-mod copy_tests;
-#[cfg(test)]
-mod edit_tests;
-#[cfg(test)]
-mod lane_tests;
 mod runs;
-#[cfg(test)]
-mod schedule_parts;
-#[cfg(test)]
-mod schedule_tests;
 mod serve;
 mod session;
-#[cfg(test)]
-mod solve_tests;
-#[cfg(test)]
-mod stale_tests;
-#[cfg(test)]
-mod tests;
 mod texts;
-#[cfg(test)]
-mod trim_tests;
 
 pub use run_record::{InputFault, Report, RunFault};
 pub use runs::{run, run_alone};
