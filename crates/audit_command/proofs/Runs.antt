@@ -10,7 +10,8 @@ use Rattle.run_record.specs.Report.{nothing_told}
 use Rattle.run_record.specs.Run.{Run, IsOrderly, IsUntouched, OverFile}
 use Rattle.wf_commands.specs.Once.{AnswersOnce, Ends, IsQuiet, OverPolicy}
 use Rattle.wf_commands.specs.Load.{IsLoadEnding, IsFileEnding}
-use Rattle.wf_commands.proofs.Runs.{own_reads}
+use Rattle.wf_commands.specs.Answer as answer
+use Rattle.wf_commands.proofs.Runs.{ends_refused, no_writes, own_reads, quiet_refused}
 use Rattle.audit_command.specs.declared.finding.Finding.{Finding}
 use Rattle.audit_command.specs.declared.finding.Finding.TheVariants.{Legal, Fault, TooLong}
 use Rattle.audit_command.specs.Auditing.{ending_of, text_of}
@@ -119,34 +120,20 @@ told_run policy requests lanes rounds r f is finds without loads reads writes in
   reads = rw is (finding_input f r.before.input r.after.input input);
 }
 
--- nothing was found
-refused_quiet : (fault : RunFault) (before after : Option (List ℕ)) → IsRefusal fault → after ≡ before → IsQuiet fault before after
-refused_quiet Load before after ending same = same
-refused_quiet FileTooLong before after ending same = same
-refused_quiet (Policy e) before after ending same = same
-refused_quiet Read before after ending same = same
-refused_quiet NoMemory before after ending same = same
-refused_quiet Nothing before after ending same = absurd ending
-refused_quiet Found before after ending same = absurd ending
-refused_quiet Usage before after ending same = absurd ending
-refused_quiet Write before after ending same = absurd ending
-refused_quiet (LineTooLong n) before after ending same = absurd ending
-refused_quiet TooManyLines before after ending same = absurd ending
-refused_quiet (BadInput e) before after ending same = absurd ending
-
-refused_writes : (fault : RunFault) (before after : ℕ) → IsRefusal fault → after ≡ before → CountsWrites fault before after
-refused_writes Load before after ending same = same
-refused_writes FileTooLong before after ending same = same
-refused_writes (Policy e) before after ending same = same
-refused_writes Read before after ending same = same
-refused_writes NoMemory before after ending same = same
-refused_writes Nothing before after ending same = absurd ending
-refused_writes Found before after ending same = absurd ending
-refused_writes Usage before after ending same = absurd ending
-refused_writes Write before after ending same = absurd ending
-refused_writes (LineTooLong n) before after ending same = absurd ending
-refused_writes TooManyLines before after ending same = absurd ending
-refused_writes (BadInput e) before after ending same = absurd ending
+-- nothing was found: so may every command end
+is_refusal : (fault : RunFault) → IsRefusal fault → answer.IsRefusal fault
+is_refusal Load ending = tt
+is_refusal FileTooLong ending = tt
+is_refusal (Policy e) ending = tt
+is_refusal Read ending = tt
+is_refusal NoMemory ending = tt
+is_refusal Nothing ending = absurd ending
+is_refusal Found ending = absurd ending
+is_refusal Usage ending = absurd ending
+is_refusal Write ending = absurd ending
+is_refusal (LineTooLong n) ending = absurd ending
+is_refusal TooManyLines ending = absurd ending
+is_refusal (BadInput e) ending = absurd ending
 
 refused_early : (fault : RunFault) (before after : Option (List ℕ)) → IsRefusal fault → is_before_input fault ≡ true → ReadsAsAudit fault before after → after ≡ before
 refused_early Load before after ending early reads = reads
@@ -162,25 +149,11 @@ refused_early (LineTooLong n) before after ending early reads = absurd ending
 refused_early TooManyLines before after ending early reads = absurd ending
 refused_early (BadInput e) before after ending early reads = absurd ending
 
-refused_ends : (A : RunFault → List ℕ → Type 0) (before after : Option (List ℕ)) (fault : RunFault) → IsRefusal fault → FindsAs A (Err fault) → after ≡ before → Ends A before after fault
-refused_ends A before after Load ending h same = same
-refused_ends A before after Read ending h same = same
-refused_ends A before after NoMemory ending h same = same
-refused_ends A before after FileTooLong ending h same = ([], h, same ∙ sym (nothing_put before))
-refused_ends A before after (Policy e) ending h same = ([], h, same ∙ sym (nothing_put before))
-refused_ends A before after Nothing ending h same = absurd ending
-refused_ends A before after Found ending h same = absurd ending
-refused_ends A before after Usage ending h same = absurd ending
-refused_ends A before after Write ending h same = absurd ending
-refused_ends A before after (LineTooLong n) ending h same = absurd ending
-refused_ends A before after TooManyLines ending h same = absurd ending
-refused_ends A before after (BadInput e) ending h same = absurd ending
-
 refused_file : (A : PolicyShape → RunFault → List ℕ → Type 0) (filed : Filed) (fault : RunFault) (before after : Option (List ℕ)) → IsRefusal fault → FindsFile A filed (Err fault)
     → after ≡ before → OverFile filed fault (λ file. Ends (OverPolicy A file) before after fault)
 refused_file A untold fault before after ending h same = tt
 refused_file A missing fault before after ending h same = cc
-refused_file A (told file) fault before after ending h same = refused_ends (OverPolicy A file) before after fault ending h same
+refused_file A (told file) fault before after ending h same = ends_refused (OverPolicy A file) before after fault (is_refusal fault ending) h same
 
 pub refused_run : (policy requests : List ℕ) (lanes rounds : ℕ) (r : Run) → IsRefusal r.fault
     → FindsFile (AuditsPolicy (record { requests = r.files requests; lanes = lanes; rounds = rounds }) (record { before = r.before.input; after = r.after.input })) (r.files policy) (Err r.fault)
@@ -192,11 +165,11 @@ refused_run policy requests lanes rounds r ending finds without loads reads writ
     early = λ early. record { unread = refused_early r.fault r.before.input r.after.input ending early input; unwritten = output; untold = nothing };
     loads = loads;
     reads = own_reads r.fault r.before.read_faults r.after.read_faults reads;
-    writes = refused_writes r.fault r.before.write_faults r.after.write_faults ending writes;
+    writes = no_writes r.fault r.before.write_faults r.after.write_faults (is_refusal r.fault ending) writes;
   };
   once = record {
     answer = refused_file (AuditsPolicy (record { requests = r.files requests; lanes = lanes; rounds = rounds }) (record { before = r.before.input; after = r.after.input })) (r.files policy) r.fault r.before.output r.after.output ending finds output;
-    quiet = refused_quiet r.fault r.before.output r.after.output ending output;
+    quiet = quiet_refused r.fault r.before.output r.after.output (is_refusal r.fault ending) output;
     untold = nothing;
     reads = reads;
   };

@@ -8,6 +8,7 @@ use Rattle.transcript_audit.specs.declared.fault.AuditKind.{AuditKind}
 use Rattle.transcript_audit.specs.Audits.{AuditShape, HasFault, IsNext, with_entry}
 use Rattle.run_record.specs.declared.fault.RunFault.{RunFault}
 use Rattle.run_record.specs.declared.fault.RunFault.TheVariants.{Policy, Read, Write, Load, NoMemory, FileTooLong}
+use Rattle.wf_commands.specs.Answer.{AnswersAs}
 use Rattle.wf_commands.specs.Once.{OverPolicy}
 use Rattle.audit_command.specs.declared.finding.Finding.{Finding}
 use Rattle.audit_command.specs.declared.finding.Finding.TheVariants.{Legal, Fault, TooLong}
@@ -61,13 +62,10 @@ IsRefusal Read = Unit {0}
 IsRefusal NoMemory = Unit {0}
 IsRefusal fault = ⊥
 
--- a finding is one of these; so is the ending without one, where the outside and memory did not fail
+-- a finding is one of these; the ending without one as that of every command
 abbrev pub FindsAs : (RunFault → List ℕ → Type 0) → Result Finding RunFault → Type 0
 FindsAs Answers (Ok f) = Answers (ending_of f) (text_of f)
-FindsAs Answers (Err Read) = Unit {0}
-FindsAs Answers (Err Load) = Unit {0}
-FindsAs Answers (Err NoMemory) = Unit {0}
-FindsAs Answers (Err fault) = Answers fault []
+FindsAs Answers (Err fault) = AnswersAs Answers (Err fault)
 
 -- the same about the policy in a file, by what is told of the file
 abbrev pub FindsFile : (PolicyShape → RunFault → List ℕ → Type 0) → Filed → Result Finding RunFault → Type 0

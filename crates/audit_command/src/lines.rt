@@ -120,21 +120,10 @@ fn take_line<V: Decider>(
     ensures more { result ≡ Ok None → HasOneMore auditor.old auditor.new }
 {
     match auditor.line(alloc, decider, line) {
-        Ok(()) => {
-            entries_are_few(auditor);
-            Ok(None)
-        }
+        Ok(()) => Ok(None),
         Err(AuditFault::At(n, kind)) => Ok(Some(Finding::Fault(n, kind))),
         Err(AuditFault::NoMemory) => Err(RunFault::NoMemory),
     }
-}
-
-// There are no more entries than jobs.
-fn entries_are_few(auditor: &Auditor)
-    requires { auditor.now.fault ≡ None }
-    ensures { length auditor.now.entries ≤ length auditor.now.jobs }
-{
-    let _ = auditor.end();
 }
 
 // What is found where no line is left. This takes no memory.

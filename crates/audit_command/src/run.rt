@@ -3,7 +3,7 @@ ghost use Rattle.std.specs.Prelude.{◌≡◌, ◌<◌, ◌≤◌, ℕ, List, Ok
 ghost use Rattle.wf_names.specs.declared.limits.TheConstants.{LANE_LIMIT};
 ghost use Rattle.wf_outside.specs.Outside.{with_bytes};
 ghost use Rattle.run_record.specs.Fault.{fault_in, status_of, CountsLoads, CountsReadsAlone, CountsWrites};
-ghost use Rattle.run_record.specs.Report.{told_by};
+ghost use Rattle.run_record.specs.Run.{run_of, streams_of};
 ghost use Rattle.audit_command.specs.Auditing.{text_of};
 ghost use Rattle.audit_command.specs.Running.{AuditsPolicy, AuditsRun, EndsWithout, ReadsAsAudit};
 ghost use Rattle.audit_command.specs.Steps.{FailsAs, FindsAs, FindsFile, IsRefusal};
@@ -38,25 +38,10 @@ pub fn run_audit<V: Decider, F: Shelf, S: Source, K: Sink>(
     requires lanes { lanes ≤ LANE_LIMIT }
     ensures status { result.status ≡ status_of result.fault }
     ensures usage { result.fault ≡ RunFault.Usage → ⊥ }
-    ensures audits { AuditsRun policy.now requests.now lanes rounds (record {
-      files = F.file shelf.old;
-      load_faults = F.faults shelf.old;
-      load_faults_after = F.faults shelf.new;
-      before = record {
-        input = S.left source.old;
-        output = K.held sink.old;
-        read_faults = S.faults source.old;
-        write_faults = K.faults sink.old;
-      };
-      after = record {
-        input = S.left source.new;
-        output = K.held sink.new;
-        read_faults = S.faults source.new;
-        write_faults = K.faults sink.new;
-      };
-      told = told_by result;
-      fault = result.fault;
-    }) }
+    ensures audits { AuditsRun policy.now requests.now lanes rounds (
+        run_of F.file F.faults shelf.old shelf.new
+        (streams_of S.left S.faults K.held K.faults source.old sink.old)
+        (streams_of S.left S.faults K.held K.faults source.new sink.new) result) }
 {
     match find(
         alloc, decider, policy, requests, lanes, rounds, shelf, source,

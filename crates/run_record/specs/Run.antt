@@ -4,7 +4,8 @@ use Rattle.wf_outside.specs.Outside.{Filed, told, missing, untold}
 use Rattle.run_record.specs.declared.fault.RunFault.{RunFault}
 use Rattle.run_record.specs.declared.fault.RunFault.TheVariants.{Load}
 use Rattle.run_record.specs.Fault.{is_before_input, CountsLoads, CountsReads, CountsWrites}
-use Rattle.run_record.specs.Report.{Told, nothing_told}
+use Rattle.run_record.specs.declared.report.Report.{Report}
+use Rattle.run_record.specs.Report.{Told, nothing_told, told_by}
 
 -- the input that is left and the output so far, where the source and the sink tell, and how often
 -- each failed
@@ -24,6 +25,25 @@ pub record Run : Type 0 where
   pub after : Streams
   pub told : Told
   pub fault : RunFault
+
+-- the streams as a source and a sink tell them and count their faults
+abbrev pub streams_of : {S K : Type 0} → (S → Option (List ℕ)) → (S → ℕ) → (K → Option (List ℕ))
+    → (K → ℕ) → S → K → Streams
+streams_of left read_faults held write_faults source sink =
+    record { input = left source; output = held sink; read_faults = read_faults source; write_faults = write_faults sink }
+
+-- the run over a shelf as it tells its files and counts its faults, with a report
+abbrev pub run_of : {F : Type 0} → (F → List ℕ → Filed) → (F → ℕ) → F → F → Streams → Streams
+    → Report → Run
+run_of file faults shelf shelf_after before after report = record {
+  files = file shelf;
+  load_faults = faults shelf;
+  load_faults_after = faults shelf_after;
+  before = before;
+  after = after;
+  told = told_by report;
+  fault = report.fault;
+}
 
 -- nothing is read, written or told
 pub record IsUntouched (r : Run) : Type 0 where

@@ -26,8 +26,8 @@ pub enum RunFault {
     /// The command was done.
     #[error("wfserve: done")]
     Nothing,
-    /// The command was done, and found what it looks for: `plan` that the plan is not valid, `audit` a line of the
-    /// transcript that has a fault or is missing.
+    /// The command was done, and found what it looks for: `plan` that the plan is not valid,
+    /// `audit` a line of the transcript that has a fault or is missing. No other command ends so.
     #[error("wfserve: found")]
     Found,
     /// The words are none of the program's commands.

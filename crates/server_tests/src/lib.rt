@@ -5,13 +5,25 @@
 #[cfg(test)]
 mod changes;
 #[cfg(test)]
+mod copies;
+#[cfg(test)]
+mod desks;
+#[cfg(test)]
 mod drawn;
 #[cfg(test)]
 mod edits;
 #[cfg(test)]
+mod lanes;
+#[cfg(test)]
+mod outsides;
+#[cfg(test)]
 mod policies;
 #[cfg(test)]
+mod schedules;
+#[cfg(test)]
 mod searches;
+#[cfg(test)]
+mod sessions;
 #[cfg(test)]
 mod trees;
 #[cfg(test)]

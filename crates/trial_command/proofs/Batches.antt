@@ -3,13 +3,14 @@ use Rattle.std.proofs.Common.{◌≡◌, ℕ, zero, suc, ◌+◌, ◌-◌, ◌<�
 use Rattle.std.specs.List.{All}
 use Rattle.std.proofs.lemmas.List.Elements.{All-head, All-tail, All-take, All-drop}
 use Rattle.std.proofs.lemmas.List.{length-append, length-take-le, take_more}
-use Rattle.std.proofs.Math.Seq.{drop-append_seam, take-append_seam, get_or-append_seam}
+use Rattle.std.proofs.Math.Seq.{drop-append_seam, take-append_seam}
 use Rattle.wf_talk.specs.declared.job.Job.{Job}
 use Rattle.wf_board.specs.Histories.{AreAnsweredOnce, FillsJobs, batch_end, batch_start}
 use Rattle.wf_board.specs.HistoryLaws.{once_all}
 use Rattle.wf_desk.specs.BatchLaws.{AnswersBatch, EndAt, batch_fills}
 use Rattle.wf_desk.specs.Desks.{AreOfLanes, DeskShape, IsDone, IsSoundDesk, with_batch, with_room}
 use Rattle.wf_desk.specs.DocketLaws.{batch_done}
+use Rattle.wf_desk.proofs.Ends.{end_more}
 use Rattle.wf_lanes.specs.Turns.{HasServedOn}
 use Rattle.trial_maker.specs.TrialLaws.{AreBatches}
 use Rattle.trial_command.specs.Serving.{HasServedAll, HasServedBatch}
@@ -48,24 +49,6 @@ start_within count (suc m) k ends are all =
 -- each end is within the jobs
 pub end_within_jobs : (count k : ℕ) (ends : List ℕ) → AreBatches count ends → k < length ends → batch_end ends k ≤ count
 end_within_jobs count k ends are lt = start_within count (length ends - suc k) (suc k) ends are (omega (arith, lt))
-
-ends_last : (ends : List ℕ) (x : ℕ) → batch_start (ends ++ x ∷ []) (length (ends ++ x ∷ [])) ≡ x
-ends_last ends x =
-    let one_more : length (ends ++ x ∷ []) ≡ suc (length ends) = omega (arith, length-append ends (x ∷ [])) in
-    ap (batch_start (ends ++ x ∷ [])) one_more ∙ get_or-append_seam ends x [] 0
-
-end_within : (ends : List ℕ) (x k n : ℕ) → ((k : ℕ) → k < length ends → batch_end ends k ≤ n) → x ≤ n → k < length (ends ++ x ∷ []) → batch_end (ends ++ x ∷ []) k ≤ n
-end_within [] x zero n within last lt = last
-end_within [] x (suc k) n within last lt = absurd (omega (arith, lt))
-end_within (e ∷ ends) x zero n within last lt = within zero (omega arith)
-end_within (e ∷ ends) x (suc k) n within last lt = end_within ends x k n (λ i below. within (suc i) (omega (arith, below))) last (omega (arith, lt))
-
--- one more end
-end_more : (ends : List ℕ) (n x : ℕ) → EndAt ends n → n ≤ x → EndAt (ends ++ x ∷ []) x
-end_more ends n x are more = record {
-  within = λ k lt. end_within ends x k x (λ i below. let h = are.within i below in omega (arith, h, more)) (omega arith) lt;
-  closed = ends_last ends x;
-}
 
 -- ---- jobs
 

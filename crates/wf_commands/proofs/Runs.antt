@@ -40,7 +40,7 @@ pub unread_after : (q : Question) (result : Result Answer RunFault) (fault : Run
 unread_after q (Ok answer) fault left is ending = absurd is
 unread_after q (Err e) fault left is ending = rw is (unread q fault left ending)
 
-no_writes : (fault : RunFault) (before after : ℕ) → IsRefusal fault → after ≡ before → CountsWrites fault before after
+pub no_writes : (fault : RunFault) (before after : ℕ) → IsRefusal fault → after ≡ before → CountsWrites fault before after
 no_writes Nothing before after ending same = absurd ending
 no_writes Found before after ending same = absurd ending
 no_writes Usage before after ending same = absurd ending
@@ -69,7 +69,7 @@ own_reads (LineTooLong line) before after counts = counts
 own_reads TooManyLines before after counts = counts
 own_reads (BadInput e) before after counts = counts
 
-quiet_refused : (fault : RunFault) (before after : Option (List ℕ)) → IsRefusal fault → after ≡ before → IsQuiet fault before after
+pub quiet_refused : (fault : RunFault) (before after : Option (List ℕ)) → IsRefusal fault → after ≡ before → IsQuiet fault before after
 quiet_refused Nothing before after ending same = absurd ending
 quiet_refused Found before after ending same = absurd ending
 quiet_refused Usage before after ending same = absurd ending
@@ -83,7 +83,7 @@ quiet_refused (LineTooLong line) before after ending same = same
 quiet_refused TooManyLines before after ending same = absurd ending
 quiet_refused (BadInput e) before after ending same = same
 
-ends_refused : (A : RunFault → List ℕ → Type 0) (before after : Option (List ℕ)) (fault : RunFault)
+pub ends_refused : (A : RunFault → List ℕ → Type 0) (before after : Option (List ℕ)) (fault : RunFault)
     → IsRefusal fault → AnswersAs A (Err fault) → after ≡ before → Ends A before after fault
 ends_refused A before after Nothing ending h same = absurd ending
 ends_refused A before after Found ending h same = absurd ending

@@ -1,16 +1,12 @@
 -- What bytes are as JSON.
-use Rattle.std.proofs.Common.{◌≡◌, ℕ, ◌+◌, ◌<◌, List, [], ◌∷◌, ◌++◌, length, Some, refl, ap, sym, subst, eq-eqb, ◌∙◌, inl, inr, arith, length-append}
+use Rattle.std.proofs.Common.{◌≡◌, ℕ, ◌+◌, ◌<◌, List, [], ◌∷◌, ◌++◌, length, refl, ap, sym, subst, ◌∙◌, inl, inr, arith, length-append}
 use Prim.Native.Nat.{suc}
 use Rattle.std.proofs.lemmas.List.{get_or_append_left, get_or_push}
 use Rattle.policy_book.proofs.Keeping.{below_or_at}
 use Rattle.constraint_forms.specs.Assigned.{planned}
 use Rattle.serde_json.specs.declared.value.Value.{Value}
 use Rattle.serde_json.specs.View.{items_view}
-use Rattle.std.specs.Str.{IsUtf8}
-use Rattle.std.proofs.lemmas.Str.{utf8_valid_len-IsUtf8}
-use Rattle.serde_json.specs.Data.{Data}
-use Rattle.serde_json.specs.Read.{read}
-use Rattle.wf_commands.specs.Input.{value_of, listed_items, AreBelow, HasOneMore}
+use Rattle.wf_commands.specs.Input.{listed_items, AreBelow, HasOneMore}
 
 -- an array has as many items as it has values
 pub length_listed : (vs : List Value) → length (listed_items (items_view vs)) ≡ length vs
@@ -29,9 +25,3 @@ below_push n before after old more s h =
 
 pub length_push : (n : ℕ) (before after : List ℕ) → HasOneMore n before after → length after ≡ length before + 1
 length_push n before after more = ap length more.pushed ∙ length-append before (more.user ∷ [])
-
--- bytes that are text are what the text reads as
-pub read_utf8 : (bytes text : List ℕ) (d : Data) → IsUtf8 bytes → text ≡ bytes → read text ≡ Some d → value_of bytes ≡ Some d
-unfolding value_of
-read_utf8 bytes text d utf8 same e =
-    rw (eq-eqb _ _ (utf8_valid_len-IsUtf8 bytes utf8)) (subst (λ (t : List ℕ). read t ≡ Some d) same e)

@@ -1,23 +1,18 @@
 -- The input of `plan`: one JSON array of the users' names in the order of the steps.
-use Rattle.std.specs.Prelude.{◌≡◌, ℕ, ◌<◌, ◌==◌, Bool, List, [], ◌∷◌, ◌++◌, length, Option, None, Some, is_some, option_and_then, Result, Ok, if◌then◌else◌}
+use Rattle.std.specs.Prelude.{◌≡◌, ℕ, ◌<◌, ◌==◌, Bool, List, [], ◌∷◌, ◌++◌, length, Option, None, Some, is_some, option_and_then, Result, Ok}
 use Rattle.std.specs.List.{list_all}
-use Rattle.std.specs.Str.Lossy.{utf8_valid_len}
 use Rattle.serde_json.specs.Data.{Data, Items, no_items, item}
 use Rattle.serde_json.specs.Find.{as_str, as_array}
-use Rattle.serde_json.specs.Read.{read}
 use Rattle.first_fault.specs.Reading.{◌>>=◌, or_fault, check, each}
 use Rattle.constraint_forms.specs.Assigned.{planned}
 use Rattle.wf_names.specs.Names.{is_name}
 use Rattle.wf_names.specs.Table.{place_of}
 use Rattle.policy_book.specs.Shapes.{PolicyShape}
+use Rattle.wire_json.specs.Values.{value_of}
 use Rattle.run_record.specs.declared.fault.InputFault.{InputFault}
 use Rattle.run_record.specs.declared.fault.InputFault.TheVariants.{NoFlow, Syntax, Length, NoUser}
 use Rattle.wf_commands.specs.declared.input.InputError.{InputError}
 use Rattle.wf_commands.specs.declared.input.InputError.TheVariants.{Fault, NoMemory}
-
--- the JSON value that bytes are, where they are UTF-8 and read as JSON
-unfoldable pub value_of : List ℕ → Option Data
-value_of bytes = if utf8_valid_len bytes == length bytes then read bytes else None
 
 -- the items of an array, in order
 abbrev pub listed_items : Items → List Data

@@ -6,15 +6,16 @@ ghost use Rattle.serde_json.specs.Find.{as_str};
 ghost use Rattle.first_fault.specs.Reading.{Gives, or_fault, each};
 ghost use Rattle.wf_names.specs.declared.limits.TheConstants.{STEP_LIMIT};
 ghost use Rattle.policy_book.specs.Policies.{flow_at};
+ghost use Rattle.wire_json.specs.Values.{value_of};
 ghost use Rattle.run_record.specs.declared.fault.InputFault.TheVariants.{Syntax};
-ghost use Rattle.wf_commands.specs.Input.{plan_of_input, number_named, next_user, value_of, is_text, listed_items, input_fault, AreBelow, HasOneMore, IsOfInput};
+ghost use Rattle.wf_commands.specs.Input.{plan_of_input, number_named, next_user, is_text, listed_items, input_fault, AreBelow, HasOneMore, IsOfInput};
 
 use policy_book::{Plan, Policy};
 use run_record::InputFault;
 use serde_json::Value;
 use std::alloc::{AllocError, Global};
-use std::str;
 use wf_names::{FlowId, Name, UserId};
+use wire_json::read_value;
 
 /// Why an input was not read as a plan.
 #[derive(Clone, Copy, Debug)]
@@ -37,7 +38,7 @@ pub(crate) fn read_plan(
     ensures fault { IfErr result IsOfInput }
     ensures users { IfOk result (λ plan. AreBelow (length p.now.roster.users) plan) }
 {
-    let value = read_value(alloc, input)?;
+    let value = json_of(alloc, input)?;
     let Some(items) = value.as_array() else {
         return Err(InputError::Fault(InputFault::Syntax));
     };
@@ -52,18 +53,14 @@ pub(crate) fn read_plan(
 }
 
 // The JSON value of the input.
-#[tactic(auto, unfolding(crate::specs::Input::value_of))]
-fn read_value(alloc: Global, input: &[u8]) -> Result<Value, InputError>
+fn json_of(alloc: Global, input: &[u8]) -> Result<Value, InputError>
     ensures value { Gives input_fault view result (or_fault (value_of input.now) Syntax) }
     ensures fault { IfErr result IsOfInput }
 {
-    let Ok(text) = str::from_utf8(input) else {
-        return Err(InputError::Fault(InputFault::Syntax));
-    };
-    match Value::from_str(alloc, text) {
-        Ok(value) => Ok(value),
-        Err(e) if e.is_memory() => Err(InputError::NoMemory),
-        Err(_) => Err(InputError::Fault(InputFault::Syntax)),
+    match read_value(alloc, input) {
+        Ok(Some(value)) => Ok(value),
+        Ok(None) => Err(InputError::Fault(InputFault::Syntax)),
+        Err(_) => Err(InputError::NoMemory),
     }
 }
 

@@ -4,7 +4,7 @@ ghost use Rattle.std.specs.Prelude.{◌≡◌, ℕ, List, Ok, false, IfErr};
 ghost use Rattle.policy_reader.specs.Files.{policy_of_file};
 ghost use Rattle.policy_reader.specs.Printable.{IsPrintable};
 ghost use Rattle.run_record.specs.Fault.{fault_in, status_of, CountsLoads, CountsReadsAlone};
-ghost use Rattle.run_record.specs.Report.{told_by};
+ghost use Rattle.run_record.specs.Run.{run_of, streams_of};
 ghost use Rattle.wf_commands.specs.Questions.{answers, reads_input, AnswersQuestion, ReadsAs};
 ghost use Rattle.wf_commands.specs.Answer.{AnswersAs, AnswersFile, IsAnswerEnding, IsRefusal};
 
@@ -30,25 +30,10 @@ pub fn answer_once<F: Shelf, S: Source, K: Sink>(
 ) -> Report
     ensures status { result.status ≡ status_of result.fault }
     ensures usage { result.fault ≡ RunFault.Usage → ⊥ }
-    ensures answers { AnswersQuestion question.now policy.now (record {
-      files = F.file shelf.old;
-      load_faults = F.faults shelf.old;
-      load_faults_after = F.faults shelf.new;
-      before = record {
-        input = S.left source.old;
-        output = K.held sink.old;
-        read_faults = S.faults source.old;
-        write_faults = K.faults sink.old;
-      };
-      after = record {
-        input = S.left source.new;
-        output = K.held sink.new;
-        read_faults = S.faults source.new;
-        write_faults = K.faults sink.new;
-      };
-      told = told_by result;
-      fault = result.fault;
-    }) }
+    ensures answers { AnswersQuestion question.now policy.now (
+        run_of F.file F.faults shelf.old shelf.new
+        (streams_of S.left S.faults K.held K.faults source.old sink.old)
+        (streams_of S.left S.faults K.held K.faults source.new sink.new) result) }
     ensures untouched { reads_input question.now ≡ false → source.new ≡ source.old }
 {
     match find_answer(alloc, policy, question, shelf, source) {

@@ -2,3 +2,4 @@ pub mod DeskLaws
 pub mod CommitLaws
 pub mod Scheduling
 pub mod Crossing
+pub mod Ends

@@ -1,19 +1,20 @@
 -- How the entries of a batch follow those before.
 use Rattle.std.proofs.Common.{◌≡◌, ℕ, zero, suc, ◌+◌, ◌-◌, ◌<◌, ◌≤◌, List, [], ◌∷◌, ◌++◌, length, take, drop, get_or, Option, Result, Ok, Err, OnOk, OnErr, IfErr, inl, inr, refl, sym, ◌∙◌, ap, subst, arith, append_assoc}
 use Rattle.std.proofs.lemmas.Grind.{common_steps}
-use Rattle.std.proofs.lemmas.List.{take_rest, take-append-drop, append-nil, drop_more, take_more, length-append, get_or_append_left}
-use Rattle.std.proofs.Math.Seq.{drop-append_seam, take-append_seam, get_or-append_seam}
+use Rattle.std.proofs.lemmas.List.{take-append-drop, append-nil, drop_more, take_more, length-append, get_or_append_left}
+use Rattle.std.proofs.Math.Seq.{drop-append_seam, take-append_seam}
 use Rattle.wf_outside.specs.Outside.{with_bytes, HasPart}
 use Rattle.wf_outside.proofs.OutsideLaws.{more_put, part_first, part_second, part_all}
 use Rattle.policy_book.specs.Shapes.{PolicyShape}
 use Rattle.wf_talk.specs.declared.entry.Entry.{Entry}
 use Rattle.wf_talk.specs.declared.job.Job.{Job}
 use Rattle.wf_board.specs.States.{State, opening_state}
-use Rattle.wf_board.specs.Histories.{FillsJobs, IsLegal, batch_end, batch_start, state_after}
+use Rattle.wf_board.specs.Histories.{FillsJobs, IsLegal, batch_start, state_after}
 use Rattle.wf_desk.specs.Desks.{DeskShape, IsDone, IsSoundDesk}
 use Rattle.wf_desk.specs.BatchLaws.{AnswersBatch, EndAt, batch_fills}
 use Rattle.wf_desk.specs.DocketLaws.{batch_done}
 use Rattle.wf_desk.specs.Schedules.{HasGrown}
+use Rattle.wf_desk.proofs.Ends.{end_more}
 use Rattle.wire_json.specs.Replies.{entry_text}
 use Rattle.line_cutter.specs.Cutter.{ends_after}
 use Rattle.run_record.specs.declared.fault.RunFault.{RunFault}
@@ -27,17 +28,9 @@ use Rattle.wf_server.specs.declared.batch.Answered.{Answered}
 use Rattle.wf_server.proofs.Names.{transcript_more}
 use Rattle.wf_server.specs.Batches.{entries_text, told_of, HasAnswered, HasAnsweredPart, IsAdded, AnswersTo, IsWriteEnding}
 
--- the rest behind a place
-pub rest_after : {A : Type 0} (xs : List A) (n : ℕ) → take (length xs - n) (drop n xs) ≡ drop n xs
-rest_after xs n = take_rest xs n
-
 text_append : (p : PolicyShape) (xs ys : List Entry) → entries_text p (xs ++ ys) ≡ entries_text p xs ++ entries_text p ys
 text_append p [] ys = refl
 text_append p (x ∷ xs) ys = ap (λ t. entry_text p x ++ t) (text_append p xs ys) ∙ sym (append_assoc (entry_text p x) (entries_text p xs) (entries_text p ys))
-
--- the first items, with the next one
-pub take_next : {A : Type 0} (xs : List A) (i : ℕ) (x : A) → i < length xs → x ≡ get_or xs i x → take (i + 1) xs ≡ take i xs ++ x ∷ []
-take_next xs i x within is = take_more xs i x within ∙ ap (λ y. take i xs ++ y ∷ []) (sym is)
 
 -- all items: the first, the next one and the rest
 split_at : {A : Type 0} (xs : List A) (i : ℕ) (x : A) → i < length xs → x ≡ get_or xs i x → xs ≡ take i xs ++ (x ∷ drop (i + 1) xs)
@@ -48,7 +41,7 @@ pub written_more : (p : PolicyShape) (held mid after : Option (List ℕ)) (es : 
     → mid ≡ with_bytes held (entries_text p (take i es)) → after ≡ with_bytes mid (entry_text p e) → after ≡ with_bytes held (entries_text p (take (i + 1) es))
 written_more p held mid after es i e within is so_far now =
     now ∙ ap (λ m. with_bytes m (entry_text p e)) so_far ∙ more_put held (entries_text p (take i es)) (entry_text p e)
-    ∙ ap (with_bytes held) (ap (λ t. entries_text p (take i es) ++ t) (sym (append-nil (entry_text p e))) ∙ sym (text_append p (take i es) (e ∷ [])) ∙ ap (entries_text p) (sym (take_next es i e within is)))
+    ∙ ap (with_bytes held) (ap (λ t. entries_text p (take i es) ++ t) (sym (append-nil (entry_text p e))) ∙ sym (text_append p (take i es) (e ∷ [])) ∙ ap (entries_text p) (ap (λ y. take i es ++ y ∷ []) is ∙ sym (take_more es i e within)))
 
 -- or only a part of it
 pub written_part : (p : PolicyShape) (held mid after : Option (List ℕ)) (es : List Entry) (i : ℕ) (e : Entry) → i < length es → e ≡ get_or es i e
@@ -73,17 +66,6 @@ last_begins ends x =
     let one_more : length (ends ++ x ∷ []) - 1 ≡ length ends = omega (arith, length-append ends (x ∷ [])) in
     ap (batch_start (ends ++ x ∷ [])) one_more ∙ get_or_append_left (0 ∷ ends) (x ∷ []) 0 (length ends) (omega arith)
 
-ends_last : (ends : List ℕ) (x : ℕ) → batch_start (ends ++ x ∷ []) (length (ends ++ x ∷ [])) ≡ x
-ends_last ends x =
-    let one_more : length (ends ++ x ∷ []) ≡ suc (length ends) = omega (arith, length-append ends (x ∷ [])) in
-    ap (batch_start (ends ++ x ∷ [])) one_more ∙ get_or-append_seam ends x [] 0
-
-end_within : (ends : List ℕ) (x k n : ℕ) → ((k : ℕ) → k < length ends → batch_end ends k ≤ n) → x ≤ n → k < length (ends ++ x ∷ []) → batch_end (ends ++ x ∷ []) k ≤ n
-end_within [] x zero n within last lt = last
-end_within [] x (suc k) n within last lt = absurd (omega (arith, lt))
-end_within (e ∷ ends) x zero n within last lt = within zero (omega arith)
-end_within (e ∷ ends) x (suc k) n within last lt = end_within ends x k n (λ i below. within (suc i) (omega (arith, below))) last (omega (arith, lt))
-
 -- a batch with a job has an end
 pub ends_some : (ends : List ℕ) (n : ℕ) (m : Job) (more : List Job) → ends_after ends n (m ∷ more) ≡ ends ++ (n + length (m ∷ more)) ∷ []
 ends_some ends n m more = grind (arith, common_steps)
@@ -92,10 +74,8 @@ ends_more : (js more : List Job) (ends : List ℕ) → EndAt ends (length js) �
 ends_more js [] ends are = rw (append-nil js) are
 ends_more js (m ∷ more) ends are =
     let size : length (js ++ (m ∷ more)) ≡ length js + length (m ∷ more) = length-append js (m ∷ more) in
-    rw (ends_some ends (length js) m more) (record {
-      within = λ k lt. end_within ends (length js + length (m ∷ more)) k (length (js ++ (m ∷ more))) (λ i below. let h = are.within i below in omega (arith, h, size)) (omega (arith, size)) lt;
-      closed = ends_last ends (length js + length (m ∷ more)) ∙ sym size;
-    })
+    rw (ends_some ends (length js) m more)
+    (subst (EndAt (ends ++ (length js + length (m ∷ more)) ∷ [])) (sym size) (end_more ends (length js) (length js + length (m ∷ more)) are (omega arith)))
 
 no_entries : (new : List Entry) → length new ≡ 0 → new ≡ []
 no_entries [] none = refl

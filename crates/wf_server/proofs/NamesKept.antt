@@ -1,9 +1,9 @@
 -- The parts of a reply are written alike with the names of two policies where the later one keeps those of the other.
-use Rattle.std.proofs.Common.{◌≡◌, ℕ, zero, suc, ◌+◌, ◌<◌, inl, inr, Bool, true, false, ◌&&◌, ◌==◌, List, [], ◌∷◌, ◌++◌, length, map, slice_index_or, Option, Some, refl, sym, ap, subst, ◌∙◌, arith, append-nil, append_assoc, codes, if◌then◌else◌}
+use Rattle.std.proofs.Common.{◌≡◌, ℕ, zero, suc, ◌+◌, ◌<◌, Bool, true, false, ◌&&◌, ◌==◌, List, [], ◌∷◌, ◌++◌, length, map, slice_index_or, Option, Some, refl, sym, ap, subst, ◌∙◌, arith, append-nil, append_assoc, codes, if◌then◌else◌}
 use Rattle.std.proofs.lemmas.List.{get_or_append_left}
 use Rattle.serde_json.specs.Data.{string, array, object, no_members, member}
 use Rattle.serde_json.specs.View.{items_of}
-use Rattle.basics.proofs.Booleans.{and_both, or_cases, eq_back}
+use Rattle.basics.proofs.Booleans.{and_both, eq_back}
 use Rattle.wf_names.specs.States.{user_of}
 use Rattle.wf_names.specs.declared.states.StepState.{StepState}
 use Rattle.wf_names.specs.declared.states.StepState.TheVariants.{Free, Held, Finished}
@@ -15,6 +15,7 @@ use Rattle.policy_book.specs.Plans.{Problem, IsValidPlan}
 use Rattle.policy_book.specs.Twins.{are_twins, is_one_of}
 use Rattle.policy_book.specs.Refuting.{refutes, all_refute, authorised_users, have_users, is_unassigned, passing}
 use Rattle.admin_edits.specs.Keeping.{KeepsNames}
+use Rattle.wf_board.proofs.Below.{AllBelow, one_below, planned_below}
 use Rattle.wire_json.specs.Entries.{named, names_data, plan_data, seen_data, single, state_data, step_data, user_data}
 use Rattle.wire_json.specs.Trees.{branches_data, node_data, tree_data}
 
@@ -46,11 +47,6 @@ pub user_same : (p q : PolicyShape) (u : ℕ) → KeepsNames p q → u < length 
 user_same p q u keeps known =
     ap (λ us. named us u) keeps.users ∙ ap string (get_or_append_left p.roster.users keeps.more [] u known)
 
--- each of these is below n
-abbrev pub AllBelow : ℕ → List ℕ → Type 0
-AllBelow n [] = Unit {0}
-AllBelow n (u ∷ us) = (u < n) × AllBelow n us
-
 users_same : (p q : PolicyShape) (us : List ℕ) → KeepsNames p q → AllBelow (length p.roster.users) us
     → map (named q.roster.users) us ≡ map (named p.roster.users) us
 users_same p q [] keeps known = refl
@@ -58,10 +54,6 @@ users_same p q (u ∷ us) keeps known =
     ap (λ d. d ∷ map (named q.roster.users) us) (user_same p q u keeps known.0) ∙ ap (λ ds. user_data p u ∷ ds) (users_same p q us keeps known.1)
 
 -- ---- plans
-
-planned_below : (n : ℕ) (plan : List ℕ) → ((s : ℕ) → s < length plan → planned plan s < n) → AllBelow n plan
-planned_below n [] known = tt
-planned_below n (u ∷ us) known = (known 0 (omega arith), planned_below n us (λ s below. known (suc s) (omega (arith, below))))
 
 pub plan_same : (p q : PolicyShape) (pr : Problem) (assigned : List (Option ℕ)) (finished : List Bool) (plan : List ℕ) → KeepsNames p q
     → pr.users ≡ length p.roster.users → IsValidPlan pr assigned finished plan → plan_data q.roster.users plan ≡ plan_data p.roster.users plan
@@ -112,13 +104,6 @@ below_if n k false us here rest = rest
 passing_all : (n : ℕ) (test : ℕ → Bool) (k count : ℕ) → ((u : ℕ) → test u ≡ true → u < n) → AllBelow n (passing test k count)
 passing_all n test k zero known = tt
 passing_all n test k (suc count) known = below_if n k (test k) (passing test (k + 1) count) (known k) (passing_all n test (k + 1) count known)
-
-one_below : (n : ℕ) (us : List ℕ) (v : ℕ) → AllBelow n us → is_one_of us v ≡ true → v < n
-one_below n [] v below one = cc
-one_below n (u ∷ us) v below one = elim (or_cases (u == v) (is_one_of us v) one) [
-  | inl here ↦ subst (λ m. m < n) (eq_back u v here) below.0
-  | inr later ↦ one_below n us v below.1 later
-]
 
 mutual
   pub tree_same : (p q : PolicyShape) (f : ℕ) (pr : Problem) (assigned : List (Option ℕ)) (finished : List Bool) (t : Shape) → KeepsNames p q

@@ -33,7 +33,9 @@ use Rattle.wire_json.specs.Entries.{named, phase_data, seen_data, single}
 use Rattle.wire_json.specs.Trees.{tree_data}
 use Rattle.wire_json.specs.Replies.{face_data, reply_data, strands_data, work_data}
 use Rattle.wf_server.proofs.NamesKept.{IsKnownBelow, keeps_same, plan_same, states_same, step_same, tree_same}
-use Rattle.wf_server.proofs.NamesTold.{Fares, IsDeedOf, IsToldAlike, user_known}
+use Rattle.wf_board.proofs.Faring.{Fares}
+use Rattle.wf_board.proofs.Within.{user_known}
+use Rattle.wf_server.proofs.NamesTold.{IsDeedOf, IsToldAlike}
 
 -- ---- who holds roles
 

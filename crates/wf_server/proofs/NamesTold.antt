@@ -1,19 +1,17 @@
 -- What a decision denies is written alike with the names of a later policy.
-use Rattle.std.proofs.Common.{◌≡◌, ℕ, ◌<◌, Bool, true, false, List, [], ◌∷◌, length, Option, None, Some, Result, Ok, Err, refl, ap, ◌∙◌, codes}
-use Rattle.std.specs.Option.{option_map}
-use Rattle.first_fault.specs.Reading.{◌>>=◌, check, or_fault}
+use Rattle.std.proofs.Common.{◌≡◌, ℕ, List, Some, Result, Ok, Err, refl, ap, codes}
+use Rattle.first_fault.specs.Reading.{check, or_fault}
 use Rattle.wf_names.specs.States.{user_of}
 use Rattle.policy_book.specs.Shapes.{PolicyShape}
 use Rattle.policy_book.specs.Facts.{IsSoundPolicy}
 use Rattle.case_record.specs.Cases.{CaseShape, is_open, state_at}
-use Rattle.case_record.proofs.Laws.{assigned_of-at}
 use Rattle.wf_talk.specs.declared.edit.Edit.{Edit}
 use Rattle.wf_talk.specs.declared.request.Request.TheVariants as request
 use Rattle.wf_talk.specs.declared.request.Ask.{Ask}
 use Rattle.wf_talk.specs.declared.request.Ask.TheVariants as ask
 use Rattle.wf_talk.specs.declared.reply.Denial.{Denial}
 use Rattle.wf_talk.specs.declared.reply.Denial.TheVariants as denial
-use Rattle.denial_reasons.specs.Causes.{first_cause, first_of, unless}
+use Rattle.denial_reasons.specs.Causes.{first_cause}
 use Rattle.admin_edits.specs.declared.amendment.Amendment.{Amendment}
 use Rattle.admin_edits.specs.declared.fault.EditFault.{EditFault}
 use Rattle.admin_edits.specs.declared.fault.EditFault.TheVariants as fault
@@ -25,55 +23,13 @@ use Rattle.wf_board.specs.declared.deed.Deed.{Deed}
 use Rattle.wf_board.specs.declared.deed.Deed.TheVariants as deed
 use Rattle.wf_board.specs.States.{State, case_at, flow_named, step_named, user_named}
 use Rattle.wf_board.specs.Resolved.{edit_denial, on_edit, on_step, open_case_at, resolve}
-use Rattle.wf_board.specs.Decisions.{cause_aside, cause_full, decision_aside, decision_of, unless_denied}
+use Rattle.wf_board.specs.Decisions.{cause_aside, cause_full, decision_aside, decision_of}
 use Rattle.wf_board.specs.Kept.{IsOfPolicy, IsSoundState}
+use Rattle.wf_board.proofs.Faring.{Fares, IsCauseSo, check_fares, four_so, map_so, or_fares, then_fares, unless_fares, unless_so}
+use Rattle.wf_board.proofs.Within.{user_known}
 use Rattle.wire_json.specs.Entries.{single}
 use Rattle.wire_json.specs.Replies.{denial_data}
 use Rattle.wf_server.proofs.NamesKept.{roles_same, state_same, step_same, user_same}
-
--- P holds of what was read, and Q of why it was not
-abbrev pub Fares : {A F : Type 0} → (A → Type 0) → (F → Type 0) → Result A F → Type 0
-Fares P Q (Ok x) = P x
-Fares P Q (Err d) = Q d
-
-then_fares : {A B F : Type 0} (P : A → Type 0) (R : B → Type 0) (Q : F → Type 0) (r : Result A F) (f : A → Result B F) → Fares P Q r
-    → ((x : A) → P x → Fares R Q (f x)) → Fares R Q (r >>= f)
-then_fares P R Q (Ok x) f has each = each x has
-then_fares P R Q (Err d) f has each = has
-
-or_fares : {A F : Type 0} (Q : F → Type 0) (o : Option A) (d : F) → Q d → Fares (λ x. o ≡ Some x) Q (or_fault o d)
-or_fares Q (Some x) d none = refl
-or_fares Q None d none = none
-
-check_fares : {F : Type 0} (Q : F → Type 0) (b : Bool) (d : F) → Q d → Fares (λ _. Unit {0}) Q (check b d)
-check_fares Q true d failed = tt
-check_fares Q false d failed = failed
-
--- Q holds of the cause, if there is one
-abbrev IsCauseSo : (Denial → Type 0) → Option Denial → Type 0
-IsCauseSo Q None = Unit {0}
-IsCauseSo Q (Some d) = Q d
-
-abbrev AreCausesSo : (Denial → Type 0) → List (Option Denial) → Type 0
-AreCausesSo Q [] = Unit {0}
-AreCausesSo Q (o ∷ os) = IsCauseSo Q o × AreCausesSo Q os
-
-first_so : (Q : Denial → Type 0) (os : List (Option Denial)) → AreCausesSo Q os → IsCauseSo Q (first_of os)
-first_so Q [] all = tt
-first_so Q (Some d ∷ os) all = all.0
-first_so Q (None ∷ os) all = first_so Q os all.1
-
-four_so : (Q : Denial → Type 0) (first second third fourth : Option Denial) → IsCauseSo Q first → IsCauseSo Q second → IsCauseSo Q third → IsCauseSo Q fourth
-    → IsCauseSo Q (first_of (first ∷ second ∷ third ∷ fourth ∷ []))
-four_so Q first second third fourth a b c d = first_so Q (first ∷ second ∷ third ∷ fourth ∷ []) (a, (b, (c, (d, tt))))
-
-unless_so : (Q : Denial → Type 0) (b : Bool) (d : Denial) → Q d → IsCauseSo Q (unless b d)
-unless_so Q true d so = tt
-unless_so Q false d so = so
-
-map_so : {A : Type 0} (Q : Denial → Type 0) (f : A → Denial) (o : Option A) → ((x : A) → o ≡ Some x → Q (f x)) → IsCauseSo Q (option_map f o)
-map_so Q f None so = tt
-map_so Q f (Some x) so = so x refl
 
 -- what a deed names is of a policy
 abbrev pub IsDeedOf : PolicyShape → Deed → Type 0
@@ -92,10 +48,6 @@ IsDeedOf p (deed.TurnAway bad) = Unit {0}
 -- a denial is written alike with the names of two policies
 abbrev pub IsToldAlike : PolicyShape → PolicyShape → Denial → Type 0
 IsToldAlike p q d = denial_data q d ≡ denial_data p d
-
--- the users of a case are users of its policy
-pub user_known : (p : PolicyShape) (c : CaseShape) (t u : ℕ) → IsOfPolicy p c → user_of (state_at c t) ≡ Some u → u < length p.roster.users
-user_known p c t u of is = of.users.users t u (assigned_of-at c t ∙ is)
 
 fault_alike : (p q : PolicyShape) (why : EditFault) → IsToldAlike p q (edit_denial why)
 fault_alike p q fault.NotAdmin = refl
@@ -198,10 +150,6 @@ full_so s q (deed.Show c) = tt
 full_so s q (deed.Work u) = tt
 full_so s q (deed.WhatIf a) = tt
 full_so s q (deed.TurnAway bad) = tt
-
-unless_fares : (P : Deed → Type 0) (Q : Denial → Type 0) (given : Deed) (o : Option Denial) → P given → IsCauseSo Q o → Fares P Q (unless_denied given o)
-unless_fares P Q given None has so = has
-unless_fares P Q given (Some d) has so = so
 
 -- what is decided is a deed of the policy, or a denial that is written alike
 pub decision_fares : (s : State) (q : PolicyShape) (what : Ask) → IsSoundState s → KeepsNames s.book.policy q

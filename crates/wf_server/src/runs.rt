@@ -2,6 +2,7 @@
 ghost use Rattle.std.specs.Prelude.{◌≡◌, ◌<◌, map, string_bytes, None, Some, IfErr, IfOk, false};
 ghost use Rattle.run_record.specs.Fault.{status_of};
 ghost use Rattle.run_record.specs.Report.{told_by};
+ghost use Rattle.run_record.specs.Run.{run_of, streams_of};
 ghost use Rattle.wf_board.specs.Histories.{AreAnsweredOnce};
 ghost use Rattle.wf_desk.specs.Desks.{AreOfLanes, IsDone};
 ghost use Rattle.wf_desk.specs.Schedules.{HasGrown};
@@ -38,25 +39,10 @@ pub fn run<R: Threads + Wait + Sync, F: Shelf, S: Source, K: Sink, G: Gate + Syn
 ) -> Report
     ensures status { result.status ≡ status_of result.fault }
     ensures usage { result.fault ≡ RunFault.Usage → command_of (map string_bytes words.now) ≡ None }
-    ensures does { HasRun (command_of (map string_bytes words.now)) (record {
-      files = F.file shelf.old;
-      load_faults = F.faults shelf.old;
-      load_faults_after = F.faults shelf.new;
-      before = record {
-        input = S.left source.old;
-        output = K.held sink.old;
-        read_faults = S.faults source.old;
-        write_faults = K.faults sink.old;
-      };
-      after = record {
-        input = S.left source.new;
-        output = K.held sink.new;
-        read_faults = S.faults source.new;
-        write_faults = K.faults sink.new;
-      };
-      told = told_by result;
-      fault = result.fault;
-    }) }
+    ensures does { HasRun (command_of (map string_bytes words.now)) (
+        run_of F.file F.faults shelf.old shelf.new
+        (streams_of S.left S.faults K.held K.faults source.old sink.old)
+        (streams_of S.left S.faults K.held K.faults source.new sink.new) result) }
     ensures untouched { reads_input (command_of (map string_bytes words.now)) ≡ false
         → source.new ≡ source.old }
     ensures once { may_repeat (command_of (map string_bytes words.now)) ≡ false
@@ -86,25 +72,10 @@ pub fn run_alone<F: Shelf, S: Source, K: Sink>(
 ) -> Report
     ensures status { result.status ≡ status_of result.fault }
     ensures usage { result.fault ≡ RunFault.Usage → command_of (map string_bytes words.now) ≡ None }
-    ensures does { HasRun (command_of (map string_bytes words.now)) (record {
-      files = F.file shelf.old;
-      load_faults = F.faults shelf.old;
-      load_faults_after = F.faults shelf.new;
-      before = record {
-        input = S.left source.old;
-        output = K.held sink.old;
-        read_faults = S.faults source.old;
-        write_faults = K.faults sink.old;
-      };
-      after = record {
-        input = S.left source.new;
-        output = K.held sink.new;
-        read_faults = S.faults source.new;
-        write_faults = K.faults sink.new;
-      };
-      told = told_by result;
-      fault = result.fault;
-    }) }
+    ensures does { HasRun (command_of (map string_bytes words.now)) (
+        run_of F.file F.faults shelf.old shelf.new
+        (streams_of S.left S.faults K.held K.faults source.old sink.old)
+        (streams_of S.left S.faults K.held K.faults source.new sink.new) result) }
     ensures untouched { reads_input (command_of (map string_bytes words.now)) ≡ false
         → source.new ≡ source.old }
     ensures once { AreAnsweredOnce (told_by result).entries }
@@ -140,25 +111,10 @@ fn run_command<F: Shelf, S: Source, K: Sink>(
     requires { CanServe command }
     ensures status { result.status ≡ status_of result.fault }
     ensures usage { result.fault ≡ RunFault.Usage → ⊥ }
-    ensures does { Does (Some (asked command.entry)) (record {
-      files = F.file shelf.old;
-      load_faults = F.faults shelf.old;
-      load_faults_after = F.faults shelf.new;
-      before = record {
-        input = S.left source.old;
-        output = K.held sink.old;
-        read_faults = S.faults source.old;
-        write_faults = K.faults sink.old;
-      };
-      after = record {
-        input = S.left source.new;
-        output = K.held sink.new;
-        read_faults = S.faults source.new;
-        write_faults = K.faults sink.new;
-      };
-      told = told_by result;
-      fault = result.fault;
-    }) }
+    ensures does { Does (Some (asked command.entry)) (
+        run_of F.file F.faults shelf.old shelf.new
+        (streams_of S.left S.faults K.held K.faults source.old sink.old)
+        (streams_of S.left S.faults K.held K.faults source.new sink.new) result) }
     ensures untouched { reads_input (Some (asked command.entry)) ≡ false → source.new ≡ source.old }
     ensures once { AreAnsweredOnce (told_by result).entries }
 {

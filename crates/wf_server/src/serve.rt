@@ -2,6 +2,7 @@
 ghost use Rattle.std.specs.Prelude.{◌≡◌, false};
 ghost use Rattle.run_record.specs.Fault.{status_of, is_before_input};
 ghost use Rattle.run_record.specs.Report.{told_by};
+ghost use Rattle.run_record.specs.Run.{run_of, streams_of};
 ghost use Rattle.wf_board.specs.Histories.{AreAnsweredOnce, AreWantsRightful};
 ghost use Rattle.wf_server.specs.Sessions.{Served};
 ghost use Rattle.command_words.specs.Words.{AreOptions};
@@ -36,25 +37,10 @@ pub(crate) fn run_serve<F: Shelf, S: Source, K: Sink, W: Fn(Desk) -> Desk>(
     requires options { AreOptions (options_in options) }
     ensures status { result.status ≡ status_of result.fault }
     ensures usage { result.fault ≡ RunFault.Usage → ⊥ }
-    ensures serves { ServesRun policy.now (options_in options) (record {
-      files = F.file shelf.old;
-      load_faults = F.faults shelf.old;
-      load_faults_after = F.faults shelf.new;
-      before = record {
-        input = S.left source.old;
-        output = K.held sink.old;
-        read_faults = S.faults source.old;
-        write_faults = K.faults sink.old;
-      };
-      after = record {
-        input = S.left source.new;
-        output = K.held sink.new;
-        read_faults = S.faults source.new;
-        write_faults = K.faults sink.new;
-      };
-      told = told_by result;
-      fault = result.fault;
-    }) }
+    ensures serves { ServesRun policy.now (options_in options) (
+        run_of F.file F.faults shelf.old shelf.new
+        (streams_of S.left S.faults K.held K.faults source.old sink.old)
+        (streams_of S.left S.faults K.held K.faults source.new sink.new) result) }
     ensures once { ServesOnce (W.post way.now) → AreAnsweredOnce (told_by result).entries }
     ensures no_rounds { options.rounds ≡ 0 → AreAnsweredOnce (told_by result).entries }
 {
@@ -76,18 +62,8 @@ fn serve_policy<S: Source, K: Sink, W: Fn(Desk) -> Desk>(
     requires way { IsWay (W.pre way.now) (W.post way.now) }
     requires options { AreOptions (options_in options) }
     ensures served { Served (setting policy (options_in options)) PIECE
-        (record {
-          input = S.left source.old;
-          output = K.held sink.old;
-          read_faults = S.faults source.old;
-          write_faults = K.faults sink.old;
-        })
-        (record {
-          input = S.left source.new;
-          output = K.held sink.new;
-          read_faults = S.faults source.new;
-          write_faults = K.faults sink.new;
-        })
+        (streams_of S.left S.faults K.held K.faults source.old sink.old)
+        (streams_of S.left S.faults K.held K.faults source.new sink.new)
         (told_by result) result.fault }
     ensures once { ServesOnce (W.post way.now) → AreAnsweredOnce (told_by result).entries }
     ensures wants { AreWantsRightful (told_by result).entries }

@@ -7,7 +7,7 @@ ghost use Rattle.line_cutter.specs.Jobs.{start};
 ghost use Rattle.batch_reader.specs.Reading.{IsReady, left_to_read};
 ghost use Rattle.run_record.specs.Fault.{status_of};
 ghost use Rattle.run_record.specs.Report.{told_by};
-ghost use Rattle.run_record.specs.Run.{Streams};
+ghost use Rattle.run_record.specs.Run.{Streams, streams_of};
 ghost use Rattle.command_words.specs.Words.{AreOptions};
 ghost use Rattle.command_words.specs.Asked.{options_in};
 ghost use Rattle.wf_server.specs.Serving.{setting};
@@ -39,8 +39,8 @@ pub(crate) fn run_session<S: Source, K: Sink, W: Fn(Desk) -> Desk>(
     requires room { 0 < room }
     requires options { AreOptions (options_in options) }
     ensures serves { Serves (setting policy (options_in options)) room
-        (record { input = S.left source.old; output = K.held sink.old; read_faults = S.faults source.old; write_faults = K.faults sink.old })
-        (record { input = S.left source.new; output = K.held sink.new; read_faults = S.faults source.new; write_faults = K.faults sink.new })
+        (streams_of S.left S.faults K.held K.faults source.old sink.old)
+        (streams_of S.left S.faults K.held K.faults source.new sink.new)
         (told_by result) result.fault }
     ensures legal { IsLegal (opening_state policy) options.rounds (told_by result).entries }
     ensures once { ServesOnce (W.post way.now) → AreAnsweredOnce (told_by result).entries }
@@ -72,8 +72,8 @@ fn serve_batches<S: Source, K: Sink, W: Fn(Desk) -> Desk>(
     requires entries { desk.entries ≡ [] }
     requires jobs { desk.jobs ≡ [] }
     ensures serves { Serves (setting_of desk) reader.old.room
-        (record { input = S.left source.old; output = K.held sink.old; read_faults = S.faults source.old; write_faults = K.faults sink.old })
-        (record { input = S.left source.new; output = K.held sink.new; read_faults = S.faults source.new; write_faults = K.faults sink.new })
+        (streams_of S.left S.faults K.held K.faults source.old sink.old)
+        (streams_of S.left S.faults K.held K.faults source.new sink.new)
         (told_by result) result.fault }
     ensures legal { IsLegal (opening_state desk.opening) desk.rounds (told_by result).entries }
     ensures once { ServesOnce (W.post way.now) → AreAnsweredOnce (told_by result).entries }
@@ -104,13 +104,13 @@ fn serve_batch<S: Source, K: Sink, W: Fn(Desk) -> Desk>(
     requires ready { IsReady reader.old }
     requires lanes { 0 < desk.lanes }
     requires serving { (before : Streams) × IsServing before
-        (record { input = S.left source.old; output = K.held sink.old; read_faults = S.faults source.old; write_faults = K.faults sink.old })
+        (streams_of S.left S.faults K.held K.faults source.old sink.old)
         reader.old desk (told_of desk told.old) }
     ensures batch { (before : Streams) → IsServing before
-        (record { input = S.left source.old; output = K.held sink.old; read_faults = S.faults source.old; write_faults = K.faults sink.old })
+        (streams_of S.left S.faults K.held K.faults source.old sink.old)
         reader.old desk (told_of desk told.old) →
         BatchEnds before
-        (record { input = S.left source.new; output = K.held sink.new; read_faults = S.faults source.new; write_faults = K.faults sink.new })
+        (streams_of S.left S.faults K.held K.faults source.new sink.new)
         reader.new result.0 (told_of result.0 told.new) result.1 }
     ensures once { ServesOnce (W.post way.now) → AreAnsweredOnce desk.entries
         → AreAnsweredOnce result.0.entries }

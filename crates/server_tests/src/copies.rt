@@ -1,46 +1,52 @@
 //! A user is replaced by another while a payment runs; what the edits leave is copied.
-ghost use Rattle.std.specs.Prelude.{◌≡◌, [], length};
+ghost use Rattle.std.specs.Prelude.{◌≡◌, length};
 ghost use Rattle.wf_desk.specs.Desks.{IsDone};
 
-use crate::schedule_parts::{
-    adds, claims, dismisses, empty_over, enrols, finishes, goes_at, has_kinds, job, opens, releases,
-};
-use crate::tests::PAY;
+use crate::desks::{desk_of, goes_through, has_kinds, load};
+use crate::policies::PAY;
 use policy_book::{Plan, Policy};
 use std::alloc::{AllocError, Global};
 use std::test::Fail;
 use wf_board::Board;
-use wf_desk::{Desk, Event, Mark};
+use wf_desk::Desk;
 use wf_names::{CaseId, FlowId, Name, RoleId, StepId, UserId};
+
+// Cyd, who holds the approval of a payment that ann prepared, cannot be dismissed from boss until
+// it is released and fay is one in her place.
+const REPLACED: &str = r#"{"do":"open","flow":"pay"}
+{"do":"claim","case":0,"step":"prepare","user":"ann"}
+{"do":"finish","case":0,"step":"prepare","user":"ann"}
+{"do":"claim","case":0,"step":"approve","user":"cyd"}
+{"do":"dismiss","by":"eve","user":"cyd","role":"boss"}
+{"do":"release","by":"eve","case":0,"step":"approve"}
+{"do":"add_user","by":"eve","user":"fay"}
+{"do":"enrol","by":"eve","user":"fay","role":"boss"}
+{"do":"dismiss","by":"eve","user":"cyd","role":"boss"}
+"#;
 
 // What edits leave can be copied, all of it and part by part.
 #[test]
 fn what_edits_leave_is_copied(rt: HostRuntime) -> Result<(), Fail> {
-    let mut desk = replaced(rt.alloc())?;
-    assert!(rt; is_replaced(rt.alloc(), &mut desk)?);
-    assert!(rt; board_is_copied(desk.board())?);
-    assert!(rt; policy_is_copied(desk.board().policy())?);
+    let mut desk = desk_of(rt.alloc(), PAY, 2)?;
+    assert!(rt; is_replaced(rt.alloc(), &mut desk)? && is_copied(&desk)?);
     Ok(())
 }
 
-fn is_replaced(alloc: Global, desk: &mut Desk) -> Result<bool, AllocError> {
-    let events = [Event::Serve(0); 9];
-    let marks = [
-        Mark::Served(0),
-        Mark::Served(1),
-        Mark::Served(2),
-        Mark::Served(3),
-        Mark::Served(4),
-        Mark::Served(5),
-        Mark::Served(6),
-        Mark::Served(7),
-        Mark::Served(8),
-    ];
-    let kinds = [
-        "opened", "granted", "finished", "granted", "strands", "released", "edited 1", "edited 2",
-        "edited 3",
-    ];
-    Ok(goes_at(alloc, desk, &events, &marks)? && has_kinds(desk, &kinds))
+fn is_replaced(alloc: Global, desk: &mut Desk) -> Result<bool, Fail>
+    requires { IsDone desk.old }
+{
+    let turns = "s0=0 s0=1 s0=2 s0=3 s0=4 s0=5 s0=6 s0=7 s0=8";
+    let kinds =
+        "opened 0, granted, finished, granted, strands 0, released, edited 1, edited 2, edited 3";
+    Ok(
+        load(alloc, desk, REPLACED)?
+            && goes_through(alloc, desk, turns)?
+            && has_kinds(alloc, desk, kinds)?,
+    )
+}
+
+fn is_copied(desk: &Desk) -> Result<bool, AllocError> {
+    Ok(board_is_copied(desk.board())? && policy_is_copied(desk.board().policy())?)
 }
 
 // The one plan of the case is ann, fay, bob.
@@ -97,32 +103,4 @@ fn is_fay(p: &Policy) -> bool {
         Some(fay) => p.roster().users().find(&fay) == Some(4),
         None => false,
     }
-}
-
-// Cyd, who holds the approval of a payment that ann prepared, cannot be dismissed from boss until
-// it is released and fay is one in her place.
-fn replaced(alloc: Global) -> Result<Desk, Fail> {
-    let mut desk = empty_over(alloc, PAY, 2)?;
-    load_edits(alloc, &mut desk)?;
-    Ok(desk)
-}
-
-fn load_edits(alloc: Global, desk: &mut Desk) -> Result<(), Fail>
-    requires lanes { desk.old.lanes ≡ 2 }
-    requires entries { desk.old.entries ≡ [] }
-    requires done { IsDone desk.old }
-{
-    let jobs = [
-        job(0, 0, opens()?),
-        job(0, 1, claims("prepare", "ann")?),
-        job(0, 2, finishes("prepare", "ann")?),
-        job(0, 3, claims("approve", "cyd")?),
-        job(0, 4, dismisses("boss", "cyd")?),
-        job(0, 5, releases("approve")?),
-        job(0, 6, adds("fay")?),
-        job(0, 7, enrols("boss", "fay")?),
-        job(0, 8, dismisses("boss", "cyd")?),
-    ];
-    desk.load_batch(alloc, &jobs)?;
-    Ok(())
 }

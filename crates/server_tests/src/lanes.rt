@@ -1,16 +1,17 @@
 //! Sessions of several lanes, each on a thread of its own: that searches run beside the turns of
 //! other lanes, that what comes too late is answered again, and that every line is answered.
 
-use crate::stale_tests::STAFFED;
-use crate::tests::{PAY, file_of, words_of};
-use crate::{Gate, OpenGate, Report, run};
+use crate::outsides::{ample, shelf_of, sink_of, source_of, words_of};
+use crate::policies::{PAY, STAFFED};
+use crate::trials::counts_of;
 use std::alloc::{AllocError, Global};
 use std::sync::Wait;
 use std::sync::atomic::{AtomicU64, Ordering};
 use std::test::Fail;
 use std::thread::{Threads, yield_now};
-use wf_outside::{MemShelf, MemSink, MemSource};
-use wf_talk::{Entry, Reply};
+use wf_outside::{MemShelf, MemSink};
+use wf_server::{Gate, OpenGate, Report, run};
+use wf_talk::Entry;
 
 // How often a gate looks whether what it waits for has come.
 const LOOKS: u32 = 1_000_000_000;
@@ -33,9 +34,9 @@ struct TwoHolds {
 }
 
 impl TwoHolds {
-    fn new(first: Hold, second: Hold) -> TwoHolds {
+    fn new(holds: [Hold; 2]) -> TwoHolds {
         TwoHolds {
-            holds: [first, second],
+            holds,
             entered: [AtomicU64::new(0), AtomicU64::new(0)],
             misses: AtomicU64::new(0),
             count: AtomicU64::new(0),
@@ -97,14 +98,12 @@ const CLAIMS: &str = r#"{"do":"open","flow":"pay"}
 // Each of two claims waits at the gate for the other.
 #[test]
 fn two_claims_solve_at_once(rt: HostRuntime) -> Result<(), Fail> {
-    let gate = TwoHolds::new(Hold { line: 6, until: 8 }, Hold { line: 8, until: 6 });
-    let words = ["serve", "policy", "--lanes", "2", "--rounds", "1"];
+    let holds = [Hold { line: 6, until: 8 }, Hold { line: 8, until: 6 }];
     let parts = [
         r#""lane":0,"line":6,"reply":{"granted":{"plan":["ann","cyd","bob"]}}}"#,
         r#""lane":1,"line":8,"reply":{"granted":{"plan":["bob","cyd","ann"]}}}"#,
     ];
-    assert!(rt; writes(&rt, rt.alloc(), PAY, &words, CLAIMS, &gate, &parts)?);
-    assert!(rt; gate.is_kept());
+    assert!(rt; writes(&rt, rt.alloc(), PAY, CLAIMS, holds, &parts)?);
     Ok(())
 }
 
@@ -121,15 +120,13 @@ const STALE: &str = r#"{"do":"open","flow":"pay"}
 // The dismissal waits for the claim to be searched for, and the claim until the dismissal is done.
 #[test]
 fn stale_task_meets_its_commit(rt: HostRuntime) -> Result<(), Fail> {
-    let gate = TwoHolds::new(Hold { line: 5, until: 4 }, Hold { line: 4, until: 6 });
-    let words = ["serve", "policy", "--lanes", "2", "--rounds", "1"];
+    let holds = [Hold { line: 5, until: 4 }, Hold { line: 4, until: 6 }];
     let parts = [
         r#"{"at":3,"lane":1,"line":5,"reply":{"edited":{"number":1}}}"#,
         r#""lane":0,"line":4,"reply":{"again":{"at":3,"rounds":1}}}"#,
         r#""lane":1,"line":6,"reply":{"opened":{"case":1,"plan":["#,
     ];
-    assert!(rt; writes(&rt, rt.alloc(), STAFFED, &words, STALE, &gate, &parts)?);
-    assert!(rt; gate.is_kept());
+    assert!(rt; writes(&rt, rt.alloc(), STAFFED, STALE, holds, &parts)?);
     Ok(())
 }
 
@@ -157,7 +154,7 @@ const REST: &str = r#"
 
 #[test]
 fn an_idle_lane_changes_no_answer(rt: HostRuntime) -> Result<(), Fail> {
-    let mut sink = MemSink::new(rt.alloc(), 10_000, 10_000, Vec::new(rt.alloc()))?;
+    let mut sink = sink_of(rt.alloc(), ample())?;
     assert!(rt; answers_alike(&rt, rt.alloc(), &mut sink)?);
     Ok(())
 }
@@ -168,42 +165,24 @@ fn answers_alike<R: Threads + Wait + Sync>(
     sink: &mut MemSink,
 ) -> Result<bool, AllocError> {
     let words = ["serve", "policy", "--lanes", "2"];
-    let status = status_of(rt, alloc, PAY, &words, PREPARED, &OpenGate, sink)?;
+    let status = report_of(rt, alloc, PAY, &words, PREPARED, &OpenGate, sink)?.status;
     let text = text_of(sink);
     let opened = text.starts_with(OPENED[0]) || text.starts_with(OPENED[1]);
     Ok(status == 0 && opened && text.len() == OPENED[0].len() + REST.len() && text.ends_with(REST))
 }
 
-// In each of eight lanes a case is opened, prepared by ann, and claimed by cyd.
+// In each of eight lanes a case is opened, prepared by ann, and claimed by cyd. The openings and
+// the claims are searched for outside the turns, but where there are no rounds.
 #[test]
 fn eight_lanes_answer_each_line_once(rt: HostRuntime) -> Result<(), Fail> {
     let input = eight_cases(rt.alloc())?;
-    let gate = counting();
-    let words = ["serve", "policy", "--lanes", "8"];
-    assert!(rt; is_whole(&rt, rt.alloc(), &words, input.as_str(), &gate)?);
-    // The openings and the claims are searched for outside the turns.
-    assert!(rt; gate.count.load(Ordering::SeqCst) == 24);
+    for (rounds, searches) in [("2", 24), ("0", 0)] {
+        assert!(rt;
+            is_whole(&rt, rt.alloc(), rounds, input.as_str(), searches)?,
+            "{rounds}"
+        );
+    }
     Ok(())
-}
-
-// Without rounds nothing is searched for outside the turns.
-#[test]
-fn no_rounds_need_no_search_outside(rt: HostRuntime) -> Result<(), Fail> {
-    let input = eight_cases(rt.alloc())?;
-    let gate = counting();
-    let words = ["serve", "policy", "--lanes", "8", "--rounds", "0"];
-    assert!(rt; is_whole(&rt, rt.alloc(), &words, input.as_str(), &gate)?);
-    assert!(rt; gate.count.load(Ordering::SeqCst) == 0);
-    Ok(())
-}
-
-// A gate at which no line waits.
-fn counting() -> TwoHolds {
-    let none = Hold {
-        line: 1_000_000,
-        until: 1_000_000,
-    };
-    TwoHolds::new(none, none)
 }
 
 fn eight_cases(alloc: Global) -> Result<String, AllocError> {
@@ -229,19 +208,38 @@ fn eight_cases(alloc: Global) -> Result<String, AllocError> {
     Ok(all)
 }
 
-// Whether eight cases are opened, and ann and cyd get their steps in each; each lane answers its
-// lines in order, and each line is answered once.
-fn is_whole<R: Threads + Wait + Sync, G: Gate + Sync>(
+// Whether eight cases are opened, and ann and cyd get their steps in each, with so many searches
+// outside the turns; each lane answers its lines in order, and each line is answered once.
+fn is_whole<R: Threads + Wait + Sync>(
     rt: &R,
     alloc: Global,
-    given: &[&str],
+    rounds: &str,
     input: &str,
-    gate: &G,
+    searches: u64,
 ) -> Result<bool, AllocError> {
-    let mut sink = MemSink::new(alloc, 10_000, 10_000, Vec::new(alloc))?;
-    let report = report_of(rt, alloc, PAY, given, input, gate, &mut sink)?;
+    let gate = TwoHolds::new([FREE, FREE]);
+    let whole = answers_each(rt, alloc, rounds, input, &gate)?;
+    Ok(whole && gate.count.load(Ordering::SeqCst) == searches)
+}
+
+// At which no line waits.
+const FREE: Hold = Hold {
+    line: 1_000_000,
+    until: 1_000_000,
+};
+
+fn answers_each<R: Threads + Wait + Sync>(
+    rt: &R,
+    alloc: Global,
+    rounds: &str,
+    input: &str,
+    gate: &TwoHolds,
+) -> Result<bool, AllocError> {
+    let words = ["serve", "policy", "--lanes", "8", "--rounds", rounds];
+    let mut sink = sink_of(alloc, ample())?;
+    let report = report_of(rt, alloc, PAY, &words, input, gate, &mut sink)?;
     let entries = report.entries.as_slice();
-    Ok(report.status == 0 && are_in_order(entries) && counts_of(entries) == [8, 16, 8])
+    Ok(report.status == 0 && are_in_order(entries) && counts_of(entries) == [8, 16, 8, 0, 0, 0])
 }
 
 // Whether entries stand at their places, each lane's in the order of its lines, and each line once.
@@ -262,33 +260,32 @@ fn are_in_order(entries: &[Entry]) -> bool {
     at == 32
 }
 
-// How many cases were opened, steps granted, and steps finished.
-fn counts_of(entries: &[Entry]) -> [u32; 3] {
-    let mut counts = [0u32; 3];
-    for entry in entries {
-        let k = match &entry.reply {
-            Reply::Opened { .. } => 0,
-            Reply::Granted(_) => 1,
-            Reply::Finished { .. } => 2,
-            _ => continue,
-        };
-        counts[k] = counts[k].saturating_add(1);
-    }
-    counts
-}
-
-// Whether a run ends well, and each of these parts stands in what it writes.
-fn writes<R: Threads + Wait + Sync, G: Gate + Sync>(
+// Whether a run on two lanes ends well with its lines held so, and each of these parts stands in
+// what it writes.
+fn writes<R: Threads + Wait + Sync>(
     rt: &R,
     alloc: Global,
     policy: &str,
-    given: &[&str],
     input: &str,
-    gate: &G,
+    holds: [Hold; 2],
     parts: &[&str],
 ) -> Result<bool, AllocError> {
-    let mut sink = MemSink::new(alloc, 10_000, 10_000, Vec::new(alloc))?;
-    let status = status_of(rt, alloc, policy, given, input, gate, &mut sink)?;
+    let gate = TwoHolds::new(holds);
+    let written = writes_at(rt, alloc, policy, input, &gate, parts)?;
+    Ok(written && gate.is_kept())
+}
+
+fn writes_at<R: Threads + Wait + Sync>(
+    rt: &R,
+    alloc: Global,
+    policy: &str,
+    input: &str,
+    gate: &TwoHolds,
+    parts: &[&str],
+) -> Result<bool, AllocError> {
+    let words = ["serve", "policy", "--lanes", "2", "--rounds", "1"];
+    let mut sink = sink_of(alloc, ample())?;
+    let status = report_of(rt, alloc, policy, &words, input, gate, &mut sink)?.status;
     let text = text_of(&sink);
     Ok(status == 0 && parts.iter().all(|part| text.contains(*part)))
 }
@@ -298,18 +295,6 @@ fn text_of(sink: &MemSink) -> &str {
         Ok(text) => text,
         Err(_) => "",
     }
-}
-
-fn status_of<R: Threads + Wait + Sync, G: Gate + Sync>(
-    rt: &R,
-    alloc: Global,
-    policy: &str,
-    given: &[&str],
-    input: &str,
-    gate: &G,
-    sink: &mut MemSink,
-) -> Result<u8, AllocError> {
-    Ok(report_of(rt, alloc, policy, given, input, gate, sink)?.status)
 }
 
 fn report_of<R: Threads + Wait + Sync, G: Gate + Sync>(
@@ -322,7 +307,7 @@ fn report_of<R: Threads + Wait + Sync, G: Gate + Sync>(
     sink: &mut MemSink,
 ) -> Result<Report, AllocError> {
     let words = words_of(alloc, given)?;
-    let mut shelf = shelf_of(alloc, policy)?;
+    let mut shelf = shelf_of(alloc, &[("policy", policy)], ample())?;
     report_over(rt, alloc, &words, input, gate, &mut shelf, sink)
 }
 
@@ -335,17 +320,6 @@ fn report_over<R: Threads + Wait + Sync, G: Gate + Sync>(
     shelf: &mut MemShelf,
     sink: &mut MemSink,
 ) -> Result<Report, AllocError> {
-    let mut source = source_of(alloc, input)?;
+    let mut source = source_of(alloc, input.as_bytes(), ample())?;
     Ok(run(rt, alloc, words, gate, shelf, &mut source, sink))
-}
-
-fn source_of(alloc: Global, input: &str) -> Result<MemSource, AllocError> {
-    let bytes = input.as_bytes().to_vec(alloc)?;
-    Ok(MemSource::new(bytes, 10_000, Vec::new(alloc)))
-}
-
-fn shelf_of(alloc: Global, policy: &str) -> Result<MemShelf, AllocError> {
-    let mut files = Vec::new(alloc);
-    files.push(file_of(alloc, "policy", policy)?)?;
-    Ok(MemShelf::new(files, Vec::new(alloc)))
 }

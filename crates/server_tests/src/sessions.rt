@@ -1,33 +1,13 @@
 //! Runs over a source, a sink and a shelf in memory that no row of a file can say: what a report
 //! tells, and inputs at their limits.
 
-use crate::run_alone;
+use crate::outsides::{Outside, ample, shelf_of, sink_of, source_of, words_of};
+use crate::policies::PAY;
 use std::alloc::{AllocError, Global};
 use std::test::Fail;
-use wf_outside::{MemFile, MemShelf, MemSink, MemSource};
+use wf_outside::{MemShelf, MemSink, MemSource};
+use wf_server::run_alone;
 use wf_talk::{Denial, Entry, Reply};
-
-pub(crate) const PAY: &str = r#"
-format = 1
-admin = "chief"
-roles = ["boss", "chief", "clerk"]
-
-[users]
-ann = ["clerk"]
-bob = ["clerk", "boss"]
-cyd = ["boss"]
-eve = ["chief"]
-
-[flows.pay]
-steps = ["prepare", "approve", "pay"]
-order = [["prepare", "approve"], ["approve", "pay"]]
-permit = { prepare = ["clerk"], approve = ["boss"], pay = ["clerk"] }
-rules = [
-  { form = "pair", relation = "other", first = "prepare", second = "approve" },
-  { form = "pair", relation = "other", first = "approve", second = "pay" },
-  { form = "pair", relation = "other", first = "prepare", second = "pay" },
-]
-"#;
 
 // A policy under which a case is opened at once.
 const SMALL: &str = r#"
@@ -180,22 +160,11 @@ fn a_sink_fails_after_the_answers(rt: HostRuntime) -> Result<(), Fail> {
     Ok(())
 }
 
-/// How the outside behaves: how much the source and the sink give and take at once, and which of
-/// the calls fails.
-#[derive(Clone, Copy)]
-pub(crate) struct Outside {
-    failing_load: u64,
-    piece: usize,
-    failing_take: u64,
-    put: usize,
-    failing_put: u64,
-}
-
 /// What a report has to tell: the status, how many entries, the ends of the batches where they
 /// matter, how many cases were opened, the number of the last one, and how many openings were denied
 /// since there were too many. No job is answered with want of memory.
 #[derive(Clone, Copy)]
-pub(crate) struct Told<'a> {
+struct Told<'a> {
     status: u8,
     entries: usize,
     batch_ends: Option<&'a [u32]>,
@@ -212,17 +181,6 @@ fn telling(status: u8, entries: usize, batch_ends: &[u32]) -> Told<'_> {
         opened: 0,
         last: 0,
         full: 0,
-    }
-}
-
-// No call fails.
-fn ample() -> Outside {
-    Outside {
-        failing_load: 1_000_000_000,
-        piece: 1_000_000,
-        failing_take: 1_000_000_000,
-        put: 1_000_000,
-        failing_put: 1_000_000_000,
     }
 }
 
@@ -274,7 +232,7 @@ fn ends(
     told: &Told<'_>,
 ) -> Result<bool, AllocError> {
     let words = words_of(alloc, given)?;
-    let mut shelf = shelf_of(alloc, outside)?;
+    let mut shelf = shelf_of(alloc, &[("policy", PAY), ("small", SMALL)], outside)?;
     ends_over(alloc, &words, &mut shelf, input, outside, told)
 }
 
@@ -326,36 +284,4 @@ fn answers(entries: &[Entry], told: &Told<'_>) -> bool {
         }
     }
     opened == told.opened && last == told.last && full == told.full
-}
-
-pub(crate) fn words_of(alloc: Global, given: &[&str]) -> Result<Vec<String>, AllocError> {
-    let mut words = Vec::new(alloc);
-    for word in given {
-        words.push(String::from_str(alloc, word)?)?;
-    }
-    Ok(words)
-}
-
-fn shelf_of(alloc: Global, outside: Outside) -> Result<MemShelf, AllocError> {
-    let mut files = Vec::new(alloc);
-    files.push(file_of(alloc, "policy", PAY)?)?;
-    files.push(file_of(alloc, "small", SMALL)?)?;
-    Ok(MemShelf::new(files, [outside.failing_load].to_vec(alloc)?))
-}
-
-pub(crate) fn file_of(alloc: Global, name: &str, text: &str) -> Result<MemFile, AllocError> {
-    Ok(MemFile {
-        name: String::from_str(alloc, name)?,
-        bytes: text.as_bytes().to_vec(alloc)?,
-    })
-}
-
-fn source_of(alloc: Global, input: &[u8], outside: Outside) -> Result<MemSource, AllocError> {
-    let failing = [outside.failing_take].to_vec(alloc)?;
-    Ok(MemSource::new(input.to_vec(alloc)?, outside.piece.max(1), failing))
-}
-
-fn sink_of(alloc: Global, outside: Outside) -> Result<MemSink, AllocError> {
-    let failing = [outside.failing_put].to_vec(alloc)?;
-    MemSink::new(alloc, 20_000_000, outside.put, failing)
 }
