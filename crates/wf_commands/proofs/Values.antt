@@ -6,7 +6,7 @@ use Rattle.policy_book.proofs.Keeping.{below_or_at}
 use Rattle.constraint_forms.specs.Assigned.{planned}
 use Rattle.serde_json.specs.declared.value.Value.{Value}
 use Rattle.serde_json.specs.View.{items_view}
-use Rattle.wf_commands.specs.Input.{listed_items, AreBelow, HasOneMore}
+use Rattle.wf_commands.specs.Input.{listed_items, AreAmong, HasOneMore}
 
 -- an array has as many items as it has values
 pub length_listed : (vs : List Value) → length (listed_items (items_view vs)) ≡ length vs
@@ -14,7 +14,7 @@ length_listed [] = refl
 length_listed (v ∷ vs) = ap suc (length_listed vs)
 
 -- one more user who is known leaves all known
-pub below_push : (n : ℕ) (before after : List ℕ) → AreBelow n before → HasOneMore n before after → AreBelow n after
+pub below_push : (n : ℕ) (before after : List ℕ) → AreAmong n before → HasOneMore n before after → AreAmong n after
 below_push n before after old more s h =
     let longer : length (before ++ more.user ∷ []) ≡ length before + 1 = length-append before (more.user ∷ []) in
     let e = ap length more.pushed in

@@ -1,5 +1,5 @@
 -- The input of `plan`: one JSON array of the users' names in the order of the steps.
-use Rattle.std.specs.Prelude.{◌≡◌, ℕ, ◌<◌, ◌==◌, Bool, List, [], ◌∷◌, ◌++◌, length, Option, None, Some, is_some, option_and_then, Result, Ok}
+use Rattle.std.specs.Prelude.{◌≡◌, ℕ, ◌<◌, ◌==◌, Bool, List, [], ◌∷◌, ◌++◌, length, Option, None, Some, if◌then◌else◌, is_some, option_and_then, Result, Ok}
 use Rattle.std.specs.List.{list_all}
 use Rattle.serde_json.specs.Data.{Data, Items, no_items, item}
 use Rattle.serde_json.specs.Find.{as_str, as_array}
@@ -43,8 +43,8 @@ plan_of_input p steps input = do
   each (next_user p) [] (listed_items items)
 
 -- each user of a plan is among the first so many
-abbrev pub AreBelow : ℕ → List ℕ → Type 0
-AreBelow n users = (s : ℕ) → s < length users → planned users s < n
+abbrev pub AreAmong : ℕ → List ℕ → Type 0
+AreAmong n users = (s : ℕ) → s < length users → planned users s < n
 
 -- a plan has one more user, among the first so many
 pub record HasOneMore (n : ℕ) (before after : List ℕ) : Type 0 where

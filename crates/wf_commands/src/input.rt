@@ -8,7 +8,7 @@ ghost use Rattle.wf_names.specs.declared.limits.TheConstants.{STEP_LIMIT};
 ghost use Rattle.policy_book.specs.Policies.{flow_at};
 ghost use Rattle.wire_json.specs.Values.{value_of};
 ghost use Rattle.run_record.specs.declared.fault.InputFault.TheVariants.{Syntax};
-ghost use Rattle.wf_commands.specs.Input.{plan_of_input, number_named, next_user, is_text, listed_items, input_fault, AreBelow, HasOneMore, IsOfInput};
+ghost use Rattle.wf_commands.specs.Input.{plan_of_input, number_named, next_user, is_text, listed_items, input_fault, AreAmong, HasOneMore, IsOfInput};
 
 use policy_book::{Plan, Policy};
 use run_record::InputFault;
@@ -36,7 +36,7 @@ pub(crate) fn read_plan(
     ensures plan { Gives input_fault (λ plan. plan) result (plan_of_input p.now steps input.now) }
     ensures whole { IfOk result (λ plan. length plan ≡ steps) }
     ensures fault { IfErr result IsOfInput }
-    ensures users { IfOk result (λ plan. AreBelow (length p.now.roster.users) plan) }
+    ensures users { IfOk result (λ plan. AreAmong (length p.now.roster.users) plan) }
 {
     let value = json_of(alloc, input)?;
     let Some(items) = value.as_array() else {
@@ -83,7 +83,7 @@ fn read_users(alloc: Global, p: &Policy, items: &[Value]) -> Result<Vec<UserId>,
         (each (next_user p.now) [] (listed_items (items_view items.now))) }
     ensures whole { IfOk result (λ users. length users.items ≡ length items.now) }
     ensures fault { IfErr result IsOfInput }
-    ensures known { IfOk result (λ users. AreBelow (length p.now.roster.users) users.items) }
+    ensures known { IfOk result (λ users. AreAmong (length p.now.roster.users) users.items) }
 {
     let mut users = Vec::new(alloc);
     'users: for item in items {

@@ -1,11 +1,11 @@
 use Rattle.std.proofs.Common.{◌≡◌, [], drop, length}
 use Rattle.serde_json.specs.View.{items_view}
 use Rattle.first_fault.specs.Reading.{each}
-use Rattle.wf_commands.specs.Input.{next_user, listed_items, AreBelow}
+use Rattle.wf_commands.specs.Input.{next_user, listed_items, AreAmong}
 use Rattle.wf_commands.proofs.input.read_users.Given as goal
 
 abbrev pub invariant-users : goal.invariant-users
 invariant-users l =
     (each (next_user l.p) l.users.items (listed_items (items_view (drop l.item-index l.items))) ≡ each (next_user l.p) [] (listed_items (items_view l.items)))
     × (length l.users.items ≡ l.item-index)
-    × AreBelow (length l.p.roster.users) l.users.items
+    × AreAmong (length l.p.roster.users) l.users.items
