@@ -25,6 +25,3 @@ texts_of_others (v ∷ w ∷ x ∷ vs) h = refl
 
 pub counted : (n : ℕ) → 0 < n → n ≤ STEP_LIMIT → is_count n ≡ true
 counted n some few = grind (arith, nat_tests, some, few)
-
-pub few_steps : (n : ℕ) → is_count n ≡ true → n ≤ STEP_LIMIT
-few_steps n h = grind (arith, nat_tests, h)

@@ -1,7 +1,7 @@
 use Rattle.std.proofs.Common.{◌∙◌, length, refl, sym, ap, subst, Err}
 use Rattle.std.specs.FinSet as set
 use Rattle.policy_reader.proofs.Words.{STEP_LIMIT, pair_cmp, IsLeastCycle}
-use Rattle.policy_reader.proofs.Counts.{few_steps}
+use Rattle.workflow_schema.proofs.Kept.{few_steps}
 use Rattle.policy_reader.proofs.Orders.{all_below, below_limit, once_each, cycle_found, no_cycle_found, cycle_within, no_cycle-ok, refused}
 use Rattle.policy_reader.proofs.workflows.make_flow.Goals as goal
 
