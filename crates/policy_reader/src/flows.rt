@@ -62,7 +62,7 @@ fn ordered_flow(
 }
 
 /// Reads the workflow in a table and adds it under its name.
-#[tactic(auto, unfolding(crate::specs::Flows::workflow_in), using(crate::proofs::Counts::few_steps))]
+#[tactic(auto, unfolding(crate::specs::Flows::workflow_in), using(workflow_schema::proofs::Kept::few_steps))]
 fn add_workflow(
     alloc: Global,
     policy: &mut Policy,

@@ -225,7 +225,7 @@ fn all_permitted(
 }
 
 /// Permits the next step to its roles.
-#[tactic(auto, unfolding(crate::specs::Flows::next_permit), using(crate::proofs::Counts::few_steps))]
+#[tactic(auto, unfolding(crate::specs::Flows::next_permit), using(workflow_schema::proofs::Kept::few_steps))]
 fn next_permit(
     made: &mut Flow,
     roles: &NameTable,
