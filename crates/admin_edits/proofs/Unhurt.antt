@@ -16,7 +16,8 @@ use Rattle.user_relations.specs.Relations.{RelationKind, RelationShape, change_k
 use Rattle.constraint_forms.specs.declared.rule.Rule.{Rule}
 use Rattle.constraint_forms.specs.declared.rule.Rule.TheVariants.{Pair, SomeOf, AllOf}
 use Rattle.constraint_forms.specs.Assigned.{is_member, planned}
-use Rattle.constraint_forms.specs.Rules.{Relating, all_from, any_from, is_satisfied, relation_of}
+use Rattle.constraint_forms.specs.Rules.{Relating, all_from, any_from, is_satisfied, reads}
+use Rattle.constraint_forms.proofs.Reading.{none_read}
 use Rattle.policy_book.specs.Shapes.{PolicyShape, WorkflowShape}
 use Rattle.policy_book.specs.Policies.{any_below, flow_at, no_workflow, problem_of, with_flow, with_roster}
 use Rattle.policy_book.specs.Plans.{IsValidPlan, Problem}
@@ -150,11 +151,11 @@ all_same : (k : ℕ) (group : List Bool) (a b : ℕ → Bool) → ((x : ℕ) →
 all_same k [] a b same = refl
 all_same k (m ∷ ms) a b same = ap (λ (t : Bool). (not m || t) && all_from (k + 1) ms a) (same k) ∙ ap (λ (t : Bool). (not m || b k) && t) (all_same (k + 1) ms a b same)
 
--- a rule rests on its relation alone
-satisfied_same : (a b : Relating) (rule : Rule) (f : ℕ → ℕ) → ((u v : ℕ) → b (relation_of rule) u v ≡ a (relation_of rule) u v) → is_satisfied b rule f ≡ is_satisfied a rule f
-satisfied_same a b (Pair rho first second) f same = same (f first) (f second)
-satisfied_same a b (SomeOf rho group step) f same = any_same 0 group _ _ (λ x. same (f x) (f step))
-satisfied_same a b (AllOf rho group step) f same = all_same 0 group _ _ (λ x. same (f x) (f step))
+-- a rule rests on the relations that it reads alone
+satisfied_same : (a b : Relating) (rule : Rule) (f : ℕ → ℕ) → ((rho u v : ℕ) → reads rule rho ≡ true → b rho u v ≡ a rho u v) → is_satisfied b rule f ≡ is_satisfied a rule f
+satisfied_same a b (Pair rho first second) f same = same rho (f first) (f second) (eq_same rho)
+satisfied_same a b (SomeOf rho group step) f same = any_same 0 group _ _ (λ x. same rho (f x) (f step) (eq_same rho))
+satisfied_same a b (AllOf rho group step) f same = all_same 0 group _ _ (λ x. same rho (f x) (f step) (eq_same rho))
 
 none_passes : (test : Rule → Bool) (rules : List Rule) (k : ℕ) (rule : Rule) → list_any test rules ≡ false → slice_get rules k ≡ Some rule → test rule ≡ false
 none_passes test [] k rule none is = absurd (cc)
@@ -169,9 +170,11 @@ pairs_stay p rho kind f assigned finished plan none valid =
     stays (problem_of p f) (problem_of (record p { relations = with_kind p.relations rho kind }) f) assigned finished plan refl (omega arith) refl (λ s h open_ is. is)
     (λ k rule is obeyed.
     let apart = none_passes (is_over p.relations rho) (flow_at p f).rules k rule none is in
-    let over = or_false (relation_of rule == rho) (is_number rho (complement_of p.relations (relation_of rule))) apart in
+    let over : (own : ℕ) → reads rule own ≡ true → ((own == rho) ≡ false) × (is_number rho (complement_of p.relations own) ≡ false) =
+        λ own read. or_false (own == rho) (is_number rho (complement_of p.relations own))
+        (none_read rule (λ x. (x == rho) || is_number rho (complement_of p.relations x)) apart own read) in
     satisfied_same (is_related p.relations) (is_related (with_kind p.relations rho kind)) rule (planned plan)
-    (λ u v. related_other p.relations rho (relation_of rule) kind u v (λ e. differ (relation_of rule == rho) (eq_is (relation_of rule) rho e) over.0) over.1)
+    (λ own u v read. related_other p.relations rho own kind u v (λ e. differ (own == rho) (eq_is own rho e) (over own read).0) (over own read).1)
     ∙ obeyed)
     valid
 

@@ -5,7 +5,7 @@ use Rattle.rbac_state.specs.Rosters.{has_role}
 use Rattle.user_relations.specs.Relations.{RelationShape, complement_of}
 use Rattle.constraint_forms.specs.declared.rule.Rule.{Rule}
 use Rattle.constraint_forms.specs.Assigned.{is_member, planned}
-use Rattle.constraint_forms.specs.Rules.{relation_of}
+use Rattle.constraint_forms.specs.Rules.{any_read}
 use Rattle.policy_book.specs.Shapes.{PolicyShape}
 use Rattle.policy_book.specs.Policies.{any_below, flow_at, problem_of}
 use Rattle.policy_book.specs.Plans.{IsValidPlan}
@@ -23,9 +23,9 @@ abbrev pub is_number : ℕ → Option ℕ → Bool
 is_number n None = false
 is_number n (Some m) = m == n
 
--- a rule is over a relation or over its complement
+-- a rule reads a relation or its complement
 abbrev pub is_over : List RelationShape → ℕ → Rule → Bool
-is_over relations rho rule = (relation_of rule == rho) || is_number rho (complement_of relations (relation_of rule))
+is_over relations rho rule = any_read rule (λ own. (own == rho) || is_number rho (complement_of relations own))
 
 -- a change may make a plan of a workflow invalid: a role is taken away from a user to whom the plan gives a step that is
 -- not finished; such a step is forbidden to a role of its user; or pairs of a relation change over which there is a rule

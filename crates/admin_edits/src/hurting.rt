@@ -1,8 +1,8 @@
 //! Which edits may make a plan invalid.
-ghost use Rattle.std.specs.Prelude.{◌≡◌, ◌==◌, ◌&&◌, ◌<◌, not, length};
+ghost use Rattle.std.specs.Prelude.{◌≡◌, ◌==◌, ◌&&◌, ◌||◌, ◌<◌, not, length};
 ghost use Rattle.std.specs.List.{list_any};
 ghost use Rattle.constraint_forms.specs.Assigned.{is_member, planned};
-ghost use Rattle.constraint_forms.specs.Rules.{relation_of};
+ghost use Rattle.user_relations.specs.Relations.{complement_of};
 ghost use Rattle.policy_book.specs.Policies.{flow_at};
 ghost use Rattle.admin_edits.specs.Found.{IsFound};
 ghost use Rattle.admin_edits.specs.Hurting.{gives_open, is_number, is_over, may_hurt};
@@ -56,7 +56,7 @@ fn gives_one(done: &StepSet, plan: &Plan, u: UserId, s: StepId) -> bool
     !done.has(s) && plan.at(s) == u
 }
 
-/// Whether some rule is over a relation or its complement.
+/// Whether some rule reads a relation or its complement.
 fn some_is_over(relations: &Relations, rho: RelId, rules: &Rules) -> bool
     ensures { result ≡ list_any (is_over relations.now rho) rules.now }
 {
@@ -66,19 +66,20 @@ fn some_is_over(relations: &Relations, rho: RelId, rules: &Rules) -> bool
         .any(|rule| is_over(relations, rho, rule))
 }
 
-/// Whether a rule is over a relation or its complement.
+/// Whether a rule reads a relation or its complement.
 fn is_over(relations: &Relations, rho: RelId, rule: &Rule) -> bool
     ensures { result ≡ is_over relations.now rho rule.now }
 {
-    let own = relation_of(rule);
-    own == rho || relations.complement_of(own) == Some(rho)
+    match *rule {
+        Rule::Pair { rho: own, .. }
+        | Rule::SomeOf { rho: own, .. }
+        | Rule::AllOf { rho: own, .. } => is_or_complements(relations, rho, own),
+    }
 }
 
-/// The relation that a rule is over.
-fn relation_of(rule: &Rule) -> RelId
-    ensures { result ≡ relation_of rule.now }
+/// Whether a relation is another one or its complement.
+fn is_or_complements(relations: &Relations, rho: RelId, own: RelId) -> bool
+    ensures { result ≡ ((own == rho) || is_number rho (complement_of relations.now own)) }
 {
-    match *rule {
-        Rule::Pair { rho, .. } | Rule::SomeOf { rho, .. } | Rule::AllOf { rho, .. } => rho,
-    }
+    own == rho || relations.complement_of(own) == Some(rho)
 }

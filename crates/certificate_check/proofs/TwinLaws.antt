@@ -8,8 +8,9 @@ use Rattle.basics.proofs.Booleans.{and_both, and_from, bool_cases, eq_back, eq_i
 use Rattle.constraint_forms.specs.declared.rule.Rule.{Rule}
 use Rattle.constraint_forms.specs.declared.rule.Rule.TheVariants.{Pair, SomeOf, AllOf}
 use Rattle.constraint_forms.specs.Assigned.{user_at, planned}
-use Rattle.constraint_forms.specs.Rules.{reads, relation_of}
+use Rattle.constraint_forms.specs.Rules.{reads}
 use Rattle.constraint_forms.specs.Laws.{AreInterchangeable, AreTwinsFor, exchanged}
+use Rattle.constraint_forms.proofs.Reading.{all_as_each, each_read}
 use Rattle.constraint_forms.proofs.RuleLaws.{satisfied_by_named}
 use Rattle.constraint_forms.proofs.Exchanges.{exchange_does_not_matter}
 use Rattle.policy_book.specs.Plans.{Problem, IsValidPlan, IsWellFormed}
@@ -24,7 +25,7 @@ pub record AreTwins (p : Problem) (a : List (Option ℕ)) (u v : ℕ) : Type 0 w
   pub first : (s : ℕ) → user_at a s ≢ Some u
   pub second : (s : ℕ) → user_at a s ≢ Some v
   pub steps : (s : ℕ) → s < p.steps → p.authorised s u ≡ p.authorised s v
-  pub rules : (k : ℕ) (r : Rule) → slice_get p.rules k ≡ Some r → AreInterchangeable p.users (p.related (relation_of r)) u v
+  pub rules : (k : ℕ) (r : Rule) → slice_get p.rules k ≡ Some r → AreTwinsFor p.users p.related r u v
 
 given_means : (o : Option ℕ) (u : ℕ) → not (is_given_to u o) ≡ true → o ≢ Some u
 given_means None u h is = none_not_some u is
@@ -99,12 +100,14 @@ means_alike users holds u v alike =
             (and_from (agree (holds u w) (holds v w)) (agree (holds w u) (holds w v))
             (same_agree (holds u w) (holds v w) (alike.towards w below nu.1 nv.1)) (same_agree (holds w u) (holds w v) (alike.«from» w below nu.1 nv.1)))
 
-rule_means : (p : Problem) (u v : ℕ) (o : Option Rule) → is_rule_alike p u v o ≡ true → (r : Rule) → o ≡ Some r → AreInterchangeable p.users (p.related (relation_of r)) u v
-rule_means p u v o h r is = alike_means p.users (p.related (relation_of r)) u v (subst (λ x. is_rule_alike p u v x ≡ true) is h)
+rule_means : (p : Problem) (u v : ℕ) (o : Option Rule) → is_rule_alike p u v o ≡ true → (r : Rule) → o ≡ Some r → AreTwinsFor p.users p.related r u v
+rule_means p u v o h r is rho read =
+    alike_means p.users (p.related rho) u v (each_read r (λ x. treats_alike p.users (p.related x) u v) (subst (λ x. is_rule_alike p u v x ≡ true) is h) rho read)
 
-means_rule : (p : Problem) (u v : ℕ) (o : Option Rule) → ((r : Rule) → o ≡ Some r → AreInterchangeable p.users (p.related (relation_of r)) u v) → is_rule_alike p u v o ≡ true
+means_rule : (p : Problem) (u v : ℕ) (o : Option Rule) → ((r : Rule) → o ≡ Some r → AreTwinsFor p.users p.related r u v) → is_rule_alike p u v o ≡ true
 means_rule p u v None each = refl
-means_rule p u v (Some r) each = means_alike p.users (p.related (relation_of r)) u v (each r refl)
+means_rule p u v (Some r) each =
+    all_as_each r (λ x. treats_alike p.users (p.related x) u v) (λ rho read. means_alike p.users (p.related rho) u v (each r refl rho read))
 
 pub twins_mean : (p : Problem) (a : List (Option ℕ)) (u v : ℕ) → are_twins p a u v ≡ true → AreTwins p a u v
 twins_mean p a u v h =
@@ -141,7 +144,7 @@ twins_turned p a u v twins = record {
   first = twins.second;
   second = twins.first;
   steps = λ s below. sym (twins.steps s below);
-  rules = λ k r is. alike_turned p.users (p.related (relation_of r)) u v (twins.rules k r is);
+  rules = λ k r is rho read. alike_turned p.users (p.related rho) u v (twins.rules k r is rho read);
 }
 
 alike_chain : (users : ℕ) (holds : ℕ → ℕ → Bool) (u v w : ℕ) → u < users → v < users → w < users → AreInterchangeable users holds u v → AreInterchangeable users holds v w → AreInterchangeable users holds u w
@@ -181,7 +184,7 @@ twins_chain p a u v w u_in v_in w_in h k =
       first = one.first;
       second = two.second;
       steps = λ s below. one.steps s below ∙ two.steps s below;
-      rules = λ j r is. alike_chain p.users (p.related (relation_of r)) u v w u_in v_in w_in (one.rules j r is) (two.rules j r is);
+      rules = λ j r is rho read. alike_chain p.users (p.related rho) u v w u_in v_in w_in (one.rules j r is rho read) (two.rules j r is rho read);
     }
 
 -- ---- plans
@@ -228,11 +231,6 @@ planned_stays u v plan s w is nu nv = at (leb_tells (length plan) s)
     at (inl past) = planned-past (exchanged u v) plan s past.1 ∙ is
     at (inr below) = planned-map (exchanged u v) plan s below.1 ∙ ap (exchanged u v) is ∙ exchanged_other u v w nu nv
 
-reads_own : (r : Rule) (rho : ℕ) → reads r rho ≡ true → rho ≡ relation_of r
-reads_own (Pair own first second) rho h = eq_back rho own h
-reads_own (SomeOf own group step) rho h = eq_back rho own h
-reads_own (AllOf own group step) rho h = eq_back rho own h
-
 -- a plan that gives a step to one of two twins, with both exchanged
 pub plan_exchanged : (p : Problem) (a : List (Option ℕ)) (done : List Bool) (s u v : ℕ) (plan : List ℕ) → IsWellFormed p → s < p.steps → s < length a → u < p.users → v < p.users → AreTwins p a u v →
     IsValidPlan p (slice_set a s (Some u)) done plan → IsValidPlan p (slice_set a s (Some v)) done (map (exchanged u v) plan)
@@ -244,7 +242,7 @@ plan_exchanged p a done s u v plan formed step room u_in v_in twins valid = reco
       ap (p.authorised t) (at_step t below) ∙ exchanged_same (p.authorised t) u v (planned plan t) (twins.steps t below) ∙ valid.allowed t below unfinished;
   obeyed = λ k r is.
       satisfied_by_named p.related r (planned (map (exchanged u v) plan)) (λ t. exchanged u v (planned plan t)) (λ t named. at_step t (formed k r is t named))
-      ∙ exchange_does_not_matter p.users p.related r (planned plan) u v (λ t named. valid.known t (formed k r is t named)) (alike k r is)
+      ∙ exchange_does_not_matter p.users p.related r (planned plan) u v (λ t named. valid.known t (formed k r is t named)) (twins.rules k r is)
       ∙ valid.obeyed k r is;
 }
   where
@@ -262,9 +260,6 @@ plan_exchanged p a done s u v plan formed step room u_in v_in twins valid = reco
         let held : user_at a t ≡ Some w = sym (given_other a s v t apart.1) ∙ is in
         planned_stays u v plan t w (same_some (planned plan t) w (valid.keeps t w (given_other a s u t apart.1 ∙ held)))
         (λ same. twins.first t (held ∙ ap Some same)) (λ same. twins.second t (held ∙ ap Some same))
-
-    alike : (k : ℕ) (r : Rule) → slice_get p.rules k ≡ Some r → AreTwinsFor p.users p.related r u v
-    alike k r is rho read = subst (λ x. AreInterchangeable p.users (p.related x) u v) (sym (reads_own r rho read)) (twins.rules k r is)
 
 pub twins_exchange : TwinsExchange
 twins_exchange p a done s u v formed step room u_in v_in h =

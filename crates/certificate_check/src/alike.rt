@@ -2,7 +2,7 @@
 ghost use Rattle.std.specs.Prelude.{◌≡◌, ◌<◌, ◌&&◌, ◌||◌, ◌==◌, length, slice_get};
 ghost use Rattle.wf_names.specs.declared.limits.TheConstants.{STEP_LIMIT};
 ghost use Rattle.constraint_forms.specs.Assigned.{user_at};
-ghost use Rattle.constraint_forms.specs.Rules.{relation_of};
+ghost use Rattle.constraint_forms.specs.Rules.{all_read};
 ghost use Rattle.policy_book.specs.Policies.{problem_of};
 ghost use Rattle.policy_book.specs.Twins.{agree, all_below, are_related_alike, are_twins, has_no_step, is_alike_to, is_given_to, is_rule_alike, may_do_the_same, treats_alike};
 
@@ -11,7 +11,7 @@ use policy_book::{Assign, Policy};
 use wf_names::{FlowId, RelId, STEP_LIMIT, StepId, UserId};
 
 /// Whether two users are twins under an assignment: neither has a step, both are authorised for the
-/// same steps, and the relation of each rule treats them alike. Takes no memory.
+/// same steps, and every relation that a rule reads treats them alike. Takes no memory.
 pub fn twins(p: &Policy, f: FlowId, a: &Assign, u: UserId, v: UserId) -> bool
     requires flow { f < length p.now.flows }
     requires first { u < (problem_of p.now f).users }
@@ -97,18 +97,20 @@ fn is_rule_alike(p: &Policy, f: FlowId, k: usize, u: UserId, v: UserId) -> bool
         (slice_get (problem_of p.now f).rules k) }
 {
     match p.rules(f).as_slice().get(k) {
-        Some(rule) => treats_alike(p, f, relation_of(rule), u, v),
+        Some(rule) => are_read_alike(p, f, rule, u, v),
         None => true,
     }
 }
 
-fn relation_of(rule: &Rule) -> RelId
-    ensures { result ≡ relation_of rule.now }
+// Whether every relation that a rule reads treats two users alike.
+fn are_read_alike(p: &Policy, f: FlowId, rule: &Rule, u: UserId, v: UserId) -> bool
+    ensures { result ≡ all_read rule.now (λ rho. treats_alike (problem_of p.now f).users
+        ((problem_of p.now f).related rho) u v) }
 {
     match *rule {
-        Rule::Pair { rho, .. } => rho,
-        Rule::SomeOf { rho, .. } => rho,
-        Rule::AllOf { rho, .. } => rho,
+        Rule::Pair { rho, .. } | Rule::SomeOf { rho, .. } | Rule::AllOf { rho, .. } => {
+            treats_alike(p, f, rho, u, v)
+        }
     }
 }
 

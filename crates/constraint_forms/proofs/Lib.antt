@@ -4,3 +4,4 @@ pub mod RuleLaws
 pub mod Exchanges
 pub mod Leaving
 pub mod Members
+pub mod Reading

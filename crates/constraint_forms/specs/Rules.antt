@@ -43,17 +43,21 @@ names (Pair rho first second) s = (s == first) || (s == second)
 names (SomeOf rho group step) s = (s == step) || is_member group s
 names (AllOf rho group step) s = (s == step) || is_member group s
 
--- the relation that a rule is over
-abbrev pub relation_of : Rule → ℕ
-relation_of (Pair rho first second) = rho
-relation_of (SomeOf rho group step) = rho
-relation_of (AllOf rho group step) = rho
+-- some relation that a rule reads passes; what a rule does not read cannot matter to it
+abbrev pub any_read : Rule → (ℕ → Bool) → Bool
+any_read (Pair rho first second) p = p rho
+any_read (SomeOf rho group step) p = p rho
+any_read (AllOf rho group step) p = p rho
+
+-- every relation that a rule reads passes
+abbrev pub all_read : Rule → (ℕ → Bool) → Bool
+all_read (Pair rho first second) p = p rho
+all_read (SomeOf rho group step) p = p rho
+all_read (AllOf rho group step) p = p rho
 
 -- a rule reads a relation: who is related by it may matter to the rule
 abbrev pub reads : Rule → ℕ → Bool
-reads (Pair rho first second) r = r == rho
-reads (SomeOf rho group step) r = r == rho
-reads (AllOf rho group step) r = r == rho
+reads rule r = any_read rule (λ rho. r == rho)
 
 -- a rule names only steps of a workflow with n steps
 abbrev pub IsRuleOf : ℕ → Rule → Type 0

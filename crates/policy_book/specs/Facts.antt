@@ -7,7 +7,7 @@ use Rattle.pair_set.specs.Pairs.{Pairs, AllPairs}
 use Rattle.user_relations.specs.Relations.{RelationShape, listed, kind_of}
 use Rattle.constraint_forms.specs.declared.rule.Rule.{Rule}
 use Rattle.constraint_forms.specs.declared.rule.Rule.TheVariants.{Pair, SomeOf, AllOf}
-use Rattle.constraint_forms.specs.Rules.{any_from, relation_of, IsRuleOf}
+use Rattle.constraint_forms.specs.Rules.{any_from, reads, IsRuleOf}
 use Rattle.policy_book.specs.Shapes.{PolicyShape, WorkflowShape}
 use Rattle.policy_book.specs.Policies.{flow_at}
 
@@ -24,7 +24,7 @@ HasMembers (AllOf rho group step) = IsTrue (any_from 0 group (λ _. true))
 -- a rule of a workflow with so many steps, under so many declared relations
 pub record IsSoundRule (steps relations : ℕ) (rule : Rule) : Type 0 where
   pub names : IsRuleOf steps rule
-  pub relation : relation_of rule < relations + 2
+  pub relations : (rho : ℕ) → IsTrue (reads rule rho) → rho < relations + 2
   pub members : HasMembers rule
 
 -- each of some rules is such a rule

@@ -2,7 +2,7 @@
 use Rattle.std.specs.Prelude.{ℕ, zero, suc, Bool, true, false, not, ◌&&◌, ◌||◌, ◌==◌, List, [], ◌∷◌, length, Option, None, Some, slice_get}
 use Rattle.constraint_forms.specs.declared.rule.Rule.{Rule}
 use Rattle.constraint_forms.specs.Assigned.{user_at}
-use Rattle.constraint_forms.specs.Rules.{relation_of}
+use Rattle.constraint_forms.specs.Rules.{all_read}
 use Rattle.policy_book.specs.Plans.{Problem}
 
 -- two tests have the same answer
@@ -37,16 +37,16 @@ abbrev pub treats_alike : ℕ → (ℕ → ℕ → Bool) → ℕ → ℕ → Boo
 treats_alike users holds u v =
     all_below users (λ w. (w == u || w == v) || is_alike_to holds u v w) && (agree (holds u u) (holds v v) && agree (holds u v) (holds v u))
 
--- there is no rule, or its relation treats two users alike
+-- there is no rule, or every relation that it reads treats two users alike
 abbrev pub is_rule_alike : Problem → ℕ → ℕ → Option Rule → Bool
 is_rule_alike p u v None = true
-is_rule_alike p u v (Some rule) = treats_alike p.users (p.related (relation_of rule)) u v
+is_rule_alike p u v (Some rule) = all_read rule (λ rho. treats_alike p.users (p.related rho) u v)
 
--- the relation of each rule treats two users alike
+-- every relation that a rule reads treats two users alike
 abbrev pub are_related_alike : Problem → ℕ → ℕ → Bool
 are_related_alike p u v = all_below (length p.rules) (λ k. is_rule_alike p u v (slice_get p.rules k))
 
--- two users have no step, are authorised for the same steps, and each rule's relation treats them alike
+-- two users have no step, are authorised for the same steps, and every relation that a rule reads treats them alike
 abbrev pub are_twins : Problem → List (Option ℕ) → ℕ → ℕ → Bool
 are_twins p assigned u v =
     (has_no_step assigned u && has_no_step assigned v) && (may_do_the_same p u v && are_related_alike p u v)

@@ -10,13 +10,14 @@ use Rattle.wf_names.specs.declared.limits.TheConstants.{STEP_LIMIT}
 use Rattle.constraint_forms.specs.declared.rule.Rule.{Rule}
 use Rattle.constraint_forms.specs.Flags.{word_of}
 use Rattle.constraint_forms.specs.Assigned.{is_member, no_steps, user_at}
-use Rattle.constraint_forms.specs.Rules.{relation_of}
+use Rattle.constraint_forms.specs.Rules.{any_read, reads}
+use Rattle.constraint_forms.proofs.Reading.{all_as_each, each_read, some_read}
 use Rattle.constraint_forms.proofs.Members.{none_member}
 use Rattle.policy_book.specs.Plans.{Problem}
 use Rattle.policy_book.specs.Twins.{agree, are_related_alike, are_twins, has_no_step, has_twin, is_alike_to, is_given_to, is_rule_alike, may_do_the_same, treats_alike}
 use Rattle.certificate_check.proofs.Below.{all_pass, one_fails, same_agree}
 use Rattle.certificate_check.proofs.TwinLaws.{mean_twins, twins_chain, twins_mean, twins_turned}
-use Rattle.wsp_solver.specs.Crews.{AreClassesBelow, AreDuties, are_over_one, class_of, duties_below, duties_of, is_told_apart, tells_apart}
+use Rattle.wsp_solver.specs.Crews.{AreClassesBelow, AreDuties, class_of, duties_below, duties_of, is_told_apart, reads_as, tells_apart}
 use Rattle.wsp_solver.proofs.Members.{eq_turned, length_set, member_added, passing_more}
 
 -- ---- steps
@@ -129,35 +130,34 @@ alike_by_duties p duties u v u_in v_in few right one =
     (λ s below. same_agree (p.authorised s u) (p.authorised s v)
     (sym (duties-known p u s few below) ∙ ap (λ d. is_member d s) (sym (right u u_in) ∙ same ∙ right v v_in) ∙ duties-known p v s few below)))
 
--- rules over one relation treat users alike together
-pub over_one_alike : (p : Problem) (u v : ℕ) (a b : Option Rule) → are_over_one a b ≡ true → is_rule_alike p u v a ≡ is_rule_alike p u v b
-over_one_alike p u v None b h = absurd (false≢true h)
-over_one_alike p u v (Some x) None h = absurd (false≢true h)
-over_one_alike p u v (Some x) (Some y) h = ap (λ rho. treats_alike p.users (p.related rho) u v) (eq_back (relation_of x) (relation_of y) h)
+-- a rule treats users alike where another does that reads all that it reads
+pub read_alike : (p : Problem) (u v : ℕ) (a b : Option Rule) → reads_as a b ≡ true → is_rule_alike p u v a ≡ true → is_rule_alike p u v b ≡ true
+read_alike p u v None b h alike = absurd (false≢true h)
+read_alike p u v (Some x) None h alike = absurd (false≢true h)
+read_alike p u v (Some x) (Some y) h alike = all_as_each y test (λ rho read. each_read x test alike rho (each_read y (reads x) h rho read))
+  where
+    test : ℕ → Bool
+    test rho = treats_alike p.users (p.related rho) u v
 
--- a rule that treats two users differently at a third one tells them apart
-apart_by_rule : (p : Problem) (k : ℕ) (r : Rule) (u v w : ℕ) → k < length p.rules → slice_get p.rules k ≡ Some r → w < p.users → tells_apart (p.related (relation_of r)) u v w ≡ true → are_related_alike p u v ≡ false
+-- a rule that reads a relation that treats two users differently at a third one tells them apart
+apart_by_rule : (p : Problem) (k : ℕ) (r : Rule) (u v w : ℕ) → k < length p.rules → slice_get p.rules k ≡ Some r → w < p.users → any_read r (λ rho. tells_apart (p.related rho) u v w) ≡ true → are_related_alike p u v ≡ false
 apart_by_rule p k r u v w known is below apart =
     one_fails (length p.rules) k (λ j. is_rule_alike p u v (slice_get p.rules j)) known
-    (ap (is_rule_alike p u v) is ∙ ap (λ b. b && rest) (one_fails p.users w test below (unlike (test w) apart)))
+    (ap (is_rule_alike p u v) is ∙ some_read r (λ rho. tells_apart (p.related rho) u v w) (λ rho. treats_alike p.users (p.related rho) u v) apart (λ rho. differs (p.related rho)))
   where
-    holds : ℕ → ℕ → Bool
-    holds = p.related (relation_of r)
-
-    test : ℕ → Bool
-    test x = (x == u || x == v) || is_alike_to holds u v x
-
-    rest : Bool
-    rest = agree (holds u u) (holds v v) && agree (holds u v) (holds v u)
-
     unlike : (b : Bool) → not b ≡ true → b ≡ false
     unlike true h = absurd (false≢true h)
     unlike false h = refl
 
+    differs : (holds : ℕ → ℕ → Bool) → tells_apart holds u v w ≡ true → treats_alike p.users holds u v ≡ false
+    differs holds told =
+        ap (λ b. b && (agree (holds u u) (holds v v) && agree (holds u v) (holds v u)))
+        (one_fails p.users w (λ x. (x == u || x == v) || is_alike_to holds u v x) below (unlike _ told))
+
 pub told_apart : (p : Problem) (k u v w : ℕ) (o : Option Rule) → slice_get p.rules k ≡ o → is_told_apart p u v w o ≡ true → are_related_alike p u v ≡ false
 told_apart p k u v w None is apart = absurd (false≢true apart)
 told_apart p k u v w (Some r) is apart =
-    let both = and_both (nat_lt w p.users) (tells_apart (p.related (relation_of r)) u v w) apart in
+    let both = and_both (nat_lt w p.users) (any_read r (λ rho. tells_apart (p.related rho) u v w)) apart in
     apart_by_rule p k r u v w (slice_get_within p.rules k r is) is (lt_back w p.users both.0) both.1
 
 pub apart_by_rules : (p : Problem) (u v : ℕ) → are_related_alike p u v ≡ false → are_twins p [] u v ≡ false
@@ -171,12 +171,12 @@ busy_alone p a u (v ∷ vs) busy = ap (λ b. b || has_twin p a u vs) (busy_no_tw
 -- ---- classes
 
 pub classes_start : (p : Problem) → AreClassesBelow p 0 []
-classes_start p = record { whole = refl; least = λ u below. absurd (omega (arith, below)); alike = λ u v below. absurd (omega (arith, below)) }
+classes_start p = record { whole = refl; most = λ u below. absurd (omega (arith, below)); alike = λ u v below. absurd (omega (arith, below)) }
 
 pub classes_push : (p : Problem) (n c : ℕ) (classes : List ℕ) → AreClassesBelow p n classes → ((v : ℕ) → v < n → (class_of classes v == c) ≡ are_twins p [] v n) → c < n + 1 → AreClassesBelow p (n + 1) (classes ++ c ∷ [])
 classes_push p n c classes so_far next small = record {
   whole = length-append classes (c ∷ []) ∙ ap (λ k. k + 1) so_far.whole;
-  least = λ u below. at_least u below (eqb_tells u n);
+  most = λ u below. at_least u below (eqb_tells u n);
   alike = λ u v u_in v_in. at u v u_in v_in (eqb_tells u n) (eqb_tells v n);
 }
   where
@@ -192,7 +192,7 @@ classes_push p n c classes so_far next small = record {
     at_least : (u : ℕ) → u < n + 1 → ((eqb u n ≡ true) × (u ≡ n)) ⊎ ((eqb u n ≡ false) × (u ≢ n)) → class_of new u < u + 1
     at_least u below (inl is) = omega (arith, ap (class_of new) is.1, last, small, is.1)
     at_least u below (inr other) =
-        let low : u < n = omega (arith, below, other.1) in omega (arith, before u low, so_far.least u low)
+        let low : u < n = omega (arith, below, other.1) in omega (arith, before u low, so_far.most u low)
 
     at : (u v : ℕ) → u < n + 1 → v < n + 1 → ((eqb u n ≡ true) × (u ≡ n)) ⊎ ((eqb u n ≡ false) × (u ≢ n)) → ((eqb v n ≡ true) × (v ≡ n)) ⊎ ((eqb v n ≡ false) × (v ≢ n)) → (class_of new u == class_of new v) ≡ are_twins p [] u v
     at u v u_in v_in (inl u_is) (inl v_is) =

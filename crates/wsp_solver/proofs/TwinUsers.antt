@@ -79,7 +79,7 @@ first_alone p a classes u (v ∷ vs) right u_in first low =
         let both = and_both (has_no_step a u && has_no_step a v) (may_do_the_same p u v && are_related_alike p u v) twins in
         let known : v < p.users = omega (arith, below, u_in) in
         let same = eq_back (class_of classes u) (class_of classes v) (right.alike u v u_in known ∙ both.1) in
-        omega (arith, same, first, below, right.least v known)
+        omega (arith, same, first, below, right.most v known)
 
 -- branches of users below n are of users below n + 1
 pub below_more : (n : ℕ) (kids : Kids) → AreUsersBelow n kids → AreUsersBelow (n + 1) kids

@@ -3,7 +3,7 @@ use Rattle.std.specs.Prelude.{◌≡◌, ℕ, zero, suc, ◌<◌, ◌≤◌, ◌
 use Rattle.wf_names.specs.declared.limits.TheConstants.{STEP_LIMIT}
 use Rattle.constraint_forms.specs.declared.rule.Rule.{Rule}
 use Rattle.constraint_forms.specs.Assigned.{no_steps}
-use Rattle.constraint_forms.specs.Rules.{relation_of}
+use Rattle.constraint_forms.specs.Rules.{all_read, any_read, reads}
 use Rattle.policy_book.specs.Plans.{Problem}
 use Rattle.policy_book.specs.Twins.{are_twins, is_alike_to}
 use Rattle.wsp_solver.specs.declared.crew.Crew.{Crew}
@@ -29,7 +29,7 @@ class_of classes u = slice_index_or classes u 0
 -- and no others, have one class
 pub record AreClassesBelow (p : Problem) (n : ℕ) (classes : List ℕ) : Type 0 where
   pub whole : length classes ≡ n
-  pub least : (u : ℕ) → u < n → class_of classes u < u + 1
+  pub most : (u : ℕ) → u < n → class_of classes u < u + 1
   pub alike : (u v : ℕ) → u < n → v < n → (class_of classes u == class_of classes v) ≡ are_twins p [] u v
 
 -- what a search knows of each user is right
@@ -42,17 +42,13 @@ pub record IsCrewOf (p : Problem) (crew : Crew) : Type 0 where
 abbrev pub tells_apart : (ℕ → ℕ → Bool) → ℕ → ℕ → ℕ → Bool
 tells_apart holds u v w = not ((w == u || w == v) || is_alike_to holds u v w)
 
--- there is a rule, and its relation treats two users differently at a third one
+-- there is a rule, and some relation that it reads treats two users differently at a third one
 abbrev pub is_told_apart : Problem → ℕ → ℕ → ℕ → Option Rule → Bool
 is_told_apart p u v w None = false
-is_told_apart p u v w (Some rule) = nat_lt w p.users && tells_apart (p.related (relation_of rule)) u v w
+is_told_apart p u v w (Some rule) = nat_lt w p.users && any_read rule (λ rho. tells_apart (p.related rho) u v w)
 
--- there is a rule, and it is over a relation
-abbrev pub is_over : ℕ → Option Rule → Bool
-is_over rho None = false
-is_over rho (Some rule) = rho == relation_of rule
-
--- there are two rules, and they are over one relation
-abbrev pub are_over_one : Option Rule → Option Rule → Bool
-are_over_one None other = false
-are_over_one (Some rule) other = is_over (relation_of rule) other
+-- there are two rules, and the second reads no relation but those that the first reads
+abbrev pub reads_as : Option Rule → Option Rule → Bool
+reads_as None other = false
+reads_as (Some rule) None = false
+reads_as (Some rule) (Some other) = all_read other (reads rule)

@@ -1,10 +1,10 @@
 //! What a search knows of each user: the steps for which the user is authorised, and a class, so that
 //! users of one class are twins wherever neither has a step.
-ghost use Rattle.std.specs.Prelude.{◌≡◌, ◌<◌, ◌+◌, ◌||◌, ◌==◌, ℕ, [], length, slice_get, false, IfOk, IsTrue};
+ghost use Rattle.std.specs.Prelude.{◌≡◌, ◌<◌, ◌+◌, ◌||◌, ◌==◌, ℕ, [], Some, length, slice_get, false, IfOk, IsTrue};
 ghost use Rattle.policy_book.specs.Policies.{problem_of};
-ghost use Rattle.constraint_forms.specs.Rules.{relation_of};
+ghost use Rattle.constraint_forms.specs.Rules.{all_read, any_read, reads};
 ghost use Rattle.policy_book.specs.Twins.{agree, all_below, are_related_alike, are_twins, is_alike_to, is_rule_alike, treats_alike};
-ghost use Rattle.wsp_solver.specs.Crews.{AreClassesBelow, AreDuties, IsCrewOf, are_over_one, class_of, duties_below, duties_of, is_over, is_told_apart, tells_apart};
+ghost use Rattle.wsp_solver.specs.Crews.{AreClassesBelow, AreDuties, IsCrewOf, class_of, duties_below, duties_of, is_told_apart, reads_as, tells_apart};
 
 use crate::steps::{step_count, with_if};
 use constraint_forms::{Holds, Rule};
@@ -18,7 +18,7 @@ use wf_names::{FlowId, RelId, STEP_LIMIT, StepId, UserId};
 pub(crate) struct Crew {
     /// The steps for which each user is authorised.
     pub(crate) duties: Vec<StepSet>,
-    /// The class of each user: the least user who is a twin where nothing is assigned.
+    /// The class of each user: twins where nothing is assigned, and no others, have one class.
     pub(crate) classes: Vec<UserId>,
 }
 
@@ -100,7 +100,7 @@ fn next_class(
     requires classes { AreClassesBelow (problem_of p.now f) u classes.now }
     ensures alike { (v : ℕ) → v < u → (class_of classes.now v == result)
         ≡ are_twins (problem_of p.now f) [] v u }
-    ensures least { result < u + 1 }
+    ensures most { result < u + 1 }
 {
     'earlier: for v in 0..u.0 {
         if are_alike(p, f, finder, duties, UserId(v), u) {
@@ -156,14 +156,14 @@ fn are_alike(
     are_related_alike(p, f, u, v)
 }
 
-// Whether the relation of each rule treats two users alike. A relation is looked at for the first
-// rule that is over it.
+// Whether every relation that a rule reads treats two users alike. A rule is passed over where an
+// earlier one reads all that it reads.
 fn are_related_alike(p: &Policy, f: FlowId, u: UserId, v: UserId) -> bool
     requires flow { f < length p.now.flows }
     ensures { result ≡ are_related_alike (problem_of p.now f) u v }
 {
     'rules: for k in 0..p.rules(f).len() {
-        if first_over(p, f, k) < k {
+        if read_before(p, f, k) < k {
             continue;
         }
         if !is_rule_alike(p, f, k, u, v) {
@@ -173,39 +173,62 @@ fn are_related_alike(p: &Policy, f: FlowId, u: UserId, v: UserId) -> bool
     true
 }
 
-// The first rule that is over the relation of a rule.
-fn first_over(p: &Policy, f: FlowId, k: usize) -> usize
+// An earlier rule that reads all that a rule reads, or else the rule itself.
+fn read_before(p: &Policy, f: FlowId, k: usize) -> usize
     requires flow { f < length p.now.flows }
-    ensures { (u v : ℕ) → is_rule_alike (problem_of p.now f) u v
-        (slice_get (problem_of p.now f).rules result)
-        ≡ is_rule_alike (problem_of p.now f) u v (slice_get (problem_of p.now f).rules k) }
+    ensures { (u v : ℕ)
+        → IsTrue (is_rule_alike (problem_of p.now f) u v
+        (slice_get (problem_of p.now f).rules result))
+        → IsTrue (is_rule_alike (problem_of p.now f) u v
+        (slice_get (problem_of p.now f).rules k)) }
 {
     'earlier: for j in 0..k {
-        if are_over_one(p, f, j, k) {
+        if reads_as(p, f, j, k) {
             return j;
         }
     }
     k
 }
 
-fn are_over_one(p: &Policy, f: FlowId, j: usize, k: usize) -> bool
+// Whether one rule reads all that another rule reads.
+fn reads_as(p: &Policy, f: FlowId, j: usize, k: usize) -> bool
     requires flow { f < length p.now.flows }
-    ensures { result ≡ are_over_one (slice_get (problem_of p.now f).rules j)
+    ensures { result ≡ reads_as (slice_get (problem_of p.now f).rules j)
         (slice_get (problem_of p.now f).rules k) }
 {
     match p.rules(f).as_slice().get(j) {
-        Some(rule) => is_over(p, f, k, relation_of(rule)),
+        Some(rule) => reads_all_of(p, f, rule, k),
         None => false,
     }
 }
 
-fn is_over(p: &Policy, f: FlowId, k: usize, rho: RelId) -> bool
+fn reads_all_of(p: &Policy, f: FlowId, rule: &Rule, k: usize) -> bool
     requires flow { f < length p.now.flows }
-    ensures { result ≡ is_over rho (slice_get (problem_of p.now f).rules k) }
+    ensures { result ≡ reads_as (Some rule.now) (slice_get (problem_of p.now f).rules k) }
 {
     match p.rules(f).as_slice().get(k) {
-        Some(rule) => rho == relation_of(rule),
+        Some(other) => reads_all(rule, other),
         None => false,
+    }
+}
+
+fn reads_all(rule: &Rule, other: &Rule) -> bool
+    ensures { result ≡ all_read other.now (reads rule.now) }
+{
+    match *other {
+        Rule::Pair { rho, .. } | Rule::SomeOf { rho, .. } | Rule::AllOf { rho, .. } => {
+            reads(rule, rho)
+        }
+    }
+}
+
+fn reads(rule: &Rule, rho: RelId) -> bool
+    ensures { result ≡ reads rule.now rho }
+{
+    match *rule {
+        Rule::Pair { rho: own, .. }
+        | Rule::SomeOf { rho: own, .. }
+        | Rule::AllOf { rho: own, .. } => rho == own,
     }
 }
 
@@ -215,8 +238,19 @@ fn is_rule_alike(p: &Policy, f: FlowId, k: usize, u: UserId, v: UserId) -> bool
         (slice_get (problem_of p.now f).rules k) }
 {
     match p.rules(f).as_slice().get(k) {
-        Some(rule) => treats_alike(p, f, relation_of(rule), u, v),
+        Some(rule) => are_read_alike(p, f, rule, u, v),
         None => true,
+    }
+}
+
+fn are_read_alike(p: &Policy, f: FlowId, rule: &Rule, u: UserId, v: UserId) -> bool
+    ensures { result ≡ all_read rule.now (λ rho. treats_alike (problem_of p.now f).users
+        ((problem_of p.now f).related rho) u v) }
+{
+    match *rule {
+        Rule::Pair { rho, .. } | Rule::SomeOf { rho, .. } | Rule::AllOf { rho, .. } => {
+            treats_alike(p, f, rho, u, v)
+        }
     }
 }
 
@@ -251,7 +285,7 @@ fn agree(one: bool, other: bool) -> bool
     if one { other } else { !other }
 }
 
-// Whether the relation of some rule is known to tell two users apart.
+// Whether some relation that a rule reads is known to tell two users apart.
 fn are_told_apart(p: &Policy, f: FlowId, finder: &Finder, u: UserId, v: UserId) -> bool
     requires flow { f < length p.now.flows }
     ensures { IsTrue result → are_related_alike (problem_of p.now f) u v ≡ false }
@@ -262,17 +296,26 @@ fn are_told_apart(p: &Policy, f: FlowId, finder: &Finder, u: UserId, v: UserId) 
     }
 }
 
-// Whether a rule's relation treats two users differently at a third one.
+// Whether some relation that a rule reads treats two users differently at a third one.
 fn tells_apart(p: &Policy, f: FlowId, k: u8, u: UserId, v: UserId, w: UserId) -> bool
     requires flow { f < length p.now.flows }
     ensures { result ≡ is_told_apart (problem_of p.now f) u v w
         (slice_get (problem_of p.now f).rules k) }
 {
     match p.rules(f).as_slice().get(k as usize) {
-        Some(rule) => {
-            w.0 < p.roster().users().len() && is_treated_apart(p, f, relation_of(rule), u, v, w)
-        }
+        Some(rule) => w.0 < p.roster().users().len() && is_read_apart(p, f, rule, u, v, w),
         None => false,
+    }
+}
+
+fn is_read_apart(p: &Policy, f: FlowId, rule: &Rule, u: UserId, v: UserId, w: UserId) -> bool
+    ensures { result ≡ any_read rule.now
+        (λ rho. tells_apart ((problem_of p.now f).related rho) u v w) }
+{
+    match *rule {
+        Rule::Pair { rho, .. } | Rule::SomeOf { rho, .. } | Rule::AllOf { rho, .. } => {
+            is_treated_apart(p, f, rho, u, v, w)
+        }
     }
 }
 
@@ -282,14 +325,4 @@ fn is_treated_apart(p: &Policy, f: FlowId, rho: RelId, u: UserId, v: UserId, w: 
     w != u
         && w != v
         && (p.holds(rho, u, w) != p.holds(rho, v, w) || p.holds(rho, w, u) != p.holds(rho, w, v))
-}
-
-fn relation_of(rule: &Rule) -> RelId
-    ensures { result ≡ relation_of rule.now }
-{
-    match *rule {
-        Rule::Pair { rho, .. } => rho,
-        Rule::SomeOf { rho, .. } => rho,
-        Rule::AllOf { rho, .. } => rho,
-    }
 }

@@ -8,4 +8,4 @@ pub users-preserved : goal.users-preserved
 users-preserved c =
     let p = problem_of c.args.p.now c.args.f in
     subst (AreClassesBelow p (c.users.u + 1)) (sym c.in_ok-push.ensures.items)
-    (classes_push p c.users.u c.next_class-class.result c.users.classes.items c.users.invariant (λ v below. ap (λ (x : List ℕ). class_of x v == c.next_class-class.result) (sym c.deref.ensures.value) ∙ c.next_class-class.ensures.alike v below) c.next_class-class.ensures.least)
+    (classes_push p c.users.u c.next_class-class.result c.users.classes.items c.users.invariant (λ v below. ap (λ (x : List ℕ). class_of x v == c.next_class-class.result) (sym c.deref.ensures.value) ∙ c.next_class-class.ensures.alike v below) c.next_class-class.ensures.most)

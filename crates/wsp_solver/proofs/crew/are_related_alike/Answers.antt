@@ -4,12 +4,12 @@ use Rattle.policy_book.specs.Twins.{is_rule_alike}
 use Rattle.certificate_check.proofs.Below.{each_passes, one_fails, one_more_passes}
 use Rattle.wsp_solver.proofs.crew.are_related_alike.Goals as goal
 
-pub rules-preserved-then-first_over-k : goal.rules-preserved-then-first_over-k
-rules-preserved-then-first_over-k c =
+pub rules-preserved-then-read_before-k : goal.rules-preserved-then-read_before-k
+rules-preserved-then-read_before-k c =
     let p = problem_of c.args.p.now c.args.f in
     let test : ℕ → Bool = λ k. is_rule_alike p c.args.u c.args.v (slice_get p.rules k) in
     one_more_passes c.rules.k test c.rules.invariant
-    (sym (c.first_over.ensures c.args.u c.args.v) ∙ each_passes c.rules.k test c.rules.invariant c.first_over.result (omega (arith, c.if-first_over-k.true)))
+    (c.read_before.ensures c.args.u c.args.v (each_passes c.rules.k test c.rules.invariant c.read_before.result (omega (arith, c.if-read_before-k.true))))
 
 pub returns-then-not-is_rule_alike : goal.returns-then-not-is_rule_alike
 returns-then-not-is_rule_alike c =

@@ -27,5 +27,5 @@ earlier-preserved c = λ w below. at w below (eqb_tells w c.earlier.v)
 
 pub returns-clause-alike : goal.returns-clause-alike
 returns-clause-alike c = λ w below.
-    eq_below (class_of c.args.classes.now w) c.args.u (omega (arith, c.requires.classes.least w below, below))
+    eq_below (class_of c.args.classes.now w) c.args.u (omega (arith, c.requires.classes.most w below, below))
     ∙ sym (c.earlier.invariant w (omega (arith, below, c.earlier-test.false)))
