@@ -24,7 +24,7 @@ HasMembers (AllOf rho group step) = IsTrue (any_from 0 group (λ _. true))
 -- a rule of a workflow with so many steps, under so many declared relations
 pub record IsSoundRule (steps relations : ℕ) (rule : Rule) : Type 0 where
   pub names : IsRuleOf steps rule
-  pub relations : (rho : ℕ) → IsTrue (reads rule rho) → rho < relations + 2
+  pub known : (rho : ℕ) → IsTrue (reads rule rho) → rho < relations + 2
   pub members : HasMembers rule
 
 -- each of some rules is such a rule
