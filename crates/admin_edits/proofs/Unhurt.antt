@@ -8,7 +8,7 @@ use Rattle.std.proofs.lemmas.Bool.Decides.{eqb_tells}
 use Rattle.std.proofs.lemmas.List.{get_or-set_same, get_or-set_other}
 use Rattle.std.specs.Ordering.{eq_by_cmp}
 use Rattle.std.proofs.lemmas.Map.Views.{tells_apart}
-use Rattle.basics.proofs.Booleans.{and_both, and_from, differ, eq_is, or_cases, or_false, or_left, or_right}
+use Rattle.basics.proofs.Booleans.{and_both, and_from, differ, eq_is, eq_same, or_cases, or_false, or_left, or_right}
 use Rattle.pair_set.specs.Pairs.{Pairs, pair_cmp}
 use Rattle.pair_set.specs.PairLaws.{pair_cmp_total, pair_cmp-IsAntisymmetric}
 use Rattle.rbac_state.specs.Rosters.{has_role}
@@ -171,8 +171,8 @@ pairs_stay p rho kind f assigned finished plan none valid =
     (λ k rule is obeyed.
     let apart = none_passes (is_over p.relations rho) (flow_at p f).rules k rule none is in
     let over : (own : ℕ) → reads rule own ≡ true → ((own == rho) ≡ false) × (is_number rho (complement_of p.relations own) ≡ false) =
-        λ own read. or_false (own == rho) (is_number rho (complement_of p.relations own))
-        (none_read rule (λ x. (x == rho) || is_number rho (complement_of p.relations x)) apart own read) in
+    λ own read. or_false (own == rho) (is_number rho (complement_of p.relations own))
+    (none_read rule (λ x. (x == rho) || is_number rho (complement_of p.relations x)) apart own read) in
     satisfied_same (is_related p.relations) (is_related (with_kind p.relations rho kind)) rule (planned plan)
     (λ own u v read. related_other p.relations rho own kind u v (λ e. differ (own == rho) (eq_is own rho e) (over own read).0) (over own read).1)
     ∙ obeyed)

@@ -1,7 +1,7 @@
 -- The rules of a workflow are read from what they are written as.
 use Rattle.std.proofs.Common.{◌≡◌, ℕ, zero, suc, ◌+◌, ◌<◌, ◌≤◌, Bool, true, false, cond, nat_eq, List, [], ◌∷◌, ◌++◌, length, map, refl, sym, ap, ◌∙◌, arith, codes, Some, Ok, slice_set, slice_get, replicate}
 use Rattle.constraint_forms.specs.declared.rule.Rule.TheVariants as rule
-use Rattle.policy_printer.proofs.Words.{length-map, not_true, or_right, each, string, Members, get_member, AreNames, STEP_LIMIT, RULE_LIMIT, RelationShape, known_names, is_member, Rule, IsSoundRule, AreSoundRules, Flows, name_at, names_where, chosen, rule_data, rules_data, HasFlags, HaveFlags}
+use Rattle.policy_printer.proofs.Words.{length-map, eq_same, not_true, or_right, each, string, Members, get_member, AreNames, STEP_LIMIT, RULE_LIMIT, RelationShape, known_names, is_member, Rule, IsSoundRule, AreSoundRules, Flows, name_at, names_where, chosen, rule_data, rules_data, HasFlags, HaveFlags}
 use Rattle.constraint_forms.specs.Assigned.{no_steps}
 use Rattle.constraint_forms.specs.Rules.{any_from}
 use Rattle.policy_reader.specs.Parts.{value_at, array_in, table_in, text_in, once, no_others, known_key}
@@ -100,11 +100,11 @@ module _ (f : ℕ) (steps : List (List ℕ)) (named : AreNames steps) where
 
     rule_again : (r : Rule) → IsSoundRule (length steps) (length relations) r → HasFlags r → rule_in f relations steps (rule_data relations steps r) ≡ Ok r
     unfolding rule_in form_in rule_of_form pair_in grouped_in value_at table_in no_others known_key rule_members grouped_members
-    rule_again (rule.Pair rho s t) h flags = rw (relation_again rho h.relation, step_again s (first_in (length steps) (length relations) rho s t h), step_again t (second_in (length steps) (length relations) rho s t h)) refl
+    rule_again (rule.Pair rho s t) h flags = rw (relation_again rho (h.known rho (eq_same rho)), step_again s (first_in (length steps) (length relations) rho s t h), step_again t (second_in (length steps) (length relations) rho s t h)) refl
     rule_again (rule.SomeOf rho g s) h flags =
-        rw (relation_again rho h.relation, step_again s (some_step_in (length steps) (length relations) rho s g h), group_again g flags (some_group rho s g h) h.members) refl
+        rw (relation_again rho (h.known rho (eq_same rho)), step_again s (some_step_in (length steps) (length relations) rho s g h), group_again g flags (some_group rho s g h) h.members) refl
     rule_again (rule.AllOf rho g s) h flags =
-        rw (relation_again rho h.relation, step_again s (all_step_in (length steps) (length relations) rho s g h), group_again g flags (all_group rho s g h) h.members) refl
+        rw (relation_again rho (h.known rho (eq_same rho)), step_again s (all_step_in (length steps) (length relations) rho s g h), group_again g flags (all_group rho s g h) h.members) refl
 
     rule_step : (rules : List Rule) → AreSoundRules (length steps) (length relations) rules → HaveFlags rules → (before : List Rule) (r : Rule) (after : List Rule) → rules ≡ before ++ r ∷ after
         → next_rule f relations steps before (rule_data relations steps r) ≡ Ok (before ++ r ∷ [])

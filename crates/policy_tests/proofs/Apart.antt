@@ -14,7 +14,7 @@ two_steps steps relations enough = record {
     | inl e ↦ omega (arith, enough, eqb-true s 0 e)
     | inr e ↦ omega (arith, enough, eqb-true s 1 e)
   ];
-  relation = omega arith;
+  known = λ r is. omega (arith, eqb-true r 1 is);
   members = tt;
 }
 

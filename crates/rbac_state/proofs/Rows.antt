@@ -7,7 +7,7 @@ use Rattle.std.proofs.lemmas.Nat.Bits.{bit_at-zero}
 use Rattle.pair_set.specs.Tables.{contains_set_of, set_of_none, set_of_insert, set_of_remove}
 use Rattle.wf_names.specs.declared.limits.TheConstants.{USER_LIMIT, ROLE_LIMIT}
 use Rattle.wf_names.specs.UserSets.{has_user}
-use Rattle.rbac_state.specs.Rows.{row_has, pairs_of, AreWithinLimits}
+use Rattle.rbac_state.specs.Rows.{row_has, memberships_of, AreWithinLimits}
 
 no_user_in_none : (u : ℕ) → has_user [] u ≡ false
 no_user_in_none u = ap (λ b. nat_eq b 1) (bit_at-zero (u % 64))
@@ -22,9 +22,9 @@ none_in_copies n w none u r = elim (cases_lt r n) [
 pub none_within_limits : (rows : List (List ℕ)) → ((u r : ℕ) → row_has rows u r ≡ false) → AreWithinLimits rows
 none_within_limits rows none = record { each = λ u r here. absurd (let no = none u r in cc) }
 
-pub pairs_of-none : (rows : List (List ℕ)) → ((u r : ℕ) → row_has rows u r ≡ false) → pairs_of rows ≡ sets.empty
-unfolding pairs_of
-pairs_of-none rows none = set_of_none (row_has rows) USER_LIMIT ROLE_LIMIT none
+pub memberships_of-none : (rows : List (List ℕ)) → ((u r : ℕ) → row_has rows u r ≡ false) → memberships_of rows ≡ sets.empty
+unfolding memberships_of
+memberships_of-none rows none = set_of_none (row_has rows) USER_LIMIT ROLE_LIMIT none
 
 -- with another row for one role, the rows have what they had elsewhere
 with_row : (rows : List (List ℕ)) (r : ℕ) (w : List ℕ) → r < length rows → (x y : ℕ)
@@ -55,18 +55,18 @@ at_itself : (rows : List (List ℕ)) (r x y : ℕ) → nat_eq y r ≡ true → r
 at_itself rows r x y e = ap (λ i. row_has rows x i) (sym (eqb-true y r e))
 
 -- where one row gets one user more, the pairs get one pair more
-pub pairs_of-insert : (rows : List (List ℕ)) (u r : ℕ) (w : List ℕ) → r < length rows → u < USER_LIMIT → r < ROLE_LIMIT
-    → ((v : ℕ) → has_user w v ≡ (nat_eq v u || row_has rows v r)) → pairs_of (slice_set rows r w) ≡ sets.insert (pairs_of rows) (u, r)
-unfolding pairs_of
-pairs_of-insert rows u r w within user role more =
+pub memberships_of-insert : (rows : List (List ℕ)) (u r : ℕ) (w : List ℕ) → r < length rows → u < USER_LIMIT → r < ROLE_LIMIT
+    → ((v : ℕ) → has_user w v ≡ (nat_eq v u || row_has rows v r)) → memberships_of (slice_set rows r w) ≡ sets.insert (memberships_of rows) (u, r)
+unfolding memberships_of
+memberships_of-insert rows u r w within user role more =
     set_of_insert (row_has rows) (row_has (slice_set rows r w)) USER_LIMIT ROLE_LIMIT u r user role
     (λ x y. with_row rows r w within x y ∙ ap (λ h. cond (nat_eq y r) h (row_has rows x y)) (more x) ∙ one_more (nat_eq x u) (nat_eq y r) (row_has rows x r) (row_has rows x y) (at_itself rows r x y))
 
 -- and where one row has one user less, the pairs have one pair less
-pub pairs_of-remove : (rows : List (List ℕ)) (u r : ℕ) (w : List ℕ) → r < length rows
-    → ((v : ℕ) → has_user w v ≡ (not (nat_eq v u) && row_has rows v r)) → pairs_of (slice_set rows r w) ≡ sets.remove (pairs_of rows) (u, r)
-unfolding pairs_of
-pairs_of-remove rows u r w within less =
+pub memberships_of-remove : (rows : List (List ℕ)) (u r : ℕ) (w : List ℕ) → r < length rows
+    → ((v : ℕ) → has_user w v ≡ (not (nat_eq v u) && row_has rows v r)) → memberships_of (slice_set rows r w) ≡ sets.remove (memberships_of rows) (u, r)
+unfolding memberships_of
+memberships_of-remove rows u r w within less =
     set_of_remove (row_has rows) (row_has (slice_set rows r w)) USER_LIMIT ROLE_LIMIT u r
     (λ x y. with_row rows r w within x y ∙ ap (λ h. cond (nat_eq y r) h (row_has rows x y)) (less x) ∙ one_less (nat_eq x u) (nat_eq y r) (row_has rows x r) (row_has rows x y) (at_itself rows r x y))
 
@@ -87,13 +87,13 @@ both_hold true false false hold = refl
 both_hold false q false hold = refl
 
 -- the pairs have one where its row does
-pub pairs_of-has : (rows : List (List ℕ)) (u r : ℕ) → AreWithinLimits rows → sets.contains (pairs_of rows) (u, r) ≡ row_has rows u r
-unfolding pairs_of
-pairs_of-has rows u r within =
+pub memberships_of-has : (rows : List (List ℕ)) (u r : ℕ) → AreWithinLimits rows → sets.contains (memberships_of rows) (u, r) ≡ row_has rows u r
+unfolding memberships_of
+memberships_of-has rows u r within =
     contains_set_of (row_has rows) USER_LIMIT ROLE_LIMIT u r
     ∙ both_hold (nat_lt u USER_LIMIT) (nat_lt r ROLE_LIMIT) (row_has rows u r) (λ h. let both = within.each u r h in (lt-ltb u USER_LIMIT both.0, lt-ltb r ROLE_LIMIT both.1))
 
 -- and none where there is no row
-pub pairs_of-past : (rows : List (List ℕ)) (u r : ℕ) → AreWithinLimits rows → length rows ≤ r → sets.contains (pairs_of rows) (u, r) ≡ false
-pairs_of-past rows u r within past =
-    pairs_of-has rows u r within ∙ ap (λ row. has_user row u) (get_or_past rows r [] past) ∙ no_user_in_none u
+pub memberships_of-past : (rows : List (List ℕ)) (u r : ℕ) → AreWithinLimits rows → length rows ≤ r → sets.contains (memberships_of rows) (u, r) ≡ false
+memberships_of-past rows u r within past =
+    memberships_of-has rows u r within ∙ ap (λ row. has_user row u) (get_or_past rows r [] past) ∙ no_user_in_none u

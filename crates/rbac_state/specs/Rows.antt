@@ -10,8 +10,8 @@ abbrev pub row_has : List (List ℕ) → ℕ → ℕ → Bool
 row_has rows u r = has_user (slice_index_or rows r []) u
 
 -- the pairs (user, role) of the rows
-unfoldable pub pairs_of : List (List ℕ) → Pairs
-pairs_of rows = set_of (row_has rows) USER_LIMIT ROLE_LIMIT
+unfoldable pub memberships_of : List (List ℕ) → Pairs
+memberships_of rows = set_of (row_has rows) USER_LIMIT ROLE_LIMIT
 
 -- users and roles of the rows are within the limits
 pub record AreWithinLimits (rows : List (List ℕ)) : Type 0 where

@@ -18,13 +18,13 @@ pub(crate) struct Members {
 
 impl Model for Members {
     ghost use Rattle.pair_set.specs.Pairs.{Pairs, pairs_code};
-    ghost use Rattle.rbac_state.specs.Rows.{AreWithinLimits, pairs_of};
+    ghost use Rattle.rbac_state.specs.Rows.{AreWithinLimits, memberships_of};
 
     ghost Value = { Pairs };
 
     ghost coded = { pairs_code };
 
-    ghost view = { λ m. pairs_of m.rows };
+    ghost view = { λ m. memberships_of m.rows };
 
     ghost invariant = { λ m. AreWithinLimits m.rows };
 }

@@ -8,7 +8,7 @@ use Rattle.std.proofs.lemmas.List.FromFn.{map-range_with_len_more}
 use Rattle.pair_set.specs.Pairs.{Pairs, pair_cmp}
 use Rattle.pair_set.specs.PairLaws.{either_inserted, pair_cmp_total, pair_cmp-IsAntisymmetric}
 use Rattle.workflow_schema.specs.Flows.{IsLeastCycle, Precedes, has_twice, next, through}
-use Rattle.basics.proofs.Booleans.{or_cases}
+use Rattle.basics.proofs.Booleans.{eq_back, or_cases}
 use Rattle.constraint_forms.specs.Assigned.{is_member, no_steps}
 use Rattle.constraint_forms.specs.declared.rule.Rule.{Rule}
 use Rattle.constraint_forms.specs.declared.rule.Rule.TheVariants.{Pair, SomeOf, AllOf}
@@ -120,7 +120,7 @@ sound_more rule rules first rest (suc k) r e = rest k r e
 pair_sound : (rho first second : ℕ) → rho < 4 → first < 12 → second < 12 → IsSoundRule 12 2 (Pair rho first second)
 pair_sound rho first second related a b = record {
   names = λ s h. grind (arith, nat_tests);
-  relation = omega arith;
+  known = λ r is. omega (arith, related, eq_back r rho is);
   members = tt;
 }
 
@@ -153,7 +153,7 @@ all_sound : IsSoundRule 12 2 (AllOf 2 (both 0 1) 4)
 unfolding no_steps
 all_sound = record {
   names = λ s h. group_sound (both 0 1) 4 s first_two (omega arith) h;
-  relation = omega arith;
+  known = λ r is. omega (arith, eq_back r 2 is);
   members = refl;
 }
 
@@ -161,7 +161,7 @@ some_sound : IsSoundRule 12 2 (SomeOf 3 (both 2 3) 6)
 unfolding no_steps
 some_sound = record {
   names = λ s h. group_sound (both 2 3) 6 s next_two (omega arith) h;
-  relation = omega arith;
+  known = λ r is. omega (arith, eq_back r 3 is);
   members = refl;
 }
 

@@ -11,7 +11,7 @@ use Rattle.atomic_table.specs.Table.{State, Me, step, keeps, takes, gives, stepp
 use Rattle.atomic_table.proofs.Lists.{set_here, set_again}
 use Rattle.turn_table.specs.declared.view.View.{View}
 use Rattle.turn_table.specs.declared.view.Hold.TheVariants.{Held, Noted}
-use Rattle.turn_table.specs.Lists.{pairs_of, Quiet, OwnPast, GrowsByOne}
+use Rattle.turn_table.specs.Lists.{pairs_under, Quiet, OwnPast, GrowsByOne}
 use Rattle.turn_table.specs.Turns.{word_of, StandsIn, entering, noting, leaving, Fits, Kept, TurnRule, locked, noted, unlocked, compared}
 use Rattle.turn_table.proofs.Lists.{begins_trans, two_fronts, quiet_self, quiet_more, own_more, own_quiet, grown}
 use Rattle.turn_table.proofs.Views.{there_below, seats, still}
@@ -140,7 +140,7 @@ module _ {D G I : Type 0} (fixed_part : D → G) (list : D → List (ℕ × I)) 
                 own = λ m mine.
                     let same : m ≡ n = (cc) in
                     let o = p.own m mine in
-                    let added : pairs_of m new ≡ drop (length v.seen) xs = ap (λ i. pairs_of i new) same ∙ (gr.3 ∙ sym gr.2) in
+                    let added : pairs_under m new ≡ drop (length v.seen) xs = ap (λ i. pairs_under i new) same ∙ (gr.3 ∙ sym gr.2) in
                     let P : List (ℕ × I) → Type 0 = λ l. OwnPast m xs opening (v.own ++ l) in
                     let Q : List (ℕ × I) → Type 0 = λ l. OwnPast m xs v.born (v.own ++ l) in
                     (subst P added (own_more m v.seen opening v.own xs new o.0 gr.1), subst Q added (own_more m v.seen v.born v.own xs new o.1 gr.1));

@@ -4,7 +4,7 @@ use Rattle.std.proofs.lemmas.List.{append-nil, append_cancel_left}
 use Rattle.std.proofs.lemmas.List.Elements.{filter-append}
 use Rattle.std.proofs.lemmas.Bool.Decides.{nat_tests}
 use Rattle.std.proofs.Math.Seq.{drop-append_seam}
-use Rattle.turn_table.specs.Lists.{StartsWith, pairs_of, Quiet, OwnPast, GrowsByOne, longer, shorter}
+use Rattle.turn_table.specs.Lists.{StartsWith, pairs_under, Quiet, OwnPast, GrowsByOne, longer, shorter}
 
 module _ {A : Type 0} where
   left_nil : (xs ys : List A) → xs ++ ys ≡ [] → xs ≡ []
@@ -59,53 +59,53 @@ module _ {A : Type 0} where
   longer_begins xs ys h = both xs ys (nat_lt (length xs) (length ys)) h
 
 module _ {I : Type 0} where
-  pub pairs-append : (n : ℕ) (xs ys : List (ℕ × I)) → pairs_of n (xs ++ ys) ≡ pairs_of n xs ++ pairs_of n ys
+  pub pairs-append : (n : ℕ) (xs ys : List (ℕ × I)) → pairs_under n (xs ++ ys) ≡ pairs_under n xs ++ pairs_under n ys
   pairs-append n xs ys = filter-append (λ p. p.0 == n) xs ys
 
-  pub own_pair : (n : ℕ) (i : I) → pairs_of n ((n, i) ∷ []) ≡ (n, i) ∷ []
+  pub own_pair : (n : ℕ) (i : I) → pairs_under n ((n, i) ∷ []) ≡ (n, i) ∷ []
   own_pair n i = ap (λ b. cond b ((n, i) ∷ []) []) (eq-eqb n n refl)
 
-  pub other_pair : (m n : ℕ) (i : I) → m ≢ n → pairs_of m ((n, i) ∷ []) ≡ []
+  pub other_pair : (m n : ℕ) (i : I) → m ≢ n → pairs_under m ((n, i) ∷ []) ≡ []
   other_pair m n i ne = ap (λ b. cond b ((n, i) ∷ []) []) (ne_eqb n m (λ e. ne (sym e)))
 
   -- a list of which no number has a pair is empty
-  pub no_pairs : (xs : List (ℕ × I)) → ((n : ℕ) → pairs_of n xs ≡ []) → xs ≡ []
+  pub no_pairs : (xs : List (ℕ × I)) → ((n : ℕ) → pairs_under n xs ≡ []) → xs ≡ []
   no_pairs [] h = refl
-  no_pairs (x ∷ xs) h = let e : cond (eqb x.0 x.0) (x ∷ pairs_of x.0 xs) (pairs_of x.0 xs) ≡ [] = h x.0 in
-      let f : cond true (x ∷ pairs_of x.0 xs) (pairs_of x.0 xs) ≡ [] = subst (λ b. cond b (x ∷ pairs_of x.0 xs) (pairs_of x.0 xs) ≡ []) (eq-eqb x.0 x.0 refl) e in cc
+  no_pairs (x ∷ xs) h = let e : cond (eqb x.0 x.0) (x ∷ pairs_under x.0 xs) (pairs_under x.0 xs) ≡ [] = h x.0 in
+      let f : cond true (x ∷ pairs_under x.0 xs) (pairs_under x.0 xs) ≡ [] = subst (λ b. cond b (x ∷ pairs_under x.0 xs) (pairs_under x.0 xs) ≡ []) (eq-eqb x.0 x.0 refl) e in cc
 
   pub quiet_self : (P : ℕ → Type 0) (xs : List (ℕ × I)) → Quiet P xs xs
   quiet_self P xs = ([], sym (append-nil xs), λ n p. refl)
 
-  pub quiet_more : (P : ℕ → Type 0) (xs ys zs : List (ℕ × I)) → Quiet P xs ys → ((n : ℕ) → P n → pairs_of n zs ≡ []) → Quiet P (xs ++ zs) ys
+  pub quiet_more : (P : ℕ → Type 0) (xs ys zs : List (ℕ × I)) → Quiet P xs ys → ((n : ℕ) → P n → pairs_under n zs ≡ []) → Quiet P (xs ++ zs) ys
   quiet_more P xs ys zs q none = (
     q.0 ++ zs,
     ap (λ l. l ++ zs) q.1 ∙ append_assoc ys q.0 zs,
-    λ n p. pairs-append n q.0 zs ∙ (ap (λ l. l ++ pairs_of n zs) (q.2 n p) ∙ none n p),
+    λ n p. pairs-append n q.0 zs ∙ (ap (λ l. l ++ pairs_under n zs) (q.2 n p) ∙ none n p),
   )
 
   pub quiet_fewer : (P Q : ℕ → Type 0) (xs ys : List (ℕ × I)) → Quiet P xs ys → ((n : ℕ) → Q n → P n) → Quiet Q xs ys
   quiet_fewer P Q xs ys q f = (q.0, q.1, λ n p. q.2 n (f n p))
 
   -- what lies between two beginnings of a list, and what lies past the longer, has no pair that all past the shorter has not
-  pub quiet_parts : (n : ℕ) (now front mid more rest : List (ℕ × I)) → now ≡ front ++ more → pairs_of n more ≡ [] → now ≡ (front ++ mid) ++ rest → (pairs_of n mid ≡ []) × (pairs_of n rest ≡ [])
+  pub quiet_parts : (n : ℕ) (now front mid more rest : List (ℕ × I)) → now ≡ front ++ more → pairs_under n more ≡ [] → now ≡ (front ++ mid) ++ rest → (pairs_under n mid ≡ []) × (pairs_under n rest ≡ [])
   quiet_parts n now front mid more rest e none f =
       let same : mid ++ rest ≡ more = append_cancel_left front (mid ++ rest) more (sym (append_assoc front mid rest) ∙ (sym f ∙ e)) in
-      let nil : pairs_of n mid ++ pairs_of n rest ≡ [] = sym (pairs-append n mid rest) ∙ (ap (pairs_of n) same ∙ none) in
-      (left_nil (pairs_of n mid) (pairs_of n rest) nil, right_nil (pairs_of n mid) (pairs_of n rest) nil)
+      let nil : pairs_under n mid ++ pairs_under n rest ≡ [] = sym (pairs-append n mid rest) ∙ (ap (pairs_under n) same ∙ none) in
+      (left_nil (pairs_under n mid) (pairs_under n rest) nil, right_nil (pairs_under n mid) (pairs_under n rest) nil)
 
-  pub own_more : (n : ℕ) (xs ys own zs rest : List (ℕ × I)) → OwnPast n xs ys own → zs ≡ xs ++ rest → OwnPast n zs ys (own ++ pairs_of n rest)
+  pub own_more : (n : ℕ) (xs ys own zs rest : List (ℕ × I)) → OwnPast n xs ys own → zs ≡ xs ++ rest → OwnPast n zs ys (own ++ pairs_under n rest)
   own_more n xs ys own zs rest o e = (
     o.0 ++ rest,
     e ∙ (ap (λ l. l ++ rest) o.1 ∙ append_assoc ys o.0 rest),
-    pairs-append n o.0 rest ∙ ap (λ l. l ++ pairs_of n rest) o.2,
+    pairs-append n o.0 rest ∙ ap (λ l. l ++ pairs_under n rest) o.2,
   )
 
-  pub own_quiet : (n : ℕ) (xs ys own zs rest : List (ℕ × I)) → OwnPast n xs ys own → zs ≡ xs ++ rest → pairs_of n rest ≡ [] → OwnPast n zs ys own
+  pub own_quiet : (n : ℕ) (xs ys own zs rest : List (ℕ × I)) → OwnPast n xs ys own → zs ≡ xs ++ rest → pairs_under n rest ≡ [] → OwnPast n zs ys own
   own_quiet n xs ys own zs rest o e none = subst (OwnPast n zs ys) (ap (λ l. own ++ l) none ∙ append-nil own) (own_more n xs ys own zs rest o e)
 
   -- what at most one pair of the number n adds
   pub grown : (n : ℕ) (xs ys : List (ℕ × I)) → GrowsByOne n xs ys
-      → (rest : List (ℕ × I)) × (xs ≡ ys ++ rest) × (drop (length ys) xs ≡ rest) × (pairs_of n rest ≡ rest) × ((m : ℕ) → m ≢ n → pairs_of m rest ≡ [])
+      → (rest : List (ℕ × I)) × (xs ≡ ys ++ rest) × (drop (length ys) xs ≡ rest) × (pairs_under n rest ≡ rest) × ((m : ℕ) → m ≢ n → pairs_under m rest ≡ [])
   grown n xs ys (inl e) = let f : xs ≡ ys ++ [] = e ∙ sym (append-nil ys) in ([], f, ap (drop (length ys)) f ∙ drop-append_seam ys [], refl, λ m ne. refl)
   grown n xs ys (inr p) = let new : List (ℕ × I) = (n, p.0) ∷ [] in (new, p.1, ap (drop (length ys)) p.1 ∙ drop-append_seam ys new, own_pair n p.0, λ m ne. other_pair m n p.0 ne)

@@ -11,7 +11,7 @@ use Rattle.atomic_table.specs.Table.{State, Splits, Joins}
 use Rattle.atomic_table.proofs.Lists.{set_here, set_else, at_longer, at_last}
 use Rattle.turn_table.specs.declared.view.View.{View}
 use Rattle.turn_table.specs.declared.view.Hold.TheVariants.{Free}
-use Rattle.turn_table.specs.Lists.{pairs_of, longer, brought}
+use Rattle.turn_table.specs.Lists.{pairs_under, longer, brought}
 use Rattle.turn_table.specs.Turns.{word_of, StandsIn, parent, newcomer, united, spent, Fits, Kept, TurnRule}
 use Rattle.turn_table.proofs.Lists.{begins_trans, longest, quiet_fewer, quiet_parts, own_quiet}
 use Rattle.turn_table.proofs.Views.{there_below, at_one_more, seats, still}
@@ -66,7 +66,7 @@ module _ {D G I : Type 0} (fixed_part : D → G) (list : D → List (ℕ × I)) 
         let p = k.each_seat id v at live in
         let q = p.quiet in
         let b = p.begins in
-        let none_of : (n : ℕ) → n ≡ k.made → (pairs_of n b.0 ≡ []) × (pairs_of n q.0 ≡ []) = λ n e. quiet_parts n k.now opening b.0 k.unmade.0 q.0 k.unmade.1 (k.unmade.2 n (omega arith)) (q.1 ∙ ap (λ l. l ++ q.0) b.1) in
+        let none_of : (n : ℕ) → n ≡ k.made → (pairs_under n b.0 ≡ []) × (pairs_under n q.0 ≡ []) = λ n e. quiet_parts n k.now opening b.0 k.unmade.0 q.0 k.unmade.1 (k.unmade.2 n (omega arith)) (q.1 ∙ ap (λ l. l ++ q.0) b.1) in
         let made_is : v.made ≡ k.made = (p.unnumbered first).1 in record {
           fixed = p.fixed;
           opens = p.opens;
@@ -168,8 +168,8 @@ module _ {D G I : Type 0} (fixed_part : D → G) (list : D → List (ℕ × I)) 
         let from_v = l.1 in
         let from_w = l.2 in
         let full = longer v.seen w.seen in
-        let split_v : (n : ℕ) → (n < k.made) × (k.owner n ≡ id) → (pairs_of n from_v.0 ≡ []) × (pairs_of n past.0 ≡ []) = λ n h. quiet_parts n k.now v.seen from_v.0 a.0 past.0 a.1 (a.2 n h) (past.1 ∙ ap (λ xs. xs ++ past.0) from_v.1) in
-        let split_w : (n : ℕ) → (n < k.made) × (k.owner n ≡ other) → (pairs_of n from_w.0 ≡ []) × (pairs_of n past.0 ≡ []) = λ n h. quiet_parts n k.now w.seen from_w.0 b.0 past.0 b.1 (b.2 n h) (past.1 ∙ ap (λ xs. xs ++ past.0) from_w.1) in record {
+        let split_v : (n : ℕ) → (n < k.made) × (k.owner n ≡ id) → (pairs_under n from_v.0 ≡ []) × (pairs_under n past.0 ≡ []) = λ n h. quiet_parts n k.now v.seen from_v.0 a.0 past.0 a.1 (a.2 n h) (past.1 ∙ ap (λ xs. xs ++ past.0) from_v.1) in
+        let split_w : (n : ℕ) → (n < k.made) × (k.owner n ≡ other) → (pairs_under n from_w.0 ≡ []) × (pairs_under n past.0 ≡ []) = λ n h. quiet_parts n k.now w.seen from_w.0 b.0 past.0 b.1 (b.2 n h) (past.1 ∙ ap (λ xs. xs ++ past.0) from_w.1) in record {
           fixed = p.fixed;
           opens = p.opens;
           limit = p.limit;

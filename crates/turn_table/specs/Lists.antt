@@ -7,16 +7,16 @@ abbrev pub StartsWith : {A : Type 0} → List A → List A → Type 0
 StartsWith {A} xs ys = (rest : List A) × (xs ≡ ys ++ rest)
 
 -- the pairs of the number n, in order
-abbrev pub pairs_of : {I : Type 0} → ℕ → List (ℕ × I) → List (ℕ × I)
-pairs_of n xs = filter (λ p. p.0 == n) xs
+abbrev pub pairs_under : {I : Type 0} → ℕ → List (ℕ × I) → List (ℕ × I)
+pairs_under n xs = filter (λ p. p.0 == n) xs
 
 -- xs begins with ys, and past ys it has no pair of a number in P
 abbrev pub Quiet : {I : Type 0} → (ℕ → Type 0) → List (ℕ × I) → List (ℕ × I) → Type 0
-Quiet {I} P xs ys = (rest : List (ℕ × I)) × (xs ≡ ys ++ rest) × ((n : ℕ) → P n → pairs_of n rest ≡ [])
+Quiet {I} P xs ys = (rest : List (ℕ × I)) × (xs ≡ ys ++ rest) × ((n : ℕ) → P n → pairs_under n rest ≡ [])
 
 -- xs begins with ys, and past ys its pairs of the number n are own, in order
 abbrev pub OwnPast : {I : Type 0} → ℕ → List (ℕ × I) → List (ℕ × I) → List (ℕ × I) → Type 0
-OwnPast {I} n xs ys own = (rest : List (ℕ × I)) × (xs ≡ ys ++ rest) × (pairs_of n rest ≡ own)
+OwnPast {I} n xs ys own = (rest : List (ℕ × I)) × (xs ≡ ys ++ rest) × (pairs_under n rest ≡ own)
 
 -- xs is ys with at most one pair of the number n after it
 abbrev pub GrowsByOne : {I : Type 0} → ℕ → List (ℕ × I) → List (ℕ × I) → Type 0

@@ -10,7 +10,7 @@ use Rattle.workflow_schema.specs.Stored.{IsStored}
 use Rattle.basics.proofs.Booleans.{or_cases, and_both, and_from, eq_back, lt_back, lt_back_no, lt_yes, le_yes}
 use Rattle.workflow_schema.proofs.Chains.{before_is_chain, chain_is_before}
 use Rattle.workflow_schema.proofs.PairLists.{contains-one_more}
-use Rattle.workflow_schema.proofs.Permits.{pairs_of-has}
+use Rattle.workflow_schema.proofs.Permits.{permitted_by-has}
 use Rattle.workflow_schema.proofs.Kept.{few_steps}
 
 pub counted : (n count : ℕ) → count ≡ n → count ≢ 0 → count ≤ STEP_LIMIT → is_count n ≡ true
@@ -81,7 +81,7 @@ built_flow steps order permits later roles count orders_in permits_in closed non
     counted = count;
     orders = record { each = λ a b found. all_of (λ (p : ℕ × ℕ). (p.0 < length steps) × (p.1 < length steps)) order a b orders_in found };
     acyclic = λ s. no_cycle (length steps) order later (few_steps (length steps) count) orders_in closed s (none s);
-    permitted = record { each = λ r s found. all_of (λ (p : ℕ × ℕ). (p.0 < ROLE_LIMIT) × (p.1 < length steps)) permits r s permits_in (sym (same s r) ∙ sym (pairs_of-has roles r s) ∙ found) };
+    permitted = record { each = λ r s found. all_of (λ (p : ℕ × ℕ). (p.0 < ROLE_LIMIT) × (p.1 < length steps)) permits r s permits_in (sym (same s r) ∙ sym (permitted_by-has roles r s) ∙ found) };
   };
   closed = closed;
   rows = whole;

@@ -9,7 +9,7 @@ use Rattle.workflow_schema.specs.Flows.{FlowShape, Precedes, is_before, is_count
 use Rattle.workflow_schema.specs.Stored.{IsStored}
 use Rattle.basics.proofs.Booleans.{or_cases, and_both, eq_back, le_back}
 use Rattle.workflow_schema.proofs.Chains.{before_is_chain, chain_is_before}
-use Rattle.workflow_schema.proofs.Permits.{pairs_of-has}
+use Rattle.workflow_schema.proofs.Permits.{permitted_by-has}
 
 pub few_steps : (n : ℕ) → is_count n ≡ true → n ≤ STEP_LIMIT
 few_steps n h = le_back n STEP_LIMIT (and_both (nat_lt 0 n) (nat_le n STEP_LIMIT) h).1
@@ -33,13 +33,13 @@ keeps_permitted steps order later old rows r s kept h role step whole = record {
     acyclic = kept.flow.acyclic;
     permitted = record {
       each = λ a b found.
-          elim (or_cases (nat_eq b s && nat_eq a r) (table_has old b a) (sym (h b a) ∙ sym (pairs_of-has rows a b) ∙ found)) [
+          elim (or_cases (nat_eq b s && nat_eq a r) (table_has old b a) (sym (h b a) ∙ sym (permitted_by-has rows a b) ∙ found)) [
             | inl e ↦
                 let both = and_both (nat_eq b s) (nat_eq a r) e in
                 let same_step = eq_back b s both.0 in
                 let same_role = eq_back a r both.1 in
                 (omega arith, omega arith)
-            | inr e ↦ kept.flow.permitted.each a b (pairs_of-has old a b ∙ e)
+            | inr e ↦ kept.flow.permitted.each a b (permitted_by-has old a b ∙ e)
           ];
     };
   };
@@ -59,7 +59,7 @@ keeps_forbidden steps order later old rows r s kept h whole = record {
     permitted = record {
       each = λ a b found.
           kept.flow.permitted.each a b
-          (pairs_of-has old a b ∙ (and_both (not (nat_eq b s && nat_eq a r)) (table_has old b a) (sym (h b a) ∙ sym (pairs_of-has rows a b) ∙ found)).1);
+          (permitted_by-has old a b ∙ (and_both (not (nat_eq b s && nat_eq a r)) (table_has old b a) (sym (h b a) ∙ sym (permitted_by-has rows a b) ∙ found)).1);
     };
   };
   closed = kept.closed;

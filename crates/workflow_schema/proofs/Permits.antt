@@ -8,7 +8,7 @@ use Rattle.std.specs.Ordering.{eq_by_cmp}
 use Rattle.pair_set.specs.Pairs.{Pairs, pair_cmp}
 use Rattle.pair_set.specs.PairLaws.{pair_cmp_total, pair_cmp-IsAntisymmetric}
 use Rattle.workflow_schema.specs.declared.table.TheConstants.{WORD_BITS}
-use Rattle.workflow_schema.specs.Tables.{is_set, table_has, row_pairs, table_pairs, pairs_of}
+use Rattle.workflow_schema.specs.Tables.{is_set, table_has, row_pairs, table_pairs, permitted_by}
 use Rattle.basics.proofs.Booleans.{or-false, and-false, and_swap, eq_same, eq_other, lt_yes, lt_no}
 use Rattle.workflow_schema.proofs.Words.{is_set-zero, is_set-cut}
 use Rattle.workflow_schema.proofs.PairLists.{eq_pair, contains-one_more}
@@ -77,27 +77,27 @@ table_pairs-has row (word ∷ words) r (suc k) s e =
     hits-append r s (row_pairs row word WORD_BITS) (table_pairs (row + 1) words)
     ∙ (λ i. (row_has row word r s ∙ (λ j. is_set word r && eq_other s row (omega arith) j) ∙ and-false (is_set word r)) i || table_pairs-has (row + 1) words r k s (omega arith) i)
 
-pub pairs_of-has : (rows : List ℕ) (r s : ℕ) → set.contains (pairs_of rows) (r, s) ≡ table_has rows s r
-unfolding pairs_of
-pairs_of-has rows r s = set.contains-from_list pair_cmp_total (table_pairs 0 rows) (r, s) ∙ table_pairs-has 0 rows r s s (omega arith)
+pub permitted_by-has : (rows : List ℕ) (r s : ℕ) → set.contains (permitted_by rows) (r, s) ≡ table_has rows s r
+unfolding permitted_by
+permitted_by-has rows r s = set.contains-from_list pair_cmp_total (table_pairs 0 rows) (r, s) ∙ table_pairs-has 0 rows r s s (omega arith)
 
 same_pairs : (x y : Pairs) → ((r s : ℕ) → set.contains x (r, s) ≡ set.contains y (r, s)) → x ≡ y
 same_pairs x y h = set.same_set pair_cmp_total pair_cmp-IsAntisymmetric x y (λ q. h q.0 q.1)
 
 -- tables with the pairs of a set are seen as that set
-pub pairs_of-is : (rows : List ℕ) (pairs : Pairs) → ((s r : ℕ) → table_has rows s r ≡ set.contains pairs (r, s)) → pairs_of rows ≡ pairs
-pairs_of-is rows pairs h = same_pairs (pairs_of rows) pairs (λ r s. pairs_of-has rows r s ∙ h s r)
+pub permitted_by-is : (rows : List ℕ) (pairs : Pairs) → ((s r : ℕ) → table_has rows s r ≡ set.contains pairs (r, s)) → permitted_by rows ≡ pairs
+permitted_by-is rows pairs h = same_pairs (permitted_by rows) pairs (λ r s. permitted_by-has rows r s ∙ h s r)
 
-pub pairs_of-with : (old rows : List ℕ) (r s : ℕ) → ((a b : ℕ) → table_has rows a b ≡ ((nat_eq a s && nat_eq b r) || table_has old a b)) → pairs_of rows ≡ set.insert (pairs_of old) (r, s)
-pairs_of-with old rows r s h =
-    pairs_of-is rows _ (λ a b.
+pub permitted_by-with : (old rows : List ℕ) (r s : ℕ) → ((a b : ℕ) → table_has rows a b ≡ ((nat_eq a s && nat_eq b r) || table_has old a b)) → permitted_by rows ≡ set.insert (permitted_by old) (r, s)
+permitted_by-with old rows r s h =
+    permitted_by-is rows _ (λ a b.
     h a b
-    ∙ (λ i. and_swap (nat_eq a s) (nat_eq b r) i || sym (pairs_of-has old b a) i)
-    ∙ sym (contains-one_more (pairs_of old) r s b a))
+    ∙ (λ i. and_swap (nat_eq a s) (nat_eq b r) i || sym (permitted_by-has old b a) i)
+    ∙ sym (contains-one_more (permitted_by old) r s b a))
 
-pub pairs_of-without : (old rows : List ℕ) (r s : ℕ) → ((a b : ℕ) → table_has rows a b ≡ (not (nat_eq a s && nat_eq b r) && table_has old a b)) → pairs_of rows ≡ set.remove (pairs_of old) (r, s)
-pairs_of-without old rows r s h =
-    pairs_of-is rows _ (λ a b.
+pub permitted_by-without : (old rows : List ℕ) (r s : ℕ) → ((a b : ℕ) → table_has rows a b ≡ (not (nat_eq a s && nat_eq b r) && table_has old a b)) → permitted_by rows ≡ set.remove (permitted_by old) (r, s)
+permitted_by-without old rows r s h =
+    permitted_by-is rows _ (λ a b.
     h a b
-    ∙ (λ i. not (and_swap (nat_eq a s) (nat_eq b r) i) && sym (pairs_of-has old b a) i)
-    ∙ sym (set.contains-remove pair_cmp_total (pairs_of old) (r, s) (b, a) ∙ ap (λ x. not x && set.contains (pairs_of old) (b, a)) (eq_pair b a r s)))
+    ∙ (λ i. not (and_swap (nat_eq a s) (nat_eq b r) i) && sym (permitted_by-has old b a) i)
+    ∙ sym (set.contains-remove pair_cmp_total (permitted_by old) (r, s) (b, a) ∙ ap (λ x. not x && set.contains (permitted_by old) (b, a)) (eq_pair b a r s)))

@@ -30,5 +30,5 @@ table_pairs row [] = []
 table_pairs row (word ∷ words) = row_pairs row word WORD_BITS ++ table_pairs (row + 1) words
 
 -- the set of the pairs (bit, row) of a table
-unfoldable pub pairs_of : List ℕ → Pairs
-pairs_of rows = set.from_list (table_pairs 0 rows)
+unfoldable pub permitted_by : List ℕ → Pairs
+permitted_by rows = set.from_list (table_pairs 0 rows)

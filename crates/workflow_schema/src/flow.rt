@@ -38,10 +38,10 @@ impl Model for Flow {
 
     ghost coded = { flow_code };
 
-    ghost use Rattle.workflow_schema.specs.Tables.{pairs_of};
+    ghost use Rattle.workflow_schema.specs.Tables.{permitted_by};
     ghost use Rattle.workflow_schema.specs.Stored.{IsStored};
 
-    ghost view = { λ f. record { steps = f.frame.steps.names; order = f.frame.order; permits = pairs_of f.roles } };
+    ghost view = { λ f. record { steps = f.frame.steps.names; order = f.frame.order; permits = permitted_by f.roles } };
 
     ghost invariant = { λ f. IsStored f.frame.steps.names f.frame.order f.frame.later f.roles };
 }

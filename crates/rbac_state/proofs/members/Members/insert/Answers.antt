@@ -3,7 +3,7 @@ use Rattle.std.specs.FinSet as set
 use Rattle.std.proofs.lemmas.List.{get_or_default}
 use Rattle.wf_names.specs.declared.limits.TheConstants.{ROLE_LIMIT}
 use Rattle.wf_names.specs.UserSets.{has_user}
-use Rattle.rbac_state.proofs.Rows.{pairs_of-insert}
+use Rattle.rbac_state.proofs.Rows.{memberships_of-insert}
 use Rattle.rbac_state.proofs.members.Members.insert.Goals as goal
 
 pub returns : goal.returns
@@ -13,5 +13,5 @@ returns c =
     let role : r < ROLE_LIMIT = omega (arith, c.requires.role, c.r.view_is) in
     let within : r < length rows = omega (arith, role, c.self.ranges) in
     let row = get_or_default rows r c.index-self-r.result [] within in
-    pairs_of-insert rows c.args.u r _ within c.requires.user role (λ v. c.insert.ensures v ∙ ap (λ w. nat_eq v c.args.u || has_user w v) row)
+    memberships_of-insert rows c.args.u r _ within c.requires.user role (λ v. c.insert.ensures v ∙ ap (λ w. nat_eq v c.args.u || has_user w v) row)
     ∙ (λ i. set.insert (c.self.view_is i) (c.args.u, c.r.view_is i))

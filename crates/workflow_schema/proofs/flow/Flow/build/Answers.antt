@@ -5,7 +5,7 @@ use Rattle.workflow_schema.specs.declared.flow.Frame.{Frame}
 use Rattle.workflow_schema.specs.declared.fault.FlowFault.TheVariants.{Cycle}
 use Rattle.workflow_schema.specs.Flows.{has_twice, IsLeastCycle}
 use Rattle.workflow_schema.specs.Stored.{IsStored}
-use Rattle.workflow_schema.proofs.Permits.{pairs_of-is}
+use Rattle.workflow_schema.proofs.Permits.{permitted_by-is}
 use Rattle.workflow_schema.proofs.Kept.{few_steps}
 use Rattle.workflow_schema.proofs.Built.{counted, closed_order, no_cycle, least_cycle, one_least, built_flow}
 use Rattle.workflow_schema.proofs.flow.Flow.build.Goals as goal
@@ -31,7 +31,7 @@ returns-in-Ok-clause-built c =
     λ i. record {
       steps = (c.in-Ok.ensures i).steps.names;
       order = (c.in-Ok.ensures i).order;
-      permits = pairs_of-is c.in-Some-Some.roles (set.from_list c.args.permits.now) c.in-Some-Some.ensures'.2 i;
+      permits = permitted_by-is c.in-Some-Some.roles (set.from_list c.args.permits.now) c.in-Some-Some.ensures'.2 i;
     }
 
 pub returns-in-Ok-clause-cycle : goal.returns-in-Ok-clause-cycle

@@ -1,8 +1,8 @@
 use Rattle.std.proofs.Common.{◌∙◌, sym, ap, arith}
 use Rattle.pair_set.specs.Pairs.{Pairs}
 use Rattle.pair_set.specs.PairLaws.{pair_cmp_total, pair_cmp-IsAntisymmetric, remove_absent}
-use Rattle.workflow_schema.specs.Tables.{pairs_of}
-use Rattle.workflow_schema.proofs.Permits.{pairs_of-has, pairs_of-without}
+use Rattle.workflow_schema.specs.Tables.{permitted_by}
+use Rattle.workflow_schema.proofs.Permits.{permitted_by-has, permitted_by-without}
 use Rattle.workflow_schema.proofs.Kept.{keeps_forbidden}
 use Rattle.workflow_schema.proofs.flow.Flow.forbid.Goals as goal
 
@@ -16,17 +16,17 @@ pub returns-clause-forbidden : goal.returns-clause-forbidden
 returns-clause-forbidden c =
     rw (← c.self.view_is, ← c.s.view_is, ← c.r.view_is)
     (ap (λ (p : Pairs). record { steps = c.self.inside.frame.steps.names; order = c.self.inside.frame.order; permits = p })
-    (pairs_of-without c.self.inside.roles c.clear_flag.new.rows c.r.inside.0 c.s.inside.0 c.clear_flag.ensures))
+    (permitted_by-without c.self.inside.roles c.clear_flag.new.rows c.r.inside.0 c.s.inside.0 c.clear_flag.ensures))
 
 pub returns-clause-changed : goal.returns-clause-changed
 returns-clause-changed c =
     rw (← c.self.view_is, ← c.s.view_is, ← c.r.view_is)
-    (c.has_flag-held.ensures ∙ sym (pairs_of-has c.self.inside.roles c.r.inside.0 c.s.inside.0))
+    (c.has_flag-held.ensures ∙ sym (permitted_by-has c.self.inside.roles c.r.inside.0 c.s.inside.0))
 
 pub returns-clause-unchanged : goal.returns-clause-unchanged
 returns-clause-unchanged c h =
     rw (← c.self.view_is)
     (ap (λ (p : Pairs). record { steps = c.self.inside.frame.steps.names; order = c.self.inside.frame.order; permits = p })
-    (pairs_of-without c.self.inside.roles c.clear_flag.new.rows c.r.inside.0 c.s.inside.0 c.clear_flag.ensures
-    ∙ remove_absent pair_cmp_total pair_cmp-IsAntisymmetric (pairs_of c.self.inside.roles) (c.r.inside.0, c.s.inside.0)
-    (pairs_of-has c.self.inside.roles c.r.inside.0 c.s.inside.0 ∙ sym c.has_flag-held.ensures ∙ h)))
+    (permitted_by-without c.self.inside.roles c.clear_flag.new.rows c.r.inside.0 c.s.inside.0 c.clear_flag.ensures
+    ∙ remove_absent pair_cmp_total pair_cmp-IsAntisymmetric (permitted_by c.self.inside.roles) (c.r.inside.0, c.s.inside.0)
+    (permitted_by-has c.self.inside.roles c.r.inside.0 c.s.inside.0 ∙ sym c.has_flag-held.ensures ∙ h)))

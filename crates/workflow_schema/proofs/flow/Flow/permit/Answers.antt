@@ -1,10 +1,10 @@
 use Rattle.std.proofs.Common.{length, not, ◌∙◌, sym, ap, arith}
 use Rattle.pair_set.specs.Pairs.{Pairs}
 use Rattle.pair_set.specs.PairLaws.{pair_cmp_total, pair_cmp-IsAntisymmetric, insert_held}
-use Rattle.workflow_schema.specs.Tables.{pairs_of}
+use Rattle.workflow_schema.specs.Tables.{permitted_by}
 use Rattle.workflow_schema.specs.Flows.{FlowShape}
 use Rattle.basics.proofs.Booleans.{not_false}
-use Rattle.workflow_schema.proofs.Permits.{pairs_of-has, pairs_of-with}
+use Rattle.workflow_schema.proofs.Permits.{permitted_by-has, permitted_by-with}
 use Rattle.workflow_schema.proofs.Kept.{keeps_permitted}
 use Rattle.workflow_schema.proofs.flow.Flow.permit.Goals as goal
 
@@ -20,17 +20,17 @@ pub returns-clause-permitted : goal.returns-clause-permitted
 returns-clause-permitted c =
     rw (← c.self.view_is, ← c.s.view_is, ← c.r.view_is)
     (ap (λ (p : Pairs). record { steps = c.self.inside.frame.steps.names; order = c.self.inside.frame.order; permits = p })
-    (pairs_of-with c.self.inside.roles c.set_flag.new.rows c.r.inside.0 c.s.inside.0 c.set_flag.ensures))
+    (permitted_by-with c.self.inside.roles c.set_flag.new.rows c.r.inside.0 c.s.inside.0 c.set_flag.ensures))
 
 pub returns-clause-changed : goal.returns-clause-changed
 returns-clause-changed c =
     rw (← c.self.view_is, ← c.s.view_is, ← c.r.view_is)
-    (ap not (c.has_flag-held.ensures ∙ sym (pairs_of-has c.self.inside.roles c.r.inside.0 c.s.inside.0)))
+    (ap not (c.has_flag-held.ensures ∙ sym (permitted_by-has c.self.inside.roles c.r.inside.0 c.s.inside.0)))
 
 pub returns-clause-unchanged : goal.returns-clause-unchanged
 returns-clause-unchanged c h =
     rw (← c.self.view_is)
     (ap (λ (p : Pairs). record { steps = c.self.inside.frame.steps.names; order = c.self.inside.frame.order; permits = p })
-    (pairs_of-with c.self.inside.roles c.set_flag.new.rows c.r.inside.0 c.s.inside.0 c.set_flag.ensures
-    ∙ insert_held pair_cmp_total pair_cmp-IsAntisymmetric (pairs_of c.self.inside.roles) (c.r.inside.0, c.s.inside.0)
-    (pairs_of-has c.self.inside.roles c.r.inside.0 c.s.inside.0 ∙ sym c.has_flag-held.ensures ∙ not_false c.has_flag-held.result h)))
+    (permitted_by-with c.self.inside.roles c.set_flag.new.rows c.r.inside.0 c.s.inside.0 c.set_flag.ensures
+    ∙ insert_held pair_cmp_total pair_cmp-IsAntisymmetric (permitted_by c.self.inside.roles) (c.r.inside.0, c.s.inside.0)
+    (permitted_by-has c.self.inside.roles c.r.inside.0 c.s.inside.0 ∙ sym c.has_flag-held.ensures ∙ not_false c.has_flag-held.result h)))
