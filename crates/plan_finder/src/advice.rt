@@ -7,8 +7,8 @@ use crate::work::Work;
 use constraint_forms::Assign;
 use wf_names::{STEP_LIMIT, StepId};
 
-/// The step that is not assigned and has the fewest candidates for the weight of its rules. Steps that
-/// have none come first, and of them the one that the fewest users are authorised for.
+/// A step that is not assigned: few candidates and rules of much weight speak for a step, and before
+/// all that it has no candidate.
 pub(crate) fn advised(problem: &Problem, work: &mut Work, a: &Assign) -> Option<StepId> {
     let open = open_steps(problem, a);
     let mut best = None;
@@ -36,7 +36,7 @@ pub(crate) fn advised(problem: &Problem, work: &mut Work, a: &Assign) -> Option<
     best
 }
 
-/// The steps that are not assigned and have the fewest candidates for the weight of their rules, so many of them.
+/// At most so many steps that are not assigned, chosen by their candidates and the weight of their rules.
 pub(crate) fn best_roots(problem: &Problem, work: &mut Work, a: &Assign, most: u32) -> u32 {
     let open = open_steps(problem, a);
     let mut shares = [(0u32, 1u32); STEP_LIMIT];

@@ -15,7 +15,7 @@ pub(crate) fn has_bit(set: u32, m: u8) -> bool {
     set & bit(m) != 0
 }
 
-/// Takes the least member out of a set.
+/// Takes a member out of a set.
 pub(crate) fn pop(set: &mut u32) -> Option<u8> {
     if *set == 0 {
         return None;

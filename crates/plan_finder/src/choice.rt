@@ -24,7 +24,7 @@ struct Share {
     weight: u32,
 }
 
-/// The open step or the block with the fewest branches for the weight of what is to be decided there.
+/// An open step or a block, chosen by its branches and the weight of what is to be decided there.
 pub(crate) fn choose(problem: &Problem, state: &State, work: &Work) -> Choice {
     let mut choice = Choice::Nothing;
     let mut least = Share {

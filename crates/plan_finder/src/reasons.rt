@@ -137,7 +137,7 @@ impl Reasons {
     }
 }
 
-// Takes the least number out of a set of rules.
+// Takes a number out of a set of rules.
 fn pop_rule(set: &mut u64) -> Option<u8> {
     if *set == 0 {
         return None;

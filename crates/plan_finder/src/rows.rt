@@ -176,7 +176,7 @@ pub(crate) fn nth_user(row: &[u64], place: u32) -> Option<u16> {
     None
 }
 
-/// The least user who is in just one of two rows, other than these two.
+/// A user who is in just one of two rows, other than these two.
 pub(crate) fn first_apart(row: &[u64], other: &[u64], u: u16, v: u16) -> Option<u16> {
     for (at, (word, own)) in row.iter().zip(other.iter()).enumerate() {
         let left = (*word ^ *own) & !word_of(at, u) & !word_of(at, v);

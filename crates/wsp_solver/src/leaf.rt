@@ -79,7 +79,7 @@ fn steps_of_rule(p: &Policy, f: FlowId, k: u8) -> StepSet
     }
 }
 
-/// The least step that is held by a user who is not authorised for it.
+/// A step that is held by a user who is not authorised for it.
 fn first_misheld(p: &Policy, f: FlowId, a: &Assign, done: &StepSet) -> Option<StepId>
     requires flow { f < length p.now.flows }
     requires within { IsWithin (problem_of p.now f) a.now }
@@ -96,7 +96,7 @@ fn first_misheld(p: &Policy, f: FlowId, a: &Assign, done: &StepSet) -> Option<St
     None
 }
 
-/// The least rule that is falsified.
+/// A rule that is falsified.
 fn first_falsified(p: &Policy, f: FlowId, a: &Assign, done: &StepSet) -> Option<u8>
     requires flow { f < length p.now.flows }
     requires within { IsWithin (problem_of p.now f) a.now }

@@ -10,7 +10,7 @@ use plan_finder::Finder;
 use policy_book::{Assign, Plan, Policy};
 use wf_names::{FlowId, STEP_LIMIT, StepId, UserId};
 
-/// A step that is not assigned: the one that the finder advises, or else the least.
+/// A step that is not assigned: the one that the finder advises, where it is such a step.
 pub(crate) fn next_step(
     p: &Policy,
     f: FlowId,
@@ -38,7 +38,7 @@ pub(crate) fn is_unassigned(p: &Policy, f: FlowId, a: &Assign, s: StepId) -> boo
     (s.0 as u16) < p.flow(f).steps().len() && a.at(s).is_none()
 }
 
-// The least step that is not assigned.
+// A step that is not assigned.
 fn first_free(p: &Policy, f: FlowId, a: &Assign) -> Option<StepId>
     requires flow { f < length p.now.flows }
     ensures { MatchOption result ((s : ℕ) → s < (problem_of p.now f).steps
