@@ -5,7 +5,7 @@ ghost use Rattle.constraint_forms.specs.Rules.{names, reads};
 use crate::StepSet;
 use wf_names::{RelId, StepId, UserId};
 
-/// A rule of a workflow over a relation and some of its steps.
+/// A rule of a workflow: it names some of its steps, and reads relations.
 #[derive(Clone, Copy, Debug, PartialEq, Eq)]
 pub enum Rule {
     /// The user of the first step is related to the user of the second.
@@ -40,7 +40,7 @@ impl Rule {
         }
     }
 
-    /// Whether the rule is over a relation.
+    /// Whether the rule reads a relation: who is related by it may matter to the rule.
     pub fn reads(&self, rho: RelId) -> bool
         ensures { result ≡ reads self.now rho }
     {

@@ -217,18 +217,8 @@ fn reads_all(rule: &Rule, other: &Rule) -> bool
 {
     match *other {
         Rule::Pair { rho, .. } | Rule::SomeOf { rho, .. } | Rule::AllOf { rho, .. } => {
-            reads(rule, rho)
+            rule.reads(rho)
         }
-    }
-}
-
-fn reads(rule: &Rule, rho: RelId) -> bool
-    ensures { result ≡ reads rule.now rho }
-{
-    match *rule {
-        Rule::Pair { rho: own, .. }
-        | Rule::SomeOf { rho: own, .. }
-        | Rule::AllOf { rho: own, .. } => rho == own,
     }
 }
 
