@@ -162,7 +162,7 @@ none_passes test [] k rule none is = absurd (cc)
 none_passes test (r ∷ rs) zero rule none is = let same : r ≡ rule = cc in ap test (sym same) ∙ (or_false (test r) (list_any test rs) none).0
 none_passes test (r ∷ rs) (suc k) rule none is = none_passes test rs k rule (or_false (test r) (list_any test rs) none).1 is
 
--- where no rule is over a relation or its complement, a plan stays valid whatever its pairs are
+-- where no rule reads a relation or its complement, a plan stays valid whatever its pairs are
 pairs_stay : (p : PolicyShape) (rho : ℕ) (kind : RelationKind) (f : ℕ) (assigned : List (Option ℕ)) (finished : List Bool) (plan : List ℕ) →
     list_any (is_over p.relations rho) (flow_at p f).rules ≡ false →
     IsValidPlan (problem_of p f) assigned finished plan → IsValidPlan (problem_of (record p { relations = with_kind p.relations rho kind }) f) assigned finished plan
