@@ -1,5 +1,5 @@
 -- Which relations a rule reads.
-use Rattle.std.proofs.Common.{◌≡◌, ℕ, Bool, true, false, List, sym, subst}
+use Rattle.std.proofs.Common.{◌≡◌, ℕ, Bool, true, false, sym, subst}
 use Rattle.basics.proofs.Booleans.{eq_back, eq_same}
 use Rattle.constraint_forms.specs.declared.rule.Rule.{Rule}
 use Rattle.constraint_forms.specs.declared.rule.Rule.TheVariants.{Pair, SomeOf, AllOf}

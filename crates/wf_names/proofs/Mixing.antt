@@ -1,7 +1,7 @@
 -- Lists of words mixed place by place, several places at a time and then one by one.
-use Rattle.std.proofs.Common.{◌≡◌, ℕ, ◌+◌, ◌-◌, ◌*◌, ◌<◌, ◌≤◌, List, length, get_or, set, map, slice_index, bit_and, bit_xor, refl, sym, ap, subst, ◌∙◌, inl, inr, arith, length-set, get_or-set_same, get_or-set_other, zero, suc, [], ◌∷◌}
+use Rattle.std.proofs.Common.{◌≡◌, ℕ, ◌+◌, ◌-◌, ◌<◌, ◌≤◌, List, length, get_or, slice_index, bit_and, bit_xor, sym, ap, ◌∙◌, arith, []}
 use Rattle.std.specs.Simd.Lanes.{zip2, chunk, put_chunk}
-use Rattle.std.proofs.lemmas.Simd.{length-zip2, length-chunk, length-put_chunk, get_or-chunk, get_or-zip2, get_or-put_chunk_below, get_or-put_chunk_at, get_or-put_chunk_above}
+use Rattle.std.proofs.lemmas.Simd.{length-zip2, length-chunk, get_or-chunk, get_or-zip2, get_or-put_chunk_below, get_or-put_chunk_at, get_or-put_chunk_above}
 use Rattle.std.proofs.lemmas.Grind.{same_number_lists}
 use Rattle.wf_names.specs.Words.{minus, IsMixedUpTo, IsMixedFrom}
 

@@ -5,7 +5,7 @@ use Rattle.std.proofs.lemmas.Bool.Decides.{eqb_tells}
 use Rattle.std.proofs.Math.Seq.{get_or-append_seam}
 use Rattle.std.proofs.lemmas.List.{get_or_append_left, length-append, length-replicate}
 use Rattle.std.proofs.lemmas.Option.{slice_get_within}
-use Rattle.basics.proofs.Booleans.{and-false, and_both, and_swap, eq_back, eq_is, lt_back, lt_no, lt_yes, not_true, or-false, same_by}
+use Rattle.basics.proofs.Booleans.{and-false, and_both, and_swap, eq_is, lt_back, lt_no, lt_yes, not_true, or-false, same_by}
 use Rattle.wf_names.specs.declared.limits.TheConstants.{STEP_LIMIT}
 use Rattle.constraint_forms.specs.declared.rule.Rule.{Rule}
 use Rattle.constraint_forms.specs.Flags.{word_of}
@@ -107,7 +107,7 @@ twins_own p u = mean_twins p [] u u (record {
   first = λ s is. none_some u is;
   second = λ s is. none_some u is;
   steps = λ s below. refl;
-  rules = λ k r is. record { towards = λ w below nu nv. refl; «from» = λ w below nu nv. refl; own = refl; mutually = refl };
+  rules = λ k r is rho read. record { towards = λ w below nu nv. refl; «from» = λ w below nu nv. refl; own = refl; mutually = refl };
 })
   where
     none_some : (u : ℕ) → None ≡ Some u → ⊥

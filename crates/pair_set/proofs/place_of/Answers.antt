@@ -1,5 +1,5 @@
 use Rattle.std.proofs.Common.{ℕ, List}
-use Rattle.std.specs.Prelude.{Result, Ok, Err, IfErr, MatchResult}
+use Rattle.std.specs.Prelude.{Result, Ok, Err, IfErr}
 use Rattle.std.specs.List.Sorted.{IsBinarySearchResult, IsSearchInRange}
 use Rattle.pair_set.specs.Pairs.{pair_cmp, IsAscending}
 use Rattle.pair_set.specs.Places.{IsGapFor}

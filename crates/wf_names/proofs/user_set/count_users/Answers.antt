@@ -1,9 +1,7 @@
-use Rattle.std.proofs.Common.{◌≡◌, ℕ, ◌≤◌, ◌*◌, ap, sym, subst, ◌∙◌, arith, take, length, count_ones}
+use Rattle.std.proofs.Common.{◌*◌, ap, sym, ◌∙◌, arith, count_ones}
 use Rattle.std.specs.List.{sum_by}
 use Rattle.std.proofs.lemmas.List.{take_all}
-use mir.Val.{Fits}
-use mir.Syntax.{w64}
-use Rattle.wf_names.specs.UserSets.{has_user, count_below}
+use Rattle.wf_names.specs.UserSets.{has_user}
 use Rattle.wf_names.proofs.Counts.{users_counted, count_within}
 use Rattle.wf_names.proofs.user_set.count_users.Goals as goal
 

@@ -1,4 +1,4 @@
-use Rattle.std.proofs.Common.{◌≡◌, ℕ, ◌+◌, ◌≤◌, ◌*◌, take, count_ones, slice_index, arith, ap, sym, ◌∙◌}
+use Rattle.std.proofs.Common.{◌+◌, count_ones, slice_index, arith, ap, sym, ◌∙◌}
 use Rattle.std.proofs.lemmas.Nat.{ones-le}
 use Rattle.std.proofs.lemmas.List.Sums.{sum_by_more}
 use Rattle.wf_names.proofs.words.count_words.Goals as goal

@@ -1,5 +1,5 @@
-use Rattle.std.proofs.Common.{ℕ, ◌*◌, bit_and, bit_or}
-use Rattle.wf_names.specs.Words.{minus, IsMixedUpTo}
+use Rattle.std.proofs.Common.{◌*◌, bit_and}
+use Rattle.wf_names.specs.Words.{IsMixedUpTo}
 use Rattle.wf_names.proofs.words.meet_words.Given as goal
 
 abbrev pub invariant-lanes : goal.invariant-lanes

@@ -1,4 +1,4 @@
-use Rattle.std.proofs.Common.{ℕ, ◌*◌, bit_and, bit_or}
+use Rattle.std.proofs.Common.{◌*◌}
 use Rattle.wf_names.specs.Words.{minus, IsMixedUpTo}
 use Rattle.wf_names.proofs.words.strike_words.Given as goal
 

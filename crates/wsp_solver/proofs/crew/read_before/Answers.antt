@@ -1,4 +1,4 @@
-use Rattle.std.proofs.Common.{slice_get, sym, ◌∙◌}
+use Rattle.std.proofs.Common.{slice_get, sym}
 use Rattle.policy_book.specs.Policies.{problem_of}
 use Rattle.wsp_solver.proofs.Crews.{read_alike}
 use Rattle.wsp_solver.proofs.crew.read_before.Goals as goal

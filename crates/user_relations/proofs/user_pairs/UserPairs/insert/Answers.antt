@@ -1,4 +1,4 @@
-use Rattle.std.proofs.Common.{◌∙◌, ◌==◌, ◌&&◌, ◌||◌, ◌+◌, ap, sym, subst, length, List, arith, true}
+use Rattle.std.proofs.Common.{◌∙◌, ◌==◌, ◌&&◌, ◌+◌, ap, sym, subst, length, List, arith, true}
 use Rattle.std.specs.FinSet as set
 use Rattle.pair_set.specs.PairLaws.{pair_cmp_total, pair_cmp-IsAntisymmetric, insert_held}
 use Rattle.pair_set.specs.Tables.{set_of_insert}

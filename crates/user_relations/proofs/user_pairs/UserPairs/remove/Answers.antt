@@ -1,4 +1,4 @@
-use Rattle.std.proofs.Common.{◌∙◌, ◌==◌, ◌&&◌, not, ◌-◌, ap, sym, subst, length, List, arith, false}
+use Rattle.std.proofs.Common.{◌∙◌, ◌==◌, ◌&&◌, ◌-◌, ap, sym, subst, length, List, arith, false}
 use Rattle.std.specs.FinSet as set
 use Rattle.pair_set.specs.PairLaws.{pair_cmp_total, pair_cmp-IsAntisymmetric, remove_absent}
 use Rattle.pair_set.specs.Tables.{set_of_remove}

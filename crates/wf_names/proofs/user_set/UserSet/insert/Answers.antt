@@ -1,4 +1,4 @@
-use Rattle.std.proofs.Common.{◌≡◌, ℕ, ◌<◌, ◌/◌, Bool, ◌&&◌, ◌||◌, not, nat_eq, length, arith, ap, ◌∙◌}
+use Rattle.std.proofs.Common.{◌<◌, ◌/◌, ◌||◌, nat_eq, length, arith, ap, ◌∙◌}
 use Rattle.wf_names.specs.UserSets.{has_user}
 use Rattle.wf_names.proofs.UserBits.{put_in}
 use Rattle.wf_names.proofs.user_set.UserSet.insert.Goals as goal

@@ -1,4 +1,4 @@
-use Rattle.std.proofs.Common.{◌≡◌, ℕ, ◌<◌, ◌≤◌, ◌/◌, ◌*◌, length, ap, sym, subst, ◌∙◌, arith, length-set}
+use Rattle.std.proofs.Common.{◌≡◌, ◌<◌, ◌≤◌, ◌/◌, ◌*◌, length, ap, subst, ◌∙◌, arith, length-set}
 use Rattle.wf_names.specs.UserSets.{has_user}
 use Rattle.wf_names.proofs.LowBits.{AreFull, full_next, up_to_partly, up_to_whole}
 use Rattle.wf_names.proofs.user_set.UserSet.up_to.Goals as goal
