@@ -1,8 +1,8 @@
 -- A policy is read from the document that it is written as.
 use Rattle.std.proofs.Common.{◌≡◌, ℕ, zero, suc, ◌<◌, Bool, true, false, List, [], ◌∷◌, length, refl, ap, ◌∙◌, arith, codes, Some, Ok, slice_index_or}
 use Rattle.policy_printer.proofs.Words.{AllByRecursion, Members, get_member, IsDecided, PolicyShape, WorkflowShape, no_workflow, any_below, ◌>>=◌, File, written_format, file_keys, IsPrintable, name_at, names_data, users_data, relations_data, flows_data, IsNamedPolicy}
-use Rattle.policy_reader.specs.Parts.{value_at, text_in, name_in, no_others, known_key}
-use Rattle.policy_reader.specs.Files.{document_in, format_of, admin_of, start_over, start_with, start_of, rest_of, policy_in, policy_of_file}
+use Rattle.policy_reader.specs.Parts.{value_at, text_in, name_in, text_name_in, no_others, known_key}
+use Rattle.policy_reader.specs.Files.{document_in, format_of, admin_of, start_over, related_over, staff_of, start_with, start_named, start_of, rest_of, policy_in, policy_of_file}
 use Rattle.policy_printer.specs.Documents.{document_of}
 use Rattle.policy_printer.proofs.Readings.{form_at, number_back}
 use Rattle.policy_printer.proofs.RostersAgain.{roles_back, roster_back}
@@ -23,7 +23,7 @@ module _ (decided : IsDecided) (p : PolicyShape) (h : IsNamedPolicy p) (is : IsP
   doc = document_of p
 
   admin_back : admin_of doc ≡ Ok (name_at p.roster.roles p.admin)
-  unfolding admin_of value_at text_in name_in document_of
+  unfolding admin_of value_at text_name_in text_in name_in document_of
   admin_back = rw (form_at p.roster.roles p.admin h.roles h.sound.admin) refl
 
   -- what stands at the keys
@@ -33,7 +33,7 @@ module _ (decided : IsDecided) (p : PolicyShape) (h : IsNamedPolicy p) (is : IsP
   written = (refl, refl, refl, refl, refl, refl)
 
   start_back : start_of doc ≡ Ok (record p { flow_names = []; flows = [] })
-  unfolding start_of start_with start_over
+  unfolding start_of start_named start_with staff_of start_over related_over
   start_back = rw (
     admin_back,
     roles_back doc p.roster.roles h.roles (omega (arith, h.sound.admin)) h.sound.roles written.3,

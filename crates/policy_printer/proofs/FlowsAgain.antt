@@ -1,10 +1,10 @@
 -- The workflows are read from what they are written as.
 use Rattle.std.proofs.Common.{◌≡◌, ℕ, suc, ◌<◌, ◌≤◌, false, List, [], ◌∷◌, length, map, take, refl, sym, ap, ◌∙◌, arith, codes, Some, Ok}
 use Rattle.std.specs.FinSet as set
-use Rattle.policy_printer.proofs.Words.{length-map, take_all, not_true, and_both, lt_back, le_back, AreNames, Members, get_member, STEP_LIMIT, FLOW_LIMIT, AllPairs, RelationShape, known_names, is_before, IsDecided, PolicyShape, WorkflowShape, IsSoundWorkflow, flow_at, no_workflow, Flows, Ascend, names_data, pair_data, pairs_data, permits_data, rules_data, rows, flow_entry, flows_data, IsNamedWorkflow, least_none}
-use Rattle.policy_reader.specs.Parts.{value_at, array_in, table_in, name_in, no_others, known_key}
+use Rattle.policy_printer.proofs.Words.{length-map, each, take_all, not_true, and_both, lt_back, le_back, AreNames, Members, get_member, STEP_LIMIT, FLOW_LIMIT, AllPairs, RelationShape, known_names, is_before, IsDecided, PolicyShape, WorkflowShape, IsSoundWorkflow, flow_at, no_workflow, Flows, Ascend, names_data, pair_data, pairs_data, permits_data, rules_data, rows, flow_entry, flows_data, IsNamedWorkflow, least_none}
+use Rattle.policy_reader.specs.Parts.{value_at, array_in, table_in, table_at, count_in, entries_at, name_in, no_others, known_key}
 use Rattle.policy_reader.specs.Rules.{rules_of}
-use Rattle.policy_reader.specs.Flows.{order_in, pairs_of, cycle_at, no_cycle, ordered_in, flow_in, workflow_in, next_flow, flows_of}
+use Rattle.policy_reader.specs.Flows.{order_in, order_pairs, cycle_at, no_cycle, ordered_in, flow_in, ruled_in, workflow_in, next_flow, flows_of}
 use Rattle.policy_printer.specs.Documents.{workflow_members}
 use Rattle.policy_printer.proofs.RostersAgain.{steps_back}
 use Rattle.policy_printer.proofs.Rows.{pairs_back}
@@ -34,7 +34,7 @@ module _ (decided : IsDecided) (f : ℕ) (roles : List (List ℕ)) (relations : 
   order_again = rw (items_back (map (pair_data steps) (rows (length steps) (length steps) w.flow.order))) (pairs_back Flows f steps w.flow.order h.steps h.kept.orders)
 
   ordered_again : ordered_in f steps written ≡ Ok (record { steps = steps; order = w.flow.order; permits = set.empty })
-  unfolding ordered_in pairs_of workflow_members
+  unfolding ordered_in order_pairs workflow_members
   ordered_again = rw (order_again, no_cycle-again) refl
 
   -- what stands at the keys
@@ -55,7 +55,7 @@ module _ (decided : IsDecided) (f : ℕ) (roles : List (List ℕ)) (relations : 
 
 workflow_again : IsDecided → (p : PolicyShape) → AreNames p.roster.roles → AreNames (known_names p.relations) → (w : WorkflowShape) → IsNamedWorkflow w
     → IsSoundWorkflow (length p.roster.roles) (length p.relations) w → w.retired ≡ false → workflow_in p (workflow_members p.roster.roles p.relations w) ≡ Ok w
-unfolding workflow_in
+unfolding workflow_in ruled_in
 workflow_again decided p named related w h sound active =
     let f = length p.flows in
     rw ((there decided f p.roster.roles p.relations named related w h sound).3, flow_again decided f p.roster.roles p.relations named related w h sound, rules_again decided f p.roster.roles p.relations named related w h sound)
@@ -79,9 +79,9 @@ module _ (decided : IsDecided) (p : PolicyShape) (named : AreNames p.roster.role
   -- the workflows are read from what they are written as
   pub flows_back : (again : Members) → Ascend p.flow_names → 0 < length p.flow_names → length p.flows ≤ FLOW_LIMIT → get_member (codes "flows") again ≡ Some (flows_data p)
       → flows_of (record p { flow_names = []; flows = [] }) again ≡ Ok p
-  unfolding flows_of value_at table_in
+  unfolding flows_of entries_at table_at count_in value_at table_in
   flows_back again ascend some few there =
       let n = length p.flows in
       let tabled = tabled_in_order (flow_entry p) p.flow_names n ascend (λ f. refl) (omega (arith, count)) in
       rw (there, tabled, length-map (upto n) (flow_entry p), upto_length n, at_least-ok Flows 0 n (omega (arith, some, count)), at_most-ok Flows 0 n FLOW_LIMIT few)
-      (count_back next_flow (flow_entry p) state n step ∙ (λ i. Ok (record p { flow_names = take_all n p.flow_names (omega (arith, count)) i; flows = take_all n p.flows (omega arith) i })))
+      (ap (each next_flow (state 0)) tabled ∙ count_back next_flow (flow_entry p) state n step ∙ (λ i. Ok (record p { flow_names = take_all n p.flow_names (omega (arith, count)) i; flows = take_all n p.flows (omega arith) i })))

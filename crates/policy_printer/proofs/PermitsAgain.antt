@@ -3,7 +3,7 @@ use Rattle.std.proofs.Common.{◌≡◌, ℕ, ◌<◌, Bool, false, nat_eq, nat_
 use Rattle.std.specs.FinSet as set
 use Rattle.policy_printer.proofs.Words.{IsDistinct, list_any, nat_eq_equiv, slice_cmp-IsAntisymmetric, nat_cmp-IsAntisymmetric, eq_same, or-false, lt_back, lt_yes, Members, get_member, place_of, AreNames, Pairs, AllPairs, FlowShape, Flows, name_at, chosen, permit_entry, permits_data}
 use Rattle.std.proofs.lemmas.List.Folds.{list_any-append}
-use Rattle.policy_reader.specs.Parts.{value_at, array_in, table_in, text_in, once}
+use Rattle.policy_reader.specs.Parts.{value_at, array_in, table_in, table_at, text_in, named_in, once}
 use Rattle.policy_reader.specs.Flows.{permits_of, next_permit, next_permitted}
 use Rattle.policy_printer.proofs.Readings.{list_back, middle, new_middle, items_back, text_at, place_at, number_back}
 use Rattle.policy_printer.proofs.Sets.{by_second, at, lines, line_back, same_part, whole_part, no_part}
@@ -21,7 +21,7 @@ module _ (f : ℕ) (roles : List (List ℕ)) (whole : FlowShape) (named : AreNam
   state ss = with_permits (lines by_second whole.permits (is_done ss))
 
   permitted_again : (s r : ℕ) (some : Pairs) → r < length roles → set.contains some (r, s) ≡ false → next_permitted f roles s (with_permits some) (text_at roles r) ≡ Ok (with_permits (set.insert some (r, s)))
-  unfolding next_permitted once text_in
+  unfolding next_permitted named_in once text_in
   permitted_again s r some lt fresh = rw (number_back Flows f roles r named lt, fresh) refl
 
   abbrev total : ℕ
@@ -52,7 +52,7 @@ module _ (f : ℕ) (roles : List (List ℕ)) (whole : FlowShape) (named : AreNam
 
   -- the permissions are read from what they are written as
   pub permits_back : (again : Members) → get_member (codes "permit") again ≡ Some (permits_data roles whole) → permits_of f roles (with_permits set.empty) again ≡ Ok whole
-  unfolding permits_of value_at table_in
+  unfolding permits_of table_at value_at table_in
   permits_back again there =
       let none = no_part whole.permits (λ q. false) (λ q. refl) in
       let all = whole_part whole.permits (λ q. is_done order q.1) (λ q h. among q.1 ∙ lt_yes q.1 total (within.each q.0 q.1 h).1) in

@@ -3,7 +3,7 @@ use Rattle.std.proofs.Common.{◌≡◌, ℕ, zero, suc, ◌+◌, true, false, n
 use Rattle.policy_printer.proofs.Words.{AllByRecursion, pointwise, nat_list_eq_equiv, slice_get-map, get_or_from_slice_get, length-map, Data, string, table, Members, no_members, member, get_member, AreNames, RELATION_LIMIT, PAIR_LIMIT, Pairs, RelationKind, listed, complement, RelationShape, known_names, complement_of, kind_of, complemented, has_list, is_listed, listed_pairs, AreSound, AreOfUsers, Relations, entries, first_declared, names_of, is_built_in, is_complement, entry_of, Ascend, name_at, pair_data, pairs_data, rows, table_below, relation_entry, relations_data}
 use Rattle.std.specs.List.{IsDistinct}
 use Rattle.policy_reader.specs.Parts.{array_in, table_in, text_in, name_in}
-use Rattle.policy_reader.specs.Relations.{listed_in, complement_in, kind_in, next_relation, relations_in, relations_of}
+use Rattle.policy_reader.specs.Relations.{listed_in, complement_in, kind_in, kind_at, free_name_in, next_relation, relations_in, relations_of}
 use Rattle.policy_printer.specs.Documents.{kind_members}
 use Rattle.policy_printer.proofs.Rows.{pairs_back, pairs_count}
 use Rattle.policy_printer.proofs.Readings.{list_back, items_back, upto_map, got_middle, at_most-ok}
@@ -118,7 +118,7 @@ module _ (users : List (List ℕ)) (whole : List RelationShape) where
       kind_again n rho (complement m) e = complement_again n m (sound.complements rho m e)
 
       step : (before : List RelationShape) (r : RelationShape) (after : List RelationShape) → whole ≡ before ++ r ∷ after → next_relation users again before (entry' r) ≡ Ok (before ++ r ∷ [])
-      unfolding next_relation name_in table_in
+      unfolding next_relation free_name_in kind_at name_in table_in
       step before r after e =
           let i = length before in
           let got : slice_get whole i ≡ Some r = ap (λ rs. slice_get rs i) e ∙ got_middle before r after in

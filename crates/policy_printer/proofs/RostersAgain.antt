@@ -2,8 +2,8 @@
 use Rattle.std.proofs.Common.{◌≡◌, ℕ, suc, ◌<◌, false, nat_lt, List, [], length, map, take, refl, ap, ◌∙◌, arith, ◌≤◌, Bool, nat_eq, ◌∷◌, ◌++◌, get_or, sym, codes, Some, Ok, is_some, position, slice_get}
 use Rattle.std.specs.FinSet as set
 use Rattle.policy_printer.proofs.Words.{length-map, length-take-le, take_all, lt_yes, lt_no, Members, get_member, string, AreNames, place_of, USER_LIMIT, ROLE_LIMIT, STEP_LIMIT, Pairs, RosterShape, has_role, IsSoundRoster, each, Users, Roles, Flows, Ascend, chosen, user_entry, users_data, names_data, pointwise, none_cons, PolicyPart}
-use Rattle.policy_reader.specs.Parts.{value_at, array_in, table_in, text_in, name_in, once, next_name}
-use Rattle.policy_reader.specs.Rosters.{users_in, roster_of, next_user, next_held, roles_of, next_role}
+use Rattle.policy_reader.specs.Parts.{value_at, array_in, table_in, array_at, table_at, count_in, items_at, entries_at, text_in, name_in, text_name_in, named_in, once, next_name}
+use Rattle.policy_reader.specs.Rosters.{roster_of, next_user, next_held, roles_of, next_role}
 use Rattle.policy_printer.proofs.Readings.{count_back, upto, upto_length, take_next, items_back, text_at, form_at, number_back, at_least-ok, at_most-ok, list_back, got_middle}
 use Rattle.policy_printer.proofs.Sets.{by_first, lines, line_back, next_line, whole_part, no_part}
 use Rattle.policy_printer.proofs.Tabled.{tabled_in_order}
@@ -23,7 +23,7 @@ module _ (whole : RosterShape) (sound : IsSoundRoster whole) (roles : AreNames w
 
   held_again : (u r : ℕ) (some : Pairs) → r < length whole.roles → set.contains some (u, r) ≡ false
       → next_held u (with_members (suc u) some) (text_at whole.roles r) ≡ Ok (with_members (suc u) (set.insert some (u, r)))
-  unfolding next_held once text_in
+  unfolding next_held named_in once text_in
   held_again u r some lt fresh = rw (number_back Users u whole.roles r roles lt, fresh) refl
 
   user_again : (u : ℕ) → u < length whole.users → next_user (state u) (user_entry whole u) ≡ Ok (state (suc u))
@@ -38,7 +38,7 @@ module _ (whole : RosterShape) (sound : IsSoundRoster whole) (roles : AreNames w
 
   -- the roster is read from what its users are written as
   pub roster_back : (again : Members) → Ascend whole.users → 0 < total → get_member (codes "users") again ≡ Some (users_data whole) → roster_of whole.roles again ≡ Ok whole
-  unfolding roster_of users_in value_at table_in
+  unfolding roster_of entries_at table_at count_in value_at table_in
   roster_back again ascend some there =
       let tabled = tabled_in_order (user_entry whole) whole.users total ascend (λ n. refl) (omega arith) in
       let none = no_part whole.members (λ q. nat_lt q.0 0) (λ q. lt_no q.0 0 (omega arith)) in
@@ -59,21 +59,21 @@ not_before p before x after e = none_passes p before (x ∷ after) (position-Som
 -- the next of some names
 name_again : (names : List (List ℕ)) → AreNames names → (t : PolicyPart) (f : ℕ) (before : List (List ℕ)) (x : List ℕ) (after : List (List ℕ)) → names ≡ before ++ x ∷ after
     → next_name t f before (string x) ≡ Ok (before ++ x ∷ [])
-unfolding next_name text_in name_in once
+unfolding next_name text_name_in text_in name_in once
 name_again names h t f before x after e =
     let here = ap (λ ns. slice_get ns (length before)) e ∙ got_middle before x after in
     rw (h.form (length before) x here, not_before (pointwise nat_eq x) before x after (ap (λ ns. place_of ns x) (sym e) ∙ h.alone (length before) x here)) refl
 
 -- the roles are read from what they are written as
 pub roles_back : (again : Members) (roles : List (List ℕ)) → AreNames roles → 0 < length roles → length roles ≤ ROLE_LIMIT → get_member (codes "roles") again ≡ Some (names_data roles) → roles_of again ≡ Ok roles
-unfolding roles_of value_at array_in next_role
+unfolding roles_of items_at array_at count_in value_at array_in next_role
 roles_back again roles named some few there =
-    rw (there, items_back (map string roles), length-map roles string, at_least-ok Roles 0 (length roles) some, at_most-ok Roles 0 (length roles) ROLE_LIMIT few)
+    rw (there, items_back (map string roles), length-map roles string, at_least-ok Roles 0 (length roles) some, at_most-ok Roles 0 (length roles) ROLE_LIMIT few, items_back (map string roles))
     (list_back next_role string (λ ns. ns) roles (λ before x after e. name_again roles named Roles (length before) before x after e))
 
 -- the steps of a workflow are read from what they are written as
 pub steps_back : (f : ℕ) (again : Members) (steps : List (List ℕ)) → AreNames steps → 0 < length steps → length steps ≤ STEP_LIMIT → get_member (codes "steps") again ≡ Some (names_data steps) → steps_of f again ≡ Ok steps
-unfolding steps_of value_at array_in
+unfolding steps_of items_at array_at count_in value_at array_in
 steps_back f again steps named some few there =
-    rw (there, items_back (map string steps), length-map steps string, at_least-ok Flows f (length steps) some, at_most-ok Flows f (length steps) STEP_LIMIT few)
+    rw (there, items_back (map string steps), length-map steps string, at_least-ok Flows f (length steps) some, at_most-ok Flows f (length steps) STEP_LIMIT few, items_back (map string steps))
     (list_back (next_name Flows f) string (λ ns. ns) steps (name_again steps named Flows f))

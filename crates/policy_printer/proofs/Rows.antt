@@ -7,7 +7,7 @@ use Rattle.policy_printer.proofs.Words.{eq_by_cmp, nat_cmp, ordering_then, nat_c
 use Rattle.std.specs.List.Sorted.{IsStrictlySortedBy}
 use Rattle.std.specs.FinMap.Entries.{below_all, same_entries}
 use Rattle.pair_set.proofs.SetOfList.{len-from_list}
-use Rattle.policy_reader.specs.Parts.{once, next_pair}
+use Rattle.policy_reader.specs.Parts.{once, named_pair_in, numbers_in, next_pair}
 use Rattle.policy_printer.proofs.Readings.{list_back, middle, new_middle, number_back}
 use Rattle.policy_printer.proofs.Sets.{itself, by_first, lines}
 
@@ -113,7 +113,7 @@ module _ (t : PolicyPart) (f : ℕ) (names : List (List ℕ)) (whole : Pairs) (n
   all = rows (length names) (length names) whole
 
   pair_again : (some : Pairs) (p : ℕ × ℕ) → set.contains whole p ≡ true → set.contains some p ≡ false → next_pair t f names some (pair_data names p) ≡ Ok (set.insert some p)
-  unfolding next_pair once
+  unfolding next_pair named_pair_in numbers_in once
   pair_again some p here fresh = let both = within.each p.0 p.1 here in rw (number_back t f names p.0 named both.0, number_back t f names p.1 named both.1, fresh) refl
 
   step : (before : List (ℕ × ℕ)) (p : ℕ × ℕ) (after : List (ℕ × ℕ)) → all ≡ before ++ p ∷ after → next_pair t f names (set.from_list before) (pair_data names p) ≡ Ok (set.from_list (before ++ p ∷ []))

@@ -1,14 +1,13 @@
 -- The rules of a workflow are read from what they are written as.
 use Rattle.std.proofs.Common.{◌≡◌, ℕ, zero, suc, ◌+◌, ◌<◌, ◌≤◌, Bool, true, false, cond, nat_eq, List, [], ◌∷◌, ◌++◌, length, map, refl, sym, ap, ◌∙◌, arith, codes, Some, Ok, slice_set, slice_get, replicate}
 use Rattle.constraint_forms.specs.declared.rule.Rule.TheVariants as rule
-use Rattle.policy_printer.proofs.Words.{length-map, eq_same, not_true, or_right, each, string, Members, get_member, AreNames, STEP_LIMIT, RULE_LIMIT, RelationShape, known_names, is_member, Rule, IsSoundRule, AreSoundRules, Flows, name_at, names_where, chosen, rule_data, rules_data, HasFlags, HaveFlags}
+use Rattle.policy_printer.proofs.Words.{length-map, not_true, or_left, or_right, eq_same, each, string, Members, get_member, AreNames, STEP_LIMIT, RULE_LIMIT, RelationShape, known_names, is_member, Rule, IsSoundRule, AreSoundRules, Flows, name_at, names_where, chosen, rule_data, rules_data, HasFlags, HaveFlags}
 use Rattle.constraint_forms.specs.Assigned.{no_steps}
 use Rattle.constraint_forms.specs.Rules.{any_from}
-use Rattle.policy_reader.specs.Parts.{value_at, array_in, table_in, text_in, once, no_others, known_key}
-use Rattle.policy_reader.specs.Rules.{relation_in, step_in, next_member, group_in, pair_in, grouped_in, form_in, rule_of_form, rule_in, next_rule, rules_in, rules_of}
+use Rattle.policy_reader.specs.Parts.{value_at, array_in, table_in, text_in, named_in, once, no_others, known_key}
+use Rattle.policy_reader.specs.Rules.{relation_in, step_in, next_member, group_in, relation_at, step_at, group_at, key_in, keys_in, pair_in, grouped_in, form_in, rule_of_form, rule_in, next_rule, rules_in, rules_of}
 use Rattle.policy_printer.specs.Documents.{rule_members, grouped_members}
 use Rattle.policy_printer.proofs.Readings.{list_back, chosen_back, got_middle, items_back, text_at, number_back, at_least-ok, at_most-ok}
-use Rattle.policy_printer.proofs.Writing.{first_in, second_in, some_step_in, all_step_in}
 
 -- ---- groups
 
@@ -56,7 +55,7 @@ module _ (f : ℕ) (steps : List (List ℕ)) (named : AreNames steps) where
     members = chosen (length steps) (is_member whole)
 
     member_again : (g : List Bool) (s : ℕ) → s < length steps → is_member g s ≡ false → next_member f steps g (text_at steps s) ≡ Ok (slice_set g s true)
-    unfolding next_member once text_in
+    unfolding next_member named_in once text_in
     member_again g s lt fresh = rw (number_back Flows f steps s named lt, fresh) refl
 
     start : first_of 0 whole ≡ no_steps
@@ -89,22 +88,16 @@ module _ (f : ℕ) (steps : List (List ℕ)) (named : AreNames steps) where
     relation_again rho lt = number_back Flows f (known_names relations) rho related (omega (arith, lt, length-map relations (λ r. r.name)))
 
     step_again : (s : ℕ) → s < length steps → step_in f steps (string (name_at steps s)) ≡ Ok s
-    unfolding step_in text_in
+    unfolding step_in named_in text_in
     step_again s lt = number_back Flows f steps s named lt
 
-    some_group : (rho s : ℕ) (g : List Bool) → IsSoundRule (length steps) (length relations) (rule.SomeOf rho g s) → (x : ℕ) → is_member g x ≡ true → x < length steps
-    some_group rho s g h x here = h.names x (or_right (nat_eq x s) _ here)
-
-    all_group : (rho s : ℕ) (g : List Bool) → IsSoundRule (length steps) (length relations) (rule.AllOf rho g s) → (x : ℕ) → is_member g x ≡ true → x < length steps
-    all_group rho s g h x here = h.names x (or_right (nat_eq x s) _ here)
-
     rule_again : (r : Rule) → IsSoundRule (length steps) (length relations) r → HasFlags r → rule_in f relations steps (rule_data relations steps r) ≡ Ok r
-    unfolding rule_in form_in rule_of_form pair_in grouped_in value_at table_in no_others known_key rule_members grouped_members
-    rule_again (rule.Pair rho s t) h flags = rw (relation_again rho (h.known rho (eq_same rho)), step_again s (first_in (length steps) (length relations) rho s t h), step_again t (second_in (length steps) (length relations) rho s t h)) refl
+    unfolding rule_in form_in rule_of_form keys_in key_in relation_at step_at group_at pair_in grouped_in value_at table_in no_others known_key rule_members grouped_members
+    rule_again (rule.Pair rho s t) h flags = rw (relation_again rho (h.known rho (eq_same rho)), step_again s (h.names s (or_left (nat_eq s s) _ (eq_same s))), step_again t (h.names t (or_right (nat_eq t s) _ (eq_same t)))) refl
     rule_again (rule.SomeOf rho g s) h flags =
-        rw (relation_again rho (h.known rho (eq_same rho)), step_again s (some_step_in (length steps) (length relations) rho s g h), group_again g flags (some_group rho s g h) h.members) refl
+        rw (relation_again rho (h.known rho (eq_same rho)), step_again s (h.names s (or_left (nat_eq s s) _ (eq_same s))), group_again g flags (λ x here. h.names x (or_right (nat_eq x s) _ here)) h.members) refl
     rule_again (rule.AllOf rho g s) h flags =
-        rw (relation_again rho (h.known rho (eq_same rho)), step_again s (all_step_in (length steps) (length relations) rho s g h), group_again g flags (all_group rho s g h) h.members) refl
+        rw (relation_again rho (h.known rho (eq_same rho)), step_again s (h.names s (or_left (nat_eq s s) _ (eq_same s))), group_again g flags (λ x here. h.names x (or_right (nat_eq x s) _ here)) h.members) refl
 
     rule_step : (rules : List Rule) → AreSoundRules (length steps) (length relations) rules → HaveFlags rules → (before : List Rule) (r : Rule) (after : List Rule) → rules ≡ before ++ r ∷ after
         → next_rule f relations steps before (rule_data relations steps r) ≡ Ok (before ++ r ∷ [])

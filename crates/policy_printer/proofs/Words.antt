@@ -1,4 +1,5 @@
 -- The words that the proofs of this crate cite most, passed on from one place. Declares nothing.
+pub use Rattle.std.proofs.Common.{Err, Some, [], ap, arith, false, length, map, nat_eq, refl, slice_get, string_bytes, subst, sym, take, true, ℕ, ◌++◌, ◌+◌, ◌<◌, ◌∙◌, ◌∷◌, ◌≡◌}
 pub use Rattle.policy_reader.proofs.Words.{length-map, map-append, append-nil, length-append, slice_cmp, nat_list_cmp_total, pointwise, nat_list_eq_equiv, AllByRecursion, All, list_any, eq_by_cmp, ordering_reverse, eq_same, or_left, or_right, not_true, ◌>>=◌, each, pair_cmp_total, pair_cmp-IsAntisymmetric, all_empty, Pairs, pair_cmp, AllPairs, IsAscending, AreOfUsers, IsSoundRule, AreSoundRules, any_below, entries, items, IsPrintable, Ascend, first_declared, names_of, is_complement, entry_of, Members, Data, view, members_view, table_view, FlowShape, is_before}
 pub use Rattle.std.proofs.lemmas.List.{get_or_default, take_more, length-take-le, take_all}
 pub use Rattle.std.proofs.lemmas.Map.Keys.{Less-from_sorted, IsDistinct-cons, IsDistinct-IsPermutation, IsDistinct-from_sorted}

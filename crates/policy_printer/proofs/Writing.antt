@@ -1,17 +1,15 @@
 -- Values and tables as they are built.
-use Rattle.std.proofs.Common.{◌≡◌, ℕ, suc, ◌+◌, ◌<◌, Bool, true, false, List, [], ◌∷◌, ◌++◌, length, map, take, get_or, nat_eq, IsTrue, String, Global, Ordering, Less, Equal, Greater, string_bytes, refl, sym, ap, ◌∙◌, append_assoc, arith, Result, Ok, Err, OnOk, slice_get, Option, Some, None, option_map, zero, subst, inl, inr}
+use Rattle.std.proofs.Common.{◌≡◌, ℕ, suc, ◌+◌, ◌<◌, ◌≤◌, Bool, true, false, List, [], ◌∷◌, ◌++◌, length, map, take, get_or, nat_eq, IsTrue, String, Global, Vec, Ordering, Less, Equal, Greater, string_bytes, refl, sym, ap, ◌∙◌, append_assoc, arith, Result, Ok, Err, OnOk, slice_get, Option, Some, None, option_map, zero, subst, inl, inr}
 use Rattle.std.specs.FinSet as set
-use Rattle.policy_printer.proofs.Words.{All, get_or_from_slice_get, slice_get_past, slice_get_within, or_left, or_right, eq_same, AreNames, first_declared, RELATION_LIMIT, Pairs, AllPairs, RelationShape, RelationKind, listed, complement, kind_of, known_names, has_list, is_listed, complemented, complement_of, listed_pairs, pairs_of, all_empty, AreOfUsers, IsSoundRule, AreSound, match_ordering, get_or_default, length-map, map-append, take_more, Data, Members, member, view, members_view, with_member, table_below, chosen, name_at, row, rows, string, pair_data}
+use Rattle.policy_printer.proofs.Words.{All, get_or_from_slice_get, slice_get_past, slice_get_within, AreNames, first_declared, RELATION_LIMIT, Pairs, AllPairs, RelationShape, RelationKind, listed, complement, kind_of, known_names, has_list, is_listed, complemented, complement_of, listed_pairs, pairs_of, all_empty, AreOfUsers, AreSound, match_ordering, get_or_default, length-map, map-append, take_more, take_all, Data, Members, member, view, members_view, with_member, table_below, chosen, name_at, row, rows, string, array, items_of, pair_data}
 use Rattle.std.proofs.lemmas.Bool.{cases_lt}
 use Rattle.wf_names.specs.Names.{is_name}
 use Rattle.wf_names.proofs.Places.{are_names}
-use Rattle.constraint_forms.specs.declared.rule.Rule.TheVariants.{Pair, SomeOf, AllOf}
 use Rattle.std.specs.BTreeMap.{insert_entry}
 use Rattle.std.specs.String.{string_cmp}
-use Rattle.toml.specs.declared.value.Value.{Value}
-
-abbrev Entry : Type 0
-Entry = String Global × Value
+use Rattle.toml.specs.declared.value.Value.{Value, Array}
+use Rattle.toml.proofs.Views.{view-Array}
+use Rattle.policy_reader.proofs.Fresh.{Entry}
 
 placed : (o : Ordering) (k : String Global) (v : Value) (e : Entry) (es rest : List Entry) (ms : Members) → members_view rest ≡ ms
     → members_view (match_ordering o ((k, v) ∷ e ∷ es) ((e.0, v) ∷ es) (e ∷ rest))
@@ -24,6 +22,13 @@ placed Greater k v e es rest ms same = ap (member (string_bytes e.0) (view e.1))
 pub insert_view : (es : List Entry) (k : String Global) (v : Value) → members_view (insert_entry string_cmp es k v) ≡ with_member (string_bytes k) (view v) (members_view es)
 insert_view [] k v = refl
 insert_view (e ∷ es) k v = placed (string_cmp k e.0) k v e es _ _ (insert_view es k v)
+
+-- an array of values, which were written to the last
+pub written_to : (ds : ℕ → List Data) (v : Vec Value Global) (n m : ℕ) → map view v.items ≡ ds n → n ≡ m → view (Array v) ≡ array (items_of (ds m))
+written_to ds v n m e same = view-Array v ∙ ap (λ xs. array (items_of xs)) (e ∙ ap ds same)
+
+pub all_written : {X : Type 0} (f : X → Data) (v : Vec Value Global) (n : ℕ) (xs : List X) → map view v.items ≡ map f (take n xs) → length xs ≤ n → view (Array v) ≡ array (items_of (map f xs))
+all_written f v n xs e le = view-Array v ∙ ap (λ ds. array (items_of ds)) (e ∙ ap (map f) (take_all n xs le))
 
 one_more : (n : ℕ) → n + 1 ≡ suc n
 one_more n = omega arith
@@ -121,17 +126,3 @@ listed_of_users (Some (complement n)) users h = all_empty (λ u v. (u < users) �
 -- the pairs of a relation are of users
 pub pairs_of_users : (users rho : ℕ) (relations : List RelationShape) → AreOfUsers users relations → AllPairs (λ u v. (u < users) × (v < users)) (pairs_of relations rho)
 pairs_of_users users rho relations h = listed_of_users (kind_of relations rho) users (h rho)
-
--- ---- rules
-
-pub first_in : (steps relations rho s t : ℕ) → IsSoundRule steps relations (Pair rho s t) → s < steps
-first_in steps relations rho s t h = h.names s (or_left (nat_eq s s) _ (eq_same s))
-
-pub second_in : (steps relations rho s t : ℕ) → IsSoundRule steps relations (Pair rho s t) → t < steps
-second_in steps relations rho s t h = h.names t (or_right (nat_eq t s) _ (eq_same t))
-
-pub some_step_in : (steps relations rho s : ℕ) (group : List Bool) → IsSoundRule steps relations (SomeOf rho group s) → s < steps
-some_step_in steps relations rho s group h = h.names s (or_left (nat_eq s s) _ (eq_same s))
-
-pub all_step_in : (steps relations rho s : ℕ) (group : List Bool) → IsSoundRule steps relations (AllOf rho group s) → s < steps
-all_step_in steps relations rho s group h = h.names s (or_left (nat_eq s s) _ (eq_same s))

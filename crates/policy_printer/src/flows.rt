@@ -76,6 +76,7 @@ fn permitted_value(
     Ok(Value::Array(values))
 }
 
+#[tactic(auto, using(crate::proofs::Writing::name_found))]
 fn put_permit(
     alloc: Global,
     table: &mut Table,

@@ -80,9 +80,6 @@ module _ {S : Type 0} (read : S → List ℕ × Data → Reading S) (names : S �
   pub left_new : (s : S) (left : List Entry) (e : Entry) (es : List Entry) → left ≡ e ∷ es → IsLeft read names all whole s left → IsNew (names s) e
   left_new s left e es steps h = rw h.named (new_in (texts h.before) (string_bytes e.0) (texts es) (subst Ascend (parts s left e es steps h) h.ascend))
 
-  pub left_room : (s : S) (left : List Entry) (e : Entry) (es : List Entry) → left ≡ e ∷ es → IsLeft read names all whole s left → length (names s) < length all
-  left_room s left e es steps h = omega (arith, ap length h.named, texts_count h.before, ap length (h.split ∙ ap (λ x. h.before ++ x) steps), length-append h.before (e ∷ es))
-
   -- after the last entry the names are the keys
   left_all : (s : S) (left : List Entry) → left ≡ [] → IsLeft read names all whole s left → names s ≡ texts all
   left_all s left none h = h.named ∙ sym (ap texts (h.split ∙ ap (λ x. h.before ++ x) none ∙ append-nil h.before))

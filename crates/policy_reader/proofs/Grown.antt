@@ -1,6 +1,6 @@
 -- Policies with more workflows.
 use Rattle.std.proofs.Common.{◌≡◌, ℕ, ◌<◌, false, List, [], ◌∷◌, ◌++◌, length, refl, sym, ◌∙◌, subst}
-use Rattle.policy_reader.proofs.Words.{AllByRecursion, IsGrown, names_of, is_held, Ascend, IsBegun, IsPrintable}
+use Rattle.policy_reader.proofs.Words.{AllByRecursion, IsGrown, names_of, some_user_has, Ascend, IsBegun, IsPrintable}
 use Rattle.policy_book.specs.Shapes.{PolicyShape, WorkflowShape}
 
 pub push_all : {X : Type 0} (P : X → Type 0) (xs : List X) (y : X) → AllByRecursion P xs → P y → AllByRecursion P (xs ++ y ∷ [])
@@ -21,7 +21,7 @@ printable p q begun none grown ascend some = record {
   begun = record {
     users = subst (λ x. Ascend x.users) (sym grown.roster) begun.users;
     relations = subst (λ x. Ascend (names_of x)) (sym grown.relations) begun.relations;
-    admin = (λ i. is_held (grown.roster i) (grown.admin i)) ∙ begun.admin;
+    admin = (λ i. some_user_has (grown.roster i) (grown.admin i)) ∙ begun.admin;
   };
   flows = ascend;
   some = some;

@@ -2,9 +2,6 @@
 use Rattle.std.proofs.Common.{◌≡◌, ℕ, zero, suc, ◌+◌, ◌<◌, Bool, true, false, refl, subst, inl, inr, arith, ◌&&◌, List, [], ◌∷◌, length, slice_set}
 use Rattle.policy_reader.proofs.Words.{cases_lt, or_left, or_right, any_below, any_from}
 
-pub any_none : (n : ℕ) (test : ℕ → Bool) → any_below n test ≡ false → test n ≡ false → any_below (n + 1) test ≡ false
-any_none n test none here = let same : n + 1 ≡ suc n = omega arith in rw (same, none, here) refl
-
 pub any_at : (n : ℕ) (test : ℕ → Bool) (u : ℕ) → u < n → test u ≡ true → any_below n test ≡ true
 any_at zero test u lt here = absurd (omega (arith, lt))
 any_at (suc n) test u lt here = elim (cases_lt u n) [

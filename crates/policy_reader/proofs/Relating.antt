@@ -1,7 +1,7 @@
 -- Relations that were read from the entries of a table, up to the last of them.
 use Rattle.std.proofs.Common.{◌≡◌, ℕ, zero, suc, ◌+◌, ◌<◌, ◌≤◌, Bool, true, false, cond, List, [], ◌∷◌, ◌++◌, length, map, refl, sym, ap, ◌∙◌, subst, ◌⊎◌, inl, inr, arith, Option, Some, None, option_map, slice_get, nat_eq, codes, Ok, string_bytes}
 use Rattle.policy_reader.specs.declared.fault.PolicyKind.TheVariants as kind
-use Rattle.policy_reader.proofs.Words.{list_any, pointwise, nat_list_eq_equiv, or_false, eq_same, eq_below, length-map, map-append, IsDistinct-push, Data, Members, as_table, RELATION_LIMIT, USER_LIMIT, AreOfUsers, or_fault, fault, Reading, is_among, entries, first_declared, entry_of, is_complement, is_complement_table, passes, names_of, Ascend, view, members_view, is_marked, IsTarget, IsKept, AreKept}
+use Rattle.policy_reader.proofs.Words.{list_any, pointwise, nat_list_eq_equiv, or_false, eq_same, eq_below, length-map, map-append, IsDistinct-push, Data, Members, as_table, RELATION_LIMIT, USER_LIMIT, AreOfUsers, or_fault, fault, Reading, is_among, entries, first_declared, entry_of, is_complement, is_complement_table, passes, names_of, Ascend, view, members_view, is_marked, IsTarget, IsReadKind, AreReadRelations}
 use Rattle.std.specs.List.{IsDistinct}
 use Rattle.user_relations.specs.Relations.{RelationShape, RelationKind, listed, complement, kind_of, has_list, known_names}
 use Rattle.user_relations.specs.Soundness.{AreSound}
@@ -37,8 +37,8 @@ kind_pushed rs r (suc (suc n)) = elim (pushed rs r n) [
   | inr new ↦ inr (omega (arith, new.0), ap (option_map (λ (x : RelationShape). x.kind)) new.1)
 ]
 
-pub kept_push : (users : ℕ) (all : List (List ℕ × Data)) (rs : List RelationShape) (r : RelationShape) → AreKept users all rs → is_among (codes "same" ∷ codes "other" ∷ []) r.name ≡ false
-    → is_among (names_of rs) r.name ≡ false → IsKept users all (is_marked first_declared all (first_declared + length rs)) r.kind → AreKept users all (rs ++ r ∷ [])
+pub kept_push : (users : ℕ) (all : List (List ℕ × Data)) (rs : List RelationShape) (r : RelationShape) → AreReadRelations users all rs → is_among (codes "same" ∷ codes "other" ∷ []) r.name ≡ false
+    → is_among (names_of rs) r.name ≡ false → IsReadKind users all (is_marked first_declared all (first_declared + length rs)) r.kind → AreReadRelations users all (rs ++ r ∷ [])
 kept_push users all rs r h free new here = record {
   names = subst (λ ns. IsDistinct (pointwise nat_eq) (codes "same" ∷ codes "other" ∷ ns)) (sym (names_push rs r)) (IsDistinct-push nat_list_eq_equiv (known_names rs) r.name h.names (unknown_name rs r.name free new));
   kinds = λ rho k e. elim (kind_pushed rs r rho) [
@@ -46,15 +46,15 @@ kept_push users all rs r h free new here = record {
     | inr now ↦
         let is : Some r.kind ≡ Some k = sym now.1 ∙ e in
         let same : r.kind ≡ k = cc in
-        subst (λ x. IsKept users all (is_marked first_declared all rho) x) same (subst (λ n. IsKept users all (is_marked first_declared all n) r.kind) (sym now.0) here)
+        subst (λ x. IsReadKind users all (is_marked first_declared all rho) x) same (subst (λ n. IsReadKind users all (is_marked first_declared all n) r.kind) (sym now.0) here)
   ];
 }
 
-pub kept_none : (users : ℕ) (all : List (List ℕ × Data)) → AreKept users all []
+pub kept_none : (users : ℕ) (all : List (List ℕ × Data)) → AreReadRelations users all []
 unfolding IsDistinct
 kept_none users all = record { names = ((refl, tt), (tt, tt)); kinds = no_kind }
   where
-    no_kind : (rho : ℕ) (k : RelationKind) → kind_of [] rho ≡ Some k → IsKept users all (is_marked first_declared all rho) k
+    no_kind : (rho : ℕ) (k : RelationKind) → kind_of [] rho ≡ Some k → IsReadKind users all (is_marked first_declared all rho) k
     no_kind zero k e = cc
     no_kind (suc zero) k e = cc
     no_kind (suc (suc n)) k e = cc
@@ -70,7 +70,7 @@ pub ascend_none : Ascend []
 unfolding IsStrictlySortedBy
 ascend_none = tt
 
-pub related_of : (users : ℕ) (all : List (List ℕ × Data)) (rs : List RelationShape) → AreKept users all rs → AreOfUsers users rs
+pub related_of : (users : ℕ) (all : List (List ℕ × Data)) (rs : List RelationShape) → AreReadRelations users all rs → AreOfUsers users rs
 related_of users all rs h rho pairs e = (h.kinds rho (listed pairs) e).1
 
 got : (rs : List RelationShape) (n : ℕ) → option_map (λ r. r.kind) (slice_get rs n) ≡ None → n < length rs → ⊥
@@ -83,13 +83,13 @@ there rs zero le lt e = omega (arith, le)
 there rs (suc zero) le lt e = omega (arith, le)
 there rs (suc (suc n)) le lt e = got rs n e (omega (arith, lt))
 
-is_list : (users : ℕ) (all : List (List ℕ × Data)) (marked : Bool) (o : Option RelationKind) → marked ≡ false → (o ≡ None → ⊥) → ((k : RelationKind) → o ≡ Some k → IsKept users all marked k) → has_list o ≡ true
+is_list : (users : ℕ) (all : List (List ℕ × Data)) (marked : Bool) (o : Option RelationKind) → marked ≡ false → (o ≡ None → ⊥) → ((k : RelationKind) → o ≡ Some k → IsReadKind users all marked k) → has_list o ≡ true
 is_list users all marked None other some kept = absurd (some refl)
 is_list users all marked (Some (listed pairs)) other some kept = refl
 is_list users all marked (Some (complement m)) other some kept = let no : true ≡ false = sym (kept (complement m) refl).0 ∙ other in cc
 
 -- all relations of a table were read
-pub sound_of : (users : ℕ) (all : List (List ℕ × Data)) (rs : List RelationShape) → AreKept users all rs → users ≤ USER_LIMIT → length rs ≡ length all → length all ≤ RELATION_LIMIT → AreSound rs
+pub sound_of : (users : ℕ) (all : List (List ℕ × Data)) (rs : List RelationShape) → AreReadRelations users all rs → users ≤ USER_LIMIT → length rs ≡ length all → length all ≤ RELATION_LIMIT → AreSound rs
 sound_of users all rs h le same few = record {
   count = omega (arith, same, few);
   names = h.names;

@@ -1,5 +1,5 @@
 -- Rules with one more at the end.
-use Rattle.std.proofs.Common.{◌≡◌, ℕ, zero, suc, List, [], ◌∷◌, ◌++◌, Some, Result, Ok, Err, subst, slice_get, OnOk}
+use Rattle.std.proofs.Common.{◌≡◌, ℕ, zero, suc, List, [], ◌∷◌, ◌++◌, Some, Result, Ok, Err, subst, slice_get, IfOk, OnOk}
 use Rattle.policy_reader.proofs.Words.{IsSoundRule}
 use Rattle.constraint_forms.specs.declared.rule.Rule.{Rule}
 
@@ -16,3 +16,7 @@ push_sound n m (r ∷ rs) rule old here (suc k) x e = push_sound n m rs rule (λ
 pub on_ok : {A E : Type 0} (r : Result A E) (P Q : Type 0) → OnOk r P → (P → Q) → OnOk r Q
 on_ok (Ok x) P Q h f = f h
 on_ok (Err e) P Q h f = tt
+
+pub if_ok : {A E : Type 0} (r : Result A E) (P Q : A → Type 0) → IfOk r P → ((x : A) → P x → Q x) → IfOk r Q
+if_ok (Ok x) P Q h f = f x h
+if_ok (Err e) P Q h f = tt

@@ -1,4 +1,5 @@
 -- The words that the proofs of this crate cite most, passed on from one place. Declares nothing.
+pub use Rattle.std.proofs.Common.{Err, IsTrue, Some, [], ap, arith, drop, false, length, map, refl, subst, sym, take, true, ◌+◌, ◌<◌, ◌∙◌, ◌≡◌, ◌≤◌}
 pub use Rattle.std.proofs.lemmas.Bool.{cases_lt}
 pub use Rattle.std.proofs.lemmas.List.{length-map, length-append, map-append, append-nil}
 pub use Rattle.std.proofs.lemmas.Map.Keys.{IsDistinct-push, sorted_head, sorted_tail}
@@ -16,11 +17,11 @@ pub use Rattle.policy_reader.specs.Bounds.{AreBelow}
 pub use Rattle.policy_reader.specs.Faults.{Reading, fault, fault_of, fault_about}
 pub use Rattle.policy_reader.specs.Flows.{least_below, found_or, cycle_at, next_flow, next_permit, next_permitted}
 pub use Rattle.policy_reader.specs.Kept.{IsGrown, IsCycleOrMemory, HasStepsBelow}
-pub use Rattle.policy_reader.specs.Kinds.{is_marked, IsTarget, IsKept, AreKept}
+pub use Rattle.policy_reader.specs.Kinds.{is_marked, IsTarget, IsReadKind, AreReadRelations}
 pub use Rattle.policy_reader.specs.Parts.{entries, is_among, items, both_texts, texts_of, next_pair, next_name, known_key}
 pub use Rattle.policy_reader.specs.Printable.{Ascend, IsBegun, IsPrintable}
 pub use Rattle.policy_reader.specs.Relations.{names_of, first_declared, entry_of, is_complement, is_complement_table, passes, next_relation}
-pub use Rattle.policy_reader.specs.Rosters.{is_held, next_held, next_role, next_user}
+pub use Rattle.policy_reader.specs.Rosters.{some_user_has, next_held, next_role, next_user}
 pub use Rattle.policy_reader.specs.Rules.{next_member, next_rule}
 pub use Rattle.policy_reader.specs.declared.fault.PolicyPart.TheVariants.{Flows}
 pub use Rattle.toml.specs.Data.{Data, Members, as_table}

@@ -4,6 +4,7 @@ use Rattle.std.specs.Str.Lossy.{utf8_valid_len}
 use Rattle.toml.specs.Data.{Members, as_integer}
 use Rattle.toml.specs.Parse.{parse_document}
 use Rattle.rbac_state.specs.Rosters.{RosterShape}
+use Rattle.user_relations.specs.Relations.{RelationShape}
 use Rattle.policy_book.specs.Shapes.{PolicyShape}
 use Rattle.first_fault.specs.Reading.{◌>>=◌, or_fault, check}
 use Rattle.policy_reader.specs.declared.fault.PolicyPart.TheVariants.{File, Users}
@@ -11,8 +12,8 @@ use Rattle.policy_reader.specs.declared.fault.PolicyKind.TheVariants as kind
 use Rattle.policy_reader.specs.Faults.{Reading, fault}
 use Rattle.policy_reader.specs.declared.format.Format.{Format}
 use Rattle.policy_reader.specs.Formats.{format_with, file_keys}
-use Rattle.policy_reader.specs.Parts.{value_at, text_in, name_in, number_in, no_others}
-use Rattle.policy_reader.specs.Rosters.{roles_of, roster_of, is_held}
+use Rattle.policy_reader.specs.Parts.{value_at, text_name_in, number_in, no_others}
+use Rattle.policy_reader.specs.Rosters.{roles_of, roster_of, some_user_has}
 use Rattle.policy_reader.specs.Relations.{relations_of}
 use Rattle.policy_reader.specs.Flows.{flows_of}
 
@@ -35,30 +36,44 @@ format_of file = do
 unfoldable pub admin_of : Members → Reading (List ℕ)
 admin_of file = do
   d ← value_at File 0 (codes "admin") file
-  text ← text_in File 0 d
-  _ ← name_in File 0 text
-  Ok text
+  text_name_in File 0 d
 
--- a policy without workflows, some of whose users hold the admin role
+-- the relations, where some user has the admin role
+unfoldable pub related_over : RosterShape → ℕ → Members → Reading (List RelationShape)
+related_over roster admin file = do
+  _ ← check (some_user_has roster admin) (fault kind.NoAdmin Users 0)
+  relations_of roster.users file
+
+-- a policy without workflows over a roster
 unfoldable pub start_over : RosterShape → ℕ → Members → Reading PolicyShape
 start_over roster admin file = do
-  _ ← check (is_held roster admin) (fault kind.NoAdmin Users 0)
-  relations ← relations_of roster.users file
+  relations ← related_over roster admin file
   Ok (record { roster = roster; relations = relations; flow_names = []; flows = []; admin = admin })
 
--- the same with these roles, of which the named one is that of the admins
-unfoldable pub start_with : List (List ℕ) → List ℕ → Members → Reading PolicyShape
-start_with roles name file = do
+-- the admin role, which has this name, and the users with these roles
+unfoldable pub staff_of : List (List ℕ) → List ℕ → Members → Reading (ℕ × RosterShape)
+staff_of roles name file = do
   admin ← number_in File 0 roles name
   roster ← roster_of roles file
-  start_over roster admin file
+  Ok (admin, roster)
+
+-- a policy without workflows with these roles, of which the named one is that of the admins
+unfoldable pub start_with : List (List ℕ) → List ℕ → Members → Reading PolicyShape
+start_with roles name file = do
+  staff ← staff_of roles name file
+  start_over staff.1 staff.0 file
+
+-- the same with the roles of the document
+unfoldable pub start_named : List ℕ → Members → Reading PolicyShape
+start_named name file = do
+  roles ← roles_of file
+  start_with roles name file
 
 -- what a document says after its format and before its workflows
 unfoldable pub start_of : Members → Reading PolicyShape
 start_of file = do
   name ← admin_of file
-  roles ← roles_of file
-  start_with roles name file
+  start_named name file
 
 -- the workflows, and no other key than those of the format
 unfoldable pub rest_of : Format → PolicyShape → Members → Reading PolicyShape

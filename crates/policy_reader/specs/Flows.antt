@@ -10,16 +10,13 @@ use Rattle.first_fault.specs.Reading.{◌>>=◌, each}
 use Rattle.policy_reader.specs.declared.fault.PolicyPart.TheVariants.{Flows}
 use Rattle.policy_reader.specs.declared.fault.PolicyKind.TheVariants as kind
 use Rattle.policy_reader.specs.Faults.{Reading, fault_about}
-use Rattle.policy_reader.specs.Parts.{items, entries, value_at, text_in, array_in, table_in, at_most, at_least_one, name_in, number_in, once, next_name, next_pair, no_others}
+use Rattle.policy_reader.specs.Parts.{items, entries, array_in, table_in, table_at, items_at, entries_at, name_in, number_in, named_in, said, once, next_name, next_pair, no_others}
 use Rattle.policy_reader.specs.Rules.{rules_of}
 
 -- the steps of a workflow: an array of distinct names
 unfoldable pub steps_of : ℕ → Members → Reading (List (List ℕ))
 steps_of f ms = do
-  d ← value_at Flows f (codes "steps") ms
-  steps ← array_in Flows f d
-  _ ← at_least_one Flows f (length (items steps))
-  _ ← at_most Flows f STEP_LIMIT (length (items steps))
+  steps ← items_at Flows f STEP_LIMIT (codes "steps") ms
   each (next_name Flows f) [] (items steps)
 
 -- the pairs of the order in an array of them
@@ -29,8 +26,8 @@ order_in f steps d = do
   each (next_pair Flows f steps) set.empty (items pairs)
 
 -- the pairs of the order, where there are any
-unfoldable pub pairs_of : ℕ → List (List ℕ) → Members → Reading Pairs
-pairs_of f steps ms = elim (get_member (codes "order") ms) [
+unfoldable pub order_pairs : ℕ → List (List ℕ) → Members → Reading Pairs
+order_pairs f steps ms = elim (get_member (codes "order") ms) [
   | None ↦ Ok set.empty
   | Some d ↦ order_in f steps d
 ]
@@ -58,9 +55,8 @@ no_cycle f steps order = cycle_at f steps (least_below (length steps) (λ s. is_
 -- the next role that is permitted for the step s
 unfoldable pub next_permitted : ℕ → List (List ℕ) → ℕ → FlowShape → Data → Reading FlowShape
 next_permitted f roles s so_far d = do
-  text ← text_in Flows f d
-  r ← number_in Flows f roles text
-  _ ← once Flows f text (set.contains so_far.permits (r, s))
+  r ← named_in Flows f roles d
+  _ ← once Flows f (said d) (set.contains so_far.permits (r, s))
   Ok (record so_far { permits = set.insert so_far.permits (r, s) })
 
 -- the next step that roles are permitted for: a step, and an array of distinct roles
@@ -73,14 +69,13 @@ next_permit f roles so_far entry = do
 -- the permissions of a workflow: a table of them by step
 unfoldable pub permits_of : ℕ → List (List ℕ) → FlowShape → Members → Reading FlowShape
 permits_of f roles flow ms = do
-  d ← value_at Flows f (codes "permit") ms
-  permits ← table_in Flows f d
+  permits ← table_at Flows f (codes "permit") ms
   each (next_permit f roles) flow (entries permits)
 
 -- steps in an order without a cycle, which are permitted to no role yet
 unfoldable pub ordered_in : ℕ → List (List ℕ) → Members → Reading FlowShape
 ordered_in f steps ms = do
-  order ← pairs_of f steps ms
+  order ← order_pairs f steps ms
   _ ← no_cycle f steps order
   Ok (record { steps = steps; order = order; permits = set.empty })
 
@@ -91,14 +86,19 @@ flow_in f roles ms = do
   ordered ← ordered_in f steps ms
   permits_of f roles ordered ms
 
+-- a workflow with the rules of its table
+unfoldable pub ruled_in : PolicyShape → ℕ → FlowShape → Members → Reading WorkflowShape
+ruled_in p f flow ms = do
+  rules ← rules_of f p.relations flow.steps ms
+  Ok (record { flow = flow; rules = rules; retired = false })
+
 -- the workflow in a table: its steps, order, permissions and rules
 unfoldable pub workflow_in : PolicyShape → Members → Reading WorkflowShape
 workflow_in p ms = do
   let f = length p.flows
   _ ← no_others Flows f (codes "order" ∷ codes "permit" ∷ codes "rules" ∷ codes "steps" ∷ []) ms
   flow ← flow_in f p.roster.roles ms
-  rules ← rules_of f p.relations flow.steps ms
-  Ok (record { flow = flow; rules = rules; retired = false })
+  ruled_in p f flow ms
 
 -- the policy with a workflow that was read
 abbrev pub with_workflow : PolicyShape → List ℕ → Reading WorkflowShape → Reading PolicyShape
@@ -115,8 +115,5 @@ next_flow p entry = do
 -- the workflows: a table of them by name
 unfoldable pub flows_of : PolicyShape → Members → Reading PolicyShape
 flows_of p file = do
-  d ← value_at Flows 0 (codes "flows") file
-  flows ← table_in Flows 0 d
-  _ ← at_least_one Flows 0 (length (entries flows))
-  _ ← at_most Flows 0 FLOW_LIMIT (length (entries flows))
+  flows ← entries_at Flows 0 FLOW_LIMIT (codes "flows") file
   each next_flow p (entries flows)

@@ -21,11 +21,11 @@ pub record IsTarget (all : List (List ℕ × Data)) (m : ℕ) : Type 0 where
   pub within : m < first_declared + length all
 
 -- what is true of a kind that was read from a table
-abbrev pub IsKept : ℕ → List (List ℕ × Data) → Bool → RelationKind → Type 0
-IsKept users all marked (listed pairs) = (set.len pairs ≤ PAIR_LIMIT) × AreBelow users pairs
-IsKept users all marked (complement m) = (marked ≡ true) × IsTarget all m
+abbrev pub IsReadKind : ℕ → List (List ℕ × Data) → Bool → RelationKind → Type 0
+IsReadKind users all marked (listed pairs) = (set.len pairs ≤ PAIR_LIMIT) × AreBelow users pairs
+IsReadKind users all marked (complement m) = (marked ≡ true) × IsTarget all m
 
 -- the names of the relations that were read are known once, and each kind is that of the entry with its number
-pub record AreKept (users : ℕ) (all : List (List ℕ × Data)) (relations : List RelationShape) : Type 0 where
+pub record AreReadRelations (users : ℕ) (all : List (List ℕ × Data)) (relations : List RelationShape) : Type 0 where
   pub names : IsDistinct (pointwise nat_eq) (known_names relations)
-  pub kinds : (rho : ℕ) (kind : RelationKind) → kind_of relations rho ≡ Some kind → IsKept users all (is_marked first_declared all rho) kind
+  pub kinds : (rho : ℕ) (kind : RelationKind) → kind_of relations rho ≡ Some kind → IsReadKind users all (is_marked first_declared all rho) kind

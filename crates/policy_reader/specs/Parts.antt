@@ -1,5 +1,5 @@
 -- What the readings of all tables have in common. Each takes the table and the number that its faults carry.
-use Rattle.std.specs.Prelude.{ℕ, ◌==◌, Bool, not, nat_le, nat_eq, List, [], ◌∷◌, ◌++◌, Option, None, Some, is_some, option_and_then, Ok}
+use Rattle.std.specs.Prelude.{ℕ, ◌==◌, Bool, not, nat_le, nat_eq, List, [], ◌∷◌, ◌++◌, length, Option, None, Some, is_some, option_and_then, option_map, unwrap_or, Ok}
 use Rattle.std.specs.List.{list_any}
 use Rattle.std.specs.Cmp.Lexicographic.{pointwise}
 use Rattle.std.specs.FinSet as set
@@ -36,6 +36,14 @@ texts_of _ = None
 abbrev pub two_texts : Data → Option (List ℕ × List ℕ)
 two_texts d = option_and_then texts_of (as_array d)
 
+-- what a value says, and what the first of two texts says
+abbrev pub said : Data → List ℕ
+said (string text) = text
+said _ = []
+
+abbrev pub first_said : Data → List ℕ
+first_said d = unwrap_or (option_map (λ texts. texts.0) (two_texts d)) []
+
 -- a text is one of some texts
 abbrev pub is_among : List (List ℕ) → List ℕ → Bool
 is_among texts text = list_any (pointwise nat_eq text) texts
@@ -54,6 +62,14 @@ module _ (table : PolicyPart) (index : ℕ) where
   unfoldable pub table_in : Data → Reading Members
   table_in d = or_fault (as_table d) (fault kind.Shape table index)
 
+  -- the array at a key that has to be there
+  unfoldable pub array_at : List ℕ → Members → Reading Items
+  array_at key ms = value_at key ms >>= array_in
+
+  -- the table at a key that has to be there
+  unfoldable pub table_at : List ℕ → Members → Reading Members
+  table_at key ms = value_at key ms >>= table_in
+
   -- at most so many
   unfoldable pub at_most : ℕ → ℕ → Reading (Unit {0})
   at_most limit count = check (nat_le count limit) (fault kind.TooMany table index)
@@ -62,15 +78,57 @@ module _ (table : PolicyPart) (index : ℕ) where
   unfoldable pub at_least_one : ℕ → Reading (Unit {0})
   at_least_one count = check (not (count == 0)) (fault kind.Empty table index)
 
+  -- at least one and at most so many
+  unfoldable pub count_in : ℕ → ℕ → Reading (Unit {0})
+  count_in limit count = do
+    _ ← at_least_one count
+    at_most limit count
+
+  -- the array at a key, of at least one item and at most so many
+  unfoldable pub items_at : ℕ → List ℕ → Members → Reading Items
+  items_at limit key ms = do
+    ds ← array_at key ms
+    _ ← count_in limit (length (items ds))
+    Ok ds
+
+  -- the table at a key, of at least one entry and at most so many
+  unfoldable pub entries_at : ℕ → List ℕ → Members → Reading Members
+  entries_at limit key ms = do
+    es ← table_at key ms
+    _ ← count_in limit (length (entries es))
+    Ok es
+
   -- a text of a name's form
   unfoldable pub name_in : List ℕ → Reading (Unit {0})
   name_in text = check (is_name text) (fault kind.Name table index)
+
+  -- the name that a value has to be
+  unfoldable pub text_name_in : Data → Reading (List ℕ)
+  text_name_in d = do
+    text ← text_in d
+    _ ← name_in text
+    Ok text
 
   -- the number of a name that is declared; a text of another form names nothing
   unfoldable pub number_in : List (List ℕ) → List ℕ → Reading ℕ
   number_in names text = do
     _ ← check (is_name text) (fault kind.Unknown table index)
     or_fault (place_of names text) (fault_about kind.Unknown table index text)
+
+  -- the number of the declared name that a value says
+  unfoldable pub named_in : List (List ℕ) → Data → Reading ℕ
+  named_in names d = text_in d >>= number_in names
+
+  -- the numbers of two declared names
+  unfoldable pub numbers_in : List (List ℕ) → List ℕ × List ℕ → Reading (ℕ × ℕ)
+  numbers_in names texts = do
+    a ← number_in names texts.0
+    b ← number_in names texts.1
+    Ok (a, b)
+
+  -- the numbers of the two declared names that a value says
+  unfoldable pub named_pair_in : List (List ℕ) → Data → Reading (ℕ × ℕ)
+  named_pair_in names d = or_fault (two_texts d) (fault kind.Shape table index) >>= numbers_in names
 
   -- what is not yet there
   unfoldable pub once : List ℕ → Bool → Reading (Unit {0})
@@ -79,19 +137,16 @@ module _ (table : PolicyPart) (index : ℕ) where
   -- the next name of a list of distinct names
   unfoldable pub next_name : List (List ℕ) → Data → Reading (List (List ℕ))
   next_name so_far d = do
-    text ← text_in d
-    _ ← name_in text
+    text ← text_name_in d
     _ ← once text (is_some (place_of so_far text))
     Ok (so_far ++ text ∷ [])
 
   -- the next pair of declared names of a set of pairs
   unfoldable pub next_pair : List (List ℕ) → Pairs → Data → Reading Pairs
   next_pair names so_far d = do
-    texts ← or_fault (two_texts d) (fault kind.Shape table index)
-    a ← number_in names texts.0
-    b ← number_in names texts.1
-    _ ← once texts.0 (set.contains so_far (a, b))
-    Ok (set.insert so_far (a, b))
+    pair ← named_pair_in names d
+    _ ← once (first_said d) (set.contains so_far pair)
+    Ok (set.insert so_far pair)
 
   -- a key that is one of these
   unfoldable pub known_key : List (List ℕ) → Unit {0} → List ℕ × Data → Reading (Unit {0})

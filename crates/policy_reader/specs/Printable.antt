@@ -6,7 +6,7 @@ use Rattle.std.specs.Cmp.Lexicographic.{slice_cmp}
 use Rattle.std.specs.List.{AllByRecursion}
 use Rattle.std.specs.List.Sorted.{IsStrictlySortedBy}
 use Rattle.policy_book.specs.Shapes.{PolicyShape}
-use Rattle.policy_reader.specs.Rosters.{is_held}
+use Rattle.policy_reader.specs.Rosters.{some_user_has}
 
 -- names ascend in byte order, each once
 abbrev pub Ascend : List (List ℕ) → Type 0
@@ -16,7 +16,7 @@ Ascend names = IsStrictlySortedBy (slice_cmp nat_cmp) names
 pub record IsBegun (p : PolicyShape) : Type 0 where
   pub users : Ascend p.roster.users
   pub relations : Ascend (map (λ r. r.name) p.relations)
-  pub admin : is_held p.roster p.admin ≡ true
+  pub admin : some_user_has p.roster p.admin ≡ true
 
 -- so are the workflows: there is one at least, and none is retired
 pub record IsPrintable (p : PolicyShape) : Type 0 where

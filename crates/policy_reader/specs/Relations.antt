@@ -75,14 +75,24 @@ kind_in users all n ms = do
     ]
   ]
 
+-- what a value says that the relation with number n is
+unfoldable pub kind_at : List (List ℕ) → Members → ℕ → Data → Reading RelationKind
+kind_at users all n d = do
+  ms ← table_in Relations n d
+  kind_in users all n ms
+
+-- a name that no built-in relation has
+unfoldable pub free_name_in : ℕ → List ℕ → Reading (Unit {0})
+free_name_in n text = do
+  _ ← name_in Relations n text
+  check (not (is_built_in text)) (fault_about kind.Reserved Relations n text)
+
 -- the next relation of the table
 unfoldable pub next_relation : List (List ℕ) → Members → List RelationShape → List ℕ × Data → Reading (List RelationShape)
 next_relation users all so_far entry = do
   let n = first_declared + length so_far
-  _ ← name_in Relations n entry.0
-  _ ← check (not (is_built_in entry.0)) (fault_about kind.Reserved Relations n entry.0)
-  ms ← table_in Relations n entry.1
-  kind ← kind_in users all n ms
+  _ ← free_name_in n entry.0
+  kind ← kind_at users all n entry.1
   Ok (so_far ++ record { name = entry.0; kind = kind } ∷ [])
 
 -- the relations in a table of them by name

@@ -8,7 +8,7 @@ use Rattle.policy_book.specs.Policies.{any_below}
 use Rattle.first_fault.specs.Reading.{◌>>=◌, each}
 use Rattle.policy_reader.specs.declared.fault.PolicyPart.TheVariants.{Roles, Users}
 use Rattle.policy_reader.specs.Faults.{Reading}
-use Rattle.policy_reader.specs.Parts.{items, entries, value_at, text_in, array_in, table_in, at_most, at_least_one, name_in, number_in, once, next_name}
+use Rattle.policy_reader.specs.Parts.{items, entries, array_in, items_at, entries_at, name_in, named_in, said, once, next_name}
 
 -- the next role; its faults carry its own number
 unfoldable pub next_role : List (List ℕ) → Data → Reading (List (List ℕ))
@@ -17,18 +17,14 @@ next_role so_far d = next_name Roles (length so_far) so_far d
 -- the roles: an array of distinct names
 unfoldable pub roles_of : Members → Reading (List (List ℕ))
 roles_of file = do
-  d ← value_at Roles 0 (codes "roles") file
-  roles ← array_in Roles 0 d
-  _ ← at_least_one Roles 0 (length (items roles))
-  _ ← at_most Roles 0 ROLE_LIMIT (length (items roles))
+  roles ← items_at Roles 0 ROLE_LIMIT (codes "roles") file
   each next_role [] (items roles)
 
 -- the next role that the user u holds
 unfoldable pub next_held : ℕ → RosterShape → Data → Reading RosterShape
 next_held u so_far d = do
-  text ← text_in Users u d
-  r ← number_in Users u so_far.roles text
-  _ ← once Users u text (set.contains so_far.members (u, r))
+  r ← named_in Users u so_far.roles d
+  _ ← once Users u (said d) (set.contains so_far.members (u, r))
   Ok (record so_far { members = set.insert so_far.members (u, r) })
 
 -- the next user: a name, and an array of distinct roles
@@ -39,21 +35,12 @@ next_user so_far entry = do
   held ← array_in Users u entry.1
   each (next_held u) (record so_far { users = so_far.users ++ entry.0 ∷ [] }) (items held)
 
--- the table of the users
-unfoldable pub users_in : Members → Reading Members
-users_in file = do
-  d ← value_at Users 0 (codes "users") file
-  users ← table_in Users 0 d
-  _ ← at_least_one Users 0 (length (entries users))
-  _ ← at_most Users 0 USER_LIMIT (length (entries users))
-  Ok users
-
 -- the users: a table of them by name
 unfoldable pub roster_of : List (List ℕ) → Members → Reading RosterShape
 roster_of roles file = do
-  users ← users_in file
+  users ← entries_at Users 0 USER_LIMIT (codes "users") file
   each next_user (record { users = []; roles = roles; members = set.empty }) (entries users)
 
 -- some user holds the role
-abbrev pub is_held : RosterShape → ℕ → Bool
-is_held roster r = any_below (length roster.users) (λ u. set.contains roster.members (u, r))
+abbrev pub some_user_has : RosterShape → ℕ → Bool
+some_user_has roster r = any_below (length roster.users) (λ u. set.contains roster.members (u, r))

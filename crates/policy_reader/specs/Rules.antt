@@ -13,7 +13,7 @@ use Rattle.policy_reader.specs.declared.form.Form.{Form}
 use Rattle.policy_reader.specs.declared.form.Form.TheVariants as form
 use Rattle.policy_reader.specs.Forms.{form_keys, form_of_word}
 use Rattle.policy_reader.specs.Faults.{Reading, fault}
-use Rattle.policy_reader.specs.Parts.{items, value_at, text_in, array_in, table_in, at_most, at_least_one, number_in, once, no_others}
+use Rattle.policy_reader.specs.Parts.{items, value_at, text_in, array_in, table_in, at_most, at_least_one, number_in, named_in, said, once, no_others}
 
 -- the relation that a value names: `same`, `other` or a declared one
 unfoldable pub relation_in : ℕ → List RelationShape → Data → Reading ℕ
@@ -23,16 +23,13 @@ relation_in f relations d = do
 
 -- the step that a value names
 unfoldable pub step_in : ℕ → List (List ℕ) → Data → Reading ℕ
-step_in f steps d = do
-  text ← text_in Flows f d
-  number_in Flows f steps text
+step_in f steps d = named_in Flows f steps d
 
 -- the next step of a group
 unfoldable pub next_member : ℕ → List (List ℕ) → List Bool → Data → Reading (List Bool)
 next_member f steps so_far d = do
-  text ← text_in Flows f d
-  s ← number_in Flows f steps text
-  _ ← once Flows f text (is_member so_far s)
+  s ← named_in Flows f steps d
+  _ ← once Flows f (said d) (is_member so_far s)
   Ok (slice_set so_far s true)
 
 -- the group that a value gives: an array of distinct steps, at least one
@@ -42,28 +39,46 @@ group_in f steps d = do
   _ ← at_least_one Flows f (length (items members))
   each (next_member f steps) no_steps (items members)
 
+-- the relation that is named at its key
+unfoldable pub relation_at : ℕ → List RelationShape → Members → Reading ℕ
+relation_at f relations ms = value_at Flows f (codes "relation") ms >>= relation_in f relations
+
+-- the step that is named at a key
+unfoldable pub step_at : ℕ → List (List ℕ) → List ℕ → Members → Reading ℕ
+step_at f steps key ms = value_at Flows f key ms >>= step_in f steps
+
+-- the group at its key
+unfoldable pub group_at : ℕ → List (List ℕ) → Members → Reading (List Bool)
+group_at f steps ms = value_at Flows f (codes "group") ms >>= group_in f steps
+
+-- a key is there
+unfoldable pub key_in : ℕ → List ℕ → Members → Reading (Unit {0})
+key_in f key ms = value_at Flows f key ms >>= (λ _. Ok tt)
+
+-- a rule of a form has a relation and two further keys, and no others
+unfoldable pub keys_in : Form → List ℕ → List ℕ → ℕ → Members → Reading (Unit {0})
+keys_in rule_form first second f ms = do
+  _ ← key_in f (codes "relation") ms
+  _ ← key_in f first ms
+  _ ← key_in f second ms
+  no_others Flows f (form_keys rule_form) ms
+
 -- a rule over two steps
 unfoldable pub pair_in : ℕ → List RelationShape → List (List ℕ) → Members → Reading Rule
 pair_in f relations steps ms = do
-  relation ← value_at Flows f (codes "relation") ms
-  first ← value_at Flows f (codes "first") ms
-  second ← value_at Flows f (codes "second") ms
-  _ ← no_others Flows f (form_keys form.Pair) ms
-  rho ← relation_in f relations relation
-  s ← step_in f steps first
-  t ← step_in f steps second
+  _ ← keys_in form.Pair (codes "first") (codes "second") f ms
+  rho ← relation_at f relations ms
+  s ← step_at f steps (codes "first") ms
+  t ← step_at f steps (codes "second") ms
   Ok (rule.Pair rho s t)
 
 -- a relation, a group of steps and a step, in a rule of a form
 unfoldable pub grouped_in : Form → ℕ → List RelationShape → List (List ℕ) → Members → Reading (ℕ × (List Bool × ℕ))
 grouped_in rule_form f relations steps ms = do
-  relation ← value_at Flows f (codes "relation") ms
-  group ← value_at Flows f (codes "group") ms
-  step ← value_at Flows f (codes "step") ms
-  _ ← no_others Flows f (form_keys rule_form) ms
-  rho ← relation_in f relations relation
-  s ← step_in f steps step
-  members ← group_in f steps group
+  _ ← keys_in rule_form (codes "group") (codes "step") f ms
+  rho ← relation_at f relations ms
+  s ← step_at f steps (codes "step") ms
+  members ← group_at f steps ms
   Ok (rho, (members, s))
 
 -- the rule of a form

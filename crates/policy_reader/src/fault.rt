@@ -9,7 +9,7 @@ use std::fmt;
 use wf_names::Name;
 
 /// What kind of fault it is.
-#[derive(Clone, Copy, Debug, PartialEq, Eq)]
+#[derive(Clone, Copy)]
 pub enum PolicyKind {
     /// The bytes are no TOML document.
     Syntax,
@@ -44,7 +44,7 @@ pub enum PolicyKind {
 }
 
 /// The part of the file that has the fault.
-#[derive(Clone, Copy, Debug, PartialEq, Eq)]
+#[derive(Clone, Copy)]
 pub enum PolicyPart {
     /// The file as a whole.
     File,

@@ -1,26 +1,29 @@
 //! Reads a policy file.
 ghost use Rattle.std.specs.Prelude.{◌≡◌, ◌<◌, ◌≤◌, Bool, true, [], length, Option, option_map, IfOk, OnOk, IfErr, MatchResult, Some, None};
-ghost use Rattle.std.specs.List.{list_any};
+ghost use Rattle.std.specs.FinSet as set;
 ghost use Rattle.toml.specs.View.{table_view};
 ghost use Rattle.policy_reader.specs.declared.fault.ReadFault.TheVariants.{NoMemory};
 ghost use Rattle.policy_reader.specs.Faults.{fault_of};
 ghost use Rattle.policy_reader.specs.Files as spec;
 ghost use Rattle.policy_reader.specs.Printable.{Ascend, IsBegun, IsPrintable};
-ghost use Rattle.policy_reader.specs.Rosters.{is_held};
+ghost use Rattle.policy_book.specs.Facts.{AreOfUsers};
+ghost use Rattle.policy_reader.specs.Relations.{names_of};
+ghost use Rattle.policy_reader.specs.Rosters.{some_user_has};
 ghost use Rattle.wf_names.specs.declared.limits.TheConstants.{ROLE_LIMIT};
 ghost use Rattle.first_fault.specs.Reading.{Gives};
 
 use crate::fault::{PolicyKind, PolicyPart, ReadFault, refuse};
 use crate::flows::read_flows;
 use crate::format::Format;
-use crate::parts::{name_of, no_others, number_of, text_of, value_at};
+use crate::parts::{no_others, number_of, text_name_of, value_at};
 use crate::relations::read_relations;
-use crate::rosters::{read_roles, read_roster};
+use crate::rosters::{read_users, start_roster};
 use policy_book::Policy;
 use rbac_state::Roster;
 use std::alloc::Global;
 use toml::value::Table;
-use wf_names::{Name, NameTable, RoleId, UserId};
+use user_relations::Relations;
+use wf_names::{Name, RoleId, UserId};
 
 /// Reads the policy in the bytes of a TOML file, or tells their first fault.
 #[tactic(auto, unfolding(crate::specs::Files::policy_of_file))]
@@ -105,28 +108,82 @@ fn read_start(alloc: Global, file: &Table) -> Result<Policy, ReadFault>
     ensures begun { IfOk result IsBegun }
 {
     let name = read_admin(file)?;
-    let roles = read_roles(alloc, file)?;
-    start_with(alloc, roles, &name, file)
+    start_named(alloc, &name, file)
 }
 
-/// Reads the rest of it, with these roles and this name of the admin role.
-#[tactic(auto, unfolding(crate::specs::Files::start_with))]
-fn start_with(
-    alloc: Global,
-    roles: NameTable,
-    name: &Name,
-    file: &Table,
-) -> Result<Policy, ReadFault>
-    requires few { length roles.names ≤ ROLE_LIMIT }
+/// Reads the rest of it, with this name of the admin role.
+#[tactic(auto, unfolding(crate::specs::Files::start_named))]
+fn start_named(alloc: Global, name: &Name, file: &Table) -> Result<Policy, ReadFault>
     ensures read { Gives fault_of (λ p. p) result
-        (spec.start_with roles.names name.now (table_view file.now)) }
+        (spec.start_named name.now (table_view file.now)) }
     ensures none { IfOk result (λ p. p.flow_names ≡ []) }
     ensures bare { IfOk result (λ p. p.flows ≡ []) }
     ensures begun { IfOk result IsBegun }
 {
-    let admin = number_of(&roles, name.as_str(), PolicyPart::File, 0)?;
-    let roster = read_roster(alloc, roles, file)?;
-    start_over(alloc, roster, RoleId(admin as u8), file)
+    match start_roster(alloc, file) {
+        Ok(roster) => start_with(alloc, roster, name, file),
+        Err(fault) => Err(fault),
+    }
+}
+
+/// Reads the rest of it, into a roster without users.
+#[tactic(auto, unfolding(crate::specs::Files::start_with))]
+fn start_with(
+    alloc: Global,
+    mut roster: Roster,
+    name: &Name,
+    file: &Table,
+) -> Result<Policy, ReadFault>
+    requires few { length roster.roles ≤ ROLE_LIMIT }
+    requires none { roster ≡ record { users = []; roles = roster.roles; members = set.empty } }
+    ensures read { Gives fault_of (λ p. p) result
+        (spec.start_with roster.roles name.now (table_view file.now)) }
+    ensures none { IfOk result (λ p. p.flow_names ≡ []) }
+    ensures bare { IfOk result (λ p. p.flows ≡ []) }
+    ensures begun { IfOk result IsBegun }
+{
+    match read_staff(&mut roster, name, file) {
+        Ok(admin) => start_over(alloc, roster, admin, file),
+        Err(fault) => Err(fault),
+    }
+}
+
+/// Finds the admin role, which has this name, and reads the users into a roster without users.
+#[tactic(auto, unfolding(crate::specs::Files::staff_of))]
+fn read_staff(roster: &mut Roster, name: &Name, file: &Table) -> Result<RoleId, ReadFault>
+    requires few { length roster.old.roles ≤ ROLE_LIMIT }
+    requires none { roster.old
+        ≡ record { users = []; roles = roster.old.roles; members = set.empty } }
+    ensures read { Gives fault_of (λ admin. (admin, roster.new)) result
+        (spec.staff_of roster.old.roles name.now (table_view file.now)) }
+    ensures within { IfOk result (λ admin. admin < length roster.new.roles) }
+    ensures ascend { OnOk result (Ascend roster.new.users) }
+{
+    let admin = number_of(roster.roles(), name.as_str(), PolicyPart::File, 0)?;
+    match read_users(roster, file) {
+        Ok(()) => Ok(RoleId(admin as u8)),
+        Err(fault) => Err(fault),
+    }
+}
+
+/// Reads the relations, where some user has the admin role.
+#[tactic(auto, unfolding(crate::specs::Files::related_over))]
+fn relations_over(
+    alloc: Global,
+    roster: &Roster,
+    admin: RoleId,
+    file: &Table,
+) -> Result<Relations, ReadFault>
+    ensures read { Gives fault_of (λ r. r) result
+        (spec.related_over roster.now admin (table_view file.now)) }
+    ensures admin { IfOk result (λ _. some_user_has roster.now admin ≡ true) }
+    ensures related { IfOk result (AreOfUsers (length roster.now.users)) }
+    ensures ascend { IfOk result (λ r. Ascend (names_of r)) }
+{
+    if !some_user_has(roster, admin) {
+        return Err(refuse(PolicyKind::NoAdmin, PolicyPart::Users, 0));
+    }
+    read_relations(alloc, roster.users(), file)
 }
 
 /// Begins a policy over a roster.
@@ -145,11 +202,28 @@ fn start_over(
     ensures bare { IfOk result (λ p. p.flows ≡ []) }
     ensures begun { IfOk result IsBegun }
 {
-    if !is_held(&roster, admin) {
-        return Err(refuse(PolicyKind::NoAdmin, PolicyPart::Users, 0));
+    match relations_over(alloc, &roster, admin, file) {
+        Ok(relations) => start_policy(alloc, roster, relations, admin),
+        Err(fault) => Err(fault),
     }
-    let relations = read_relations(alloc, roster.users(), file)?;
-    Ok(Policy::start(alloc, roster, relations, admin)?)
+}
+
+fn start_policy(
+    alloc: Global,
+    roster: Roster,
+    relations: Relations,
+    admin: RoleId,
+) -> Result<Policy, ReadFault>
+    requires related { AreOfUsers (length roster.users) relations }
+    requires admin { admin < length roster.roles }
+    ensures started { IfOk result (λ p. p ≡ record
+        { roster = roster; relations = relations; flow_names = []; flows = []; admin = admin }) }
+    ensures memory { IfErr result (λ e. e ≡ NoMemory) }
+{
+    match Policy::start(alloc, roster, relations, admin) {
+        Ok(policy) => Ok(policy),
+        Err(_) => Err(ReadFault::NoMemory),
+    }
 }
 
 #[tactic(auto, unfolding(crate::specs::Files::format_of))]
@@ -171,13 +245,12 @@ fn read_admin(file: &Table) -> Result<Name, ReadFault>
     ensures { Gives fault_of (λ n. n) result (spec.admin_of (table_view file.now)) }
 {
     let value = value_at(file, "admin", PolicyPart::File, 0)?;
-    let text = text_of(value, PolicyPart::File, 0)?;
-    name_of(text, PolicyPart::File, 0)
+    text_name_of(value, PolicyPart::File, 0)
 }
 
 /// Whether some user holds a role.
-fn is_held(roster: &Roster, r: RoleId) -> bool
-    ensures { result ≡ is_held roster.now r }
+fn some_user_has(roster: &Roster, r: RoleId) -> bool
+    ensures { result ≡ some_user_has roster.now r }
 {
     'users: for u in 0..roster.users().len() {
         if roster.has(UserId(u), r) {

@@ -15,7 +15,7 @@ ghost use Rattle.policy_reader.specs.declared.fault.ReadFault.TheVariants.{NoMem
 ghost use Rattle.first_fault.specs.Reading.{Gives, each};
 
 use crate::fault::{PolicyPart, ReadFault};
-use crate::parts::{at_least_one, at_most, name_of, no_others, table_of, value_at};
+use crate::parts::{entries_at, name_of, no_others, table_of};
 use crate::rules::read_rules;
 use crate::workflows::{make_flow, read_order, read_permits, read_steps};
 use constraint_forms::Rules;
@@ -62,7 +62,7 @@ fn ordered_flow(
 }
 
 /// Reads the workflow in a table and adds it under its name.
-#[tactic(auto, unfolding(crate::specs::Flows::workflow_in), using(workflow_schema::proofs::Kept::few_steps))]
+#[tactic(auto, unfolding(crate::specs::Flows::workflow_in))]
 fn add_workflow(
     alloc: Global,
     policy: &mut Policy,
@@ -83,9 +83,36 @@ fn add_workflow(
         PolicyPart::Flows,
         number,
     )?;
-    let made = flow_of(alloc, policy.roster().roles(), table, number)?;
-    let rules = read_rules(alloc, table, policy.relations(), made.steps(), number)?;
-    push_workflow(policy, name, made, rules)
+    match flow_of(alloc, policy.roster().roles(), table, number) {
+        Ok(made) => add_ruled(alloc, policy, name, made, table, number),
+        Err(fault) => Err(fault),
+    }
+}
+
+/// Reads the rules of a workflow and adds it with them under its name.
+#[tactic(auto, unfolding(crate::specs::Flows::ruled_in), using(workflow_schema::proofs::Kept::few_steps))]
+fn add_ruled(
+    alloc: Global,
+    policy: &mut Policy,
+    name: Name,
+    made: Flow,
+    table: &Table,
+    number: u32,
+) -> Result<(), ReadFault>
+    requires fresh { is_some (place_of policy.old.flow_names name) ≡ false }
+    requires room { length policy.old.flows < FLOW_LIMIT }
+    requires roles { PermitsRolesBelow (length policy.old.roster.roles) made }
+    requires counted { is_count (length made.steps) ≡ true }
+    ensures read { Gives fault_of (λ _. policy.new) result
+        (spec.with_workflow policy.old name
+        (spec.ruled_in policy.old number made (table_view table.now))) }
+    ensures names { OnOk result (policy.new.flow_names ≡ policy.old.flow_names ++ name ∷ []) }
+    ensures grown { OnOk result (IsGrown policy.old policy.new) }
+{
+    match read_rules(alloc, table, policy.relations(), made.steps(), number) {
+        Ok(rules) => push_workflow(policy, name, made, rules),
+        Err(fault) => Err(fault),
+    }
 }
 
 #[tactic(auto, using(crate::proofs::Grown::grown_push))]
@@ -144,7 +171,7 @@ fn all_flows(alloc: Global, policy: &mut Policy, flows: &Table) -> Result<(), Re
 }
 
 /// Reads the workflows into a policy that has none.
-#[tactic(auto, unfolding(crate::specs::Flows::flows_of), using(crate::proofs::Counts::count_entries))]
+#[tactic(auto, unfolding(crate::specs::Flows::flows_of))]
 pub(crate) fn read_flows(alloc: Global, policy: &mut Policy, file: &Table) -> Result<(), ReadFault>
     requires none { policy.old.flow_names ≡ [] }
     requires bare { policy.old.flows ≡ [] }
@@ -153,9 +180,8 @@ pub(crate) fn read_flows(alloc: Global, policy: &mut Policy, file: &Table) -> Re
         (spec.flows_of policy.old (table_view file.now)) }
     ensures printable { OnOk result (IsPrintable policy.new) }
 {
-    let value = value_at(file, "flows", PolicyPart::Flows, 0)?;
-    let flows = table_of(value, PolicyPart::Flows, 0)?;
-    at_least_one(flows.len(), PolicyPart::Flows, 0)?;
-    at_most(FLOW_LIMIT as usize, flows.len(), PolicyPart::Flows, 0)?;
-    all_flows(alloc, policy, flows)
+    match entries_at(FLOW_LIMIT as usize, file, "flows", PolicyPart::Flows, 0) {
+        Ok(flows) => all_flows(alloc, policy, flows),
+        Err(fault) => Err(fault),
+    }
 }

@@ -4,7 +4,7 @@ ghost use Rattle.std.specs.Prelude.{◌≡◌, pos, map};
 ghost use Rattle.policy_reader.specs.Formats as spec;
 
 /// The format of a policy file.
-#[derive(Clone, Copy, Debug, PartialEq, Eq)]
+#[derive(Clone, Copy)]
 pub enum Format {
     /// The first one.
     First,

@@ -1,19 +1,102 @@
-//! Reads the pairs of a listed relation, each straight into its rows.
-ghost use Rattle.std.specs.Prelude.{◌≡◌, ◌≤◌, ◌+◌, length, IfOk, OnOk};
+//! Reads pairs of declared names, and those of a listed relation, each straight into its rows.
+ghost use Rattle.std.specs.Prelude.{◌≡◌, ◌<◌, ◌≤◌, ◌+◌, length, IfOk, OnOk, option_map};
 ghost use Rattle.std.specs.FinSet as set;
 ghost use Rattle.toml.specs.View.{view, items_view};
 ghost use Rattle.wf_names.specs.declared.limits.TheConstants.{USER_LIMIT};
 ghost use Rattle.policy_reader.specs.Bounds.{AreBelow};
-ghost use Rattle.policy_reader.specs.Faults.{fault_of};
+ghost use Rattle.policy_reader.specs.Faults.{fault_of, fault_about};
+ghost use Rattle.policy_reader.specs.declared.fault.ReadFault.TheVariants.{Policy};
+ghost use Rattle.policy_reader.specs.declared.fault.PolicyKind.TheVariants as kind;
 ghost use Rattle.policy_reader.specs.Parts as parts;
 ghost use Rattle.first_fault.specs.Reading.{Gives, each};
 
 use crate::fault::{PolicyKind, PolicyPart, ReadFault, refuse, refuse_text};
-use crate::parts::{number_of, two_texts};
+use crate::parts::number_of;
 use std::alloc::Global;
 use toml::Value;
 use user_relations::UserPairs;
 use wf_names::{NameTable, UserId};
+
+/// The two texts of an array of two texts.
+fn two_texts(value: &Value) -> Option<(&str, &str)>
+    ensures { option_map (λ p. (p.0.now, p.1.now)) result ≡ parts.two_texts (view value.now) }
+{
+    match value.as_array() {
+        Some(items) => texts_of(items),
+        None => None,
+    }
+}
+
+#[tactic(auto, using(crate::proofs::Counts::texts_of_two, crate::proofs::Counts::texts_of_others))]
+fn texts_of(items: &[Value]) -> Option<(&str, &str)>
+    ensures { option_map (λ p. (p.0.now, p.1.now)) result ≡ parts.texts_of (items_view items.now) }
+{
+    if items.len() != 2 {
+        return None;
+    }
+    both_texts(&items[0], &items[1])
+}
+
+fn both_texts<'t>(first: &'t Value, second: &'t Value) -> Option<(&'t str, &'t str)>
+    ensures { option_map (λ p. (p.0.now, p.1.now)) result
+        ≡ parts.both_texts (view first.now) (view second.now) }
+{
+    match (first.as_str(), second.as_str()) {
+        (Some(first), Some(second)) => Some((first, second)),
+        _ => None,
+    }
+}
+
+/// The fault of a value of two texts that stands twice.
+pub(crate) fn twice_pair(value: &Value, part: PolicyPart, index: u32) -> ReadFault
+    ensures { result
+        ≡ Policy (fault_about kind.Twice part index (parts.first_said (view value.now))) }
+{
+    match two_texts(value) {
+        Some((first, _)) => refuse_text(PolicyKind::Twice, part, index, first),
+        None => refuse_text(PolicyKind::Twice, part, index, ""),
+    }
+}
+
+/// The numbers of two declared names.
+#[tactic(auto, unfolding(crate::specs::Parts::numbers_in))]
+fn numbers_of(
+    names: &NameTable,
+    first: &str,
+    second: &str,
+    part: PolicyPart,
+    index: u32,
+) -> Result<(u16, u16), ReadFault>
+    ensures read { Gives fault_of (λ p. p) result
+        (parts.numbers_in part index names.now.names (first.now, second.now)) }
+    ensures first { IfOk result (λ p. p.0 < length names.now.names) }
+    ensures second { IfOk result (λ p. p.1 < length names.now.names) }
+{
+    let a = number_of(names, first, part, index)?;
+    match number_of(names, second, part, index) {
+        Ok(b) => Ok((a, b)),
+        Err(fault) => Err(fault),
+    }
+}
+
+/// The numbers of the two declared names that a value says.
+#[tactic(auto, unfolding(crate::specs::Parts::named_pair_in))]
+pub(crate) fn named_pair(
+    names: &NameTable,
+    value: &Value,
+    part: PolicyPart,
+    index: u32,
+) -> Result<(u16, u16), ReadFault>
+    ensures read { Gives fault_of (λ p. p) result
+        (parts.named_pair_in part index names.now.names (view value.now)) }
+    ensures first { IfOk result (λ p. p.0 < length names.now.names) }
+    ensures second { IfOk result (λ p. p.1 < length names.now.names) }
+{
+    match two_texts(value) {
+        Some((first, second)) => numbers_of(names, first, second, part, index),
+        None => Err(refuse(PolicyKind::Shape, part, index)),
+    }
+}
 
 /// Reads a set of pairs of declared users.
 pub(crate) fn read_user_pairs(
@@ -55,14 +138,10 @@ fn next_user_pair(
     ensures within { OnOk result (AreBelow (length users.now.names) pairs.new) }
     ensures len { OnOk result (set.len pairs.new ≤ set.len pairs.old + 1) }
 {
-    let Some((first, second)) = two_texts(value) else {
-        return Err(refuse(PolicyKind::Shape, part, index));
-    };
-    let u = number_of(users, first, part, index)?;
-    let v = number_of(users, second, part, index)?;
+    let (u, v) = named_pair(users, value, part, index)?;
     if pairs.insert(UserId(u), UserId(v))? {
         Ok(())
     } else {
-        Err(refuse_text(PolicyKind::Twice, part, index, first))
+        Err(twice_pair(value, part, index))
     }
 }

@@ -5,11 +5,14 @@ ghost use Rattle.toml.specs.View.{view, items_view, table_view, array_view};
 ghost use Rattle.toml.specs.Data.{Data, get_member};
 ghost use Rattle.std.specs.FinSet as set;
 ghost use Rattle.policy_reader.specs.Bounds.{AreBelow};
-ghost use Rattle.policy_reader.specs.Faults.{fault_of};
+ghost use Rattle.policy_reader.specs.Faults.{fault_of, fault_about};
+ghost use Rattle.policy_reader.specs.declared.fault.ReadFault.TheVariants.{Policy};
+ghost use Rattle.policy_reader.specs.declared.fault.PolicyKind.TheVariants as kind;
 ghost use Rattle.policy_reader.specs.Parts as parts;
 ghost use Rattle.first_fault.specs.Reading.{Gives, each};
 
 use crate::fault::{PolicyKind, PolicyPart, ReadFault, refuse, refuse_text};
+use crate::pairs::{named_pair, twice_pair};
 use pair_set::PairSet;
 use std::alloc::Global;
 use toml::Value;
@@ -104,6 +107,95 @@ pub(crate) fn at_least_one(count: usize, part: PolicyPart, index: u32) -> Result
     Ok(())
 }
 
+/// The array at a key that has to be there.
+#[tactic(auto, unfolding(crate::specs::Parts::array_at, crate::specs::Parts::value_at))]
+fn array_at<'t>(
+    table: &'t Table,
+    key: &str,
+    part: PolicyPart,
+    index: u32,
+) -> Result<&'t Array, ReadFault>
+    ensures { Gives fault_of (λ v. array_view v.now) result
+        (parts.array_at part index key.now (table_view table.now)) }
+{
+    match find(table, key) {
+        Some(value) => array_of(value, part, index),
+        None => Err(refuse_text(PolicyKind::Missing, part, index, key)),
+    }
+}
+
+/// The table at a key that has to be there.
+#[tactic(auto, unfolding(crate::specs::Parts::table_at, crate::specs::Parts::value_at))]
+pub(crate) fn table_at<'t>(
+    table: &'t Table,
+    key: &str,
+    part: PolicyPart,
+    index: u32,
+) -> Result<&'t Table, ReadFault>
+    ensures { Gives fault_of (λ v. table_view v.now) result
+        (parts.table_at part index key.now (table_view table.now)) }
+{
+    match find(table, key) {
+        Some(value) => table_of(value, part, index),
+        None => Err(refuse_text(PolicyKind::Missing, part, index, key)),
+    }
+}
+
+/// A count that may neither be 0 nor pass a limit.
+#[tactic(auto, unfolding(crate::specs::Parts::count_in, crate::specs::Parts::at_least_one, crate::specs::Parts::at_most))]
+fn counted(limit: usize, count: usize, part: PolicyPart, index: u32) -> Result<(), ReadFault>
+    ensures read { Gives fault_of (λ u. u) result (parts.count_in part index limit count) }
+    ensures some { OnOk result (0 < count) }
+    ensures few { OnOk result (count ≤ limit) }
+{
+    if count == 0 {
+        return Err(refuse(PolicyKind::Empty, part, index));
+    }
+    at_most(limit, count, part, index)
+}
+
+/// The array at a key, of at least one item and at most so many.
+#[tactic(auto, unfolding(crate::specs::Parts::items_at), using(crate::proofs::Counts::count_items))]
+pub(crate) fn items_at<'t>(
+    limit: usize,
+    table: &'t Table,
+    key: &str,
+    part: PolicyPart,
+    index: u32,
+) -> Result<&'t Array, ReadFault>
+    ensures read { Gives fault_of (λ v. array_view v.now) result
+        (parts.items_at part index limit key.now (table_view table.now)) }
+    ensures some { IfOk result (λ v. 0 < length v.now.items) }
+    ensures few { IfOk result (λ v. length v.now.items ≤ limit) }
+{
+    let items = array_at(table, key, part, index)?;
+    match counted(limit, items.len(), part, index) {
+        Ok(()) => Ok(items),
+        Err(fault) => Err(fault),
+    }
+}
+
+/// The table at a key, of at least one entry and at most so many.
+#[tactic(auto, unfolding(crate::specs::Parts::entries_at), using(crate::proofs::Counts::count_entries))]
+pub(crate) fn entries_at<'t>(
+    limit: usize,
+    table: &'t Table,
+    key: &str,
+    part: PolicyPart,
+    index: u32,
+) -> Result<&'t Table, ReadFault>
+    ensures read { Gives fault_of (λ t. table_view t.now) result
+        (parts.entries_at part index limit key.now (table_view table.now)) }
+    ensures some { IfOk result (λ t. 0 < length t.now.entries) }
+    ensures few { IfOk result (λ t. length t.now.entries ≤ limit) }
+{
+    let entries = table_at(table, key, part, index)?;
+    match counted(limit, entries.len(), part, index) {
+        Ok(()) => Ok(entries),
+        Err(fault) => Err(fault),
+    }
+}
+
 /// The name that a text has to be.
 #[tactic(auto, unfolding(crate::specs::Parts::name_in))]
 pub(crate) fn name_of(text: &str, part: PolicyPart, index: u32) -> Result<Name, ReadFault>
@@ -114,6 +206,15 @@ pub(crate) fn name_of(text: &str, part: PolicyPart, index: u32) -> Result<Name, 
         Some(name) => Ok(name),
         None => Err(refuse(PolicyKind::Name, part, index)),
     }
+}
+
+/// The name that a value has to be.
+#[tactic(auto, unfolding(crate::specs::Parts::text_name_in))]
+pub(crate) fn text_name_of(value: &Value, part: PolicyPart, index: u32) -> Result<Name, ReadFault>
+    ensures { Gives fault_of (λ n. n) result (parts.text_name_in part index (view value.now)) }
+{
+    let text = text_of(value, part, index)?;
+    name_of(text, part, index)
 }
 
 /// The number of a name that is declared.
@@ -137,6 +238,34 @@ pub(crate) fn number_of(
     }
 }
 
+/// The number of the declared name that a value says.
+#[tactic(auto, unfolding(crate::specs::Parts::named_in))]
+pub(crate) fn named_of(
+    names: &NameTable,
+    value: &Value,
+    part: PolicyPart,
+    index: u32,
+) -> Result<u16, ReadFault>
+    ensures read { Gives fault_of (λ n. n) result
+        (parts.named_in part index names.now.names (view value.now)) }
+    ensures within { IfOk result (λ n. n < length names.now.names) }
+{
+    match text_of(value, part, index) {
+        Ok(text) => number_of(names, text, part, index),
+        Err(fault) => Err(fault),
+    }
+}
+
+/// The fault of a value that stands twice.
+pub(crate) fn twice(value: &Value, part: PolicyPart, index: u32) -> ReadFault
+    ensures { result ≡ Policy (fault_about kind.Twice part index (parts.said (view value.now))) }
+{
+    match value.as_str() {
+        Some(text) => refuse_text(PolicyKind::Twice, part, index, text),
+        None => refuse_text(PolicyKind::Twice, part, index, ""),
+    }
+}
+
 /// Adds the next name of a list of distinct names.
 #[tactic(auto, unfolding(crate::specs::Parts::next_name, crate::specs::Parts::once))]
 pub(crate) fn next_name(
@@ -151,43 +280,12 @@ pub(crate) fn next_name(
     ensures limit { OnOk result (names.new.limit ≡ names.old.limit) }
     ensures count { OnOk result (length names.new.names ≡ length names.old.names + 1) }
 {
-    let text = text_of(value, part, index)?;
-    let name = name_of(text, part, index)?;
+    let name = text_name_of(value, part, index)?;
     match names.add(name) {
         Ok(_) => Ok(()),
-        Err(NameFault::Twice) => Err(refuse_text(PolicyKind::Twice, part, index, text)),
+        Err(NameFault::Twice) => Err(refuse_text(PolicyKind::Twice, part, index, name.as_str())),
         Err(NameFault::Full) => unreachable!(),
         Err(NameFault::NoMemory) => Err(ReadFault::NoMemory),
-    }
-}
-
-/// The two texts of an array of two texts.
-pub(crate) fn two_texts(value: &Value) -> Option<(&str, &str)>
-    ensures { option_map (λ p. (p.0.now, p.1.now)) result ≡ parts.two_texts (view value.now) }
-{
-    match value.as_array() {
-        Some(items) => texts_of(items),
-        None => None,
-    }
-}
-
-#[tactic(auto, using(crate::proofs::Counts::texts_of_two, crate::proofs::Counts::texts_of_others))]
-fn texts_of(items: &[Value]) -> Option<(&str, &str)>
-    ensures { option_map (λ p. (p.0.now, p.1.now)) result ≡ parts.texts_of (items_view items.now) }
-{
-    if items.len() != 2 {
-        return None;
-    }
-    both_texts(&items[0], &items[1])
-}
-
-fn both_texts<'t>(first: &'t Value, second: &'t Value) -> Option<(&'t str, &'t str)>
-    ensures { option_map (λ p. (p.0.now, p.1.now)) result
-        ≡ parts.both_texts (view first.now) (view second.now) }
-{
-    match (first.as_str(), second.as_str()) {
-        (Some(first), Some(second)) => Some((first, second)),
-        _ => None,
     }
 }
 
@@ -205,15 +303,11 @@ fn next_pair(
         (parts.next_pair part index names.now.names pairs.old (view value.now)) }
     ensures within { OnOk result (AreBelow (length names.now.names) pairs.new) }
 {
-    let Some((first, second)) = two_texts(value) else {
-        return Err(refuse(PolicyKind::Shape, part, index));
-    };
-    let a = number_of(names, first, part, index)?;
-    let b = number_of(names, second, part, index)?;
+    let (a, b) = named_pair(names, value, part, index)?;
     if pairs.insert(a, b)? {
         Ok(())
     } else {
-        Err(refuse_text(PolicyKind::Twice, part, index, first))
+        Err(twice_pair(value, part, index))
     }
 }
 

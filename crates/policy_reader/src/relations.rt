@@ -1,13 +1,14 @@
 //! Reads the relations of a policy file. Their faults carry the relation's number.
-ghost use Rattle.std.specs.Prelude.{◌≡◌, ℕ, Bool, ◌<◌, ◌≤◌, ◌+◌, ◌++◌, ◌∷◌, [], length, map, is_some, IfOk, IfErr, OnOk, option_map, false};
+ghost use Rattle.std.specs.Prelude.{◌≡◌, ℕ, Bool, List, ◌<◌, ◌≤◌, ◌+◌, ◌++◌, ◌∷◌, [], length, map, is_some, IfOk, IfErr, OnOk, option_map, false};
 ghost use Rattle.std.specs.FinSet as set;
+ghost use Rattle.toml.specs.Data.{Data};
 ghost use Rattle.toml.specs.View.{view, table_view};
 ghost use Rattle.wf_names.specs.declared.limits.TheConstants.{PAIR_LIMIT, RELATION_LIMIT, USER_LIMIT};
 ghost use Rattle.wf_names.specs.Table.{place_of};
 ghost use Rattle.user_relations.specs.Relations.{listed, complement};
 ghost use Rattle.policy_book.specs.Facts.{AreOfUsers};
 ghost use Rattle.policy_reader.specs.Bounds.{AreBelow};
-ghost use Rattle.policy_reader.specs.Kinds.{is_marked, IsTarget, IsKept, AreKept};
+ghost use Rattle.policy_reader.specs.Kinds.{is_marked, IsTarget, IsReadKind, AreReadRelations};
 ghost use Rattle.policy_reader.specs.Printable.{Ascend};
 ghost use Rattle.user_relations.specs.Soundness.{AreSound};
 ghost use Rattle.user_relations.specs.View.{kind_view, shapes};
@@ -92,6 +93,26 @@ fn complement_of(all: &Table, number: u32, value: &Value) -> Result<RelId, ReadF
     }
 }
 
+/// Reads a listed relation.
+fn listed_kind(
+    alloc: Global,
+    users: &NameTable,
+    number: u32,
+    value: &Value,
+) -> Result<Kind, ReadFault>
+    requires known { length users.now.names ≤ USER_LIMIT }
+    ensures read { Gives fault_of kind_view result
+        (spec.listed_in users.now.names number (view value.now)) }
+    ensures kept { IfOk result (λ k. (all : List (List ℕ × Data)) (marked : Bool)
+        → IsReadKind (length users.now.names) all marked (kind_view k)) }
+{
+    let pairs = listed_of(alloc, users, number, value)?;
+    match Kind::of_pairs(alloc, pairs) {
+        Ok(kind) => Ok(kind),
+        Err(_) => Err(ReadFault::NoMemory),
+    }
+}
+
 /// Reads what a relation is.
 #[tactic(auto, unfolding(crate::specs::Relations::kind_in), using(crate::proofs::Counts::count_entries))]
 fn kind_of(
@@ -105,19 +126,44 @@ fn kind_of(
     requires few { length all.now.entries ≤ RELATION_LIMIT }
     ensures read { Gives fault_of kind_view result
         (spec.kind_in users.now.names (table_view all.now) number (table_view table.now)) }
-    ensures kept { IfOk result (λ k. IsKept (length users.now.names) (entries (table_view all.now))
+    ensures kept { IfOk result (λ k. IsReadKind (length users.now.names)
+        (entries (table_view all.now))
         (spec.is_complement_table (table_view table.now)) (kind_view k)) }
 {
     if table.len() != 1 {
         return Err(refuse(PolicyKind::Shape, PolicyPart::Relations, number));
     }
     if let Some(value) = find(table, "pairs") {
-        let pairs = listed_of(alloc, users, number, value)?;
-        return Ok(Kind::of_pairs(alloc, pairs)?);
+        return listed_kind(alloc, users, number, value);
     }
-    match find(table, "complement") {
-        Some(value) => Ok(Kind::Complement(complement_of(all, number, value)?)),
-        None => Err(refuse(PolicyKind::Shape, PolicyPart::Relations, number)),
+    let Some(value) = find(table, "complement") else {
+        return Err(refuse(PolicyKind::Shape, PolicyPart::Relations, number));
+    };
+    match complement_of(all, number, value) {
+        Ok(rho) => Ok(Kind::Complement(rho)),
+        Err(fault) => Err(fault),
+    }
+}
+
+/// Reads what a value says that a relation is.
+#[tactic(auto, unfolding(crate::specs::Relations::kind_at))]
+fn kind_at(
+    alloc: Global,
+    users: &NameTable,
+    all: &Table,
+    number: u32,
+    value: &Value,
+) -> Result<Kind, ReadFault>
+    requires known { length users.now.names ≤ USER_LIMIT }
+    requires few { length all.now.entries ≤ RELATION_LIMIT }
+    ensures read { Gives fault_of kind_view result
+        (spec.kind_at users.now.names (table_view all.now) number (view value.now)) }
+    ensures kept { IfOk result (λ k. IsReadKind (length users.now.names)
+        (entries (table_view all.now)) (spec.is_complement (view value.now)) (kind_view k)) }
+{
+    match table_of(value, PolicyPart::Relations, number) {
+        Ok(table) => kind_of(alloc, users, all, number, table),
+        Err(fault) => Err(fault),
     }
 }
 
@@ -138,6 +184,20 @@ fn push_relation(relations: &mut Vec<Relation>, name: Name, kind: Kind) -> Resul
     }
 }
 
+/// The name of a relation, which no built-in one has.
+#[tactic(auto, unfolding(crate::specs::Relations::free_name_in))]
+fn free_name(text: &str, number: u32) -> Result<Name, ReadFault>
+    ensures read { Gives fault_of (λ _. tt) result (spec.free_name_in number text.now) }
+    ensures value { IfOk result (λ n. n ≡ text.now) }
+    ensures free { IfOk result (λ _. spec.is_built_in text.now ≡ false) }
+{
+    let name = name_of(text, PolicyPart::Relations, number)?;
+    if is_built_in(text) {
+        return Err(refuse_text(PolicyKind::Reserved, PolicyPart::Relations, number, text));
+    }
+    Ok(name)
+}
+
 /// Reads the next relation.
 #[tactic(auto, unfolding(crate::specs::Relations::next_relation), using(crate::proofs::Relating::names_push))]
 fn next_relation(
@@ -152,7 +212,7 @@ fn next_relation(
     requires few { length all.now.entries ≤ RELATION_LIMIT }
     requires room { length (shapes relations.old.items) < RELATION_LIMIT }
     requires new { parts.is_among (names_of (shapes relations.old.items)) key.now ≡ false }
-    requires kept { AreKept (length users.now.names) (entries (table_view all.now))
+    requires kept { AreReadRelations (length users.now.names) (entries (table_view all.now))
         (shapes relations.old.items) }
     requires here { is_marked first_declared (entries (table_view all.now))
         (first_declared + length (shapes relations.old.items))
@@ -162,16 +222,12 @@ fn next_relation(
         (key.now, view value.now)) }
     ensures names { OnOk result (names_of (shapes relations.new.items)
         ≡ names_of (shapes relations.old.items) ++ key.now ∷ []) }
-    ensures kept { OnOk result (AreKept (length users.now.names) (entries (table_view all.now))
+    ensures kept { OnOk result (AreReadRelations (length users.now.names) (entries (table_view all.now))
         (shapes relations.new.items)) }
 {
     let number = relations.len() as u32 + 2;
-    let name = name_of(key, PolicyPart::Relations, number)?;
-    if is_built_in(key) {
-        return Err(refuse_text(PolicyKind::Reserved, PolicyPart::Relations, number, key));
-    }
-    let table = table_of(value, PolicyPart::Relations, number)?;
-    match kind_of(alloc, users, all, number, table) {
+    let name = free_name(key, number)?;
+    match kind_at(alloc, users, all, number, value) {
         Ok(kind) => push_relation(relations, name, kind),
         Err(fault) => Err(fault),
     }

@@ -15,7 +15,7 @@ ghost use Rattle.first_fault.specs.Reading.{Gives, each};
 use crate::fault::{PolicyKind, PolicyPart, ReadFault, refuse, refuse_text};
 use crate::form::Form;
 use crate::parts::{
-    array_of, at_least_one, at_most, find, no_others, number_of, table_of, text_of, value_at,
+    array_of, at_least_one, at_most, find, named_of, no_others, table_of, text_of, twice, value_at,
 };
 use constraint_forms::{Rule, Rules, StepSet};
 use std::alloc::Global;
@@ -49,9 +49,10 @@ fn step_of(steps: &NameTable, value: &Value, flow: u32) -> Result<StepId, ReadFa
         (spec.step_in flow steps.now.names (view value.now)) }
     ensures within { IfOk result (λ s. s < length steps.now.names) }
 {
-    let text = text_of(value, PolicyPart::Flows, flow)?;
-    let number = number_of(steps, text, PolicyPart::Flows, flow)?;
-    Ok(StepId(number as u8))
+    match named_of(steps, value, PolicyPart::Flows, flow) {
+        Ok(number) => Ok(StepId(number as u8)),
+        Err(fault) => Err(fault),
+    }
 }
 
 /// Puts the next step into a group.
@@ -69,11 +70,10 @@ fn next_member(
     ensures within { OnOk result (HasStepsBelow (length steps.now.names) group.new) }
     ensures some { OnOk result (IsTrue (any_from 0 group.new (λ _. true))) }
 {
-    let text = text_of(value, PolicyPart::Flows, flow)?;
-    let number = number_of(steps, text, PolicyPart::Flows, flow)?;
+    let number = named_of(steps, value, PolicyPart::Flows, flow)?;
     let step = StepId(number as u8);
     if group.has(step) {
-        return Err(refuse_text(PolicyKind::Twice, PolicyPart::Flows, flow, text));
+        return Err(twice(value, PolicyPart::Flows, flow));
     }
     *group = group.with(step);
     Ok(())
@@ -111,6 +111,83 @@ fn all_members(steps: &NameTable, items: &[Value], flow: u32) -> Result<StepSet,
     Ok(group)
 }
 
+/// The relation that is named in a table.
+#[tactic(auto, unfolding(crate::specs::Rules::relation_at))]
+fn relation_at(table: &Table, relations: &Relations, flow: u32) -> Result<RelId, ReadFault>
+    ensures read { Gives fault_of (λ rho. rho) result
+        (spec.relation_at flow relations.now (table_view table.now)) }
+    ensures within { IfOk result (λ rho. rho < length relations.now + 2) }
+{
+    match value_at(table, "relation", PolicyPart::Flows, flow) {
+        Ok(value) => relation_of(relations, value, flow),
+        Err(fault) => Err(fault),
+    }
+}
+
+/// The step that is named at a key.
+#[tactic(auto, unfolding(crate::specs::Rules::step_at))]
+fn step_at(table: &Table, key: &str, steps: &NameTable, flow: u32) -> Result<StepId, ReadFault>
+    requires few { length steps.now.names ≤ STEP_LIMIT }
+    ensures read { Gives fault_of (λ s. s) result
+        (spec.step_at flow steps.now.names key.now (table_view table.now)) }
+    ensures within { IfOk result (λ s. s < length steps.now.names) }
+{
+    match value_at(table, key, PolicyPart::Flows, flow) {
+        Ok(value) => step_of(steps, value, flow),
+        Err(fault) => Err(fault),
+    }
+}
+
+/// The group in a table.
+#[tactic(auto, unfolding(crate::specs::Rules::group_at))]
+fn group_at(table: &Table, steps: &NameTable, flow: u32) -> Result<StepSet, ReadFault>
+    requires few { length steps.now.names ≤ STEP_LIMIT }
+    ensures read { Gives fault_of (λ g. g) result
+        (spec.group_at flow steps.now.names (table_view table.now)) }
+    ensures within { IfOk result (HasStepsBelow (length steps.now.names)) }
+    ensures some { IfOk result (λ g. IsTrue (any_from 0 g (λ _. true))) }
+{
+    match value_at(table, "group", PolicyPart::Flows, flow) {
+        Ok(value) => group_of(steps, value, flow),
+        Err(fault) => Err(fault),
+    }
+}
+
+/// Whether a key is there.
+#[tactic(auto, unfolding(crate::specs::Rules::key_in))]
+fn check_key(table: &Table, key: &str, flow: u32) -> Result<(), ReadFault>
+    ensures { Gives fault_of (λ u. u) result (spec.key_in flow key.now (table_view table.now)) }
+{
+    match value_at(table, key, PolicyPart::Flows, flow) {
+        Ok(_) => Ok(()),
+        Err(fault) => Err(fault),
+    }
+}
+
+/// Whether a rule of a form has a relation and two further keys, and no others.
+#[tactic(auto, unfolding(crate::specs::Rules::keys_in))]
+fn check_keys(
+    form: Form,
+    first: &str,
+    second: &str,
+    table: &Table,
+    flow: u32,
+) -> Result<(), ReadFault>
+    ensures { Gives fault_of (λ u. u) result
+        (spec.keys_in form first.now second.now flow (table_view table.now)) }
+{
+    if let Err(fault) = check_key(table, "relation", flow) {
+        return Err(fault);
+    }
+    if let Err(fault) = check_key(table, first, flow) {
+        return Err(fault);
+    }
+    if let Err(fault) = check_key(table, second, flow) {
+        return Err(fault);
+    }
+    no_others(table, form.keys(), PolicyPart::Flows, flow)
+}
+
 /// The rule over two steps in a table.
 #[tactic(auto, unfolding(crate::specs::Rules::pair_in))]
 fn pair_of(
@@ -124,14 +201,13 @@ fn pair_of(
         (spec.pair_in flow relations.now steps.now.names (table_view table.now)) }
     ensures sound { IfOk result (IsSoundRule (length steps.now.names) (length relations.now)) }
 {
-    let relation = value_at(table, "relation", PolicyPart::Flows, flow)?;
-    let first = value_at(table, "first", PolicyPart::Flows, flow)?;
-    let second = value_at(table, "second", PolicyPart::Flows, flow)?;
-    no_others(table, Form::Pair.keys(), PolicyPart::Flows, flow)?;
-    let rho = relation_of(relations, relation, flow)?;
-    let first = step_of(steps, first, flow)?;
-    let second = step_of(steps, second, flow)?;
-    Ok(Rule::Pair { rho, first, second })
+    check_keys(Form::Pair, "first", "second", table, flow)?;
+    let rho = relation_at(table, relations, flow)?;
+    let first = step_at(table, "first", steps, flow)?;
+    match step_at(table, "second", steps, flow) {
+        Ok(second) => Ok(Rule::Pair { rho, first, second }),
+        Err(fault) => Err(fault),
+    }
 }
 
 /// What a rule over a group of steps has.
@@ -159,14 +235,13 @@ fn grouped_of(
     ensures within { IfOk result (λ g. HasStepsBelow (length steps.now.names) g.group) }
     ensures some { IfOk result (λ g. IsTrue (any_from 0 g.group (λ _. true))) }
 {
-    let relation = value_at(table, "relation", PolicyPart::Flows, flow)?;
-    let group = value_at(table, "group", PolicyPart::Flows, flow)?;
-    let step = value_at(table, "step", PolicyPart::Flows, flow)?;
-    no_others(table, form.keys(), PolicyPart::Flows, flow)?;
-    let rho = relation_of(relations, relation, flow)?;
-    let step = step_of(steps, step, flow)?;
-    let group = group_of(steps, group, flow)?;
-    Ok(Grouped { rho, group, step })
+    check_keys(form, "group", "step", table, flow)?;
+    let rho = relation_at(table, relations, flow)?;
+    let step = step_at(table, "step", steps, flow)?;
+    match group_at(table, steps, flow) {
+        Ok(group) => Ok(Grouped { rho, group, step }),
+        Err(fault) => Err(fault),
+    }
 }
 
 /// The rule of a form in a table.

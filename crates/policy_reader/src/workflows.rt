@@ -20,8 +20,7 @@ ghost use Rattle.first_fault.specs.Reading.{Gives, each};
 
 use crate::fault::{PolicyKind, PolicyPart, ReadFault, refuse_text};
 use crate::parts::{
-    array_of, at_least_one, at_most, find, next_name, number_of, read_pairs, table_of, text_of,
-    value_at,
+    array_of, find, items_at, named_of, next_name, number_of, read_pairs, table_at, twice,
 };
 use pair_set::PairSet;
 use std::alloc::{AllocError, Global};
@@ -32,17 +31,16 @@ use workflow_schema::laws::order_is_chained;
 use workflow_schema::{Flow, FlowFault};
 
 /// Reads the steps of a workflow.
-#[tactic(auto, unfolding(crate::specs::Flows::steps_of), using(crate::proofs::Counts::count_items, crate::proofs::Counts::counted))]
+#[tactic(auto, unfolding(crate::specs::Flows::steps_of), using(crate::proofs::Counts::counted))]
 pub(crate) fn read_steps(alloc: Global, table: &Table, flow: u32) -> Result<NameTable, ReadFault>
     ensures read { Gives fault_of (λ t. t.names) result
         (spec.steps_of flow (table_view table.now)) }
     ensures counted { IfOk result (λ t. is_count (length t.names) ≡ true) }
 {
-    let value = value_at(table, "steps", PolicyPart::Flows, flow)?;
-    let items = array_of(value, PolicyPart::Flows, flow)?;
-    at_least_one(items.len(), PolicyPart::Flows, flow)?;
-    at_most(STEP_LIMIT, items.len(), PolicyPart::Flows, flow)?;
-    all_steps(alloc, items, flow)
+    match items_at(STEP_LIMIT, table, "steps", PolicyPart::Flows, flow) {
+        Ok(items) => all_steps(alloc, items, flow),
+        Err(fault) => Err(fault),
+    }
 }
 
 fn all_steps(alloc: Global, items: &[Value], flow: u32) -> Result<NameTable, ReadFault>
@@ -61,7 +59,7 @@ fn all_steps(alloc: Global, items: &[Value], flow: u32) -> Result<NameTable, Rea
 }
 
 /// Reads the pairs of a workflow's order.
-#[tactic(auto, unfolding(crate::specs::Flows::pairs_of), using(pair_set::specs::PairLaws::all_empty))]
+#[tactic(auto, unfolding(crate::specs::Flows::order_pairs), using(pair_set::specs::PairLaws::all_empty))]
 pub(crate) fn read_order(
     alloc: Global,
     steps: &NameTable,
@@ -69,7 +67,7 @@ pub(crate) fn read_order(
     flow: u32,
 ) -> Result<PairSet, ReadFault>
     ensures read { Gives fault_of (λ pairs. pairs) result
-        (spec.pairs_of flow steps.now.names (table_view table.now)) }
+        (spec.order_pairs flow steps.now.names (table_view table.now)) }
     ensures within { IfOk result (AreBelow (length steps.now.names)) }
 {
     match find(table, "order") {
@@ -191,12 +189,11 @@ fn next_permitted(
     ensures steps { OnOk result (made.new.steps ≡ made.old.steps) }
     ensures roles { OnOk result (PermitsRolesBelow (length roles.now.names) made.new) }
 {
-    let text = text_of(value, PolicyPart::Flows, flow)?;
-    let role = number_of(roles, text, PolicyPart::Flows, flow)?;
+    let role = named_of(roles, value, PolicyPart::Flows, flow)?;
     if made.permit(RoleId(role as u8), s) {
         Ok(())
     } else {
-        Err(refuse_text(PolicyKind::Twice, PolicyPart::Flows, flow, text))
+        Err(twice(value, PolicyPart::Flows, flow))
     }
 }
 
@@ -281,7 +278,8 @@ pub(crate) fn read_permits(
     ensures steps { OnOk result (made.new.steps ≡ made.old.steps) }
     ensures roles { OnOk result (PermitsRolesBelow (length roles.now.names) made.new) }
 {
-    let value = value_at(table, "permit", PolicyPart::Flows, flow)?;
-    let permits = table_of(value, PolicyPart::Flows, flow)?;
-    all_permits(made, roles, permits, flow)
+    match table_at(table, "permit", PolicyPart::Flows, flow) {
+        Ok(permits) => all_permits(made, roles, permits, flow),
+        Err(fault) => Err(fault),
+    }
 }

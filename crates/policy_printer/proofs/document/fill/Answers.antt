@@ -1,5 +1,4 @@
-use Rattle.std.proofs.Common.{subst, ap, ◌∙◌}
-use Rattle.policy_printer.proofs.Words.{RosterShape, IsSoundRoster, AreNames}
+use Rattle.policy_printer.proofs.Words.{subst, ap, ◌∙◌, RosterShape, IsSoundRoster, AreNames}
 use Rattle.policy_printer.proofs.Writing.{on_ok}
 use Rattle.policy_printer.proofs.document.fill.Goals as goal
 

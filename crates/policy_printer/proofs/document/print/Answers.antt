@@ -1,5 +1,4 @@
-use Rattle.std.proofs.Common.{◌∙◌, sym, ap, arith, refl, ◌≡◌, true, false, Err, string_bytes}
-use Rattle.policy_printer.proofs.Words.{members_have_valid_dates, document_of}
+use Rattle.policy_printer.proofs.Words.{◌∙◌, sym, ap, arith, refl, ◌≡◌, true, false, Err, string_bytes, members_have_valid_dates, document_of}
 use Rattle.std.proofs.lemmas.Str.{IsUtf8-string_bytes}
 use Rattle.policy_printer.proofs.Plain.{document_plain}
 use Rattle.policy_printer.proofs.Again.{file_back}

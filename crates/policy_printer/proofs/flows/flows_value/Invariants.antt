@@ -1,5 +1,4 @@
-use Rattle.std.proofs.Common.{◌≡◌, ℕ, ◌<◌}
-use Rattle.policy_printer.proofs.Words.{table_view, flow_at, table_below, flow_entry, IsNamedWorkflow}
+use Rattle.policy_printer.proofs.Words.{◌≡◌, ℕ, ◌<◌, table_view, flow_at, table_below, flow_entry, IsNamedWorkflow}
 use Rattle.policy_printer.proofs.flows.flows_value.Given as goal
 
 abbrev pub invariant-flows : goal.invariant-flows

@@ -1,5 +1,4 @@
-use Rattle.std.proofs.Common.{◌≡◌, map}
-use Rattle.policy_printer.proofs.Words.{string, view, is_member, name_at, chosen}
+use Rattle.policy_printer.proofs.Words.{◌≡◌, map, string, view, is_member, name_at, chosen}
 use Rattle.policy_printer.proofs.flows.group_value.Given as goal
 
 abbrev pub invariant-steps : goal.invariant-steps

@@ -1,5 +1,4 @@
-use Rattle.std.proofs.Common.{◌≡◌, map, length}
-use Rattle.policy_printer.proofs.Words.{view, pair_data, rows}
+use Rattle.policy_printer.proofs.Words.{◌≡◌, map, length, view, pair_data, rows}
 use Rattle.policy_printer.proofs.flows.order_value.Given as goal
 
 abbrev pub invariant-steps : goal.invariant-steps

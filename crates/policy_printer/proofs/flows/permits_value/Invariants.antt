@@ -1,5 +1,4 @@
-use Rattle.std.proofs.Common.{◌≡◌}
-use Rattle.policy_printer.proofs.Words.{table_view, table_below, permit_entry}
+use Rattle.policy_printer.proofs.Words.{◌≡◌, table_view, table_below, permit_entry}
 use Rattle.policy_printer.proofs.flows.permits_value.Given as goal
 
 abbrev pub invariant-steps : goal.invariant-steps

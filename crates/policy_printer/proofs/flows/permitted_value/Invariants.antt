@@ -1,6 +1,5 @@
-use Rattle.std.proofs.Common.{◌≡◌, map}
 use Rattle.std.specs.FinSet as set
-use Rattle.policy_printer.proofs.Words.{string, view, name_at, chosen}
+use Rattle.policy_printer.proofs.Words.{◌≡◌, map, string, view, name_at, chosen}
 use Rattle.policy_printer.proofs.flows.permitted_value.Given as goal
 
 abbrev pub invariant-roles : goal.invariant-roles

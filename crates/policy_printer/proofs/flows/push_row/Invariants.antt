@@ -1,5 +1,4 @@
-use Rattle.std.proofs.Common.{◌≡◌, ◌++◌, map}
-use Rattle.policy_printer.proofs.Words.{view, pair_data, row}
+use Rattle.policy_printer.proofs.Words.{◌≡◌, ◌++◌, map, view, pair_data, row}
 use Rattle.policy_printer.proofs.flows.push_row.Given as goal
 
 abbrev pub invariant-steps : goal.invariant-steps

@@ -1,5 +1,4 @@
-use Rattle.std.proofs.Common.{◌≡◌, ℕ, ◌<◌, map, take, Some, slice_get}
-use Rattle.policy_printer.proofs.Words.{view, Rule, rule_data, HasFlags}
+use Rattle.policy_printer.proofs.Words.{◌≡◌, ℕ, ◌<◌, map, take, Some, slice_get, view, Rule, rule_data, HasFlags}
 use Rattle.policy_printer.proofs.flows.rules_value.Given as goal
 
 abbrev pub invariant-rules : goal.invariant-rules

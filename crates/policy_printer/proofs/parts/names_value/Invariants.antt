@@ -1,5 +1,4 @@
-use Rattle.std.proofs.Common.{◌≡◌, map, take}
-use Rattle.policy_printer.proofs.Words.{string, view}
+use Rattle.policy_printer.proofs.Words.{◌≡◌, map, take, string, view}
 use Rattle.policy_printer.proofs.parts.names_value.Given as goal
 
 abbrev pub invariant-names : goal.invariant-names

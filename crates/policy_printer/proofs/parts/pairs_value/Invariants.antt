@@ -1,5 +1,4 @@
-use Rattle.std.proofs.Common.{◌≡◌, map, take}
-use Rattle.policy_printer.proofs.Words.{view, pair_data}
+use Rattle.policy_printer.proofs.Words.{◌≡◌, map, take, view, pair_data}
 use Rattle.policy_printer.proofs.parts.pairs_value.Given as goal
 
 abbrev pub invariant-pairs : goal.invariant-pairs

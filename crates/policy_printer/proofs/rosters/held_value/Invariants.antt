@@ -1,5 +1,4 @@
-use Rattle.std.proofs.Common.{◌≡◌, map}
-use Rattle.policy_printer.proofs.Words.{string, view, has_role, name_at, chosen}
+use Rattle.policy_printer.proofs.Words.{◌≡◌, map, string, view, has_role, name_at, chosen}
 use Rattle.policy_printer.proofs.rosters.held_value.Given as goal
 
 abbrev pub invariant-roles : goal.invariant-roles

@@ -1,5 +1,4 @@
-use Rattle.std.proofs.Common.{length}
-use Rattle.policy_printer.proofs.Words.{all_below}
+use Rattle.policy_printer.proofs.Words.{length, all_below}
 use Rattle.policy_printer.proofs.Rows.{listed_rows}
 use Rattle.policy_printer.proofs.Writing.{pairs_of_users}
 use Rattle.policy_printer.proofs.rosters.listed_value.Goals as goal

@@ -1,5 +1,4 @@
-use Rattle.std.proofs.Common.{arith, ◌≡◌, true, ℕ, ◌+◌, ap, ◌∙◌, sym}
-use Rattle.policy_printer.proofs.Words.{known_names, first_declared, name_at, with_member, relation_entry, is_name}
+use Rattle.policy_printer.proofs.Words.{arith, ◌≡◌, true, ℕ, ◌+◌, ap, ◌∙◌, sym, known_names, first_declared, name_at, with_member, relation_entry, is_name}
 use Rattle.policy_printer.proofs.Writing.{table_more, one_further, known_named}
 use Rattle.policy_printer.proofs.rosters.relations_value.Goals as goal
 

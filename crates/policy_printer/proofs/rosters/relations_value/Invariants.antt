@@ -1,5 +1,4 @@
-use Rattle.std.proofs.Common.{◌≡◌, ℕ, ◌+◌, ◌<◌, true}
-use Rattle.policy_printer.proofs.Words.{table_view, known_names, first_declared, name_at, table_below, relation_entry, is_name}
+use Rattle.policy_printer.proofs.Words.{◌≡◌, ℕ, ◌+◌, ◌<◌, true, table_view, known_names, first_declared, name_at, table_below, relation_entry, is_name}
 use Rattle.policy_printer.proofs.rosters.relations_value.Given as goal
 
 abbrev pub invariant-relations : goal.invariant-relations

@@ -1,5 +1,4 @@
-use Rattle.std.proofs.Common.{◌≡◌}
-use Rattle.policy_printer.proofs.Words.{table_view, table_below, user_entry}
+use Rattle.policy_printer.proofs.Words.{◌≡◌, table_view, table_below, user_entry}
 use Rattle.policy_printer.proofs.rosters.users_value.Given as goal
 
 abbrev pub invariant-users : goal.invariant-users

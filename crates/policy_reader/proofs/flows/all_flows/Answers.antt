@@ -1,5 +1,4 @@
-use Rattle.std.proofs.Common.{arith}
-use Rattle.policy_reader.proofs.Words.{next_flow}
+use Rattle.policy_reader.proofs.Words.{arith, next_flow}
 use Rattle.policy_reader.proofs.Fresh.{left_start, left_new, left_next, left_ascend, left_count}
 use Rattle.policy_reader.proofs.Grown.{grown_none, grown_more, printable}
 use Rattle.policy_reader.proofs.flows.all_flows.Goals as goal

@@ -1,6 +1,5 @@
-use Rattle.std.proofs.Common.{refl, arith}
 use Rattle.std.specs.FinSet as set
-use Rattle.policy_reader.proofs.Words.{pair_cmp, all_empty}
+use Rattle.policy_reader.proofs.Words.{refl, arith, pair_cmp, all_empty}
 use Rattle.policy_reader.proofs.pairs.read_user_pairs.Goals as goal
 
 pub items-init : goal.items-init

@@ -1,6 +1,5 @@
-use Rattle.std.proofs.Common.{◌≡◌, ◌≤◌, drop, length}
 use Rattle.std.specs.FinSet as set
-use Rattle.policy_reader.proofs.Words.{items_view, each, AreBelow, items, next_pair}
+use Rattle.policy_reader.proofs.Words.{◌≡◌, ◌≤◌, drop, length, items_view, each, AreBelow, items, next_pair}
 use Rattle.policy_reader.proofs.pairs.read_user_pairs.Given as goal
 
 abbrev pub invariant-items : goal.invariant-items

@@ -1,5 +1,4 @@
-use Rattle.std.proofs.Common.{◌≡◌, map, drop}
-use Rattle.policy_reader.proofs.Words.{is_among}
+use Rattle.policy_reader.proofs.Words.{◌≡◌, map, drop, is_among}
 use Rattle.policy_reader.proofs.parts.is_among.Given as goal
 
 abbrev pub invariant-texts : goal.invariant-texts

@@ -1,5 +1,4 @@
-use Rattle.std.proofs.Common.{◌≡◌, map}
-use Rattle.policy_reader.proofs.Words.{members_view, table_view, each, entries, known_key}
+use Rattle.policy_reader.proofs.Words.{◌≡◌, map, members_view, table_view, each, entries, known_key}
 use Rattle.policy_reader.proofs.parts.no_others.Given as goal
 
 abbrev pub invariant-entries : goal.invariant-entries

@@ -1,5 +1,4 @@
-use Rattle.std.proofs.Common.{length, refl, [], arith}
-use Rattle.policy_reader.proofs.Words.{table_view, shapes, entries, next_relation, names_of}
+use Rattle.policy_reader.proofs.Words.{length, refl, [], arith, table_view, shapes, entries, next_relation, names_of}
 use Rattle.policy_reader.proofs.Counts.{count_entries}
 use Rattle.policy_reader.proofs.Fresh.{left_start, left_none, left_next, left_ascend, left_count}
 use Rattle.policy_reader.proofs.Relating.{kept_none, marked_next, sound_of, related_of, names_count}

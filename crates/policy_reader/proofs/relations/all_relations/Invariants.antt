@@ -1,5 +1,4 @@
-use Rattle.std.proofs.Common.{length, []}
-use Rattle.policy_reader.proofs.Words.{table_view, shapes, each, entries, next_relation, names_of, AreKept}
+use Rattle.policy_reader.proofs.Words.{length, [], table_view, shapes, each, entries, next_relation, names_of, AreReadRelations}
 use Rattle.policy_reader.proofs.Fresh.{IsLeft}
 use Rattle.policy_reader.proofs.relations.all_relations.Given as goal
 
@@ -7,4 +6,4 @@ abbrev pub invariant-entries : goal.invariant-entries
 invariant-entries l =
     IsLeft (next_relation l.users.names (table_view l.fn.all)) names_of l.fn.all.entries
     (each (next_relation l.users.names (table_view l.fn.all)) [] (entries (table_view l.fn.all))) (shapes l.relations.items) l.key-iterator
-    × AreKept (length l.users.names) (entries (table_view l.fn.all)) (shapes l.relations.items)
+    × AreReadRelations (length l.users.names) (entries (table_view l.fn.all)) (shapes l.relations.items)

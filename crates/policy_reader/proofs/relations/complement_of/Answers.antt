@@ -1,5 +1,4 @@
-use Rattle.std.proofs.Common.{◌∙◌, sym, ap, Some}
-use Rattle.policy_reader.proofs.Words.{table_view, entries}
+use Rattle.policy_reader.proofs.Words.{◌∙◌, sym, ap, Some, table_view, entries}
 use Rattle.policy_reader.proofs.Relating.{target_of}
 use Rattle.policy_reader.proofs.relations.complement_of.Goals as goal
 

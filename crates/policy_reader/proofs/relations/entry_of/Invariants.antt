@@ -1,5 +1,4 @@
-use Rattle.std.proofs.Common.{◌≡◌, ◌≤◌, ◌+◌, length}
-use Rattle.policy_reader.proofs.Words.{members_view, table_view, RELATION_LIMIT, entries, first_declared, entry_of}
+use Rattle.policy_reader.proofs.Words.{◌≡◌, ◌≤◌, ◌+◌, length, members_view, table_view, RELATION_LIMIT, entries, first_declared, entry_of}
 use Rattle.policy_reader.proofs.relations.entry_of.Given as goal
 
 abbrev pub invariant-entries : goal.invariant-entries

@@ -1,6 +1,5 @@
-use Rattle.std.proofs.Common.{◌∙◌, sym, subst, length}
-use Rattle.policy_reader.proofs.Words.{table_view, kind_view, shapes, entries, IsKept}
-use Rattle.policy_reader.proofs.Relating.{table_told, kept_push}
+use Rattle.policy_reader.proofs.Words.{sym, subst, length, table_view, kind_view, shapes, entries, IsReadKind}
+use Rattle.policy_reader.proofs.Relating.{kept_push}
 use Rattle.policy_reader.proofs.RuleLists.{on_ok}
 use Rattle.policy_reader.proofs.relations.next_relation.Goals as goal
 
@@ -8,7 +7,7 @@ pub returns-in-Ok-clause-kept : goal.returns-in-Ok-clause-kept
 returns-in-Ok-clause-kept c =
     let users = length c.args.users.now.names in
     let all = entries (table_view c.args.all.now) in
-    let kept = subst (λ b. IsKept users all b (kind_view c.in-Ok.kind)) (sym (c.requires.here ∙ table_told _ _ _ _ c.in_ok-table.ensures)) c.in-Ok.ensures.kept in
+    let kept = subst (λ b. IsReadKind users all b (kind_view c.in-Ok.kind)) (sym c.requires.here) c.in-Ok.ensures.kept in
     on_ok c.push_relation.result _ _ c.push_relation.ensures.added
     (λ e. rw (e, c.in_ok-name.ensures.value)
-    (kept_push users all (shapes c.args.relations.now.items) (record { name = c.args.key.now; kind = kind_view c.in-Ok.kind }) c.requires.kept (sym c.is_built_in.ensures ∙ c.if-is_built_in.false) c.requires.new kept))
+    (kept_push users all (shapes c.args.relations.now.items) (record { name = c.args.key.now; kind = kind_view c.in-Ok.kind }) c.requires.kept c.in_ok-name.ensures.free c.requires.new kept))

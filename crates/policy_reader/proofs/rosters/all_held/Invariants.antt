@@ -1,5 +1,4 @@
-use Rattle.std.proofs.Common.{◌≡◌, drop}
-use Rattle.policy_reader.proofs.Words.{items_view, each, items, next_held}
+use Rattle.policy_reader.proofs.Words.{◌≡◌, drop, items_view, each, items, next_held}
 use Rattle.policy_reader.proofs.rosters.all_held.Given as goal
 
 abbrev pub invariant-items : goal.invariant-items

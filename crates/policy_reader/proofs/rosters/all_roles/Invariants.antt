@@ -1,5 +1,4 @@
-use Rattle.std.proofs.Common.{◌≡◌, ◌+◌, drop, length}
-use Rattle.policy_reader.proofs.Words.{items_view, ROLE_LIMIT, each, items, next_role}
+use Rattle.policy_reader.proofs.Words.{◌≡◌, ◌+◌, drop, length, items_view, ROLE_LIMIT, each, items, next_role}
 use Rattle.policy_reader.proofs.rosters.all_roles.Given as goal
 
 abbrev pub invariant-items : goal.invariant-items

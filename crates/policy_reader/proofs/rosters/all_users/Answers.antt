@@ -1,5 +1,4 @@
-use Rattle.std.proofs.Common.{◌∙◌, refl}
-use Rattle.policy_reader.proofs.Words.{next_user}
+use Rattle.policy_reader.proofs.Words.{◌∙◌, refl, next_user}
 use Rattle.policy_reader.proofs.Fresh.{left_start, left_new, left_next}
 use Rattle.policy_reader.proofs.rosters.all_users.Goals as goal
 

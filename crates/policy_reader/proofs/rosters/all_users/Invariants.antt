@@ -1,5 +1,4 @@
-use Rattle.std.proofs.Common.{◌≡◌}
-use Rattle.policy_reader.proofs.Words.{table_view, each, entries, next_user}
+use Rattle.policy_reader.proofs.Words.{◌≡◌, table_view, each, entries, next_user}
 use Rattle.policy_reader.proofs.Fresh.{IsLeft}
 use Rattle.policy_reader.proofs.rosters.all_users.Given as goal
 

@@ -1,5 +1,4 @@
-use Rattle.std.proofs.Common.{◌≡◌, drop, length, []}
-use Rattle.policy_reader.proofs.Words.{items_view, each, AreSoundRules, items, next_rule}
+use Rattle.policy_reader.proofs.Words.{◌≡◌, drop, length, [], items_view, each, AreSoundRules, items, next_rule}
 use Rattle.policy_reader.proofs.rules.all_rules.Given as goal
 
 abbrev pub invariant-items : goal.invariant-items

@@ -1,4 +1,4 @@
-use Rattle.std.proofs.Common.{arith}
+use Rattle.policy_reader.proofs.Words.{arith}
 use Rattle.policy_reader.proofs.Held.{any_set}
 use Rattle.policy_reader.proofs.rules.next_member.Goals as goal
 

@@ -1,5 +1,4 @@
-use Rattle.std.proofs.Common.{◌≡◌, length}
-use Rattle.policy_reader.proofs.Words.{members_view, table_view, each, PermitsRolesBelow, entries, next_permit}
+use Rattle.policy_reader.proofs.Words.{◌≡◌, length, members_view, table_view, each, PermitsRolesBelow, entries, next_permit}
 use Rattle.policy_reader.proofs.workflows.all_permits.Given as goal
 
 abbrev pub invariant-entries : goal.invariant-entries

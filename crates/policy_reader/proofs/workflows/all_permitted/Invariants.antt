@@ -1,5 +1,4 @@
-use Rattle.std.proofs.Common.{◌≡◌, drop, length}
-use Rattle.policy_reader.proofs.Words.{items_view, each, PermitsRolesBelow, items, next_permitted}
+use Rattle.policy_reader.proofs.Words.{◌≡◌, drop, length, items_view, each, PermitsRolesBelow, items, next_permitted}
 use Rattle.policy_reader.proofs.workflows.all_permitted.Given as goal
 
 abbrev pub invariant-items : goal.invariant-items

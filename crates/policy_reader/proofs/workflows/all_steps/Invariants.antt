@@ -1,5 +1,4 @@
-use Rattle.std.proofs.Common.{◌≡◌, drop, length, []}
-use Rattle.policy_reader.proofs.Words.{items_view, STEP_LIMIT, each, Flows, items, next_name}
+use Rattle.policy_reader.proofs.Words.{◌≡◌, drop, length, [], items_view, STEP_LIMIT, each, Flows, items, next_name}
 use Rattle.policy_reader.proofs.workflows.all_steps.Given as goal
 
 abbrev pub invariant-items : goal.invariant-items

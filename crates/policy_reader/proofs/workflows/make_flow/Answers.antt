@@ -1,6 +1,5 @@
-use Rattle.std.proofs.Common.{◌∙◌, length, refl, sym, ap, subst, Err}
 use Rattle.std.specs.FinSet as set
-use Rattle.policy_reader.proofs.Words.{STEP_LIMIT, pair_cmp, IsLeastCycle}
+use Rattle.policy_reader.proofs.Words.{◌∙◌, length, refl, sym, ap, subst, Err, STEP_LIMIT, pair_cmp, IsLeastCycle}
 use Rattle.workflow_schema.proofs.Kept.{few_steps}
 use Rattle.policy_reader.proofs.Orders.{all_below, below_limit, once_each, cycle_found, no_cycle_found, cycle_within, no_cycle-ok, refused}
 use Rattle.policy_reader.proofs.workflows.make_flow.Goals as goal

@@ -1,4 +1,4 @@
-use Rattle.std.proofs.Common.{refl}
+use Rattle.policy_reader.proofs.Words.{refl}
 use Rattle.policy_reader.proofs.workflows.order_flow.Goals as goal
 
 pub returns-clause-cycle : goal.returns-clause-cycle

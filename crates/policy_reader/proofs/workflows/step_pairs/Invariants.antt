@@ -1,4 +1,4 @@
-use Rattle.std.proofs.Common.{◌≡◌, take}
+use Rattle.policy_reader.proofs.Words.{◌≡◌, take}
 use Rattle.policy_reader.proofs.workflows.step_pairs.Given as goal
 
 abbrev pub invariant-pairs : goal.invariant-pairs

@@ -1,7 +1,7 @@
-use Rattle.std.proofs.Common.{◌∙◌, sym, ap, length, arith}
+use Rattle.policy_reader.proofs.Words.{◌∙◌, sym, ap, length, arith}
 use Rattle.std.specs.FinSet as set
 use Rattle.policy_reader.proofs.Held.{any_at}
-use Rattle.policy_reader.proofs.file.is_held.Goals as goal
+use Rattle.policy_reader.proofs.file.some_user_has.Goals as goal
 
 pub returns-then-has : goal.returns-then-has
 returns-then-has c =
