@@ -2,3 +2,4 @@ pub mod Words
 pub mod Asked
 pub mod Finding
 pub mod Usage
+pub mod Kinds

@@ -5,6 +5,7 @@ mod arguments;
 mod command;
 mod finding;
 mod forms;
+mod kind;
 mod laws;
 mod reading;
 

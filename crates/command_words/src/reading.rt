@@ -1,12 +1,12 @@
 //! Reading the words of the command line.
-ghost use Rattle.std.specs.Prelude.{◌≡◌, IfOk, IfSome, map, option_map, option_and_then, string_bytes, codes, true};
-ghost use Rattle.clap.specs.Words.{app_of, is_simple_and_free};
-ghost use Rattle.command_words.specs.Words.{AreOptions, audit_form, audit_of, command_at, command_of, found, number_of, options_of, plan_form, plan_of, policy_in, serve_form, serve_of, show, show_form, solve, solve_form, trial, trial_form};
+ghost use Rattle.std.specs.Prelude.{◌≡◌, ◌-◌, ◌^◌, IfOk, IfSome, Some, map, option_map, string_bytes, codes};
+ghost use Rattle.command_words.specs.Words.{AreOptions, audit_of, command_at, command_of, found, number_of, options_of, plan_of, policy_in, serve_of, show, solve, trial};
 ghost use Rattle.command_words.specs.Asked.{CanServe, asked, options_in};
-ghost use Rattle.command_words.specs.Finding.{HasOptions, rows_in};
+ghost use Rattle.command_words.specs.Finding.{HasOptions, WritesWithin, rows_in};
+ghost use Rattle.command_words.specs.Kinds.{AreWithin, command_by, form_of};
 
 use crate::finding::{find, number_in, seed_in, word_in};
-use crate::forms::{audit_form, plan_form, serve_form, show_form, solve_form, trial_form};
+use crate::kind::Kind;
 use crate::{Command, Options};
 use clap::ArgMatches;
 use std::alloc::{AllocError, Global};
@@ -36,25 +36,41 @@ fn read_command<'a>(
         option_map asked c ≡ command_at word.now (map string_bytes words.now)) }
     ensures served { IfOk result (λ c. IfSome c CanServe) }
 {
-    match word {
-        "plan" => read_plan(alloc, words),
-        "show" => read_show(alloc, words),
-        "solve" => read_solve(alloc, words),
-        "serve" => read_serve(alloc, words),
-        "audit" => read_audit(alloc, words),
-        "trial" => read_trial(alloc, words),
-        _ => Ok(None),
+    match Kind::read(word) {
+        Some(kind) => read_kind(alloc, kind, words),
+        None => Ok(None),
     }
 }
 
-fn read_plan<'a>(alloc: Global, words: &'a [String]) -> Result<Option<Command<'a>>, AllocError>
+// The command of this kind.
+fn read_kind<'a>(
+    alloc: Global,
+    kind: Kind,
+    words: &'a [String],
+) -> Result<Option<Command<'a>>, AllocError>
     ensures command { IfOk result (λ c. option_map asked c
-        ≡ option_and_then plan_of (found plan_form (map string_bytes words.now))) }
+        ≡ command_by kind (found (form_of kind) (map string_bytes words.now))) }
     ensures served { IfOk result (λ c. IfSome c CanServe) }
 {
-    match find(plan_form(alloc)?, words)? {
-        Some(matches) => Ok(plan_in(&matches)),
+    match find(kind.form(alloc)?, words)? {
+        Some(matches) => Ok(command_in(kind, &matches)),
         None => Ok(None),
+    }
+}
+
+// The command of this kind, by what was found.
+fn command_in<'a>(kind: Kind, matches: &ArgMatches<'a>) -> Option<Command<'a>>
+    requires within { AreWithin kind (rows_in matches.now) }
+    ensures command { option_map asked result ≡ command_by kind (Some (rows_in matches.now)) }
+    ensures served { IfSome result CanServe }
+{
+    match kind {
+        Kind::Plan => plan_in(matches),
+        Kind::Show => show_in(matches),
+        Kind::Solve => solve_in(matches),
+        Kind::Serve => serve_in(matches),
+        Kind::Audit => audit_in(matches),
+        Kind::Trial => trial_in(matches),
     }
 }
 
@@ -67,54 +83,20 @@ fn plan_in<'a>(matches: &ArgMatches<'a>) -> Option<Command<'a>>
     Some(Command::Plan { policy, flow })
 }
 
-fn read_show<'a>(alloc: Global, words: &'a [String]) -> Result<Option<Command<'a>>, AllocError>
-    ensures command { IfOk result (λ c. option_map asked c
-        ≡ option_map show (option_and_then policy_in
-        (found show_form (map string_bytes words.now)))) }
-    ensures served { IfOk result (λ c. IfSome c CanServe) }
+fn show_in<'a>(matches: &ArgMatches<'a>) -> Option<Command<'a>>
+    ensures command { option_map asked result ≡ option_map show (policy_in (rows_in matches.now)) }
+    ensures served { IfSome result CanServe }
 {
-    match read_policy(show_form(alloc)?, words)? {
-        Some(policy) => Ok(Some(Command::Show { policy })),
-        None => Ok(None),
-    }
+    let policy = word_in(matches, "POLICY")?;
+    Some(Command::Show { policy })
 }
 
-fn read_solve<'a>(alloc: Global, words: &'a [String]) -> Result<Option<Command<'a>>, AllocError>
-    ensures command { IfOk result (λ c. option_map asked c
-        ≡ option_map solve (option_and_then policy_in
-        (found solve_form (map string_bytes words.now)))) }
-    ensures served { IfOk result (λ c. IfSome c CanServe) }
+fn solve_in<'a>(matches: &ArgMatches<'a>) -> Option<Command<'a>>
+    ensures command { option_map asked result ≡ option_map solve (policy_in (rows_in matches.now)) }
+    ensures served { IfSome result CanServe }
 {
-    match read_policy(solve_form(alloc)?, words)? {
-        Some(policy) => Ok(Some(Command::Solve { policy })),
-        None => Ok(None),
-    }
-}
-
-// The policy file, for a command of which nothing else is wanted.
-fn read_policy<'a>(
-    command: clap::Command<'a>,
-    words: &'a [String],
-) -> Result<Option<&'a str>, AllocError>
-    requires simple { is_simple_and_free (app_of command) ≡ true }
-    ensures { IfOk result (λ p. option_map (λ s. s.now) p
-        ≡ option_and_then policy_in (found (app_of command.entry) (map string_bytes words.now))) }
-{
-    match find(command, words)? {
-        Some(matches) => Ok(word_in(&matches, "POLICY")),
-        None => Ok(None),
-    }
-}
-
-fn read_serve<'a>(alloc: Global, words: &'a [String]) -> Result<Option<Command<'a>>, AllocError>
-    ensures command { IfOk result (λ c. option_map asked c
-        ≡ option_and_then serve_of (found serve_form (map string_bytes words.now))) }
-    ensures served { IfOk result (λ c. IfSome c CanServe) }
-{
-    match find(serve_form(alloc)?, words)? {
-        Some(matches) => Ok(serve_in(&matches)),
-        None => Ok(None),
-    }
+    let policy = word_in(matches, "POLICY")?;
+    Some(Command::Solve { policy })
 }
 
 fn serve_in<'a>(matches: &ArgMatches<'a>) -> Option<Command<'a>>
@@ -125,17 +107,6 @@ fn serve_in<'a>(matches: &ArgMatches<'a>) -> Option<Command<'a>>
     let policy = word_in(matches, "POLICY")?;
     let options = options_in(matches)?;
     Some(Command::Serve { policy, options })
-}
-
-fn read_audit<'a>(alloc: Global, words: &'a [String]) -> Result<Option<Command<'a>>, AllocError>
-    ensures command { IfOk result (λ c. option_map asked c
-        ≡ option_and_then audit_of (found audit_form (map string_bytes words.now))) }
-    ensures served { IfOk result (λ c. IfSome c CanServe) }
-{
-    match find(audit_form(alloc)?, words)? {
-        Some(matches) => Ok(audit_in(&matches)),
-        None => Ok(None),
-    }
 }
 
 fn audit_in<'a>(matches: &ArgMatches<'a>) -> Option<Command<'a>>
@@ -153,28 +124,14 @@ fn audit_in<'a>(matches: &ArgMatches<'a>) -> Option<Command<'a>>
     })
 }
 
-fn read_trial<'a>(alloc: Global, words: &'a [String]) -> Result<Option<Command<'a>>, AllocError>
-    ensures command { IfOk result (λ c. option_map asked c
-        ≡ option_map trial (option_and_then (number_of (codes "SEED"))
-        (found trial_form (map string_bytes words.now)))) }
-    ensures served { IfOk result (λ c. IfSome c CanServe) }
+fn trial_in<'a>(matches: &ArgMatches<'a>) -> Option<Command<'a>>
+    requires within { WritesWithin 0 (2 ^ 64 - 1) (codes "SEED") (rows_in matches.now) }
+    ensures command { option_map asked result
+        ≡ option_map trial (number_of (codes "SEED") (rows_in matches.now)) }
+    ensures served { IfSome result CanServe }
 {
-    match read_seed(trial_form(alloc)?, words)? {
-        Some(seed) => Ok(Some(Command::Trial { seed })),
-        None => Ok(None),
-    }
-}
-
-fn read_seed<'a>(command: clap::Command<'a>, words: &'a [String]) -> Result<Option<u64>, AllocError>
-    requires form { app_of command ≡ trial_form }
-    ensures { IfOk result (λ n. n
-        ≡ option_and_then (number_of (codes "SEED"))
-        (found trial_form (map string_bytes words.now))) }
-{
-    match find(command, words)? {
-        Some(matches) => Ok(seed_in(&matches)),
-        None => Ok(None),
-    }
+    let seed = seed_in(matches)?;
+    Some(Command::Trial { seed })
 }
 
 // The options that were found.

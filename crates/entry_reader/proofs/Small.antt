@@ -1,13 +1,13 @@
 -- The members of a small object, and the items of an array.
-use Rattle.std.proofs.Common.{◌≡◌, ℕ, zero, suc, ◌+◌, ◌<◌, ◌≤◌, List, [], ◌∷◌, length, drop, get_or, refl, sym, ap, ap₂, ◌∙◌, arith, Global, String, string_bytes}
+use Rattle.std.proofs.Common.{◌≡◌, ℕ, zero, suc, ◌+◌, ◌-◌, ◌<◌, ◌≤◌, Bool, List, [], ◌∷◌, length, drop, get_or, refl, sym, ap, ap₂, ◌∙◌, arith, Global, String, string_bytes}
 use Rattle.std.proofs.lemmas.List.{drop_more}
-use Rattle.std.specs.Prelude.{Some, None, option_and_then, slice_get}
+use Rattle.std.specs.Prelude.{Some, None, option_and_then, slice_get, if◌then◌else◌}
 use Rattle.serde_json.specs.declared.value.Value.{Value}
 use Rattle.serde_json.specs.Data.{no_items, item, depth, items_depth}
 use Rattle.serde_json.specs.Find.{as_str}
 use Rattle.serde_json.specs.View.{view, items_view, members_view}
 use Rattle.policy_book.specs.Shapes.{PolicyShape}
-use Rattle.entry_reader.specs.Values.{lone, pair_at, free_state, user_state, user_in, seen_at}
+use Rattle.entry_reader.specs.Values.{are_node_keys, lone, node_at, pair_at, free_state, user_state, user_in, seen_at}
 use Rattle.entry_reader.proofs.Readings.{some_same, none_some}
 
 pub lone_none : (es : List (String Global × Value)) → (length es ≡ 1 → ⊥) → lone (members_view es) ≡ None
@@ -19,6 +19,22 @@ pub lone_some : (es : List (String Global × Value)) (k : String Global) (v : Va
 lone_some [] k v h e = absurd (none_some (k, v) e)
 lone_some (x ∷ []) k v h e = ap (λ m. Some (string_bytes m.0, view m.1)) (some_same x (k, v) e)
 lone_some (x ∷ y ∷ es) k v h e = absurd (omega (arith, h))
+
+pub node_none : (es : List (String Global × Value)) → (length es ≡ 2 → ⊥) → node_at (members_view es) ≡ None
+node_none [] h = refl
+node_none (e ∷ []) h = refl
+node_none (e ∷ g ∷ []) h = absurd (h refl)
+node_none (e ∷ g ∷ i ∷ es) h = refl
+
+pub node_told : (es : List (String Global × Value)) (k l : String Global) (v w : Value) (keys : Bool) → length es ≡ 2 → slice_get es 0 ≡ Some (k, v)
+    → slice_get es (length es - 1) ≡ Some (l, w) → are_node_keys (string_bytes k) (string_bytes l) ≡ keys
+    → node_at (members_view es) ≡ (if keys then Some (view v, view w) else None)
+node_told [] k l v w keys h e g is = absurd (omega (arith, h))
+node_told (x ∷ []) k l v w keys h e g is = absurd (omega (arith, h))
+node_told (x ∷ y ∷ []) k l v w keys h e g is =
+    ap₂ (λ (m n : String Global × Value). if are_node_keys (string_bytes m.0) (string_bytes n.0) then Some (view m.1, view n.1) else None) (some_same x (k, v) e) (some_same y (l, w) g)
+    ∙ ap (λ (b : Bool). if b then Some (view v, view w) else None) is
+node_told (x ∷ y ∷ z ∷ es) k l v w keys h e g is = absurd (omega (arith, h))
 
 pub pair_none : (vs : List Value) → (length vs ≡ 2 → ⊥) → pair_at (items_view vs) ≡ None
 pair_none [] h = refl

@@ -117,15 +117,13 @@ fn flow_asked<F: FlowOf>(p: &Policy, cases: &F, ask: &Ask) -> Option<FlowId>
     };
     match request {
         Request::OpenCase { flow } => p.find_flow(flow),
-        Request::Claim { case, .. } => cases.flow_of(*case),
-        Request::Finish { case, .. } => cases.flow_of(*case),
-        Request::GiveBack { case, .. } => cases.flow_of(*case),
-        Request::Release { case, .. } => cases.flow_of(*case),
-        Request::Withdraw { case, .. } => cases.flow_of(*case),
-        Request::Change { .. } => None,
-        Request::Show { case } => cases.flow_of(*case),
-        Request::Worklist { .. } => None,
-        Request::WhatIf { .. } => None,
+        Request::Claim { case, .. }
+        | Request::Finish { case, .. }
+        | Request::GiveBack { case, .. }
+        | Request::Release { case, .. }
+        | Request::Withdraw { case, .. }
+        | Request::Show { case } => cases.flow_of(*case),
+        Request::Change { .. } | Request::Worklist { .. } | Request::WhatIf { .. } => None,
     }
 }
 

@@ -115,14 +115,24 @@ fn node_parts(value: &Value) -> Option<(&Value, &Value)>
     ensures { option_map (λ n. (view n.0.now, view n.1.now)) result
         ≡ read.node_parts (view value.now) }
 {
-    let mut members = value.as_object()?.iter();
-    let (first, step) = members.next()?;
-    let (second, users) = members.next()?;
-    if members.next().is_none() && first.as_str() == "step" && second.as_str() == "users" {
+    let members = value.as_object()?;
+    if members.len() != 2 {
+        return None;
+    }
+    let (first, step) = members.first_key_value()?;
+    let (second, users) = members.last_key_value()?;
+    if are_node_keys(first.as_str(), second.as_str()) {
         Some((step, users))
     } else {
         None
     }
+}
+
+// Whether these are the keys of a node.
+fn are_node_keys(first: &str, second: &str) -> bool
+    ensures { result ≡ read.are_node_keys first.now second.now }
+{
+    first == "step" && second == "users"
 }
 
 // A leaf.

@@ -1,9 +1,11 @@
 -- Text that is added in parts.
-use Rattle.std.proofs.Common.{◌≡◌, ℕ, List, [], ◌∷◌, ◌++◌, Bool, true, refl, sym, ap, ◌∙◌, arith, append_assoc}
+use Rattle.std.proofs.Common.{◌≡◌, ℕ, zero, suc, ◌+◌, ◌<◌, ◌≤◌, List, [], ◌∷◌, ◌++◌, length, drop, get_or, map, Bool, true, false, refl, sym, ap, ◌∙◌, arith, append_assoc}
 use Rattle.std.specs.List.{list_all}
+use Rattle.std.proofs.lemmas.List.{drop_more}
 use Rattle.std.proofs.lemmas.Grind.{common_steps}
 use Rattle.json.specs.Print.{escape_byte, escape}
 use Rattle.serde_json.specs.Data.{Data, Items, item}
+use Rattle.serde_json.specs.View.{items_of}
 use Rattle.serde_json.specs.Written.{comma_if, compact_text, items_text}
 use Rattle.wf_names.specs.Names.{is_name_byte, is_name}
 
@@ -41,11 +43,40 @@ number_added_in_two x0 x1 x2 x3 x4 a n b d e1 e2 e3 e4 = rw (e4, e3, e2, e1) (si
 pub numbers_added_in_two : (x0 x1 x2 x3 a n b m : List ℕ) → x1 ≡ x0 ++ (a ++ n) → x2 ≡ x1 ++ (b ++ m) → x3 ≡ x2 ++ 125 ∷ 125 ∷ [] → x3 ≡ x0 ++ (a ++ ((n ++ (b ++ (m ++ 125 ∷ []))) ++ 125 ∷ []))
 numbers_added_in_two x0 x1 x2 x3 a n b m e1 e2 e3 = rw (e3, e2, e1) (simp append_assoc)
 
+-- a number and a text in brackets
+pub number_and_text_added : (x0 x1 x2 x3 x4 n d : List ℕ) → x1 ≡ x0 ++ 91 ∷ n → x2 ≡ x1 ++ 44 ∷ [] → x3 ≡ x2 ++ d → x4 ≡ x3 ++ 93 ∷ []
+    → x4 ≡ x0 ++ 91 ∷ (n ++ 44 ∷ (d ++ 93 ∷ []))
+number_and_text_added x0 x1 x2 x3 x4 n d e1 e2 e3 e4 = rw (e4, e3, e2, e1) (simp append_assoc)
+
 -- one more item behind a text, and the others behind it
 pub one_more : (old new : List ℕ) (later : Bool) (d : Data) (rest : Items) → new ≡ old ++ (comma_if later ++ compact_text d) → new ++ items_text true rest ≡ old ++ items_text later (item d rest)
 one_more old new later d rest e =
     ap (λ x. x ++ items_text true rest) e ∙ append_assoc old (comma_if later ++ compact_text d) (items_text true rest)
     ∙ ap (λ x. old ++ x) (append_assoc (comma_if later) (compact_text d) (items_text true rest))
+
+-- ---- the items of a list, one by one
+
+pub items_begun : (old out items : List ℕ) → out ≡ old ++ 91 ∷ [] → out ++ items ≡ old ++ 91 ∷ items
+items_begun old out items e = ap (λ x. x ++ items) e ∙ append_assoc old (91 ∷ []) items
+
+pub item_added : {A : Type 0} (data_of : A → Data) (xs : List A) (i : ℕ) (x : A) (old new whole : List ℕ) (later : Bool) → i < length xs → x ≡ get_or xs i x
+    → new ≡ old ++ (comma_if later ++ compact_text (data_of x)) → old ++ items_text later (items_of (map data_of (drop i xs))) ≡ whole
+    → new ++ items_text true (items_of (map data_of (drop (i + 1) xs))) ≡ whole
+item_added data_of xs i x old new whole later within is e here =
+    let next : drop i xs ≡ x ∷ drop (i + 1) xs = drop_more xs i x within ∙ ap (λ y. y ∷ drop (i + 1) xs) (sym is) in
+    one_more old new later (data_of x) (items_of (map data_of (drop (i + 1) xs))) e
+    ∙ ap (λ ys. old ++ items_text later (items_of (map data_of ys))) (sym next) ∙ here
+
+all_dropped : {A : Type 0} (xs : List A) (i : ℕ) → length xs ≤ i → drop i xs ≡ []
+all_dropped [] zero h = refl
+all_dropped [] (suc i) h = refl
+all_dropped (x ∷ xs) zero h = absurd (omega (arith, h))
+all_dropped (x ∷ xs) (suc i) h = all_dropped xs i (omega (arith, h))
+
+pub items_ended : {A : Type 0} (data_of : A → Data) (xs : List A) (i : ℕ) (old new whole : List ℕ) (later : Bool) → length xs ≤ i → new ≡ old ++ 93 ∷ []
+    → old ++ items_text later (items_of (map data_of (drop i xs))) ≡ whole → new ≡ whole
+items_ended data_of xs i old new whole later end e here =
+    e ∙ ap (λ ys. old ++ items_text later (items_of (map data_of ys))) (sym (all_dropped xs i end)) ∙ here
 
 -- nothing in a name is escaped
 byte_stays : (b : ℕ) → is_name_byte b ≡ true → escape_byte b ≡ b ∷ []

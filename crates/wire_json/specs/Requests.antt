@@ -31,12 +31,12 @@ abbrev pub name_at : List ℕ → Data → Option (List ℕ)
 name_at key d = option_and_then (λ text. if is_name text then Some text else None) (text_at key d)
 
 -- the number of a case, at the key case
-abbrev pub case_at : Data → Option ℕ
-case_at d = option_and_then (λ n. if nat_le n CASE_NUMBER_LIMIT then Some n else None) (number_at (codes "case") d)
+abbrev pub read_case : Data → Option ℕ
+read_case d = option_and_then (λ n. if nat_le n CASE_NUMBER_LIMIT then Some n else None) (number_at (codes "case") d)
 
 -- what a request needs at a key is there: the number of a case, or a name at any other key
 abbrev pub has_form : Data → List ℕ → Bool
-has_form d key = if pointwise nat_eq key (codes "case") then is_some (case_at d) else is_some (name_at key d)
+has_form d key = if pointwise nat_eq key (codes "case") then is_some (read_case d) else is_some (name_at key d)
 
 -- a request or an edit: its word, its further keys in the order in which they are checked, and what it is where each of
 -- them has its form
@@ -49,7 +49,7 @@ abbrev pub row : {A : Type 0} → List ℕ → List (List ℕ) → (Data → A) 
 row word keys is = record { word = word; keys = keys; is = is }
 
 abbrev pub the_case : Data → ℕ
-the_case d = unwrap_or (case_at d) 0
+the_case d = unwrap_or (read_case d) 0
 
 abbrev pub the_name : List ℕ → Data → List ℕ
 the_name key d = unwrap_or (name_at key d) []

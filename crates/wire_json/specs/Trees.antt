@@ -3,6 +3,9 @@ use Rattle.std.specs.Prelude.{ℕ, List, [], ◌∷◌, codes}
 use Rattle.serde_json.specs.Data.{Data, number, unsigned, array, object, no_members, member}
 use Rattle.serde_json.specs.View.{items_of}
 use Rattle.refutation_tree.specs.Shapes.{Shape, Kids, holder, rule, node, no_kids, tree_kid, twin_kid}
+use Rattle.refutation_tree.specs.Views.{shape_of}
+use Rattle.refutation_tree.specs.declared.tree.Kid.{Kid}
+use Rattle.refutation_tree.specs.declared.tree.Kid.TheVariants as kid
 use Rattle.policy_book.specs.Shapes.{PolicyShape}
 use Rattle.wire_json.specs.Entries.{single, user_data, step_data}
 
@@ -25,3 +28,8 @@ abbrev mutual
       array (items_of (user_data p u ∷ tree_data p f t ∷ [])) ∷ branches_data p f kids
   branches_data p f (twin_kid u v kids) =
       array (items_of (user_data p u ∷ single (codes "twin") (user_data p v) ∷ [])) ∷ branches_data p f kids
+
+-- inside: the tree of a branch, or the leaf that names a twin
+abbrev pub kid_data : PolicyShape → ℕ → Kid → Data
+kid_data p f (kid.Tree t) = tree_data p f (shape_of t)
+kid_data p f (kid.Twin v) = single (codes "twin") (user_data p v)

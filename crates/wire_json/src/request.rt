@@ -152,7 +152,7 @@ fn act_in(act: Act, value: &Value, members: &Map<String, Value>) -> Result<Reque
     ensures { Gives Some (λ r. r) result (act_by act (view value.now)
         (members_view members.now.entries)) }
 {
-    let case = case_at(value)?;
+    let case = read_case(value)?;
     let step = name_at(value, "step")?;
     let user = name_at(value, "user")?;
     no_others(members, &["do", "lane"], &["case", "step", "user"])?;
@@ -165,7 +165,7 @@ fn release_in(value: &Value, members: &Map<String, Value>) -> Result<Request, Ba
         (members_view members.now.entries)) }
 {
     let by = name_at(value, "by")?;
-    let case = case_at(value)?;
+    let case = read_case(value)?;
     let step = name_at(value, "step")?;
     no_others(members, &["do", "lane"], &["by", "case", "step"])?;
     Ok(Request::Release { by, case, step })
@@ -177,7 +177,7 @@ fn withdraw_in(value: &Value, members: &Map<String, Value>) -> Result<Request, B
         (members_view members.now.entries)) }
 {
     let by = name_at(value, "by")?;
-    let case = case_at(value)?;
+    let case = read_case(value)?;
     no_others(members, &["do", "lane"], &["by", "case"])?;
     Ok(Request::Withdraw { by, case })
 }
@@ -187,7 +187,7 @@ fn view_in(value: &Value, members: &Map<String, Value>) -> Result<Request, Bad>
     ensures { Gives Some (λ r. r) result (reading_of_word Word.View (view value.now)
         (members_view members.now.entries)) }
 {
-    let case = case_at(value)?;
+    let case = read_case(value)?;
     no_others(members, &["do", "lane"], &["case"])?;
     Ok(Request::Show { case })
 }
@@ -204,8 +204,8 @@ fn worklist_in(value: &Value, members: &Map<String, Value>) -> Result<Request, B
 
 // The number of the case, at the key case.
 #[tactic(auto, unfolding(wf_names::specs::Names::is_name))]
-fn case_at(value: &Value) -> Result<CaseId, Bad>
-    ensures { Gives Some (λ n. n) result (or_fault (read.case_at (view value.now))
+fn read_case(value: &Value) -> Result<CaseId, Bad>
+    ensures { Gives Some (λ n. n) result (or_fault (read.read_case (view value.now))
         (bad.Key read.case)) }
 {
     match number_at(value, "case") {

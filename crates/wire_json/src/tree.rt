@@ -1,11 +1,11 @@
 //! Trees that refute, as JSON.
-ghost use Rattle.std.specs.Prelude.{◌≡◌, ◌∷◌, IfOk, codes};
+ghost use Rattle.std.specs.Prelude.{◌≡◌, ◌∷◌, [], IfOk, codes};
 ghost use Rattle.serde_json.specs.Data.{array};
 ghost use Rattle.serde_json.specs.View.{view, items_of};
 ghost use Rattle.refutation_tree.specs.Shapes.{Kids, holder};
 ghost use Rattle.refutation_tree.specs.Views.{branch_onto, kids_of_items, shape_of};
 ghost use Rattle.wire_json.specs.Entries.{single, user_data};
-ghost use Rattle.wire_json.specs.Trees.{branches_data, node_data, tree_data};
+ghost use Rattle.wire_json.specs.Trees.{branches_data, kid_data, node_data, tree_data};
 
 use crate::entry::{step_value, user_value};
 use policy_book::Policy;
@@ -85,16 +85,26 @@ fn branch_value(alloc: Global, p: &Policy, f: FlowId, branch: &Branch) -> Result
         → branches_data p.now f (branch_onto branch.now rest)
         ≡ view v ∷ branches_data p.now f rest) }
 {
-    match &branch.kid {
-        Kid::Tree(tree) => {
-            let user = user_value(alloc, p, branch.user)?;
-            let tree = tree_value(alloc, p, f, tree)?;
-            json!(in alloc; [(user), (tree)])
-        }
-        Kid::Twin(twin) => {
-            let user = user_value(alloc, p, branch.user)?;
-            let twin = twin_value(alloc, p, *twin)?;
-            json!(in alloc; [(user), (twin)])
-        }
+    let kid = kid_value(alloc, p, f, &branch.kid)?;
+    pair_value(alloc, p, branch.user, kid)
+}
+
+// A tree, or the leaf that names a twin.
+#[cycle(tree_value)]
+fn kid_value(alloc: Global, p: &Policy, f: FlowId, kid: &Kid) -> Result<Value, AllocError>
+    ensures { IfOk result (λ v. view v ≡ kid_data p.now f kid.now) }
+{
+    match kid {
+        Kid::Tree(tree) => tree_value(alloc, p, f, tree),
+        Kid::Twin(twin) => twin_value(alloc, p, *twin),
     }
+}
+
+// A user, and the value that stands behind the user.
+fn pair_value(alloc: Global, p: &Policy, u: UserId, kid: Value) -> Result<Value, AllocError>
+    ensures { IfOk result (λ v. view v
+        ≡ array (items_of (user_data p.now u ∷ view kid ∷ []))) }
+{
+    let user = user_value(alloc, p, u)?;
+    json!(in alloc; [(user), (kid)])
 }
