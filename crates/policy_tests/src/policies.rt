@@ -2,6 +2,7 @@
 //! that it answers while there is memory.
 ghost use Rattle.std.specs.Prelude.{◌≡◌, ◌<◌, ◌+◌, ℕ, ◌∷◌, [], IfOk, IsTrue, OnOk, length};
 ghost use Rattle.std.specs.FinSet as set;
+ghost use Rattle.wf_names.specs.declared.limits.TheConstants.{STEP_LIMIT};
 ghost use Rattle.constraint_forms.specs.declared.rule.Rule.TheVariants.{Pair};
 ghost use Rattle.policy_book.specs.Policies.{flow_at, problem_of};
 ghost use Rattle.policy_book.specs.Refuting.{is_unassigned};
@@ -39,8 +40,12 @@ fn policies_are_shared(rt: HostRuntime) {
 #[test]
 fn candidates_are_clerks_who_have_not_done_the_other_step(rt: HostRuntime) -> Result<(), Fail> {
     let mut p = policy(rt.alloc())?;
-    assert!(rt; is_staffed(&mut p) && candidates_are_right(&p) && rows_are_right(&p));
+    assert!(rt; finds_its_clerks(&mut p));
     Ok(())
+}
+
+fn finds_its_clerks(p: &mut Policy) -> bool {
+    is_staffed(p) && candidates_are_right(p) && rows_are_right(p)
 }
 
 // Makes ann and bob clerks, and permits both steps to clerks.
@@ -103,13 +108,23 @@ fn agree_with_tests(p: &Policy, s: StepId, a: &Assign) -> bool {
     let found = p.candidates(PAY, s, a);
     let authorised = p.authorised_users(PAY, s);
     for u in 0..USERS {
-        let passes = p.authorised(PAY, s, UserId(u));
-        let breaks = is_broken(p, &a.with(s, UserId(u)));
-        if authorised.has(UserId(u)) != passes || found.has(UserId(u)) != (passes && !breaks) {
+        let told = (authorised.has(UserId(u)), found.has(UserId(u)));
+        if told != passed(p, s, a, UserId(u)) {
             return false;
         }
     }
     true
+}
+
+// Whether a user is authorised for a free step, and whether no rule is broken by it, too.
+fn passed(p: &Policy, s: StepId, a: &Assign, u: UserId) -> (bool, bool)
+    requires flow { 0 < length p.now.flows }
+    requires step { s < length (flow_at p.now 0).flow.steps }
+    requires user { u < length p.now.roster.users }
+    requires within { s < STEP_LIMIT }
+{
+    let passes = p.authorised(PAY, s, u);
+    (passes, passes && !is_broken(p, &a.with(s, u)))
 }
 
 fn is_broken(p: &Policy, a: &Assign) -> bool
@@ -147,8 +162,8 @@ fn with_relations(alloc: Global, roster: Roster, relations: Relations) -> Result
 
 fn add_pay(alloc: Global, p: &mut Policy) -> Result<(), Fail> {
     let name = read("pay")?;
-    let flow = flow(alloc)?;
-    put_in(p, name, flow, apart(alloc)?)
+    let rules = apart(alloc)?;
+    put_in(p, name, flow(alloc)?, rules)
 }
 
 #[tactic(auto, using(crate::proofs::Apart::apart_is_sound))]
@@ -174,14 +189,15 @@ fn clerks(alloc: Global) -> Result<NameTable, Fail>
     ensures { IfOk result (λ roles. length roles.names ≡ 1) }
 {
     let mut roles = NameTable::new(alloc, 4)?;
-    add_clerk(&mut roles)?;
+    add_name(&mut roles, "clerk")?;
     Ok(roles)
 }
 
-fn add_clerk(roles: &mut NameTable) -> Result<(), Fail>
-    ensures { OnOk result (length roles.new.names ≡ length roles.old.names + 1) }
+fn add_name(names: &mut NameTable, text: &str) -> Result<(), Fail>
+    ensures { OnOk result (length names.new.names ≡ length names.old.names + 1) }
 {
-    roles.add(read("clerk")?).ok().ok_or("no room")?;
+    let name = read(text)?;
+    names.add(name).ok().ok_or("no room")?;
     Ok(())
 }
 
@@ -221,9 +237,8 @@ fn two_steps(alloc: Global) -> Result<NameTable, Fail>
 fn add_steps(steps: &mut NameTable) -> Result<(), Fail>
     ensures { OnOk result (length steps.new.names ≡ length steps.old.names + 2) }
 {
-    steps.add(read("a")?).ok().ok_or("no room")?;
-    steps.add(read("b")?).ok().ok_or("no room")?;
-    Ok(())
+    add_name(steps, "a")?;
+    add_name(steps, "b")
 }
 
 // The rule that different users do the two steps.

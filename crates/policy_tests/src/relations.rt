@@ -54,11 +54,16 @@ fn unrelate_mentors(rt: &impl Abort, relations: &mut Relations) {
     assert!(rt; relations.unrelate(FIRST, ANN, BOB) == Ok(()));
     assert!(rt; relations.unrelate(FIRST, BOB, ANN) == Err(RelationFault::Absent));
     assert!(rt; relations.unrelate(RelId::SAME, ANN, ANN) == Err(RelationFault::Fixed));
-    assert!(rt; !relations.holds(FIRST, ANN, BOB) && relations.holds(FIRST, BOB, CYD));
-    assert!(rt; relations.after(FIRST, BOB, 3) == of(&[2]));
-    assert!(rt; relations.ahead(FIRST, CYD, 3) == of(&[1]));
-    assert!(rt; relations.after(RelId::OTHER, BOB, 3) == of(&[0, 2]));
-    assert!(rt; relations.ahead(RelId::SAME, BOB, 3) == of(&[1]));
+    assert!(rt; has_one_pair(relations));
+}
+
+fn has_one_pair(relations: &Relations) -> bool {
+    !relations.holds(FIRST, ANN, BOB)
+        && relations.holds(FIRST, BOB, CYD)
+        && relations.after(FIRST, BOB, 3) == of(&[2])
+        && relations.ahead(FIRST, CYD, 3) == of(&[1])
+        && relations.after(RelId::OTHER, BOB, 3) == of(&[0, 2])
+        && relations.ahead(RelId::SAME, BOB, 3) == of(&[1])
 }
 
 fn a_copy_has_both(relations: &Relations) -> Result<bool, AllocError> {
@@ -82,7 +87,9 @@ fn complement_first(rt: &impl Abort, relations: &mut Relations) -> Result<(), Fa
 {
     clear_of_conflict(relations)?;
     relate_conflict(rt, relations)?;
-    known_by_names(rt, relations)
+    assert!(rt; is_complement_of_second(relations));
+    assert!(rt; is_known_by_names(relations)?);
+    Ok(())
 }
 
 fn clear_of_conflict(relations: &mut Relations) -> Result<(), Fail>
@@ -111,18 +118,29 @@ fn relate_second(rt: &impl Abort, relations: &mut Relations) {
     assert!(rt; relations.relate(SECOND, ANN, BOB) == Ok(()));
     assert!(rt; relations.relate(FIRST, ANN, BOB) == Err(RelationFault::Fixed));
     assert!(rt; relations.unrelate(FIRST, ANN, BOB) == Err(RelationFault::Fixed));
-    assert!(rt; !relations.holds(FIRST, ANN, BOB) && relations.holds(FIRST, BOB, ANN));
-    assert!(rt; relations.after(FIRST, ANN, 3) == of(&[0, 2]));
-    assert!(rt; relations.ahead(FIRST, ANN, 3) == of(&[0, 1, 2]));
+    assert!(rt; is_complement(relations));
 }
 
-fn known_by_names(rt: &impl Abort, relations: &Relations) -> Result<(), Fail> {
-    assert!(rt; relations.complement_of(FIRST) == Some(SECOND));
-    assert!(rt; relations.complement_of(SECOND).is_none() && relations.count() == 2);
-    assert!(rt; relations.find(&read("conflict")?) == Some(SECOND));
-    assert!(rt; relations.find(&read("mentor")?).is_none());
-    assert!(rt; relations.name(RelId::OTHER) == read("other")?);
-    Ok(())
+fn is_complement(relations: &Relations) -> bool {
+    !relations.holds(FIRST, ANN, BOB)
+        && relations.holds(FIRST, BOB, ANN)
+        && relations.after(FIRST, ANN, 3) == of(&[0, 2])
+        && relations.ahead(FIRST, ANN, 3) == of(&[0, 1, 2])
+}
+
+fn is_complement_of_second(relations: &Relations) -> bool {
+    relations.complement_of(FIRST) == Some(SECOND)
+        && relations.complement_of(SECOND).is_none()
+        && relations.count() == 2
+}
+
+fn is_known_by_names(relations: &Relations) -> Result<bool, Fail> {
+    let (conflict, mentor, other) = (read("conflict")?, read("mentor")?, read("other")?);
+    Ok(
+        relations.find(&conflict) == Some(SECOND)
+            && relations.find(&mentor).is_none()
+            && relations.name(RelId::OTHER) == other,
+    )
 }
 
 #[test]
@@ -140,12 +158,16 @@ fn fill(rt: &impl Abort, alloc: Global, relations: &mut Relations) -> Result<(),
 
 fn declare_all(rt: &impl Abort, alloc: Global, relations: &mut Relations) -> Result<(), Fail> {
     for n in 0..32 {
-        let name = format!(in alloc; "r{n}")?;
-        assert!(rt; relations.add_listed(read(&name)?) == Ok(RelId(n + 2)));
+        let name = numbered(alloc, n)?;
+        assert!(rt; relations.add_listed(name) == Ok(RelId(n + 2)));
     }
-    assert!(rt; relations.add_listed(read("r32")?) == Err(NameFault::Full));
-    assert!(rt; relations.add_listed(read("r31")?) == Err(NameFault::Twice));
+    assert!(rt; fault_of(relations, "r32")? == Some(NameFault::Full));
+    assert!(rt; fault_of(relations, "r31")? == Some(NameFault::Twice));
     Ok(())
+}
+
+fn numbered(alloc: Global, n: u8) -> Result<Name, Fail> {
+    read(&format!(in alloc; "r{n}")?)
 }
 
 fn relate_all(rt: &impl Abort, relations: &mut Relations) {
@@ -161,8 +183,15 @@ fn change_when_full(rt: &impl Abort, relations: &mut Relations) {
     assert!(rt; relations.relate(LAST, next, ANN) == Err(RelationFault::Full));
     assert!(rt; relations.unrelate(LAST, ANN, ANN) == Ok(()));
     assert!(rt; relations.relate(LAST, next, ANN) == Ok(()));
-    assert!(rt; relations.ahead(LAST, ANN, 1_024).count() == 64);
-    assert!(rt; relations.after(LAST, ANN, 1_000).count() == 999);
+    assert!(rt; counts_of(relations) == (64, 999));
+}
+
+// How many users come before ann, and how many of the first 1,000 after her.
+fn counts_of(relations: &Relations) -> (u32, u32) {
+    (
+        relations.ahead(LAST, ANN, 1_024).count(),
+        relations.after(LAST, ANN, 1_000).count(),
+    )
 }
 
 // Rows beside a list, over changes that are drawn.

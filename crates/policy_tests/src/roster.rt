@@ -31,10 +31,9 @@ fn answers_its_calls(rt: &impl Abort, roster: &mut Roster) -> Result<(), Fail>
 {
     change_a_role(rt, roster);
     assert!(rt; roster.enrol(BOB, CLERK) == Ok(()));
-    tell_the_holders(rt, roster);
-    assert!(rt; copies_the_roles(roster)?);
+    assert!(rt; has_its_holder(roster) && copies_the_roles(roster)?);
     assert!(rt; fault_of(roster, "ann")? == Some(NameFault::Twice));
-    assert!(rt; (roster.users().len(), roster.roles().len()) == (2, 2));
+    assert!(rt; has_two_of_each(roster));
     Ok(())
 }
 
@@ -50,9 +49,14 @@ fn change_a_role(rt: &impl Abort, roster: &mut Roster)
     assert!(rt; roster.dismiss(BOB, CLERK) == Err(RosterFault::Absent));
 }
 
-fn tell_the_holders(rt: &impl Abort, roster: &Roster) {
-    assert!(rt; holds_alone(roster, CLERK, BOB));
-    assert!(rt; roster.holders(ADMIN).count() == 0 && roster.holders(RoleId(64)).count() == 0);
+fn has_its_holder(roster: &Roster) -> bool {
+    holds_alone(roster, CLERK, BOB)
+        && roster.holders(ADMIN).count() == 0
+        && roster.holders(RoleId(64)).count() == 0
+}
+
+fn has_two_of_each(roster: &Roster) -> bool {
+    (roster.users().len(), roster.roles().len()) == (2, 2)
 }
 
 // Why a user is not added.
@@ -196,8 +200,15 @@ fn role_names(alloc: Global) -> Result<NameTable, Fail>
 fn add_roles(roles: &mut NameTable) -> Result<(), Fail>
     ensures { OnOk result (length roles.new.names ≡ length roles.old.names + 2) }
 {
-    roles.add(read("clerk")?).ok().ok_or("no room")?;
-    roles.add(read("admin")?).ok().ok_or("no room")?;
+    add_name(roles, "clerk")?;
+    add_name(roles, "admin")
+}
+
+fn add_name(names: &mut NameTable, text: &str) -> Result<(), Fail>
+    ensures { OnOk result (length names.new.names ≡ length names.old.names + 1) }
+{
+    let name = read(text)?;
+    names.add(name).ok().ok_or("no room")?;
     Ok(())
 }
 

@@ -240,76 +240,108 @@ fn names_of(rule: &Rule) -> [bool; 3] {
 
 #[test]
 fn cells_hold_what_is_put_in(rt: HostRuntime) {
+    assert!(rt; a_set_holds_its_step());
+    assert!(rt; an_assignment_holds_its_user());
+    assert!(rt; a_plan_holds_its_users());
+}
+
+fn a_set_holds_its_step() -> bool {
     let group = StepSet::empty().with(B);
-    assert!(rt; !group.has(A) && group.has(B) && group.limit() == 16);
+    !group.has(A) && group.has(B) && group.limit() == 16
+}
+
+fn an_assignment_holds_its_user() -> bool {
     let assign = Assign::empty().with(A, KIM).with(C, MAX).without(A);
-    assert!(rt; assign.at(A).is_none() && assign.at(C) == Some(MAX));
+    assign.at(A).is_none() && assign.at(C) == Some(MAX)
+}
+
+fn a_plan_holds_its_users() -> bool {
     let plan = Plan::of(&[MAX, LEE]);
-    assert!(rt; plan.len() == 2 && plan.at(A) == MAX && plan.at(B) == LEE);
-    assert!(rt; plan != Plan::of(&[MAX]));
+    plan.len() == 2 && plan.at(A) == MAX && plan.at(B) == LEE && plan != Plan::of(&[MAX])
 }
 
 #[test]
 fn rules_leave_the_users_who_do_not_falsify_them(rt: HostRuntime) {
-    let (rho, group, step) = (LISTED, StepSet::empty().with(A).with(B), C);
-    let some = Rule::SomeOf { rho, group, step };
-    let all = Rule::AllOf { rho, group, step };
-    let pair = Rule::Pair {
-        rho,
-        first: A,
-        second: C,
-    };
-    let rows = [
+    for (given, s, wanted) in left_rows() {
+        assert!(rt; leave_those(given, s, &wanted), "{given}");
+    }
+}
+
+// An assignment, a free step, and whom of the three users the rules leave for it: one over some of a
+// group, one over all of it, and a pair.
+fn left_rows() -> [(&'static str, StepId, [[bool; 3]; 3]); 6] {
+    [
         (
             "k--",
             C,
-            [true, true, true],
-            [false, true, false],
-            [false, true, false],
+            [
+                [true, true, true],
+                [false, true, false],
+                [false, true, false],
+            ],
         ),
         (
             "km-",
             C,
-            [false, true, false],
-            [false, false, false],
-            [false, true, false],
+            [
+                [false, true, false],
+                [false, false, false],
+                [false, true, false],
+            ],
         ),
         (
             "-ml",
             A,
-            [true, false, false],
-            [false, false, false],
-            [true, false, false],
+            [
+                [true, false, false],
+                [false, false, false],
+                [true, false, false],
+            ],
         ),
         (
             "-kl",
             A,
-            [true, true, true],
-            [true, false, false],
-            [true, false, false],
+            [
+                [true, true, true],
+                [true, false, false],
+                [true, false, false],
+            ],
         ),
         (
             "--l",
             A,
-            [true, true, true],
-            [true, false, false],
-            [true, false, false],
+            [
+                [true, true, true],
+                [true, false, false],
+                [true, false, false],
+            ],
         ),
         (
             "-m-",
             A,
-            [true, true, true],
-            [true, true, true],
-            [true, true, true],
+            [[true, true, true], [true, true, true], [true, true, true]],
         ),
-    ];
-    for (row, s, by_some, by_all, by_pair) in rows {
-        let a = assigned(row);
-        let right = left(&some, &a, s) == by_some
-            && left(&all, &a, s) == by_all
-            && left(&pair, &a, s) == by_pair;
-        assert!(rt; right, "{row}");
-    }
+    ]
+}
+
+fn leave_those(given: &str, s: StepId, wanted: &[[bool; 3]; 3]) -> bool {
+    let a = assigned(given);
+    s.0 < 3 && groups_leave(&a, s, &wanted[0], &wanted[1]) && pair_leaves(&a, s, &wanted[2])
+}
+
+fn groups_leave(a: &Assign, s: StepId, by_some: &[bool; 3], by_all: &[bool; 3]) -> bool
+    requires { s < STEP_LIMIT }
+{
+    let (rho, group, step) = (LISTED, StepSet::empty().with(A).with(B), C);
+    left(&Rule::SomeOf { rho, group, step }, a, s) == *by_some
+        && left(&Rule::AllOf { rho, group, step }, a, s) == *by_all
+}
+
+fn pair_leaves(a: &Assign, s: StepId, by_pair: &[bool; 3]) -> bool
+    requires { s < STEP_LIMIT }
+{
+    let (rho, first, second) = (LISTED, A, C);
+    left(&Rule::Pair { rho, first, second }, a, s) == *by_pair
 }
 
 // Which of the three users a rule leaves for a step.
