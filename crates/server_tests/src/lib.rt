@@ -13,6 +13,10 @@ mod drawn;
 #[cfg(test)]
 mod edits;
 #[cfg(test)]
+mod endings;
+#[cfg(test)]
+mod files;
+#[cfg(test)]
 mod lanes;
 #[cfg(test)]
 mod outsides;
