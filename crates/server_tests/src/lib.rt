@@ -29,6 +29,8 @@ mod searches;
 #[cfg(test)]
 mod sessions;
 #[cfg(test)]
+mod system;
+#[cfg(test)]
 mod trees;
 #[cfg(test)]
 mod trials;
