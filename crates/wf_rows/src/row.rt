@@ -4,30 +4,26 @@ use toml::Value;
 
 /// The text of a key.
 pub fn text(value: Option<&Value>) -> &str {
-    let Some(value) = value else {
-        return "";
-    };
-    value.as_str().unwrap_or("")
+    match value {
+        Some(Value::String(text)) => text.as_str(),
+        _ => "",
+    }
 }
 
 /// The list of a key.
 pub fn list(value: Option<&Value>) -> &[Value] {
-    let Some(value) = value else {
-        return &[];
-    };
-    match value.as_array() {
-        Some(values) => values.as_slice(),
-        None => &[],
+    match value {
+        Some(Value::Array(values)) => values.as_slice(),
+        _ => &[],
     }
 }
 
 /// The number of a key.
 pub fn number(value: Option<&Value>) -> Option<u64> {
-    let number = value?.as_integer()?;
-    if number < 0 {
-        return None;
+    match value {
+        Some(Value::Integer(number)) if *number >= 0 => Some(*number as u64),
+        _ => None,
     }
-    Some(number as u64)
 }
 
 /// What a row says of its devices.
