@@ -11,12 +11,16 @@ use wf_talk::{
 #[test]
 fn a_journal_with_room_takes_its_entries(rt: HostRuntime) -> Result<(), Fail> {
     let mut journal = Journal::new(rt.alloc());
-    journal.reserve(3)?;
-    add_entry(&mut journal, 0, roles(rt.alloc())?)?;
-    add_entry(&mut journal, 1, stranded())?;
-    add_entry(&mut journal, 2, strands())?;
+    add_entries(rt.alloc(), &mut journal)?;
     assert!(rt; copies_the_entries(&journal)?);
     Ok(())
+}
+
+fn add_entries(alloc: Global, journal: &mut Journal) -> Result<(), AllocError> {
+    journal.reserve(3)?;
+    add_entry(journal, 0, roles(alloc)?)?;
+    add_entry(journal, 1, stranded())?;
+    add_entry(journal, 2, strands())
 }
 
 fn add_entry(journal: &mut Journal, at: u32, reply: Reply) -> Result<(), AllocError> {
@@ -117,13 +121,23 @@ fn claim_job() -> Result<Job, Fail> {
 
 #[test]
 fn ends_and_lines_keep_what_they_take(rt: HostRuntime) -> Result<(), Fail> {
-    let mut ends = Ends::new(rt.alloc());
-    ends.push(1)?;
-    let mut line = Line::new(rt.alloc());
-    line.push(b'a')?;
-    assert!(rt; ends.copy()?.as_slice() == [1].as_slice());
-    assert!(rt; line.copy()?.as_bytes() == b"a".as_slice());
+    assert!(rt; ends_are_kept(rt.alloc())?);
+    assert!(rt; lines_are_kept(rt.alloc())?);
     Ok(())
+}
+
+fn ends_are_kept(alloc: Global) -> Result<bool, Fail> {
+    let mut ends = Ends::new(alloc);
+    ends.push(1)?;
+    let copy = ends.copy()?;
+    Ok(copy.as_slice() == [1].as_slice())
+}
+
+fn lines_are_kept(alloc: Global) -> Result<bool, Fail> {
+    let mut line = Line::new(alloc);
+    line.push(b'a')?;
+    let copy = line.copy()?;
+    Ok(copy.as_bytes() == b"a".as_slice())
 }
 
 #[test]

@@ -45,11 +45,21 @@ const APPROVE: WorkItem = WorkItem {
 #[test]
 fn both_deciders_see_the_same(rt: HostRuntime) -> Result<(), Fail> {
     let mut board = payments(rt.alloc())?;
-    assert!(rt; prepares(rt.alloc(), &mut board));
-    assert!(rt; sees(rt.alloc(), &PlainDecider, &mut board));
-    assert!(rt; sees_spread(&rt, rt.alloc(), &mut board));
-    assert!(rt; lists(rt.alloc(), &board)?);
+    assert!(rt; all_see(&rt, rt.alloc(), &mut board)?);
     Ok(())
+}
+
+fn all_see<R: Threads + Sync>(
+    rt: &R,
+    alloc: Global,
+    board: &mut Board,
+) -> Result<bool, AllocError> {
+    Ok(
+        prepares(alloc, board)
+            && sees(alloc, &PlainDecider, board)
+            && sees_spread(rt, alloc, board)
+            && lists(alloc, board)?,
+    )
 }
 
 fn payments(alloc: Global) -> Result<Board, Fail> {

@@ -10,7 +10,7 @@ use std::alloc::{AllocError, Global};
 use std::test::Fail;
 use wf_desk::{Desk, Event, Mark};
 use wf_names::ROUND_LIMIT;
-use wf_talk::{Denial, Job, Reply};
+use wf_talk::{Denial, Entry, Job, Reply};
 use wire_json::write_entry;
 
 /// A schedule of one batch, and what comes of it.
@@ -87,12 +87,17 @@ fn are_of_two_lanes(jobs: &[Job]) -> bool
 /// or its name where it has none.
 pub(crate) fn goes_through(alloc: Global, desk: &mut Desk, turns: &str) -> Result<bool, Fail> {
     let (mut events, mut marks) = (Vec::new(alloc), Vec::new(alloc));
+    read_turns(turns, &mut events, &mut marks)?;
+    Ok(does(alloc, desk, &events, &marks)?)
+}
+
+fn read_turns(turns: &str, events: &mut Vec<Event>, marks: &mut Vec<Mark>) -> Result<(), Fail> {
     for word in turns.split(' ') {
         let (event, mark) = turn_of(word).ok_or("no turn")?;
         events.push(event)?;
         marks.push(mark)?;
     }
-    Ok(does(alloc, desk, &events, &marks)?)
+    Ok(())
 }
 
 fn does(
@@ -152,12 +157,17 @@ fn mark_of(event: Event, told: &str) -> Option<Mark> {
 pub(crate) fn has_kinds(alloc: Global, desk: &Desk, kinds: &str) -> Result<bool, AllocError> {
     let mut found = String::new(alloc);
     for entry in desk.journal().as_slice() {
-        if !found.is_empty() {
-            found.push_str(", ")?;
-        }
-        found.push_str(kind_of(alloc, &entry.reply)?.as_str())?;
+        put_kind(alloc, &entry.reply, &mut found)?;
     }
     Ok(found.as_str() == kinds)
+}
+
+fn put_kind(alloc: Global, reply: &Reply, found: &mut String) -> Result<(), AllocError> {
+    if !found.is_empty() {
+        found.push_str(", ")?;
+    }
+    let kind = kind_of(alloc, reply)?;
+    found.push_str(kind.as_str())
 }
 
 fn kind_of(alloc: Global, reply: &Reply) -> Result<String, AllocError> {
@@ -186,7 +196,17 @@ fn plain_kind(reply: &Reply) -> &'static str {
 fn writes(alloc: Global, desk: &Desk, lines: &str) -> Result<bool, AllocError> {
     let mut text = Vec::new(alloc);
     for entry in desk.journal().as_slice() {
-        text.extend_from_slice(write_entry(alloc, desk.board().policy(), entry)?.as_slice())?;
+        put_line(alloc, desk, entry, &mut text)?;
     }
     Ok(text.ends_with(lines.as_bytes()))
+}
+
+fn put_line(
+    alloc: Global,
+    desk: &Desk,
+    entry: &Entry,
+    text: &mut Vec<u8>,
+) -> Result<(), AllocError> {
+    let line = write_entry(alloc, desk.board().policy(), entry)?;
+    text.extend_from_slice(line.as_slice())
 }

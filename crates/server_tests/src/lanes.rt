@@ -185,27 +185,34 @@ fn eight_lanes_answer_each_line_once(rt: HostRuntime) -> Result<(), Fail> {
     Ok(())
 }
 
+// The batches of eight lanes; each `@` stands for the number of the lane, and of its case.
+const BATCHES: [&str; 3] = [
+    "{\"do\":\"open\",\"flow\":\"pay\",\"lane\":@}\n",
+    "{\"do\":\"claim\",\"case\":@,\"step\":\"prepare\",\"user\":\"ann\",\"lane\":@}\n\
+    {\"do\":\"finish\",\"case\":@,\"step\":\"prepare\",\"user\":\"ann\",\"lane\":@}\n",
+    "{\"do\":\"claim\",\"case\":@,\"step\":\"approve\",\"user\":\"cyd\",\"lane\":@}\n",
+];
+
 fn eight_cases(alloc: Global) -> Result<String, AllocError> {
     let mut all = String::new(alloc);
-    for lane in 0..8u8 {
-        let open = format!(in alloc; "{{\"do\":\"open\",\"flow\":\"pay\",\"lane\":{lane}}}\n")?;
-        all.push_str(open.as_str())?;
-    }
-    all.push('\n')?;
-    for lane in 0..8u8 {
-        let prepare = format!(in alloc;
-            "{{\"do\":\"claim\",\"case\":{lane},\"step\":\"prepare\",\"user\":\"ann\",\"lane\":{lane}}}\n{{\"do\":\"finish\",\"case\":{lane},\"step\":\"prepare\",\"user\":\"ann\",\"lane\":{lane}}}\n"
-        )?;
-        all.push_str(prepare.as_str())?;
-    }
-    all.push('\n')?;
-    for lane in 0..8u8 {
-        let approve = format!(in alloc;
-            "{{\"do\":\"claim\",\"case\":{lane},\"step\":\"approve\",\"user\":\"cyd\",\"lane\":{lane}}}\n"
-        )?;
-        all.push_str(approve.as_str())?;
+    for lines in BATCHES {
+        put_batch(lines, &mut all)?;
     }
     Ok(all)
+}
+
+fn put_batch(lines: &str, all: &mut String) -> Result<(), AllocError> {
+    for lane in b'0'..b'8' {
+        put_lines(lines, lane as char, all)?;
+    }
+    all.push('\n')
+}
+
+fn put_lines(lines: &str, lane: char, all: &mut String) -> Result<(), AllocError> {
+    for letter in lines.chars() {
+        all.push(if letter == '@' { lane } else { letter })?;
+    }
+    Ok(())
 }
 
 // Whether eight cases are opened, and ann and cyd get their steps in each, with so many searches

@@ -13,6 +13,10 @@ mod drawn;
 #[cfg(test)]
 mod edits;
 #[cfg(test)]
+mod endings;
+#[cfg(test)]
+mod files;
+#[cfg(test)]
 mod lanes;
 #[cfg(test)]
 mod outsides;
@@ -24,6 +28,8 @@ mod schedules;
 mod searches;
 #[cfg(test)]
 mod sessions;
+#[cfg(test)]
+mod system;
 #[cfg(test)]
 mod trees;
 #[cfg(test)]

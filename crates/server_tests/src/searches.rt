@@ -33,7 +33,7 @@ rules = [
 ]
 "#;
 
-pub(crate) const TRIO: &str = r#"
+const TRIO: &str = r#"
 format = 1
 admin = "chief"
 roles = ["boss", "chief", "clerk"]
@@ -127,10 +127,14 @@ fn search_agrees_with_all_assignments(rt: HostRuntime) -> Result<(), Fail> {
 
 // Whether some assignment is valid under these rules, and what the search says.
 fn answers_for(alloc: Global, rules: &str) -> Result<(bool, Option<bool>), Fail> {
+    let p = trio(alloc, rules)?;
+    Ok((some_valid(&p), solved_rightly(alloc, &p)?))
+}
+
+/// The policy of the trio under these rules.
+pub(crate) fn trio(alloc: Global, rules: &str) -> Result<Policy, Fail> {
     let text = format!(in alloc; "{TRIO}{rules}]\n")?;
-    let p = policy_reader::read(alloc, text.as_bytes())?;
-    let solved = solved_rightly(alloc, &p)?;
-    Ok((some_valid(&p), solved))
+    Ok(policy_reader::read(alloc, text.as_bytes())?)
 }
 
 // Whether the search gives a plan of the first workflow; nothing where its answer is not accepted.

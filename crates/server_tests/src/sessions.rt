@@ -23,6 +23,8 @@ permit = { pay = ["chief"] }
 
 const OPEN: &str = "{\"do\":\"open\",\"flow\":\"pay\"}\n";
 
+const WITHDRAW: &str = "{\"do\":\"withdraw\",\"by\":\"eve\",\"case\":7}\n";
+
 // Printing succeeds; that what is written reads as the policy is proved.
 #[test]
 fn a_policy_is_shown(rt: HostRuntime) -> Result<(), Fail> {
@@ -58,34 +60,52 @@ fn empty_lines_end_batches(rt: HostRuntime) -> Result<(), Fail> {
     Ok(())
 }
 
+// An input, which is a text, another one so many times, and an end, with what is told of it. The
+// longest line is answered and a longer one is not; so are the most lines, and not one more.
 #[test]
-fn the_longest_line_is_answered(rt: HostRuntime) -> Result<(), Fail> {
-    let mut input = repeated(rt.alloc(), "x", 16_384)?;
-    input.push_str("\n{\n")?;
-    assert!(rt; serves(rt.alloc(), input.as_bytes(), ample(), &telling(0, 2, &[2]))?);
-    Ok(())
-}
-
-#[test]
-fn a_longer_line_is_not(rt: HostRuntime) -> Result<(), Fail> {
-    let mut input = String::from_str(rt.alloc(), "{\n")?;
-    input.push_str(repeated(rt.alloc(), "x", 16_385)?.as_str())?;
-    assert!(rt; serves(rt.alloc(), input.as_bytes(), ample(), &telling(9, 1, &[1]))?);
-    Ok(())
-}
-
-#[test]
-fn so_many_lines_are_answered(rt: HostRuntime) -> Result<(), Fail> {
-    let mut input = repeated(rt.alloc(), "{\n", 200_000)?;
+fn lines_are_limited(rt: HostRuntime) -> Result<(), Fail> {
     let most = Told {
         batch_ends: None,
         ..telling(0, 200_000, &[])
     };
-    assert!(rt; serves(rt.alloc(), input.as_bytes(), ample(), &most)?);
-    input.push('\n')?;
-    let more = Told { status: 10, ..most };
-    assert!(rt; serves(rt.alloc(), input.as_bytes(), ample(), &more)?);
+    let rows = [
+        ("", "x", 16_384, "\n{\n", telling(0, 2, &[2])),
+        ("{\n", "x", 16_385, "", telling(9, 1, &[1])),
+        ("", "{\n", 200_000, "", most),
+        ("", "{\n", 200_000, "\n", Told { status: 10, ..most }),
+    ];
+    for (front, unit, times, end, told) in rows {
+        let right = serves_text(rt.alloc(), front, unit, times, end, &told)?;
+        assert!(rt; right, "{times} {end}");
+    }
     Ok(())
+}
+
+fn serves_text(
+    alloc: Global,
+    front: &str,
+    unit: &str,
+    times: usize,
+    end: &str,
+    told: &Told<'_>,
+) -> Result<bool, AllocError> {
+    let input = text_of(alloc, front, unit, times, end)?;
+    serves(alloc, input.as_bytes(), ample(), told)
+}
+
+fn text_of(
+    alloc: Global,
+    front: &str,
+    unit: &str,
+    times: usize,
+    end: &str,
+) -> Result<String, AllocError> {
+    let mut text = String::from_str(alloc, front)?;
+    for _ in 0..times {
+        text.push_str(unit)?;
+    }
+    text.push_str(end)?;
+    Ok(text)
 }
 
 #[test]
@@ -95,7 +115,7 @@ fn a_stop_comes_before_a_read_fault(rt: HostRuntime) -> Result<(), Fail> {
         failing_take: 1,
         ..ample()
     };
-    let input = repeated(rt.alloc(), "x", 16_386)?;
+    let input = text_of(rt.alloc(), "", "x", 16_386, "")?;
     assert!(rt; serves(rt.alloc(), input.as_bytes(), outside, &telling(9, 0, &[]))?);
     Ok(())
 }
@@ -184,14 +204,6 @@ fn telling(status: u8, entries: usize, batch_ends: &[u32]) -> Told<'_> {
     }
 }
 
-fn repeated(alloc: Global, text: &str, count: usize) -> Result<String, AllocError> {
-    let mut all = String::new(alloc);
-    for _ in 0..count {
-        all.push_str(text)?;
-    }
-    Ok(all)
-}
-
 // So many cases are opened and withdrawn in turn, and then one is opened.
 fn turns(alloc: Global, count: u16) -> Result<String, AllocError> {
     let mut all = String::new(alloc);
@@ -208,8 +220,7 @@ fn turns(alloc: Global, count: u16) -> Result<String, AllocError> {
 
 // One case too many is opened, one is withdrawn, and one is opened.
 fn crowd(alloc: Global) -> Result<String, AllocError> {
-    let mut all = repeated(alloc, OPEN, 1_025)?;
-    all.push_str("{\"do\":\"withdraw\",\"by\":\"eve\",\"case\":7}\n")?;
+    let mut all = text_of(alloc, "", OPEN, 1_025, WITHDRAW)?;
     all.push_str(OPEN)?;
     Ok(all)
 }

@@ -1,6 +1,6 @@
 //! What is left of trees that are trimmed.
 
-use crate::searches::{DUO, SAME_AND_OTHER, TRIO};
+use crate::searches::{DUO, SAME_AND_OTHER, trio};
 use certificate_check::check_tree;
 use policy_book::{Assign, Policy, StepSet};
 use refutation_tree::{Branch, Branches, Kid, Tree};
@@ -23,7 +23,7 @@ fn a_tree_without_twins_gets_their_leaf(rt: HostRuntime) -> Result<(), Fail> {
 
 #[test]
 fn a_twin_of_a_twin_gets_the_leaf_of_the_first(rt: HostRuntime) -> Result<(), Fail> {
-    let p = read_trio(rt.alloc())?;
+    let p = trio(rt.alloc(), SAME_AND_OTHER)?;
     let text = trimmed(rt.alloc(), &p, twin_of_lee(rt.alloc())?)?;
     assert!(rt; text.as_str() == TRIO_TREE);
     Ok(())
@@ -31,7 +31,7 @@ fn a_twin_of_a_twin_gets_the_leaf_of_the_first(rt: HostRuntime) -> Result<(), Fa
 
 #[test]
 fn a_step_that_is_not_mentioned_goes_and_makes_twins(rt: HostRuntime) -> Result<(), Fail> {
-    let p = read_trio(rt.alloc())?;
+    let p = trio(rt.alloc(), SAME_AND_OTHER)?;
     let text = trimmed(rt.alloc(), &p, idle_root(rt.alloc())?)?;
     assert!(rt; text.as_str() == TRIO_TREE);
     Ok(())
@@ -41,11 +41,6 @@ fn a_step_that_is_not_mentioned_goes_and_makes_twins(rt: HostRuntime) -> Result<
 // third step, and whose second rule wants two. Once kim has a step, lee and max are twins still.
 const TRIO_TREE: &str =
     r#"{"step":"a","users":[["kim",{"step":"c","users":[["kim",{"rule":1}],["lee",{"rule":0}],["max",{"twin":"lee"}]]}],["lee",{"twin":"kim"}],["max",{"twin":"kim"}]]}"#;
-
-fn read_trio(alloc: Global) -> Result<Policy, Fail> {
-    let text = format!(in alloc; "{TRIO}{SAME_AND_OTHER}]\n")?;
-    Ok(policy_reader::read(alloc, text.as_bytes())?)
-}
 
 // The text of a tree once it is trimmed; nothing where the tree does not refute.
 fn trimmed(alloc: Global, p: &Policy, tree: Tree) -> Result<String, AllocError> {

@@ -1,12 +1,14 @@
 //! What no clause shows: that a trial is served while there is memory, and how its summary reads.
 
 use case_views::PlainDecider;
+use policy_book::Plan;
 use std::alloc::{AllocError, Global};
 use std::test::Fail;
-use trial_command::run_trial;
+use trial_command::{count_replies, run_trial, summary_line};
 use wf_board::{Decider, Deed, Snap, Verdict, decision_aside};
+use wf_names::CaseId;
 use wf_outside::MemSink;
-use wf_talk::{Ask, Entry, Reply};
+use wf_talk::{Ask, Bad, Denial, Entry, Journal, Reply};
 
 // Finds no verdict for want of memory.
 struct Idle;
@@ -26,10 +28,63 @@ impl Decider for Idle {
     }
 }
 
+// The summary of a journal that is made by hand. No two kinds of replies are as many, and some are of
+// no kind that is counted.
+#[test]
+fn each_reply_is_counted_once(rt: HostRuntime) -> Result<(), Fail> {
+    let mut entries = Journal::new(rt.alloc());
+    assert!(rt; is_counted(rt.alloc(), &mut entries)?);
+    Ok(())
+}
+
+fn is_counted(alloc: Global, entries: &mut Journal) -> Result<bool, AllocError> {
+    for number in 0..26 {
+        add(entries, reply_numbered(number))?;
+    }
+    let wanted =
+        "trial 18446744073709551615 lines 0 opened 4 granted 5 finished 2 edited 1 denied 3 no_memory 6\n";
+    has_summary(alloc, entries.as_slice(), wanted)
+}
+
+fn has_summary(alloc: Global, entries: &[Entry], wanted: &str) -> Result<bool, AllocError> {
+    let counts = count_replies(entries);
+    Ok(summary_line(alloc, u64::MAX, 0, &counts)?.as_str() == wanted)
+}
+
+fn add(entries: &mut Journal, reply: Reply) -> Result<(), AllocError> {
+    entries.push(Entry {
+        at: 0,
+        lane: 0,
+        line: 0,
+        ask: Ask::Bad(Bad::Syntax),
+        reply,
+    })
+}
+
+fn reply_numbered(number: u8) -> Reply {
+    let (case, plan) = (CaseId(0), Plan::of(&[]));
+    match number {
+        0..=3 => Reply::Opened { case, plan },
+        4..=8 => Reply::Granted(plan),
+        9 => Reply::Finished { done: false },
+        10 => Reply::Finished { done: true },
+        11 => Reply::Edited { number: 1 },
+        12 => Reply::Denied(Denial::NoCase),
+        13 => Reply::Denied(Denial::Closed),
+        14 => Reply::Denied(Denial::NoUser),
+        15..=20 => Reply::NoMemory,
+        21 => Reply::Returned,
+        22 => Reply::Released,
+        23 => Reply::Withdrawn,
+        24 => Reply::Again { rounds: 1, at: 0 },
+        _ => Reply::Bad(Bad::Syntax),
+    }
+}
+
 // The summary has the greatest seed in full, and counts each reply of the report once, whether
 // verdicts are found or not.
 #[test]
-fn each_reply_is_counted_once(rt: HostRuntime) -> Result<(), Fail> {
+fn a_trial_is_summed_up(rt: HostRuntime) -> Result<(), Fail> {
     assert!(rt; sums_up(rt.alloc(), &PlainDecider)? && sums_up(rt.alloc(), &Idle)?);
     Ok(())
 }

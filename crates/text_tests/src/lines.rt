@@ -2,7 +2,7 @@
 ghost use Rattle.std.specs.Prelude.{◌<◌};
 
 use line_reader::{LineReader, Read};
-use std::alloc::Global;
+use std::alloc::{AllocError, Global};
 use std::test::Fail;
 use wf_outside::MemSource;
 
@@ -63,10 +63,25 @@ fn is_read_so(alloc: Global, row: &Row) -> Result<bool, Fail> {
 fn is_read_by(alloc: Global, row: &Row, room: usize) -> Result<bool, Fail>
     requires { 0 < room }
 {
+    let mut source = source_of(alloc, row)?;
+    Ok(is_read_from(alloc, row, room, &mut source)? && source.left() == row.left.as_bytes())
+}
+
+fn source_of(alloc: Global, row: &Row) -> Result<MemSource, AllocError> {
     let text = Vec::from_slice(alloc, row.text.as_bytes())?;
-    let mut source = MemSource::new(text, 2, Vec::from_slice(alloc, row.failing)?);
+    Ok(MemSource::new(text, 2, Vec::from_slice(alloc, row.failing)?))
+}
+
+fn is_read_from(
+    alloc: Global,
+    row: &Row,
+    room: usize,
+    source: &mut MemSource,
+) -> Result<bool, AllocError>
+    requires { 0 < room }
+{
     let mut reader = LineReader::new(alloc, room, 3)?;
-    Ok(has_reads(&mut reader, &mut source, row.reads) && source.left() == row.left.as_bytes())
+    Ok(has_reads(&mut reader, source, row.reads))
 }
 
 fn has_reads(

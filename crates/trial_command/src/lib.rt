@@ -6,4 +6,6 @@ mod run;
 mod session;
 mod summary;
 
+pub use counts::{Counts, count_replies};
 pub use run::run_trial;
+pub use summary::summary_line;

@@ -16,8 +16,13 @@ pub(crate) fn summary_of(alloc: Global, seed: u64, served: &Served) -> Result<St
     summary_line(alloc, seed, served.jobs.len() as u64, &counts)
 }
 
-// The line for a seed, so many jobs and such counts of replies.
-fn summary_line(alloc: Global, seed: u64, lines: u64, counts: &Counts) -> Result<String, AllocError>
+/// The line for a seed, so many jobs and such counts of replies.
+pub fn summary_line(
+    alloc: Global,
+    seed: u64,
+    lines: u64,
+    counts: &Counts,
+) -> Result<String, AllocError>
     ensures { IfOk result (λ text. string_bytes text ≡ summary_line seed lines counts.now) }
 {
     let mut line = String::new(alloc);

@@ -3,8 +3,6 @@
 #![tactic(auto)]
 
 #[cfg(test)]
-mod endings;
-#[cfg(test)]
 mod lists;
 #[cfg(test)]
 mod names;

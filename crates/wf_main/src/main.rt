@@ -1,20 +1,10 @@
 //! The program: it lends the real input, output and files to the server, and ends with its status.
 #![tactic(auto)]
 
-mod disk;
-mod ending;
-mod streams;
-#[cfg(test)]
-mod tests;
-mod words;
-
-use crate::disk::DiskShelf;
-use crate::ending::end;
-use crate::streams::{StdinSource, StdoutSink};
-use crate::words::{after_name, all_words};
 use std::process::ExitCode;
 use std::{env, io};
 use wf_server::{OpenGate, run};
+use wf_system::{DiskShelf, StdinSource, StdoutSink, after_name, all_words, end};
 
 fn main(rt: HostRuntime) -> ExitCode {
     let fault = match all_words(rt.alloc(), env::args(&rt)) {

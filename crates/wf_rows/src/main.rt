@@ -5,88 +5,111 @@ mod outside;
 mod row;
 mod session;
 
-use crate::outside::{shelf_of, sink_of, source_of, with_pieces};
-use crate::row::{Row, Rows, Sessions};
+use crate::outside::{shelf_of, sink_of, source_of, with_pieces, words_of};
+use crate::row::{is_row, list, number, text};
 use crate::session::is_legal;
-use std::alloc::{AllocError, Global};
+use std::alloc::{AllocError, AllocGlobal, Global};
 use std::fs;
+use std::rt::Files;
+use toml::{Table, Value};
 use wf_outside::{MemShelf, MemSink, MemSource};
 use wf_server::{Report, run_alone};
 
-// The files: commands with what comes of them, and devices that fail with texts made to break it.
-const FILES: [&str; 2] = ["rows.toml", "hostile.toml"];
+// The files: commands with what comes of them, faulty policies, and devices that fail with texts
+// made to break it.
+const FILES: [&str; 3] = ["rows.toml", "policies.toml", "hostile.toml"];
 
 // Whole sessions.
 const SESSIONS: &str = "sessions.toml";
 
 fn main(rt: HostRuntime) -> anyhow::Result<()> {
     for file in FILES {
-        let text = fs::read_to_string(&rt, file)?;
-        let rows = toml::from_str::<Rows>(rt.alloc(), text.as_str())?;
-        let mut holding = 0u32;
-        for row in &rows.row {
-            if holds(rt.alloc(), &rows, row)? {
-                holding = holding.saturating_add(1);
-            } else {
-                println!(rt; "does not hold: {}", row.name.as_str())?;
-            }
-        }
+        let rows = table_of(&rt, file)?;
+        let holding = count_rows(&rt, rt.alloc(), &rows)?;
         println!(rt; "{file}: {holding} rows hold")?;
     }
-    run_sessions(rt)
-}
-
-// Serves and audits each session of the file of sessions.
-fn run_sessions(rt: HostRuntime) -> anyhow::Result<()> {
-    let text = fs::read_to_string(&rt, SESSIONS)?;
-    let sessions = toml::from_str::<Sessions>(rt.alloc(), text.as_str())?;
-    let mut legal = 0u32;
-    for session in &sessions.session {
-        if is_legal(rt.alloc(), session)? {
-            legal = legal.saturating_add(1);
-        } else {
-            println!(rt; "is not legal: {}", session.name.as_str())?;
-        }
-    }
+    let sessions = table_of(&rt, SESSIONS)?;
+    let legal = count_sessions(&rt, rt.alloc(), &sessions)?;
     println!(rt; "{SESSIONS}: {legal} sessions are legal")?;
     Ok(())
 }
 
+fn table_of(rt: &(impl Files + AllocGlobal), file: &str) -> anyhow::Result<Table> {
+    let text = fs::read_to_string(rt, file)?;
+    Ok(toml::table_from_str(rt.alloc(), text.as_str())?)
+}
+
+// How many rows hold; the others are named.
+fn count_rows(rt: &impl Print, alloc: Global, rows: &Table) -> anyhow::Result<u32> {
+    let mut holding = 0u32;
+    for row in list(rows.get("row")) {
+        if is_row(row) && holds(alloc, rows, row)? {
+            holding = holding.saturating_add(1);
+        } else {
+            println!(rt; "does not hold: {}", text(row.get("name")))?;
+        }
+    }
+    Ok(holding)
+}
+
+// How many sessions are answered and found legal; the others are named.
+fn count_sessions(rt: &impl Print, alloc: Global, sessions: &Table) -> anyhow::Result<u32> {
+    let mut legal = 0u32;
+    for session in list(sessions.get("session")) {
+        if is_legal(alloc, session)? {
+            legal = legal.saturating_add(1);
+        } else {
+            println!(rt; "is not legal: {}", text(session.get("name")))?;
+        }
+    }
+    Ok(legal)
+}
+
 // Whether a row's command ends as the row says.
-fn holds(alloc: Global, rows: &Rows, row: &Row) -> Result<bool, AllocError> {
+fn holds(alloc: Global, rows: &Table, row: &Value) -> Result<bool, AllocError> {
     let mut shelf = shelf_of(alloc, rows, row)?;
+    holds_with(alloc, row, &mut shelf)
+}
+
+fn holds_with(alloc: Global, row: &Value, shelf: &mut MemShelf) -> Result<bool, AllocError> {
     let mut source = source_of(alloc, row)?;
-    holds_over(alloc, row, &mut shelf, &mut source)
+    holds_over(alloc, row, shelf, &mut source)
 }
 
 fn holds_over(
     alloc: Global,
-    row: &Row,
+    row: &Value,
     shelf: &mut MemShelf,
     source: &mut MemSource,
 ) -> Result<bool, AllocError> {
     let mut sink = sink_of(alloc, row)?;
-    let ended = ends_rightly(alloc, row, shelf, source, &mut sink)?;
-    let wanted = with_pieces(alloc, row.output.as_str(), &row.more_output)?;
-    Ok(ended && sink.bytes() == wanted.as_slice())
+    Ok(ends_rightly(alloc, row, shelf, source, &mut sink)? && writes(alloc, row, sink.bytes())?)
 }
 
 // Whether the status is the row's, and the text of the fault where the row has one.
 fn ends_rightly(
     alloc: Global,
-    row: &Row,
+    row: &Value,
     shelf: &mut MemShelf,
     source: &mut MemSource,
     sink: &mut MemSink,
 ) -> Result<bool, AllocError> {
-    let report = run_alone(alloc, &row.words, shelf, source, sink);
-    Ok(report.status == row.status && tells(alloc, &report, row)?)
+    let words = words_of(alloc, list(row.get("words")))?;
+    let report = run_alone(alloc, &words, shelf, source, sink);
+    Ok(number(row.get("status")) == Some(report.status as u64) && tells(alloc, &report, row)?)
 }
 
-fn tells(alloc: Global, report: &Report, row: &Row) -> Result<bool, AllocError> {
-    if row.fault.is_empty() {
+fn tells(alloc: Global, report: &Report, row: &Value) -> Result<bool, AllocError> {
+    let fault = text(row.get("fault"));
+    if fault.is_empty() {
         return Ok(true);
     }
-    let text = format!(in alloc; "{}", report.fault)?;
-    Ok(text.as_str() == row.fault.as_str())
+    let told = format!(in alloc; "{}", report.fault)?;
+    Ok(told.as_str() == fault)
+}
+
+// Whether this is all that the row's command writes.
+fn writes(alloc: Global, row: &Value, written: &[u8]) -> Result<bool, AllocError> {
+    let wanted = with_pieces(alloc, text(row.get("output")), list(row.get("more_output")))?;
+    Ok(written == wanted.as_slice())
 }

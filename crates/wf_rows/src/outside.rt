@@ -1,123 +1,152 @@
-//! The shelf, the source and the sink of a row.
-ghost use Rattle.std.specs.Prelude.{◌<◌};
+//! The words, the shelf, the source and the sink of a row.
 
-use crate::row::{Piece, Row, Rows};
+use crate::row::{list, number, of_outside, text};
 use std::alloc::{AllocError, Global};
+use toml::{Table, Value};
 use wf_outside::{MemFile, MemShelf, MemSink, MemSource};
 
 /// How many bytes go at once where a row does not say.
-const PIECE: usize = 1_000_000;
+const PIECE: u64 = 1_000_000;
 
-/// The policies of all rows, and the row's own with its requests.
-pub fn shelf_of(alloc: Global, rows: &Rows, row: &Row) -> Result<MemShelf, AllocError> {
-    let mut files = Vec::new(alloc);
-    let own = own_text(alloc, rows, row)?;
-    files.push(file_of(alloc, "here", own.as_str(), &row.more_here)?)?;
-    files.push(file_of(alloc, "requests", row.requests.as_str(), &[])?)?;
-    for policy in &rows.policy {
-        files.push(file_of(alloc, policy.name.as_str(), policy.text.as_str(), &[])?)?;
+/// The words of a list.
+pub fn words_of(alloc: Global, given: &[Value]) -> Result<Vec<String>, AllocError> {
+    let mut words = Vec::new(alloc);
+    for word in given {
+        words.push(String::from_str(alloc, text(Some(word)))?)?;
     }
-    Ok(MemShelf::new(files, failing_loads(alloc, row)?))
+    Ok(words)
 }
 
-fn failing_loads(alloc: Global, row: &Row) -> Result<Vec<u64>, AllocError> {
-    match &row.outside {
-        Some(outside) => outside.failing_loads.as_slice().to_vec(alloc),
-        None => Ok(Vec::new(alloc)),
+/// The policies of all rows, and the row's own with its requests.
+pub fn shelf_of(alloc: Global, rows: &Table, row: &Value) -> Result<MemShelf, AllocError> {
+    let mut files = Vec::new(alloc);
+    put_files(alloc, rows, row, &mut files)?;
+    Ok(MemShelf::new(files, numbers_of(alloc, of_outside(row, "failing_loads"))?))
+}
+
+fn put_files(
+    alloc: Global,
+    rows: &Table,
+    row: &Value,
+    files: &mut Vec<MemFile>,
+) -> Result<(), AllocError> {
+    let own = own_text(alloc, rows, row)?;
+    put_file(alloc, "here", &own, list(row.get("more_here")), files)?;
+    put_text(alloc, row, "requests", files)?;
+    for policy in list(rows.get("policy")) {
+        let (name, whole) = (text(policy.get("name")), text(policy.get("text")));
+        put_file(alloc, name, whole, &[], files)?;
     }
+    Ok(())
+}
+
+/// Adds the text of a key as a file under the key's name.
+pub fn put_text(
+    alloc: Global,
+    row: &Value,
+    key: &str,
+    files: &mut Vec<MemFile>,
+) -> Result<(), AllocError> {
+    put_file(alloc, key, text(row.get(key)), &[], files)
+}
+
+// Adds a file of this name, of a text and pieces behind it.
+fn put_file(
+    alloc: Global,
+    name: &str,
+    text: &str,
+    more: &[Value],
+    files: &mut Vec<MemFile>,
+) -> Result<(), AllocError> {
+    let name = String::from_str(alloc, name)?;
+    let bytes = with_pieces(alloc, text, more)?;
+    files.push(MemFile { name, bytes })?;
+    Ok(())
 }
 
 // The row's own policy.
-fn own_text(alloc: Global, rows: &Rows, row: &Row) -> Result<String, AllocError> {
-    let mut text = String::new(alloc);
-    for name in &row.after {
-        push_named(rows, name.as_str(), &mut text)?;
+fn own_text(alloc: Global, rows: &Table, row: &Value) -> Result<String, AllocError> {
+    let mut own = String::new(alloc);
+    for name in list(row.get("after")) {
+        push_named(rows, text(Some(name)), &mut own)?;
     }
-    text.push_str(row.here.as_str())?;
-    Ok(text)
+    own.push_str(text(row.get("here")))?;
+    Ok(own)
 }
 
-fn push_named(rows: &Rows, name: &str, text: &mut String) -> Result<(), AllocError> {
-    for policy in &rows.policy {
-        if policy.name.as_str() == name {
-            text.push_str(policy.text.as_str())?;
+fn push_named(rows: &Table, name: &str, own: &mut String) -> Result<(), AllocError> {
+    for policy in list(rows.get("policy")) {
+        if text(policy.get("name")) == name {
+            own.push_str(text(policy.get("text")))?;
         }
     }
     Ok(())
 }
 
-/// A file of this name, of a text and pieces behind it.
-pub fn file_of(
-    alloc: Global,
-    name: &str,
-    text: &str,
-    more: &[Piece],
-) -> Result<MemFile, AllocError> {
-    Ok(MemFile {
-        name: String::from_str(alloc, name)?,
-        bytes: with_pieces(alloc, text, more)?,
-    })
-}
-
 /// The text with the copies of all pieces behind it.
-pub fn with_pieces(alloc: Global, text: &str, more: &[Piece]) -> Result<Vec<u8>, AllocError> {
+pub fn with_pieces(alloc: Global, text: &str, more: &[Value]) -> Result<Vec<u8>, AllocError> {
     let mut bytes = text.as_bytes().to_vec(alloc)?;
     for piece in more {
-        for number in 0..piece.times {
-            push_copy(alloc, piece, number, &mut bytes)?;
-        }
+        push_piece(alloc, piece, &mut bytes)?;
     }
     Ok(bytes)
 }
 
-fn push_copy(
-    alloc: Global,
-    piece: &Piece,
-    number: u32,
-    bytes: &mut Vec<u8>,
-) -> Result<(), AllocError> {
-    for byte in piece.text.as_bytes() {
+fn push_piece(alloc: Global, piece: &Value, bytes: &mut Vec<u8>) -> Result<(), AllocError> {
+    let (copy, more) = (text(piece.get("text")), list(piece.get("bytes")));
+    for place in 0..number(piece.get("times")).unwrap_or(1) {
+        push_copy(alloc, copy, place, bytes)?;
+        push_bytes(more, bytes)?;
+    }
+    Ok(())
+}
+
+fn push_copy(alloc: Global, text: &str, place: u64, bytes: &mut Vec<u8>) -> Result<(), AllocError> {
+    for byte in text.as_bytes() {
         if *byte == b'@' {
-            bytes.extend_from_slice(format!(in alloc; "{number}")?.as_bytes())?;
+            bytes.extend_from_slice(format!(in alloc; "{place}")?.as_bytes())?;
         } else {
             bytes.push(*byte)?;
         }
     }
-    bytes.extend_from_slice(&piece.bytes)
+    Ok(())
+}
+
+fn push_bytes(more: &[Value], bytes: &mut Vec<u8>) -> Result<(), AllocError> {
+    for byte in more {
+        let byte = number(Some(byte)).unwrap_or(0);
+        bytes.push((byte & 255) as u8)?;
+    }
+    Ok(())
+}
+
+fn numbers_of(alloc: Global, given: Option<&Value>) -> Result<Vec<u64>, AllocError> {
+    let mut numbers = Vec::new(alloc);
+    for value in list(given) {
+        numbers.push(number(Some(value)).unwrap_or(0))?;
+    }
+    Ok(numbers)
+}
+
+fn size_of(row: &Value, key: &str) -> usize {
+    number(of_outside(row, key)).unwrap_or(PIECE) as usize
 }
 
 /// A source of these bytes, which never fails.
 pub fn whole_source(alloc: Global, bytes: &[u8]) -> Result<MemSource, AllocError> {
-    Ok(MemSource::new(bytes.to_vec(alloc)?, PIECE, Vec::new(alloc)))
-}
-
-/// A sink with nothing in it, which never fails.
-pub fn whole_sink(alloc: Global) -> Result<MemSink, AllocError> {
-    MemSink::new(alloc, PIECE, PIECE, Vec::new(alloc))
+    let bytes = bytes.to_vec(alloc)?;
+    Ok(MemSource::new(bytes, PIECE as usize, Vec::new(alloc)))
 }
 
 /// The row's input.
-pub fn source_of(alloc: Global, row: &Row) -> Result<MemSource, AllocError> {
-    let input = with_pieces(alloc, row.input.as_str(), &row.more_input)?;
-    match &row.outside {
-        Some(outside) => Ok(MemSource::new(
-            input,
-            outside.piece.max(1),
-            outside.failing_takes.as_slice().to_vec(alloc)?,
-        )),
-        None => Ok(MemSource::new(input, PIECE, Vec::new(alloc))),
-    }
+pub fn source_of(alloc: Global, row: &Value) -> Result<MemSource, AllocError> {
+    let input = with_pieces(alloc, text(row.get("input")), list(row.get("more_input")))?;
+    let failing = numbers_of(alloc, of_outside(row, "failing_takes"))?;
+    Ok(MemSource::new(input, size_of(row, "piece").max(1), failing))
 }
 
-/// A sink with nothing in it.
-pub fn sink_of(alloc: Global, row: &Row) -> Result<MemSink, AllocError> {
-    match &row.outside {
-        Some(outside) => MemSink::new(
-            alloc,
-            outside.room,
-            outside.most,
-            outside.failing_puts.as_slice().to_vec(alloc)?,
-        ),
-        None => MemSink::new(alloc, PIECE, PIECE, Vec::new(alloc)),
-    }
+/// A sink with nothing in it, which never fails where the row does not say.
+pub fn sink_of(alloc: Global, row: &Value) -> Result<MemSink, AllocError> {
+    let failing = numbers_of(alloc, of_outside(row, "failing_puts"))?;
+    MemSink::new(alloc, size_of(row, "room"), size_of(row, "most"), failing)
 }

@@ -1,94 +1,64 @@
-//! What a row says.
-use serde::Deserialize;
+//! What a row says, by the names of its keys. A text or a list that is not there is empty.
 
-/// The file of rows: policies by name, and the rows over them.
-#[derive(Drop, Deserialize)]
-pub struct Rows {
-    pub policy: Vec<File>,
-    pub row: Vec<Row>,
+use toml::Value;
+
+/// The text of a key.
+pub fn text(value: Option<&Value>) -> &str {
+    match value {
+        Some(Value::String(text)) => text.as_str(),
+        _ => "",
+    }
 }
 
-/// A policy file.
-#[derive(Drop, Deserialize)]
-pub struct File {
-    pub name: String,
-    pub text: String,
+/// The list of a key.
+pub fn list(value: Option<&Value>) -> &[Value] {
+    match value {
+        Some(Value::Array(values)) => values.as_slice(),
+        _ => &[],
+    }
 }
 
-/// A command with its input, and what must come of it. The row's own policy stands under the name
-/// `here`: the texts that `after` names, and then its own. Its requests file stands under the name
-/// `requests`. Pieces stand behind the text that they are more of.
-#[derive(Drop, Deserialize)]
-pub struct Row {
-    pub name: String,
-    pub words: Vec<String>,
-    #[serde(default)]
-    pub after: Vec<String>,
-    #[serde(default)]
-    pub here: String,
-    #[serde(default)]
-    pub requests: String,
-    #[serde(default)]
-    pub more_here: Vec<Piece>,
-    #[serde(default)]
-    pub input: String,
-    #[serde(default)]
-    pub more_input: Vec<Piece>,
-    pub status: u8,
-    #[serde(default)]
-    pub output: String,
-    #[serde(default)]
-    pub more_output: Vec<Piece>,
-    #[serde(default)]
-    pub fault: String,
-    #[serde(default)]
-    pub outside: Option<Outside>,
+/// The number of a key.
+pub fn number(value: Option<&Value>) -> Option<u64> {
+    match value {
+        Some(Value::Integer(number)) if *number >= 0 => Some(*number as u64),
+        _ => None,
+    }
 }
 
-/// So many copies of a text with bytes behind it. Each `@` of the text stands for the number of the
-/// copy, from 0.
-#[derive(Drop, Deserialize)]
-pub struct Piece {
-    #[serde(default)]
-    pub text: String,
-    #[serde(default)]
-    pub bytes: Vec<u8>,
-    #[serde(default = "once")]
-    pub times: u32,
+/// What a row says of its devices.
+pub fn of_outside<'a>(row: &'a Value, key: &str) -> Option<&'a Value> {
+    row.get("outside")?.get(key)
 }
 
-fn once() -> u32 {
-    1
+/// Whether a row has these keys alone, each with a value of its kind. It is a command with its input,
+/// and what must come of it. The row's own policy stands under the name `here`: the texts that `after`
+/// names, and then its own. Its requests file stands under the name `requests`. Pieces stand behind the
+/// text that they are more of.
+///
+/// A piece is so many copies, `times`, of a `text` with `bytes` behind it. Each `@` of the text stands
+/// for the number of the copy, from 0. The `outside` says how many bytes the source gives and the sink
+/// takes at once, `piece` and `most`, how many the sink takes in all, `room`, and the numbers, from 0,
+/// of the calls that fail: `failing_takes`, `failing_puts` and `failing_loads`.
+pub fn is_row(row: &Value) -> bool {
+    let Some(keys) = row.as_table() else {
+        return false;
+    };
+    for (key, value) in keys {
+        if !is_of_row(key.as_str(), value) {
+            return false;
+        }
+    }
+    true
 }
 
-/// How many bytes the source gives and the sink takes at once, how many the sink takes in all, and
-/// the numbers, from 0, of the calls that fail.
-#[derive(Drop, Deserialize)]
-pub struct Outside {
-    pub piece: usize,
-    pub failing_takes: Vec<u64>,
-    pub most: usize,
-    pub room: usize,
-    pub failing_puts: Vec<u64>,
-    #[serde(default)]
-    pub failing_loads: Vec<u64>,
-}
-
-/// The file of whole sessions.
-#[derive(Drop, Deserialize)]
-pub struct Sessions {
-    pub session: Vec<Session>,
-}
-
-/// A session: the words that serve it and those that audit its transcript, over a policy file and
-/// requests, which stand under the names `policy` and `requests`. Each request has its entry, and
-/// the audit finds the transcript legal.
-#[derive(Drop, Deserialize)]
-pub struct Session {
-    pub name: String,
-    pub serve: Vec<String>,
-    pub audit: Vec<String>,
-    pub policy: String,
-    pub requests: String,
-    pub entries: usize,
+fn is_of_row(key: &str, value: &Value) -> bool {
+    match key {
+        "name" | "here" | "requests" | "input" | "output" | "fault" => value.as_str().is_some(),
+        "words" | "after" => value.as_array().is_some(),
+        "more_here" | "more_input" | "more_output" => value.as_array().is_some(),
+        "status" => value.as_integer().is_some(),
+        "outside" => value.as_table().is_some(),
+        _ => false,
+    }
 }

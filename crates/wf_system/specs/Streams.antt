@@ -1,7 +1,7 @@
 -- What stands behind the sources and sinks of the program.
 use Rattle.std.specs.Prelude.{ℕ, List, Option}
-use Rattle.wf_main.specs.declared.streams.StdinSource.{StdinSource}
-use Rattle.wf_main.specs.declared.streams.StdoutSink.{StdoutSink}
+use Rattle.wf_system.specs.declared.streams.StdinSource.{StdinSource}
+use Rattle.wf_system.specs.declared.streams.StdoutSink.{StdoutSink}
 
 -- the bytes that the reader has left, where it tells
 abbrev pub reader_left : {R : Type 0} → (R → Option (List ℕ)) → StdinSource R → Option (List ℕ)

@@ -3,7 +3,7 @@
 ghost use Rattle.std.specs.Prelude.{◌≡◌, ◌≤◌, ◌<◌, length, take, None, IfOk, OnOk, OnErr};
 ghost use Rattle.std.specs.Io.KnownBytes.{ReadConsumes, WriteAppends};
 ghost use Rattle.wf_outside.specs.Outside.{HasTaken, Rose, with_bytes};
-ghost use Rattle.wf_main.specs.Streams.{reader_left, writer_held};
+ghost use Rattle.wf_system.specs.Streams.{reader_left, writer_held};
 
 use std::io::{Read, Write};
 use wf_outside::{Failed, Sink, Source};

@@ -1,14 +1,14 @@
 //! Runs over readers and writers in memory that move one byte at a time and fail: nothing is lost
 //! or added between them and the server.
 
-use crate::streams::{StdinSource, StdoutSink};
-use crate::words::after_name;
+use crate::outsides::{ample, shelf_of, words_of};
 use std::alloc::{AllocError, Global};
 use std::io;
 use std::io::{ErrorKind, Read, Write};
 use std::test::Fail;
-use wf_outside::{MemFile, MemShelf, Source};
+use wf_outside::{Failed, MemShelf, Source};
 use wf_server::run_alone;
+use wf_system::{StdinSource, StdoutSink, after_name};
 
 const ONE: &str = r#"
 format = 1
@@ -94,12 +94,17 @@ fn bytes_go_through_one_by_one(rt: HostRuntime) -> Result<(), Fail> {
 #[test]
 fn a_reader_ends_and_the_name_is_no_word(rt: HostRuntime) -> Result<(), Fail> {
     let mut source = StdinSource::new(b"ab".as_slice());
-    let mut buf = [0; 8];
-    let counts = (source.take(&mut buf)?, source.take(&mut buf)?);
-    assert!(rt; counts == (2, 0) && buf.starts_with(b"ab"));
-    let words = words(rt.alloc(), &["wfserve", "show", "policy"])?;
+    assert!(rt; gives_both(&mut source)?);
+    let words = words_of(rt.alloc(), &["wfserve", "show", "policy"])?;
     assert!(rt; after_name(&words).len() == 2 && after_name(&words[..0]).is_empty());
     Ok(())
+}
+
+// Whether both bytes come at once, and then none.
+fn gives_both(source: &mut StdinSource<&[u8]>) -> Result<bool, Failed> {
+    let mut buf = [0; 8];
+    let counts = (source.take(&mut buf)?, source.take(&mut buf)?);
+    Ok(counts == (2, 0) && buf.starts_with(b"ab"))
 }
 
 // Whether `plan` over these bytes ends so, and writes this.
@@ -111,8 +116,8 @@ fn answers(
     status: u8,
     output: &str,
 ) -> Result<bool, AllocError> {
-    let words = words(alloc, &["plan", "policy", "one"])?;
-    let mut shelf = shelf(alloc)?;
+    let words = words_of(alloc, &["plan", "policy", "one"])?;
+    let mut shelf = shelf_of(alloc, &[("policy", ONE)], ample())?;
     let mut narrow = Narrow {
         taken: [0; 16],
         len: 0,
@@ -138,21 +143,4 @@ fn run(
     });
     let mut sink = StdoutSink::new(narrow);
     run_alone(alloc, words, shelf, &mut source, &mut sink).status
-}
-
-fn shelf(alloc: Global) -> Result<MemShelf, AllocError> {
-    let mut files = Vec::new(alloc);
-    files.push(MemFile {
-        name: String::from_str(alloc, "policy")?,
-        bytes: ONE.as_bytes().to_vec(alloc)?,
-    })?;
-    Ok(MemShelf::new(files, Vec::new(alloc)))
-}
-
-fn words(alloc: Global, given: &[&str]) -> Result<Vec<String>, AllocError> {
-    let mut words = Vec::new(alloc);
-    for word in given {
-        words.push(String::from_str(alloc, word)?)?;
-    }
-    Ok(words)
 }

@@ -2,7 +2,7 @@
 ghost use Rattle.std.specs.Prelude.{◌≡◌};
 ghost use Rattle.std.specs.Process.{exit_status};
 ghost use Rattle.run_record.specs.Fault.{status_of};
-ghost use Rattle.wf_main.specs.Ending.{has_text};
+ghost use Rattle.wf_system.specs.Ending.{has_text};
 
 use run_record::RunFault;
 use std::process::ExitCode;

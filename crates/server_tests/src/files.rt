@@ -1,12 +1,10 @@
-//! A policy that is printed and read again.
+//! A policy file that is read, and a policy that is printed and read again.
 
-use policy_book::Policy;
+use policy_book::{Policy, Relations, Roster};
 use policy_printer::print;
 use policy_reader::read;
-use rbac_state::Roster;
 use std::alloc::Global;
 use std::test::Fail;
-use user_relations::Relations;
 use wf_names::{RelId, RoleId, UserId};
 
 // Pairs, members and permissions out of order, each form of a rule, steps that are not in the
@@ -23,11 +21,15 @@ const WHOLE: &str = "format = 1\nadmin = \"chief\"\nroles = [\"chief\", \"clerk\
     ]\n\
     [flows.early]\nsteps = [\"x\"]\npermit = {}\n";
 
-// What is read of what is printed of a file's policy.
-fn again(alloc: Global, file: &str) -> Option<Policy> {
-    let policy = read(alloc, file.as_bytes()).ok()?;
-    let text = print(alloc, &policy).ok()?;
-    read(alloc, text.as_bytes()).ok()
+// What is read of what is printed of the file's policy.
+fn again(alloc: Global) -> Result<Policy, Fail> {
+    let text = printed(alloc)?;
+    Ok(read(alloc, text.as_bytes())?)
+}
+
+fn printed(alloc: Global) -> Result<String, Fail> {
+    let policy = read(alloc, WHOLE.as_bytes())?;
+    Ok(print(alloc, &policy)?)
 }
 
 // Whether the users hold the roles that the file says, and no other.
@@ -48,8 +50,37 @@ fn relations_are_as_before(relations: &Relations) -> bool {
 
 #[test]
 fn users_and_relations_are_as_before(rt: HostRuntime) -> Result<(), Fail> {
-    let policy = again(rt.alloc(), WHOLE).ok_or("the print is a policy")?;
-    assert!(rt; roster_is_as_before(policy.roster()));
-    assert!(rt; relations_are_as_before(policy.relations()));
+    let policy = again(rt.alloc())?;
+    assert!(rt; is_as_before(&policy));
     Ok(())
+}
+
+fn is_as_before(policy: &Policy) -> bool {
+    roster_is_as_before(policy.roster()) && relations_are_as_before(policy.relations())
+}
+
+const TRIO: &str = "format = 1\nadmin = \"chief\"\nroles = [\"chief\", \"clerk\"]\n\
+    [users]\nkim = [\"clerk\"]\nlee = [\"clerk\"]\nzoe = [\"chief\"]\n\
+    [relations]\nclear = { complement = \"conflict\" }\nconflict = { pairs = [[\"kim\", \"lee\"]] }\n\
+    [flows.trio]\nsteps = [\"a\", \"b\", \"c\"]\norder = [[\"a\", \"c\"]]\n\
+    permit = { a = [\"clerk\"], b = [\"clerk\"], c = [\"clerk\"] }\n\
+    rules = [{ form = \"pair\", relation = \"clear\", first = \"a\", second = \"b\" }]\n";
+
+#[test]
+fn a_policy_has_what_its_file_says(rt: HostRuntime) -> Result<(), Fail> {
+    let policy = read(rt.alloc(), TRIO.as_bytes())?;
+    assert!(rt; counts_of(&policy) == (3, 2, 2, 1));
+    Ok(())
+}
+
+// The numbers of users, roles, relations and workflows.
+fn counts_of(policy: &Policy) -> (u16, u16, u8, u16) {
+    let roster = policy.roster();
+    let (users, roles) = (roster.users().len(), roster.roles().len());
+    (
+        users,
+        roles,
+        policy.relations().count(),
+        policy.flows().len(),
+    )
 }

@@ -1,0 +1,12 @@
+//! The real input, output, files and words, for the program to lend to the server.
+#![tactic(auto)]
+
+mod disk;
+mod ending;
+mod streams;
+mod words;
+
+pub use disk::DiskShelf;
+pub use ending::end;
+pub use streams::{StdinSource, StdoutSink};
+pub use words::{after_name, all_words};
