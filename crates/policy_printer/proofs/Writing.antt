@@ -1,7 +1,7 @@
 -- Values and tables as they are built.
-use Rattle.std.proofs.Common.{◌≡◌, ℕ, suc, ◌+◌, ◌<◌, ◌≤◌, Bool, true, false, List, [], ◌∷◌, ◌++◌, length, map, take, get_or, nat_eq, IsTrue, String, Global, Vec, Ordering, Less, Equal, Greater, string_bytes, refl, sym, ap, ◌∙◌, append_assoc, arith, Result, Ok, Err, OnOk, slice_get, Option, Some, None, option_map, zero, subst, inl, inr}
+use Rattle.std.proofs.Common.{◌≡◌, ℕ, suc, ◌+◌, ◌<◌, ◌≤◌, Bool, true, false, List, [], ◌∷◌, ◌++◌, length, map, take, get_or, IsTrue, String, Global, Vec, Ordering, Less, Equal, Greater, string_bytes, refl, sym, ap, ◌∙◌, append_assoc, arith, Result, Ok, Err, OnOk, slice_get, Option, Some, None, option_map, zero, subst, inl, inr}
 use Rattle.std.specs.FinSet as set
-use Rattle.policy_printer.proofs.Words.{All, get_or_from_slice_get, slice_get_past, slice_get_within, AreNames, first_declared, RELATION_LIMIT, Pairs, AllPairs, RelationShape, RelationKind, listed, complement, kind_of, known_names, has_list, is_listed, complemented, complement_of, listed_pairs, pairs_of, all_empty, AreOfUsers, AreSound, match_ordering, get_or_default, length-map, map-append, take_more, take_all, Data, Members, member, view, members_view, with_member, table_below, chosen, name_at, row, rows, string, array, items_of, pair_data}
+use Rattle.policy_printer.proofs.Words.{All, get_or_from_slice_get, slice_get_past, slice_get_within, AreNames, first_declared, RELATION_LIMIT, Pairs, RelationShape, RelationKind, listed, complement, kind_of, known_names, has_list, is_listed, complemented, complement_of, AreSound, match_ordering, get_or_default, length-map, map-append, take_more, take_all, Data, Members, member, view, members_view, with_member, table_below, chosen, name_at, row, rows, string, array, items_of, pair_data}
 use Rattle.std.proofs.lemmas.Bool.{cases_lt}
 use Rattle.wf_names.specs.Names.{is_name}
 use Rattle.wf_names.proofs.Places.{are_names}
@@ -117,12 +117,3 @@ listed_within relations (suc (suc n)) e = elim (cases_lt n (length relations)) [
 -- the relation whose complement one is, is there
 pub other_within : (relations : List RelationShape) (rho n : ℕ) → AreSound relations → complement_of relations rho ≡ Some n → n < length relations + 2
 other_within relations rho n sound e = listed_within relations n (sound.complements rho n (complement_kind (kind_of relations rho) n e))
-
-listed_of_users : (o : Option RelationKind) (users : ℕ) → ((pairs : Pairs) → o ≡ Some (listed pairs) → AllPairs (λ u v. (u < users) × (v < users)) pairs) → AllPairs (λ u v. (u < users) × (v < users)) (listed_pairs o)
-listed_of_users None users h = all_empty (λ u v. (u < users) × (v < users))
-listed_of_users (Some (listed pairs)) users h = h pairs refl
-listed_of_users (Some (complement n)) users h = all_empty (λ u v. (u < users) × (v < users))
-
--- the pairs of a relation are of users
-pub pairs_of_users : (users rho : ℕ) (relations : List RelationShape) → AreOfUsers users relations → AllPairs (λ u v. (u < users) × (v < users)) (pairs_of relations rho)
-pairs_of_users users rho relations h = listed_of_users (kind_of relations rho) users (h rho)

@@ -12,3 +12,12 @@ put_grouped-requires-clause-step c = let s = c.in-SomeOf.step in (subst (IsSound
 
 pub put_grouped-requires-in-AllOf-clause-step : goal.put_grouped-requires-in-AllOf-clause-step
 put_grouped-requires-in-AllOf-clause-step c = let s = c.in-AllOf.step in (subst (IsSoundRule (length c.args.steps.now.names) (length c.args.relations.now)) c.in-AllOf.is c.requires.sound).names s (or_left (nat_eq s s) _ (eq_same s))
+
+pub put_pair-requires-clause-relation : goal.put_pair-requires-clause-relation
+put_pair-requires-clause-relation c = (subst (IsSoundRule (length c.args.steps.now.names) (length c.args.relations.now)) c.in-Pair.is c.requires.sound).known c.in-Pair.rho (eq_same c.in-Pair.rho)
+
+pub put_grouped-requires-clause-relation : goal.put_grouped-requires-clause-relation
+put_grouped-requires-clause-relation c = (subst (IsSoundRule (length c.args.steps.now.names) (length c.args.relations.now)) c.in-SomeOf.is c.requires.sound).known c.in-SomeOf.rho (eq_same c.in-SomeOf.rho)
+
+pub put_grouped-requires-in-AllOf-clause-relation : goal.put_grouped-requires-in-AllOf-clause-relation
+put_grouped-requires-in-AllOf-clause-relation c = (subst (IsSoundRule (length c.args.steps.now.names) (length c.args.relations.now)) c.in-AllOf.is c.requires.sound).known c.in-AllOf.rho (eq_same c.in-AllOf.rho)
