@@ -15,7 +15,7 @@ use Rattle.wf_talk.specs.declared.reply.Denial.{Denial}
 use Rattle.wf_talk.specs.declared.reply.Denial.TheVariants as denial
 use Rattle.wf_board.specs.declared.deed.Deed.{Deed}
 use Rattle.wf_board.specs.declared.deed.Deed.TheVariants as deed
-use Rattle.wf_board.specs.States.{Book, Numbered, State, case_at, is_full, open_cases, open_count, with_case_changed}
+use Rattle.wf_board.specs.States.{Book, Numbered, State, numbered_case, is_full, open_cases, open_count, with_case_changed}
 use Rattle.wf_board.specs.Decisions.{cause_full, decision_aside, decision_of}
 use Rattle.wf_board.specs.Steps.{state_after_decision, state_after_deed, state_after_step}
 use Rattle.admin_edits.proofs.Keeping.{always}
@@ -130,7 +130,7 @@ EachOf P (e ∷ es) = P e × EachOf P es
 
 -- a case of some is found at its number, which is one of those from k on
 pub record IsFoundIn (cases : List Numbered) (k : ℕ) (e : Numbered) : Type 0 where
-  pub found : case_at cases e.number ≡ Some e.case
+  pub found : numbered_case cases e.number ≡ Some e.case
   pub least : k ≤ e.number
   pub below : e.number < k + length cases
 
@@ -167,7 +167,7 @@ each_found k (x ∷ xs) are = (found_first k x xs are.0, each_later k x xs xs ar
 
 -- and so is each that is open
 pub record IsOpenIn (cases : List Numbered) (e : Numbered) : Type 0 where
-  pub found : case_at cases e.number ≡ Some e.case
+  pub found : numbered_case cases e.number ≡ Some e.case
   pub below : e.number < length cases
   pub live : is_open e.case ≡ true
 

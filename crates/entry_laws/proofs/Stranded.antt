@@ -15,7 +15,7 @@ use Rattle.admin_edits.specs.Edits.{amended}
 use Rattle.admin_edits.specs.Found as edits
 use Rattle.admin_edits.proofs.Keeping.{changes_keep_names, changes_keep_policies_sound}
 use Rattle.admin_edits.proofs.Unhurt.{unhurt_plans_stay_valid}
-use Rattle.wf_board.specs.States.{Numbered, State, case_at, open_cases}
+use Rattle.wf_board.specs.States.{Numbered, State, numbered_case, open_cases}
 use Rattle.wf_board.specs.Edited.{CanAllBeCompleted, IsFirstStranded}
 use Rattle.wf_board.specs.Found.{IsAllowed}
 use Rattle.wf_board.specs.Kept.{IsSoundState, KeepsCompletable}
@@ -28,7 +28,7 @@ use Rattle.entry_laws.proofs.Numbers.{AreSerial, EachOf, IsOpenIn, open_found}
 -- the case that is stranded: it stands at the number, and the tree refutes it
 record IsStranded (pol : PolicyShape) (all : List Numbered) (n f : ℕ) (tree : Tree) : Type 0 where
   case : CaseShape
-  found : case_at all n ≡ Some case
+  found : numbered_case all n ≡ Some case
   below : n < length all
   flow : case.flow ≡ f
   refuted : refutes (problem_of pol case.flow) (assigned_of case) (finished_of case) (shape_of tree) ≡ true
@@ -37,7 +37,7 @@ find_stranded : (pol : PolicyShape) (all es : List Numbered) (n f : ℕ) (tree :
 find_stranded pol all [] n f tree each is = absurd is
 find_stranded pol all (e ∷ es) n f tree each (inl here) = record {
   case = e.case;
-  found = subst (λ m. case_at all m ≡ Some e.case) here.0 each.0.found;
+  found = subst (λ m. numbered_case all m ≡ Some e.case) here.0 each.0.found;
   below = subst (λ m. m < length all) here.0 each.0.below;
   flow = here.1.0;
   refuted = here.1.1;

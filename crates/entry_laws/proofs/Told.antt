@@ -26,7 +26,7 @@ use Rattle.admin_edits.specs.declared.fault.EditFault.TheVariants as fault
 use Rattle.admin_edits.specs.Edits.{amendment_of, is_admin}
 use Rattle.wf_board.specs.declared.deed.Deed.{Deed}
 use Rattle.wf_board.specs.declared.deed.Deed.TheVariants as deed
-use Rattle.wf_board.specs.States.{State, case_at, flow_named, step_named, user_named}
+use Rattle.wf_board.specs.States.{State, numbered_case, flow_named, step_named, user_named}
 use Rattle.wf_board.specs.Resolved.{edit_denial, on_edit, on_step, open_case_at, resolve}
 use Rattle.wf_board.specs.Decisions.{cause_aside, cause_full, decision_aside, decision_of}
 use Rattle.wf_board.specs.Kept.{IsOfPolicy, IsSoundState}
@@ -95,8 +95,8 @@ edit_fares s o make (Err why) made = fault_fits s.book.policy (flows_of s) o why
 case_fares : (s : State) (n : ℕ) → IsSoundState s → Fares (IsOn s (flows_of s n)) (Fits s (flows_of s n)) (open_case_at s.book n)
 case_fares s n sound =
     let Q = Fits s (flows_of s n) in
-    then_fares (λ c. case_at s.book.cases n ≡ Some c) (IsOn s (flows_of s n)) Q (or_fault (case_at s.book.cases n) denial.NoCase) _
-    (or_fares Q (case_at s.book.cases n) denial.NoCase (tt, omega arith))
+    then_fares (λ c. numbered_case s.book.cases n ≡ Some c) (IsOn s (flows_of s n)) Q (or_fault (numbered_case s.book.cases n) denial.NoCase) _
+    (or_fares Q (numbered_case s.book.cases n) denial.NoCase (tt, omega arith))
     (λ c is. then_fares (λ _. Unit {0}) (IsOn s (flows_of s n)) Q (check (is_open c) denial.Closed) _ (check_fares Q (is_open c) denial.Closed (tt, omega arith))
     (λ _ _. (ap (option_map (λ (x : CaseShape). x.flow)) is, sound.cases n c is)))
 
@@ -145,8 +145,8 @@ resolve_fares s (ask.Request (request.Withdraw by n)) sound named =
 resolve_fares s (ask.Request (request.Change by e)) sound named = edit_fares s None deed.Change (amendment_of s.book.policy by e) (λ a. tt)
 resolve_fares s (ask.Request (request.Show n)) sound named =
     let Q = Fits s (flows_of s n) in
-    then_fares (λ c. case_at s.book.cases n ≡ Some c) (IsDeedFor s (flows_of s n)) Q (or_fault (case_at s.book.cases n) denial.NoCase) _
-    (or_fares Q (case_at s.book.cases n) denial.NoCase (tt, omega arith)) (λ c is. sound.cases n c is)
+    then_fares (λ c. numbered_case s.book.cases n ≡ Some c) (IsDeedFor s (flows_of s n)) Q (or_fault (numbered_case s.book.cases n) denial.NoCase) _
+    (or_fares Q (numbered_case s.book.cases n) denial.NoCase (tt, omega arith)) (λ c is. sound.cases n c is)
 resolve_fares s (ask.Request (request.Worklist user)) sound named =
     let P = IsDeedFor s None in
     let Q = Fits s None in

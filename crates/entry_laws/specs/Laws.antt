@@ -7,14 +7,14 @@ use Rattle.policy_book.specs.Policies.{flow_at}
 use Rattle.policy_book.specs.Facts.{IsSoundPolicy}
 use Rattle.wf_talk.specs.declared.entry.Entry.{Entry}
 use Rattle.wf_talk.specs.Jobs.{IsNamedAsk}
-use Rattle.wf_board.specs.States.{State, case_at, opening_state}
+use Rattle.wf_board.specs.States.{State, numbered_case, opening_state}
 use Rattle.wf_board.specs.Histories.{IsLegal, state_after}
 use Rattle.wire_json.specs.Replies.{entry_text}
 use Rattle.entry_reader.specs.Lines.{IsLineOf}
 
 -- which workflow each case of a state is of
 abbrev pub flows_of : State → ℕ → Option ℕ
-flows_of s n = option_map (λ c. c.flow) (case_at s.book.cases n)
+flows_of s n = option_map (λ c. c.flow) (numbered_case s.book.cases n)
 
 -- no workflow has more steps than the limit
 abbrev pub HasFewSteps : PolicyShape → Type 0

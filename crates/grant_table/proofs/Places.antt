@@ -6,7 +6,7 @@ use Rattle.std.proofs.Math.Seq.{drop-cons}
 use Rattle.wf_names.specs.States.{is_live}
 use Rattle.grant_table.specs.declared.rows.Row.{Row}
 use Rattle.grant_table.specs.Tables.{row_at, change_row, next_open}
-use Rattle.grant_table.specs.Kept.{AscendFrom, IsPlace}
+use Rattle.grant_table.specs.Kept.{AscendFrom, IsRowPlace}
 use Rattle.basics.proofs.Booleans.{eq_above, eq_below, eq_is, lt_back, lt_back_no}
 
 -- the place at which a test turns is the length of the front part that passes
@@ -38,7 +38,7 @@ no_prefix : (m : ℕ) (b : Bool) → zero ≡ cond b (1 + m) 0 → b ≡ false
 no_prefix m true e = absurd (omega arith)
 no_prefix m false e = refl
 
-pub place_found : (n : ℕ) (rows : List Row) (i : ℕ) (d : Row) → i ≡ prefix_len (λ (r : Row). nat_lt r.number n) rows → i < length rows → (slice_index_or rows i d).number ≡ n → IsPlace n rows i
+pub place_found : (n : ℕ) (rows : List Row) (i : ℕ) (d : Row) → i ≡ prefix_len (λ (r : Row). nat_lt r.number n) rows → i < length rows → (slice_index_or rows i d).number ≡ n → IsRowPlace n rows i
 place_found n [] i d e h is = absurd (omega arith)
 place_found n (r ∷ rs) zero d e h is = eq_is _ _ is
 place_found n (r ∷ rs) (suc i) d e h is =
@@ -60,17 +60,17 @@ place_missing low n (r ∷ rs) (suc i) order e differ =
     let next = next_prefix i _ _ e in
     rw (eq_below _ _ (lt_back _ _ next.0)) (place_missing (r.number + 1) n rs i order.1 next.1 (λ h d. differ (omega (arith, h)) d))
 
-pub found_get : (n : ℕ) (rows : List Row) (i : ℕ) → IsPlace n rows i → row_at n rows ≡ slice_get rows i
+pub found_get : (n : ℕ) (rows : List Row) (i : ℕ) → IsRowPlace n rows i → row_at n rows ≡ slice_get rows i
 found_get n [] i h = absurd h
 found_get n (r ∷ rs) zero h = rw h refl
 found_get n (r ∷ rs) (suc i) h = rw h.0 (found_get n rs i h.1)
 
-pub place_within : (n : ℕ) (rows : List Row) (i : ℕ) → IsPlace n rows i → i < length rows
+pub place_within : (n : ℕ) (rows : List Row) (i : ℕ) → IsRowPlace n rows i → i < length rows
 place_within n [] i h = absurd h
 place_within n (r ∷ rs) zero h = omega arith
 place_within n (r ∷ rs) (suc i) h = omega (arith, place_within n rs i h.1)
 
-pub place_put : (n : ℕ) (rows : List Row) (i : ℕ) (new : Row) → IsPlace n rows i → slice_set rows i new ≡ change_row n (λ _. new) rows
+pub place_put : (n : ℕ) (rows : List Row) (i : ℕ) (new : Row) → IsRowPlace n rows i → slice_set rows i new ≡ change_row n (λ _. new) rows
 place_put n [] i new h = absurd h
 place_put n (r ∷ rs) zero new h = rw h refl
 place_put n (r ∷ rs) (suc i) new h = rw h.0 (ap (λ xs. r ∷ xs) (place_put n rs i new h.1))

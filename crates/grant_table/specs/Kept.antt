@@ -31,14 +31,14 @@ pub record IsSoundTable (rows : List Row) (ever live : ℕ) : Type 0 where
   pub limit : ever ≤ CASE_LIMIT
 
 -- the row with the number n stands at i, and no earlier row has it
-abbrev pub IsPlace : ℕ → List Row → ℕ → Type 0
-IsPlace n [] i = ⊥
-IsPlace n (r ∷ rs) zero = nat_eq r.number n ≡ true
-IsPlace n (r ∷ rs) (suc i) = (nat_eq r.number n ≡ false) × IsPlace n rs i
+abbrev pub IsRowPlace : ℕ → List Row → ℕ → Type 0
+IsRowPlace n [] i = ⊥
+IsRowPlace n (r ∷ rs) zero = nat_eq r.number n ≡ true
+IsRowPlace n (r ∷ rs) (suc i) = (nat_eq r.number n ≡ false) × IsRowPlace n rs i
 
 -- the search for the number n has found its row at i
 pub record IsFound (n : ℕ) (rows : List Row) (i : ℕ) : Type 0 where
-  pub place : IsPlace n rows i
+  pub place : IsRowPlace n rows i
   pub found : row_at n rows ≡ slice_get rows i
   pub within : i < length rows
 

@@ -11,7 +11,7 @@ use Rattle.wf_talk.specs.declared.job.Job.{Job}
 use Rattle.wf_board.specs.Histories.{batch_start, job_of_entry, lane_jobs}
 use Rattle.line_cutter.specs.Laws.{AreInOrder}
 use Rattle.wf_desk.specs.Desks.{served_jobs}
-use Rattle.wf_desk.specs.Keeping.{IsPlace}
+use Rattle.wf_desk.specs.Keeping.{IsLanePlace}
 use Rattle.wf_desk.specs.Places.{IsNextPlace}
 use Rattle.wf_desk.specs.DocketLaws.{lane_both, lane_own, next_at, served_other, served_own}
 use Rattle.wf_desk.proofs.DeskLaws.{differs}
@@ -52,7 +52,7 @@ cursor_begun a c is =
     omega (arith, begins, begun)
 
 desk_place : (a : AuditShape) (c : Cursor) (lane place : ℕ) → IsRecord a c → IsPlaceIn (jobs_in a.jobs a.batch_ends c.batch) c.start a.entries lane place →
-    IsPlace (desk_of a c.batch) lane place
+    IsLanePlace (desk_of a c.batch) lane place
 desk_place a c lane place is stands = record {
   within = stands.within;
   before = subst (λ s. served_jobs s a.entries lane ≡ lane_jobs lane (take place (jobs_in a.jobs a.batch_ends c.batch))) is.start stands.before;

@@ -10,7 +10,7 @@ use Rattle.case_record.specs.Cases.{CaseShape}
 use Rattle.admin_edits.specs.Edits.{is_admin}
 use Rattle.wf_board.specs.declared.deed.Deed.{Deed}
 use Rattle.wf_board.specs.declared.deed.Deed.TheVariants as deed
-use Rattle.wf_board.specs.States.{Book, State, case_at, flow_named, step_named, user_named}
+use Rattle.wf_board.specs.States.{Book, State, numbered_case, flow_named, step_named, user_named}
 use Rattle.wf_board.specs.Resolved.{on_step, open_case_at, resolve}
 use Rattle.wf_board.specs.Decisions.{cause_aside, cause_full, decision_aside, decision_of, needs_verdict, unless_denied}
 use Rattle.wf_board.specs.Admitting.{HasVerdict, rests_on_all}
@@ -52,7 +52,7 @@ resolve_none b (ask.Request (request.Withdraw by n)) other =
 resolve_none b (ask.Request (request.Change by edit)) other = absurd (cc)
 resolve_none b (ask.Request (request.Worklist user)) other = absurd (cc)
 resolve_none b (ask.Request (request.WhatIf by edit)) other = absurd (cc)
-resolve_none b (ask.Request (request.Show n)) other = then_none (or_fault (case_at b.cases n) NoCase) _ (λ c. refl)
+resolve_none b (ask.Request (request.Show n)) other = then_none (or_fault (numbered_case b.cases n) NoCase) _ (λ c. refl)
 
 -- what is no edit and no view is none
 pub none_left : (b : Book) (what : Ask) → asks_of_all what ≡ false → rests_on_all (decision_of b what) ≡ false

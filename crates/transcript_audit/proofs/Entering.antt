@@ -17,7 +17,7 @@ use Rattle.wf_board.specs.Counting.{counted, counted_end, counts_for, lane_end}
 use Rattle.wf_board.specs.Decisions.{decision_of, is_view, needs_verdict}
 use Rattle.wf_board.specs.Histories.{IsRetry}
 use Rattle.wf_board.specs.HistoryLaws.{after_again, after_more, again_rests, edits_within, step_once, step_rests}
-use Rattle.wf_board.specs.States.{State, case_at, opening_state}
+use Rattle.wf_board.specs.States.{State, numbered_case, opening_state}
 use Rattle.wf_board.specs.Steps.{IsStep, state_after_step}
 use Rattle.wf_board.proofs.Counted.{count_later}
 use Rattle.wf_desk.specs.DocketLaws.{next_lane}
@@ -139,11 +139,11 @@ again_exactly a j n place b next to from = (λ yes. again_next a j n place next 
 
 -- the policy and the cases of a board are those after the entries
 pub known_now : (Q : PolicyShape → (ℕ → Option ℕ) → Type 0) (b : BoardShape) (a : AuditShape) (p : PolicyShape) (t : CasesShape) → p ≡ b.policy → t ≡ b.cases → state_on b ≡ state_now a →
-    Q p (λ n. option_map (λ (c : CaseShape). c.flow) (case_at (map numbered t.rows) n)) → Q (state_now a).book.policy (flows_now a)
+    Q p (λ n. option_map (λ (c : CaseShape). c.flow) (numbered_case (map numbered t.rows) n)) → Q (state_now a).book.policy (flows_now a)
 known_now Q b a p t policy cases same is =
-    subst (λ (s : State). Q s.book.policy (λ n. option_map (λ (c : CaseShape). c.flow) (case_at s.book.cases n))) same
-    (subst (λ q. Q q (λ n. option_map (λ (c : CaseShape). c.flow) (case_at (map numbered b.cases.rows) n))) policy
-    (subst (λ (u : CasesShape). Q p (λ n. option_map (λ (c : CaseShape). c.flow) (case_at (map numbered u.rows) n))) cases is))
+    subst (λ (s : State). Q s.book.policy (λ n. option_map (λ (c : CaseShape). c.flow) (numbered_case s.book.cases n))) same
+    (subst (λ q. Q q (λ n. option_map (λ (c : CaseShape). c.flow) (numbered_case (map numbered b.cases.rows) n))) policy
+    (subst (λ (u : CasesShape). Q p (λ n. option_map (λ (c : CaseShape). c.flow) (numbered_case (map numbered u.rows) n))) cases is))
 
 -- the board has few edits
 pub edits_few : (b : BoardShape) (a : AuditShape) → state_on b ≡ state_now a → length a.entries ≤ SESSION_LINE_LIMIT → b.edits < 4294967295

@@ -5,7 +5,7 @@ use Rattle.policy_book.specs.Shapes.{PolicyShape}
 use Rattle.wf_talk.specs.declared.entry.Entry.{Entry}
 use Rattle.wf_talk.specs.declared.job.Job.{Job}
 use Rattle.wf_talk.specs.declared.reply.Reply.{Reply}
-use Rattle.wf_board.specs.States.{State, case_at, opening_state}
+use Rattle.wf_board.specs.States.{State, numbered_case, opening_state}
 use Rattle.wf_board.specs.Histories.{FillsJobs, IsLegal, IsRightAfter, RestsFrom, job_of_entry, lane_jobs, state_after}
 use Rattle.wire_json.specs.Replies.{entry_text}
 use Rattle.entry_reader.specs.declared.place.Place.{Place}
@@ -36,7 +36,7 @@ state_now a = state_after (opening_state a.opening) a.entries
 
 -- which workflow each case is of
 abbrev pub flows_now : AuditShape → ℕ → Option ℕ
-flows_now a n = option_map (λ c. c.flow) (case_at (state_now a).book.cases n)
+flows_now a n = option_map (λ c. c.flow) (numbered_case (state_now a).book.cases n)
 
 -- where the batch begins in which a place stands: at the last end that is not behind it
 abbrev pub start_at : ℕ → ℕ → List ℕ → ℕ

@@ -42,7 +42,7 @@ use Rattle.wf_board.specs.Decisions.{cause_aside, cause_full, decision_aside, de
 use Rattle.wf_board.specs.Edited.{ArePlansOf, CanAllBeCompleted, IsFirstStranded, IsTreeOf}
 use Rattle.wf_board.specs.Found.{IsAllowed}
 use Rattle.wf_board.specs.Resolved.{edit_denial, on_edit, on_step, open_case_at, resolve}
-use Rattle.wf_board.specs.States.{Book, State, case_at, flow_named, is_full, open_cases, step_named, user_named}
+use Rattle.wf_board.specs.States.{Book, State, numbered_case, flow_named, is_full, open_cases, step_named, user_named}
 use Rattle.wf_board.specs.Kept.{IsSoundState}
 use Rattle.wf_board.specs.Views.{AreStranded, IsWorkOf, steps_of}
 use Rattle.wf_talk.specs.declared.reply.WorkItem.{WorkItem}
@@ -81,7 +81,7 @@ IsBare d = has_no_tree d ≡ true
 
 bare_open : (b : Book) (n : ℕ) → FaultOf IsBare (open_case_at b n)
 bare_open b n =
-    then_fault IsBare (or_fault (case_at b.cases n) denial.NoCase) _ (there_fault IsBare (case_at b.cases n) denial.NoCase refl)
+    then_fault IsBare (or_fault (numbered_case b.cases n) denial.NoCase) _ (there_fault IsBare (numbered_case b.cases n) denial.NoCase refl)
     (λ c. then_fault IsBare (check (is_open c) denial.Closed) _ (check_fault IsBare (is_open c) denial.Closed refl) (λ _. tt))
 
 bare_step : (b : Book) (make : ℕ → CaseShape → ℕ → ℕ → Deed) (n : ℕ) (step user : List ℕ) → FaultOf IsBare (on_step make b n step user)
@@ -119,7 +119,7 @@ bare_resolve b (ask.Request (request.Withdraw by n)) =
     (λ _. then_fault IsBare (open_case_at b n) _ (bare_open b n) (λ c. tt))
 bare_resolve b (ask.Request (request.Change by edit)) = bare_change deed.Change (amendment_of b.policy by edit)
 bare_resolve b (ask.Request (request.Show n)) =
-    then_fault IsBare (or_fault (case_at b.cases n) denial.NoCase) _ (there_fault IsBare (case_at b.cases n) denial.NoCase refl) (λ c. tt)
+    then_fault IsBare (or_fault (numbered_case b.cases n) denial.NoCase) _ (there_fault IsBare (numbered_case b.cases n) denial.NoCase refl) (λ c. tt)
 bare_resolve b (ask.Request (request.Worklist user)) =
     then_fault IsBare (or_fault (user_named b user) denial.NoUser) _ (there_fault IsBare (user_named b user) denial.NoUser refl) (λ u. tt)
 bare_resolve b (ask.Request (request.WhatIf by edit)) = bare_change deed.WhatIf (amendment_of b.policy by edit)
@@ -401,12 +401,10 @@ opened_same p before after f n plan (reply.Opened m q) taken made memory is =
     (subst (λ x. HasTaken p before after (Ok (deed.Open f)) (reply.Opened m x)) made taken)
 opened_same p before after f n plan done taken made memory is = absurd made
 
-pub finished_same : (p : PolicyShape) (before after : CasesShape) (n : ℕ) (c : CaseShape) (s u : ℕ) (told : Bool) (done : Reply) → HasTaken p before after (Ok (deed.Finish n c s u)) done → done ≢ reply.NoMemory →
+pub finished_same : (p : PolicyShape) (before after : CasesShape) (n : ℕ) (c : CaseShape) (s u : ℕ) (told done : Bool) → HasTaken p before after (Ok (deed.Finish n c s u)) (reply.Finished done) →
     told ≡ is_done (finished_case c s).phase → HasTaken p before after (Ok (deed.Finish n c s u)) (reply.Finished told)
-finished_same p before after n c s u told reply.NoMemory taken memory is = absurd (memory refl)
-finished_same p before after n c s u told (reply.Finished x) taken memory is =
+finished_same p before after n c s u told done taken is =
     subst (λ b. HasTaken p before after (Ok (deed.Finish n c s u)) (reply.Finished b)) (taken.step 0 ∙ sym is) taken
-finished_same p before after n c s u told done taken memory is = absurd (taken.step 0)
 
 -- ---- edits
 

@@ -21,7 +21,7 @@ use Rattle.admin_edits.specs.Found.{IsFound}
 use Rattle.admin_edits.proofs.Keeping.{changes_keep_names, within_after}
 use Rattle.wf_board.specs.declared.deed.Deed.{Deed}
 use Rattle.wf_board.specs.declared.deed.Deed.TheVariants as deed
-use Rattle.wf_board.specs.States.{Book, Numbered, case_at, open_cases}
+use Rattle.wf_board.specs.States.{Book, Numbered, numbered_case, open_cases}
 use Rattle.wf_board.specs.Boards.{EditionShape, numbered, state_on}
 use Rattle.wf_board.specs.Decisions.{cause_full, decision_aside, decision_of, unless_denied}
 use Rattle.wf_board.specs.Edited.{ArePlansOf, CanAllBeCompleted, CanBeCompleted, IsFirstStranded, IsTreeOf}
@@ -37,13 +37,13 @@ pub same_case : (c d : CaseShape) → Some c ≡ Some d → c ≡ d
 same_case c d h = cc
 
 -- each open case can be completed where all of them can
-pub open_can : (p : PolicyShape) (cases : List Numbered) → CanAllBeCompleted p (open_cases cases) → (n : ℕ) (c : CaseShape) → case_at cases n ≡ Some c → is_open c ≡ true → CanBeCompleted p c
+pub open_can : (p : PolicyShape) (cases : List Numbered) → CanAllBeCompleted p (open_cases cases) → (n : ℕ) (c : CaseShape) → numbered_case cases n ≡ Some c → is_open c ≡ true → CanBeCompleted p c
 open_can p [] all n c h live = cc
 open_can p (x ∷ xs) all n c h live = at_first (is_open x.case) (nat_eq x.number n) refl all h (λ rest found. open_can p xs rest n c found live)
   where
     at_first : (b d : Bool) → is_open x.case ≡ b → CanAllBeCompleted p (if b then x ∷ open_cases xs else open_cases xs) →
         option_map (λ (e : Numbered). e.case) (if d then Some x else look_up (λ (e : Numbered). e.number) n xs) ≡ Some c →
-        (CanAllBeCompleted p (open_cases xs) → case_at xs n ≡ Some c → CanBeCompleted p c) → CanBeCompleted p c
+        (CanAllBeCompleted p (open_cases xs) → numbered_case xs n ≡ Some c → CanBeCompleted p c) → CanBeCompleted p c
     at_first true true is can found rest = subst (CanBeCompleted p) (same_case x.case c found) can.0
     at_first true false is can found rest = rest can.1 found
     at_first false true is can found rest = let apart : true ≡ false = sym live ∙ ap is_open (sym (same_case x.case c found)) ∙ is in cc
@@ -79,7 +79,7 @@ numbered_replanned (r ∷ rs) (plan ∷ plans) = elim (bool_cases (is_open_row r
 
 pub there_replanned : (n : ℕ) (rows : List Row) (plans : List (List ℕ)) → case_in n (replanned rows plans) ≡ case_in n rows
 there_replanned n rows plans =
-    sym (case_numbered n (replanned rows plans)) ∙ ap (λ es. case_at es n) (numbered_replanned rows plans) ∙ case_numbered n rows
+    sym (case_numbered n (replanned rows plans)) ∙ ap (λ es. numbered_case es n) (numbered_replanned rows plans) ∙ case_numbered n rows
 
 closed_planned : (p : PolicyShape) (c : CaseShape) (o : Option (List ℕ)) → is_some o ≡ is_open c → is_open c ≡ false → IsPlanned p c o
 closed_planned p c None kept closed = closed

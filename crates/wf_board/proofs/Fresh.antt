@@ -17,7 +17,7 @@ use Rattle.wf_talk.specs.declared.reply.Denial.TheVariants.{NoCase, NoFlow, NoSt
 use Rattle.wf_board.specs.declared.deed.Deed.{Deed}
 use Rattle.wf_board.specs.declared.deed.Deed.TheVariants as deed
 use Rattle.wf_board.specs.declared.verdict.Verdict.{Verdict}
-use Rattle.wf_board.specs.States.{Book, Numbered, State, case_at, flow_named, step_named, user_named, with_case_changed}
+use Rattle.wf_board.specs.States.{Book, Numbered, State, numbered_case, flow_named, step_named, user_named, with_case_changed}
 use Rattle.admin_edits.specs.Edits.{amendment_of, is_admin}
 use Rattle.admin_edits.specs.declared.amendment.Amendment.{Amendment}
 use Rattle.admin_edits.specs.declared.fault.EditFault.{EditFault}
@@ -38,7 +38,7 @@ use Rattle.wf_board.proofs.Snaps.{claim_no_change, finish_plain, opening_no_chan
 -- for an edit or a view over the open cases the whole book
 abbrev pub SameFor : Ask → State → State → Type 0
 SameFor (ask.Request (request.OpenCase flow)) s t = s.book.policy ≡ t.book.policy
-SameFor (ask.Request (request.Claim n step user)) s t = (s.book.policy ≡ t.book.policy) × (case_at s.book.cases n ≡ case_at t.book.cases n)
+SameFor (ask.Request (request.Claim n step user)) s t = (s.book.policy ≡ t.book.policy) × (numbered_case s.book.cases n ≡ numbered_case t.book.cases n)
 SameFor (ask.Request (request.Change by edit)) s t = s.book ≡ t.book
 SameFor (ask.Request (request.Worklist user)) s t = s.book ≡ t.book
 SameFor (ask.Request (request.WhatIf by edit)) s t = s.book ≡ t.book
@@ -62,12 +62,12 @@ same_then what s t u first later = tt
 
 -- ---- one step
 
-other_changed : (m n : ℕ) (change : CaseShape → CaseShape) (cases : List Numbered) → nat_eq n m ≡ false → case_at (with_case_changed n change cases) m ≡ case_at cases m
+other_changed : (m n : ℕ) (change : CaseShape → CaseShape) (cases : List Numbered) → nat_eq n m ≡ false → numbered_case (with_case_changed n change cases) m ≡ numbered_case cases m
 other_changed m n change [] other = refl
 other_changed m n change (x ∷ xs) other = at_first (nat_eq x.number n) (nat_eq x.number m) refl refl (other_changed m n change xs other)
   where
-    at_first : (b d : Bool) → nat_eq x.number n ≡ b → nat_eq x.number m ≡ d → case_at (with_case_changed n change xs) m ≡ case_at xs m →
-        case_at (if b then record x { case = change x.case } ∷ xs else x ∷ with_case_changed n change xs) m ≡ case_at (x ∷ xs) m
+    at_first : (b d : Bool) → nat_eq x.number n ≡ b → nat_eq x.number m ≡ d → numbered_case (with_case_changed n change xs) m ≡ numbered_case xs m →
+        numbered_case (if b then record x { case = change x.case } ∷ xs else x ∷ with_case_changed n change xs) m ≡ numbered_case (x ∷ xs) m
     at_first true true here there rest =
         let same : nat_eq n m ≡ true = eq_is n m (sym (eq_back x.number n here) ∙ eq_back x.number m there) in
         cc
@@ -75,11 +75,11 @@ other_changed m n change (x ∷ xs) other = at_first (nat_eq x.number n) (nat_eq
     at_first false true here there rest = rw there refl
     at_first false false here there rest = rw there rest
 
-other_added : (m : ℕ) (cases : List Numbered) (new : Numbered) → nat_eq new.number m ≡ false → case_at (cases ++ new ∷ []) m ≡ case_at cases m
+other_added : (m : ℕ) (cases : List Numbered) (new : Numbered) → nat_eq new.number m ≡ false → numbered_case (cases ++ new ∷ []) m ≡ numbered_case cases m
 other_added m [] new other = rw other refl
 other_added m (x ∷ xs) new other = at_first (nat_eq x.number m) (other_added m xs new other)
   where
-    at_first : (b : Bool) → case_at (xs ++ new ∷ []) m ≡ case_at xs m →
+    at_first : (b : Bool) → numbered_case (xs ++ new ∷ []) m ≡ numbered_case xs m →
         option_map (λ (e : Numbered). e.case) (if b then Some x else look_up (λ (e : Numbered). e.number) m (xs ++ new ∷ []))
         ≡ option_map (λ (e : Numbered). e.case) (if b then Some x else look_up (λ (e : Numbered). e.number) m xs)
     at_first true rest = refl
@@ -128,7 +128,7 @@ resolve_named b (ask.Request (request.Withdraw by n)) =
     (λ _ _. then_holds (λ _. Unit {0}) (IsNamed what) (open_case_at b n) _ (always (open_case_at b n)) (λ c _. refl))
 resolve_named b (ask.Request (request.Change by edit)) = change_named (ask.Request (request.Change by edit)) deed.Change (amendment_of b.policy by edit) (λ a. tt)
 resolve_named b (ask.Request (request.Show n)) =
-    then_holds (λ _. Unit {0}) (IsNamed (ask.Request (request.Show n))) (or_fault (case_at b.cases n) NoCase) _ (always (or_fault (case_at b.cases n) NoCase)) (λ c _. tt)
+    then_holds (λ _. Unit {0}) (IsNamed (ask.Request (request.Show n))) (or_fault (numbered_case b.cases n) NoCase) _ (always (or_fault (numbered_case b.cases n) NoCase)) (λ c _. tt)
 resolve_named b (ask.Request (request.Worklist user)) =
     then_holds (λ _. Unit {0}) (IsNamed (ask.Request (request.Worklist user))) (or_fault (user_named b user) NoUser) _ (always (or_fault (user_named b user) NoUser)) (λ u _. tt)
 resolve_named b (ask.Request (request.WhatIf by edit)) = change_named (ask.Request (request.WhatIf by edit)) deed.WhatIf (amendment_of b.policy by edit) (λ a. tt)
@@ -149,7 +149,7 @@ no_case None n same other = cc
 no_case (Some m) n same other = cc
 
 deed_case : (s : State) (what : Ask) (given : Deed) (answer : Reply) (m : ℕ) → IsNamed what given → IsReplyTo s given answer → is_number m (changed_case what answer) ≡ false →
-    case_at s.book.cases m ≡ case_at (state_after_deed s given answer).book.cases m
+    numbered_case s.book.cases m ≡ numbered_case (state_after_deed s given answer).book.cases m
 deed_case s what (deed.Open f) (reply.Opened n plan) m named is other =
     sym (other_added m s.book.cases _ (subst (λ k. nat_eq k m ≡ false) is.0 other))
 deed_case s what (deed.Claim n c t u) (reply.Granted plan) m named is other = sym (other_changed m n _ s.book.cases (not_this m n (case_of_ask what) named other))
@@ -161,7 +161,7 @@ deed_case s what (deed.Change a) (reply.Edited number) m named is other = refl
 deed_case s what given answer m named is other = refl
 
 decision_case : (s : State) (what : Ask) (decision : Result Deed Denial) (answer : Reply) (m : ℕ) → HoldsOf (IsNamed what) decision → Answers s decision answer →
-    is_number m (changed_case what answer) ≡ false → case_at s.book.cases m ≡ case_at (state_after_decision s decision answer).book.cases m
+    is_number m (changed_case what answer) ≡ false → numbered_case s.book.cases m ≡ numbered_case (state_after_decision s decision answer).book.cases m
 decision_case s what (Ok given) answer m named is other = deed_case s what given answer m named is other
 decision_case s what (Err d) answer m named is other = refl
 

@@ -22,7 +22,7 @@ use Rattle.admin_edits.specs.declared.amendment.Amendment.{Amendment}
 use Rattle.admin_edits.specs.Edits.{amended}
 use Rattle.admin_edits.proofs.Keeping.{HoldsOf, changes_keep_policies_sound}
 use Rattle.wf_board.specs.Edited.{CanAllBeCompleted}
-use Rattle.wf_board.specs.States.{Numbered, State, case_at, open_cases, opening_state, with_case_changed}
+use Rattle.wf_board.specs.States.{Numbered, State, numbered_case, open_cases, opening_state, with_case_changed}
 use Rattle.wf_board.specs.Decisions.{decision_of}
 use Rattle.wf_board.specs.Steps.{Answers, IsReplyTo, IsStep, state_after_decision, state_after_deed, state_after_step, with_changed, with_edited, with_opened}
 use Rattle.wf_board.specs.Histories.{EachAfter, IsRetry, IsRightAfter, state_after}
@@ -36,7 +36,7 @@ use Rattle.wf_board.proofs.Amended.{of_policy_amended, open_can}
 
 -- P holds of each case that is found
 abbrev AllCases : (CaseShape → Type 0) → List Numbered → Type 0
-AllCases P cases = (n : ℕ) (c : CaseShape) → case_at cases n ≡ Some c → P c
+AllCases P cases = (n : ℕ) (c : CaseShape) → numbered_case cases n ≡ Some c → P c
 
 same_case : (c d : CaseShape) → Some c ≡ Some d → c ≡ d
 same_case c d h = cc
@@ -44,45 +44,45 @@ same_case c d h = cc
 -- the case at a number after a change: the one that was changed, or one from before
 record IsChanged (n : ℕ) (change : CaseShape → CaseShape) (cases : List Numbered) (d : CaseShape) : Type 0 where
   before : CaseShape
-  found : case_at cases n ≡ Some before
+  found : numbered_case cases n ≡ Some before
   changed : d ≡ change before
 
-read_changed : (m n : ℕ) (change : CaseShape → CaseShape) (cases : List Numbered) (d : CaseShape) → case_at (with_case_changed n change cases) m ≡ Some d →
-    IsChanged n change cases d ⊎ (case_at cases m ≡ Some d)
+read_changed : (m n : ℕ) (change : CaseShape → CaseShape) (cases : List Numbered) (d : CaseShape) → numbered_case (with_case_changed n change cases) m ≡ Some d →
+    IsChanged n change cases d ⊎ (numbered_case cases m ≡ Some d)
 read_changed m n change [] d h = inr h
 read_changed m n change (x ∷ xs) d h = at_first (nat_eq x.number n) (nat_eq x.number m) refl refl h (read_changed m n change xs d)
   where
     at_first : (b e : Bool) → nat_eq x.number n ≡ b → nat_eq x.number m ≡ e →
-        case_at (if b then record x { case = change x.case } ∷ xs else x ∷ with_case_changed n change xs) m ≡ Some d →
-        (case_at (with_case_changed n change xs) m ≡ Some d → IsChanged n change xs d ⊎ (case_at xs m ≡ Some d)) →
-        IsChanged n change (x ∷ xs) d ⊎ (case_at (x ∷ xs) m ≡ Some d)
+        numbered_case (if b then record x { case = change x.case } ∷ xs else x ∷ with_case_changed n change xs) m ≡ Some d →
+        (numbered_case (with_case_changed n change xs) m ≡ Some d → IsChanged n change xs d ⊎ (numbered_case xs m ≡ Some d)) →
+        IsChanged n change (x ∷ xs) d ⊎ (numbered_case (x ∷ xs) m ≡ Some d)
     at_first true true here there found rest = inl record { before = x.case; found = rw here refl; changed = sym (same_case _ _ (rw there at found)) }
     at_first true false here there found rest = inr (rw there (rw there at found))
     at_first false true here there found rest = inr (rw there (rw there at found))
     at_first false false here there found rest = lifted here there (rest (rw there at found))
       where
-        lifted : nat_eq x.number n ≡ false → nat_eq x.number m ≡ false → IsChanged n change xs d ⊎ (case_at xs m ≡ Some d) → IsChanged n change (x ∷ xs) d ⊎ (case_at (x ∷ xs) m ≡ Some d)
+        lifted : nat_eq x.number n ≡ false → nat_eq x.number m ≡ false → IsChanged n change xs d ⊎ (numbered_case xs m ≡ Some d) → IsChanged n change (x ∷ xs) d ⊎ (numbered_case (x ∷ xs) m ≡ Some d)
         lifted no_n no_m (inl is) = inl record { before = is.before; found = rw no_n is.found; changed = is.changed }
         lifted no_n no_m (inr is) = inr (rw no_m is)
 
 all_changed : (P : CaseShape → Type 0) (n : ℕ) (change : CaseShape → CaseShape) (cases : List Numbered) → AllCases P cases →
-    ((c : CaseShape) → case_at cases n ≡ Some c → P c → P (change c)) → AllCases P (with_case_changed n change cases)
+    ((c : CaseShape) → numbered_case cases n ≡ Some c → P c → P (change c)) → AllCases P (with_case_changed n change cases)
 all_changed P n change cases all kept m d h = by_read (read_changed m n change cases d h)
   where
-    by_read : IsChanged n change cases d ⊎ (case_at cases m ≡ Some d) → P d
+    by_read : IsChanged n change cases d ⊎ (numbered_case cases m ≡ Some d) → P d
     by_read (inl is) = subst P (sym is.changed) (kept is.before is.found (all n is.before is.found))
     by_read (inr is) = all m d is
 
-read_added : (m : ℕ) (cases : List Numbered) (new : Numbered) (d : CaseShape) → case_at (cases ++ new ∷ []) m ≡ Some d → (d ≡ new.case) ⊎ (case_at cases m ≡ Some d)
+read_added : (m : ℕ) (cases : List Numbered) (new : Numbered) (d : CaseShape) → numbered_case (cases ++ new ∷ []) m ≡ Some d → (d ≡ new.case) ⊎ (numbered_case cases m ≡ Some d)
 read_added m [] new d h = at_new (nat_eq new.number m) h
   where
-    at_new : (b : Bool) → option_map (λ (e : Numbered). e.case) (if b then Some new else None) ≡ Some d → (d ≡ new.case) ⊎ (case_at [] m ≡ Some d)
+    at_new : (b : Bool) → option_map (λ (e : Numbered). e.case) (if b then Some new else None) ≡ Some d → (d ≡ new.case) ⊎ (numbered_case [] m ≡ Some d)
     at_new true found = inl (sym (same_case _ _ found))
     at_new false found = inr found
 read_added m (x ∷ xs) new d h = at_first (nat_eq x.number m) h (read_added m xs new d)
   where
     at_first : (b : Bool) → option_map (λ (e : Numbered). e.case) (if b then Some x else look_up (λ (e : Numbered). e.number) m (xs ++ new ∷ [])) ≡ Some d →
-        (case_at (xs ++ new ∷ []) m ≡ Some d → (d ≡ new.case) ⊎ (case_at xs m ≡ Some d)) →
+        (numbered_case (xs ++ new ∷ []) m ≡ Some d → (d ≡ new.case) ⊎ (numbered_case xs m ≡ Some d)) →
         (d ≡ new.case) ⊎ (option_map (λ (e : Numbered). e.case) (if b then Some x else look_up (λ (e : Numbered). e.number) m xs) ≡ Some d)
     at_first true found rest = inr found
     at_first false found rest = rest found
@@ -90,7 +90,7 @@ read_added m (x ∷ xs) new d h = at_first (nat_eq x.number m) h (read_added m x
 all_added : (P : CaseShape → Type 0) (cases : List Numbered) (new : Numbered) → AllCases P cases → P new.case → AllCases P (cases ++ new ∷ [])
 all_added P cases new all last m d h = by_read (read_added m cases new d h)
   where
-    by_read : (d ≡ new.case) ⊎ (case_at cases m ≡ Some d) → P d
+    by_read : (d ≡ new.case) ⊎ (numbered_case cases m ≡ Some d) → P d
     by_read (inl is) = subst P (sym is) last
     by_read (inr is) = all m d is
 
@@ -108,7 +108,7 @@ IsKept p c = IsOfPolicy p c × MayEnd p c
 abbrev Keeps : State → Type 0
 Keeps s = IsSoundState s × KeepsCompletable s
 
-changed_keeps : (s : State) (n : ℕ) (change : CaseShape → CaseShape) → Keeps s → ((c : CaseShape) → case_at s.book.cases n ≡ Some c → IsKept s.book.policy c → IsKept s.book.policy (change c)) →
+changed_keeps : (s : State) (n : ℕ) (change : CaseShape → CaseShape) → Keeps s → ((c : CaseShape) → numbered_case s.book.cases n ≡ Some c → IsKept s.book.policy c → IsKept s.book.policy (change c)) →
     Keeps (with_changed s n change)
 changed_keeps s n change keeps kept =
     let all = all_changed (IsKept s.book.policy) n change s.book.cases (λ m c found. (keeps.0.cases m c found, keeps.1 m c found)) kept in

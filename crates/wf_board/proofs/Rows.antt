@@ -8,7 +8,7 @@ use Rattle.grant_table.specs.Lookup.{look_up}
 use Rattle.grant_table.specs.Tables.{case_in, change_row, only, open_rows, row_at}
 use Rattle.grant_table.specs.Tables as Tables
 use Rattle.basics.proofs.Booleans.{eq_is}
-use Rattle.wf_board.specs.States.{Numbered, case_at, with_case_changed}
+use Rattle.wf_board.specs.States.{Numbered, numbered_case, with_case_changed}
 use Rattle.wf_board.specs.States as States
 use Rattle.wf_board.specs.Boards.{numbered}
 use Rattle.wf_board.specs.Kept.{EachRow}
@@ -107,11 +107,11 @@ changed_case n f g (x ∷ xs) same changes = at_first (nat_eq x.number n) refl (
 -- ---- rows of a table as cases of a book
 
 -- a table has the cases of its book
-pub case_numbered : (n : ℕ) (rows : List Row) → case_at (map numbered rows) n ≡ case_in n rows
+pub case_numbered : (n : ℕ) (rows : List Row) → numbered_case (map numbered rows) n ≡ case_in n rows
 case_numbered n [] = refl
 case_numbered n (r ∷ rs) = at_first (nat_eq r.number n) (case_numbered n rs)
   where
-    at_first : (b : Bool) → case_at (map numbered rs) n ≡ case_in n rs →
+    at_first : (b : Bool) → numbered_case (map numbered rs) n ≡ case_in n rs →
         option_map (λ (e : Numbered). e.case) (if b then Some (numbered r) else look_up (λ (e : Numbered). e.number) n (map numbered rs)) ≡ option_map (λ (x : Row). x.case) (if b then Some r else row_at n rs)
     at_first true rest = refl
     at_first false rest = rest

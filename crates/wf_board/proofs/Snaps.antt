@@ -21,7 +21,7 @@ use Rattle.wf_board.specs.declared.verdict.Verdict.TheVariants as verdict
 use Rattle.wf_board.specs.declared.verdict.View.{View}
 use Rattle.wf_board.specs.declared.verdict.View.TheVariants as view
 use Rattle.wf_board.specs.Views.{AreStranded, AreThose, IsGrantable, item_of, steps_of}
-use Rattle.wf_board.specs.States.{Book, Numbered, case_at, flow_named, open_cases, step_named, user_named}
+use Rattle.wf_board.specs.States.{Book, Numbered, numbered_case, flow_named, open_cases, step_named, user_named}
 use Rattle.admin_edits.specs.Edits.{is_admin}
 use Rattle.wf_board.specs.Resolved.{on_step, open_case_at, resolve, resolve_request}
 use Rattle.wf_board.specs.Edited.{ArePlansOf, IsFirstStranded}
@@ -32,12 +32,12 @@ use Rattle.wf_board.specs.Verdicts.{IsEditionFor, IsPlanFor, IsRight, IsStrandin
 use Rattle.wf_board.specs.Laws.{SnapsSuffice}
 
 -- a snapshot of one case has it as the table has it
-pub case_alone : (n : ℕ) (rows : List Row) → case_at (map numbered (only n rows)) n ≡ case_at (map numbered rows) n
+pub case_alone : (n : ℕ) (rows : List Row) → numbered_case (map numbered (only n rows)) n ≡ numbered_case (map numbered rows) n
 case_alone n [] = refl
 case_alone n (r ∷ rs) = at_first (nat_eq r.number n) refl (case_alone n rs)
   where
-    at_first : (b : Bool) → nat_eq r.number n ≡ b → case_at (map numbered (only n rs)) n ≡ case_at (map numbered rs) n →
-        case_at (map numbered (if b then r ∷ only n rs else only n rs)) n ≡ option_map (λ (e : Numbered). e.case) (if b then Some (numbered r) else look_up (λ (e : Numbered). e.number) n (map numbered rs))
+    at_first : (b : Bool) → nat_eq r.number n ≡ b → numbered_case (map numbered (only n rs)) n ≡ numbered_case (map numbered rs) n →
+        numbered_case (map numbered (if b then r ∷ only n rs else only n rs)) n ≡ option_map (λ (e : Numbered). e.case) (if b then Some (numbered r) else look_up (λ (e : Numbered). e.number) n (map numbered rs))
     at_first true here rest = rw here refl
     at_first false here rest = rest
 
@@ -80,7 +80,7 @@ same_decision p xs ys m k what same =
     ∙ same_rest (resolve (with_cases p ys k) what) _ _ (same_cause p xs ys m k)
 
 -- a claim is decided alike over cases that have its case alike
-pub same_claim : (p : PolicyShape) (xs ys : List Numbered) (m k n : ℕ) (step user : List ℕ) → case_at xs n ≡ case_at ys n →
+pub same_claim : (p : PolicyShape) (xs ys : List Numbered) (m k n : ℕ) (step user : List ℕ) → numbered_case xs n ≡ numbered_case ys n →
     decision_aside (with_cases p xs m) (ask.Request (request.Claim n step user)) ≡ decision_aside (with_cases p ys k) (ask.Request (request.Claim n step user))
 same_claim p xs ys m k n step user same =
     let resolved : on_step deed.Claim (with_cases p xs m) n step user ≡ on_step deed.Claim (with_cases p ys k) n step user = rw same refl in
@@ -159,7 +159,7 @@ withdraw_plain by n b =
     plain_aside b (resolve_request b (request.Withdraw by n)) (then_plain (check (is_admin b.policy by) NotAdmin) _ (λ _. then_plain (open_case_at b n) _ (λ c. refl)))
 
 pub show_plain : (n : ℕ) (b : Book) → IsAside b (ask.Request (request.Show n))
-show_plain n b = plain_aside b (resolve_request b (request.Show n)) (then_plain (or_fault (case_at b.cases n) NoCase) _ (λ c. refl))
+show_plain n b = plain_aside b (resolve_request b (request.Show n)) (then_plain (or_fault (numbered_case b.cases n) NoCase) _ (λ c. refl))
 
 pub plain_needs : (r : Result Deed Denial) → IsPlain r → needs_verdict r ≡ false
 plain_needs (Ok given) plain = plain

@@ -23,7 +23,7 @@ use Rattle.admin_edits.specs.declared.fault.EditFault.{EditFault}
 use Rattle.denial_reasons.specs.Causes.{first_cause, first_of, unless}
 use Rattle.wf_board.specs.declared.deed.Deed.{Deed}
 use Rattle.wf_board.specs.declared.deed.Deed.TheVariants as deed
-use Rattle.wf_board.specs.States.{Book, case_at, flow_named, step_named, user_named}
+use Rattle.wf_board.specs.States.{Book, numbered_case, flow_named, step_named, user_named}
 use Rattle.wf_board.specs.Resolved.{on_edit, on_step, open_case_at, resolve}
 use Rattle.wf_board.specs.Found as found
 use Rattle.wf_board.specs.Decisions.{cause_aside, cause_full, decision_aside, decision_of, is_held_by, unless_denied}
@@ -44,7 +44,7 @@ place_within names name i h = (position-Some (pointwise nat_eq name) names i [] 
 
 -- the case with a number is open
 pub record IsOpenCase (b : Book) (n : ℕ) (c : CaseShape) : Type 0 where
-  pub found : case_at b.cases n ≡ Some c
+  pub found : numbered_case b.cases n ≡ Some c
   pub live : is_open c ≡ true
 
 -- and has the step
@@ -71,7 +71,7 @@ IsThere b given = Unit {0}
 
 open_there : (b : Book) (n : ℕ) → HoldsOf (IsOpenCase b n) (open_case_at b n)
 open_there b n =
-    then_holds (λ c. case_at b.cases n ≡ Some c) (IsOpenCase b n) (or_fault (case_at b.cases n) NoCase) _ (there_holds (case_at b.cases n) NoCase)
+    then_holds (λ c. numbered_case b.cases n ≡ Some c) (IsOpenCase b n) (or_fault (numbered_case b.cases n) NoCase) _ (there_holds (numbered_case b.cases n) NoCase)
     (λ c found. then_holds (λ _. is_open c ≡ true) (IsOpenCase b n) (check (is_open c) Closed) _ (passed_holds (is_open c) Closed)
     (λ _ live. record { found = found; live = live }))
 
@@ -116,7 +116,7 @@ resolve_there b (ask.Request (request.Withdraw by n)) =
     (λ _ may. then_holds (IsOpenCase b n) (IsThere b) (open_case_at b n) _ (open_there b n) (λ c there. tt))
 resolve_there b (ask.Request (request.Change by edit)) = change_there b by edit (amendment_of b.policy by edit) refl
 resolve_there b (ask.Request (request.Show n)) =
-    then_holds (λ c. case_at b.cases n ≡ Some c) (IsThere b) (or_fault (case_at b.cases n) NoCase) _ (there_holds (case_at b.cases n) NoCase) (λ c found. tt)
+    then_holds (λ c. numbered_case b.cases n ≡ Some c) (IsThere b) (or_fault (numbered_case b.cases n) NoCase) _ (there_holds (numbered_case b.cases n) NoCase) (λ c found. tt)
 resolve_there b (ask.Request (request.Worklist user)) =
     then_holds (λ u. user_named b user ≡ Some u) (IsThere b) (or_fault (user_named b user) NoUser) _ (there_holds (user_named b user) NoUser)
     (λ u named. place_within b.policy.roster.users user u named)

@@ -14,7 +14,7 @@ use Rattle.wf_talk.specs.declared.reply.Denial.TheVariants.{Closed, NoCase, NoSt
 use Rattle.wf_board.specs.declared.deed.Deed.{Deed}
 use Rattle.wf_board.specs.declared.deed.Deed.TheVariants as deed
 use Rattle.wf_board.specs.declared.verdict.Verdict.{Verdict}
-use Rattle.wf_board.specs.States.{Book, case_at, step_named, user_named}
+use Rattle.wf_board.specs.States.{Book, numbered_case, step_named, user_named}
 use Rattle.admin_edits.specs.Edits.{is_admin}
 use Rattle.wf_board.specs.Resolved.{on_step, open_case_at, resolve}
 use Rattle.wf_board.specs.Boards.{BoardShape, state_on}
@@ -120,7 +120,7 @@ decided_none b what other = then_none (decision_aside b what) _ (from (resolve b
     from (Err d) is = is
 
 open_none : (b : Book) (n : ℕ) → HasNoRoles (open_case_at b n)
-open_none b n = then_none (or_fault (case_at b.cases n) NoCase) _ (or_none (case_at b.cases n) NoCase refl) (λ c. then_none (check (is_open c) Closed) _ (check_none (is_open c) Closed refl) (λ _. tt))
+open_none b n = then_none (or_fault (numbered_case b.cases n) NoCase) _ (or_none (numbered_case b.cases n) NoCase refl) (λ c. then_none (check (is_open c) Closed) _ (check_none (is_open c) Closed refl) (λ _. tt))
 
 other_step : (b : Book) (make : ℕ → CaseShape → ℕ → ℕ → Deed) (n : ℕ) (step user : List ℕ) → ((c : CaseShape) (t u : ℕ) → IsOther (make n c t u)) → IsOtherRead (on_step make b n step user)
 other_step b make n step user other =
@@ -155,7 +155,7 @@ roles_rightly b (ask.Request (request.Withdraw by n)) takes =
 roles_rightly b (ask.Request (request.Change by edit)) takes = refl
 roles_rightly b (ask.Request (request.Show n)) takes =
     let what = ask.Request (request.Show n) in
-    none_apart (decision_of b what) (decided_none b what (then_other (or_fault (case_at b.cases n) NoCase) _ (or_none (case_at b.cases n) NoCase refl) (λ c. tt))) takes
+    none_apart (decision_of b what) (decided_none b what (then_other (or_fault (numbered_case b.cases n) NoCase) _ (or_none (numbered_case b.cases n) NoCase refl) (λ c. tt))) takes
 roles_rightly b (ask.Request (request.Worklist user)) takes = refl
 roles_rightly b (ask.Request (request.WhatIf by edit)) takes = refl
 roles_rightly b (ask.Bad bad) takes = none_apart (decision_of b (ask.Bad bad)) (decided_none b (ask.Bad bad) tt) takes

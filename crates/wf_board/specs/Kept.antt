@@ -7,7 +7,7 @@ use Rattle.policy_book.specs.Plans.{IsCompletable, IsValidPlan, IsWithin}
 use Rattle.case_record.specs.Cases.{CaseShape, assigned_of, finished_of, is_open}
 use Rattle.grant_table.specs.declared.rows.Row.{Row}
 use Rattle.grant_table.specs.Tables.{case_in}
-use Rattle.wf_board.specs.States.{State, case_at}
+use Rattle.wf_board.specs.States.{State, numbered_case}
 
 -- a case is of a workflow of the policy, has its steps, and gives them to users of the policy
 pub record IsOfPolicy (p : PolicyShape) (c : CaseShape) : Type 0 where
@@ -18,12 +18,12 @@ pub record IsOfPolicy (p : PolicyShape) (c : CaseShape) : Type 0 where
 -- the state is of one policy: each case is of one of its workflows
 pub record IsSoundState (s : State) : Type 0 where
   pub policy : IsSoundPolicy s.book.policy
-  pub cases : (n : ℕ) (c : CaseShape) → case_at s.book.cases n ≡ Some c → IsOfPolicy s.book.policy c
+  pub cases : (n : ℕ) (c : CaseShape) → numbered_case s.book.cases n ≡ Some c → IsOfPolicy s.book.policy c
 
 -- each open case has a valid plan
 abbrev pub KeepsCompletable : State → Type 0
 KeepsCompletable s =
-    (n : ℕ) (c : CaseShape) → case_at s.book.cases n ≡ Some c → is_open c ≡ true →
+    (n : ℕ) (c : CaseShape) → numbered_case s.book.cases n ≡ Some c → is_open c ≡ true →
     IsCompletable (problem_of s.book.policy c.flow) (assigned_of c) (finished_of c)
 
 -- P holds of each of these rows

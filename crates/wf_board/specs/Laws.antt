@@ -20,7 +20,7 @@ use Rattle.refutation_tree.specs.declared.tree.Tree.TheVariants as tree
 use Rattle.wf_board.specs.declared.deed.Deed.TheVariants as deed
 use Rattle.admin_edits.specs.declared.amendment.Amendment.{Amendment}
 use Rattle.admin_edits.specs.Edits.{amended}
-use Rattle.wf_board.specs.States.{Book, State, case_at, open_cases, opening_state, step_named, user_named}
+use Rattle.wf_board.specs.States.{Book, State, numbered_case, open_cases, opening_state, step_named, user_named}
 use Rattle.wf_board.specs.Edited.{CanAllBeCompleted}
 use Rattle.wf_board.specs.Decisions.{decision_of}
 use Rattle.wf_board.specs.Steps.{IsStep, state_after_step}
@@ -60,7 +60,7 @@ EditsAreExact =
 
 -- the case of a claim is open, and its step and its user are there
 pub record AreNamed (b : Book) (n : ℕ) (step user : List ℕ) (c : CaseShape) (t u : ℕ) : Type 0 where
-  pub its_case : case_at b.cases n ≡ Some c
+  pub its_case : numbered_case b.cases n ≡ Some c
   pub live : is_open c ≡ true
   pub its_step : step_named b c.flow step ≡ Some t
   pub its_user : user_named b user ≡ Some u

@@ -14,12 +14,12 @@ use Rattle.admin_edits.specs.declared.fault.EditFault.TheVariants as fault
 use Rattle.admin_edits.specs.Edits.{amendment_of, is_admin}
 use Rattle.wf_board.specs.declared.deed.Deed.{Deed}
 use Rattle.wf_board.specs.declared.deed.Deed.TheVariants.{Open, Claim, Finish, GiveBack, Release, Withdraw, Change, Show, Work, WhatIf, TurnAway}
-use Rattle.wf_board.specs.States.{Book, case_at, flow_named, step_named, user_named}
+use Rattle.wf_board.specs.States.{Book, numbered_case, flow_named, step_named, user_named}
 
 -- the open case with a number
 abbrev pub open_case_at : Book → ℕ → Result CaseShape Denial
 open_case_at b n = do
-  c ← or_fault (case_at b.cases n) denial.NoCase
+  c ← or_fault (numbered_case b.cases n) denial.NoCase
   _ ← check (is_open c) denial.Closed
   Ok c
 
@@ -66,7 +66,7 @@ resolve_request b (request.Withdraw by n) = do
   Ok (Withdraw n)
 resolve_request b (request.Change by edit) = on_edit Change (amendment_of b.policy by edit)
 resolve_request b (request.Show n) = do
-  c ← or_fault (case_at b.cases n) denial.NoCase
+  c ← or_fault (numbered_case b.cases n) denial.NoCase
   Ok (Show c)
 resolve_request b (request.Worklist user) = do
   u ← or_fault (user_named b user) denial.NoUser

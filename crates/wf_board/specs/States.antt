@@ -30,8 +30,8 @@ abbrev pub opening_state : PolicyShape → State
 opening_state p = record { book = record { policy = p; cases = []; ever = 0 }; edits = 0 }
 
 -- the case with a number
-abbrev pub case_at : List Numbered → ℕ → Option CaseShape
-case_at cases n = option_map (λ e. e.case) (look_up (λ e. e.number) n cases)
+abbrev pub numbered_case : List Numbered → ℕ → Option CaseShape
+numbered_case cases n = option_map (λ e. e.case) (look_up (λ e. e.number) n cases)
 
 -- the cases with the one at a number changed
 abbrev pub with_case_changed : ℕ → (CaseShape → CaseShape) → List Numbered → List Numbered

@@ -27,7 +27,7 @@ use wf_names::{CaseId, StepId, UserId};
 use wf_talk::{Ask, Bad, Reply};
 
 /// Why a reply is not taken.
-#[derive(Clone, Copy, Debug, PartialEq, Eq)]
+#[derive(Clone, Copy)]
 pub enum AdmitFault {
     /// It is no step of the session.
     NotStep,

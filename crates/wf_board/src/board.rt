@@ -9,7 +9,7 @@ ghost use Rattle.wf_board.specs.Kept.{AreNumbered, ArePlanned, IsSoundState, Kee
 ghost use Rattle.wf_board.specs.States.{opening_state};
 ghost use Rattle.wf_board.specs.Steps.{state_after_step, IsStep};
 ghost use Rattle.wf_board.specs.Taking.{keeps_policy, IsHarmlessChange};
-ghost use Rattle.wf_board.specs.Verdicts.{HasAnswered, HasUsed, IsCertified, IsDecided, IsEditionFor, IsMadeOf, IsRight, MayLackMemory, snap_of, snap_rows};
+ghost use Rattle.wf_board.specs.Verdicts.{HasAnswered, HasUsed, IsCertified, IsDecided, IsEditionFor, IsRight, MayLackMemory, snap_of, snap_rows};
 
 use crate::admit::admit;
 use crate::certified::accepts;
@@ -99,7 +99,9 @@ impl Board {
         ensures room { self.old.cases.spare ≤ self.new.cases.spare + 1 }
     {
         match verdict {
-            Verdict::Edited(edition) => Answered::Done(self.edit(ask, edition)),
+            Verdict::Edited(edition) => Answered::Done(Reply::Edited {
+                number: self.edit(ask, edition),
+            }),
             other => {
                 let policy: &Policy = &self.policy;
                 answer(alloc, policy, &mut self.cases, ask, other)
@@ -182,16 +184,15 @@ impl Board {
         Ok(())
     }
 
-    /// Takes the policy after an edit, and with it the plans that the open cases have under it.
-    fn edit(&mut self, ask: &Ask, edition: Edition) -> Reply
+    /// Takes the policy after an edit, and with it the plans that the open cases have under it, and
+    /// answers the number of the edit.
+    fn edit(&mut self, ask: &Ask, edition: Edition) -> u32
         requires right { IsEditionFor (state_on self.old).book
             (decision_aside (state_on self.old).book ask.now) edition }
         requires few { self.old.edits < 4294967295 }
         ensures answered { HasAnswered self.old self.new ask.now (Verdict.Edited edition)
-            (Answered.Done result) }
-        ensures made { IsMadeOf (Verdict.Edited edition) result }
-        ensures number { result ≡ Reply.Edited (self.old.edits + 1) }
-        ensures memory { result ≢ Reply.NoMemory }
+            (Answered.Done (Reply.Edited result)) }
+        ensures number { result ≡ self.old.edits + 1 }
         ensures spare { self.new.cases.spare ≡ self.old.cases.spare }
     {
         let _ = ask;
@@ -202,7 +203,7 @@ impl Board {
         self.policy = policy;
         self.cases.replace_plans(plans.as_slice());
         self.edits += 1;
-        Reply::Edited { number: self.edits }
+        self.edits
     }
 
     /// Whether nothing but whether cases can be completed is left to decide, so that the answer

@@ -11,7 +11,7 @@ ghost use Rattle.wf_board.specs.Boards.{book_of};
 ghost use Rattle.wf_board.specs.Found.{AreFound, IsAllowed, IsFound, IsOpenAt};
 ghost use Rattle.wf_board.specs.Kept.{ArePlanned, IsOfPolicy};
 ghost use Rattle.wf_board.specs.Resolved.{edit_denial, on_edit, on_step, open_case_at, resolve, resolve_request};
-ghost use Rattle.wf_board.specs.States.{case_at};
+ghost use Rattle.wf_board.specs.States.{numbered_case};
 ghost use Rattle.admin_edits.specs.Edits.{amendment_of, is_admin};
 ghost use Rattle.wf_names.specs.Table.{place_of};
 
@@ -189,7 +189,8 @@ fn open_case(p: &Policy, cases: &Cases, n: CaseId) -> Result<Case, Denial>
 /// The case with a number.
 fn case_with(p: &Policy, cases: &Cases, n: CaseId) -> Result<Case, Denial>
     requires { ArePlanned p.now cases.now.rows }
-    ensures case { result ≡ or_fault (case_at (book_of p.now cases.now).cases n) Denial.NoCase }
+    ensures case { result ≡ or_fault (numbered_case (book_of p.now cases.now).cases n)
+        Denial.NoCase }
     ensures found { IfOk result (λ c. case_in n cases.now.rows ≡ Some c) }
     ensures known { IfOk result (IsOfPolicy p.now) }
 {

@@ -137,7 +137,16 @@ fn is_tree_after(p: &Policy, a: Amendment, case: &Case, tree: &Tree) -> Result<b
         (assigned_of case.now) (finished_of case.now) (shape_of tree.now)) }
 {
     let after = amended(p, a)?;
+    Ok(is_refuted(&after, case, tree))
+}
+
+/// Whether a tree shows that a case cannot be completed.
+fn is_refuted(p: &Policy, case: &Case, tree: &Tree) -> bool
+    requires { IsOfPolicy p.now case.now }
+    ensures { result ≡ refutes (problem_of p.now case.now.flow) (assigned_of case.now)
+        (finished_of case.now) (shape_of tree.now) }
+{
     let assigned = case.assigned();
     let finished = case.finished();
-    Ok(check_tree(&after, case.flow(), &assigned, &finished, tree))
+    check_tree(p, case.flow(), &assigned, &finished, tree)
 }

@@ -115,7 +115,10 @@ fn plan_for(p: &Policy, cases: &mut Cases, deed: Deed, plan: Plan) -> Reply
             case,
             step,
             user,
-        } => { claim(p, cases, number, &case, step, user, plan) }
+        } => {
+            claim(p, cases, number, &case, step, user, plan);
+            Reply::Granted(plan)
+        }
         _ => unreachable!(),
     }
 }
@@ -217,7 +220,9 @@ fn perform(p: &Policy, cases: &mut Cases, deed: Deed) -> Reply
             case,
             step,
             user,
-        } => finish(p, cases, number, &case, step, user),
+        } => Reply::Finished {
+            done: finish(p, cases, number, &case, step, user),
+        },
         Deed::GiveBack {
             number,
             case,
@@ -291,21 +296,20 @@ pub(crate) fn claim(
     s: StepId,
     u: UserId,
     plan: Plan,
-) -> Reply
+)
     requires kept { IsKept p.now cases.old }
     requires found { AreFound p.now cases.old.rows n case.now s u }
     requires free { state_at case.now s ≡ FreeStep }
     requires valid { IsValidPlan (problem_of p.now case.now.flow) (assigned_with case.now s u)
         (finished_of case.now) plan }
-    ensures taken { HasTaken p.now cases.old cases.new (Ok (deeds.Claim n case.now s u)) result }
-    ensures granted { result ≡ replies.Granted plan }
+    ensures { HasTaken p.now cases.old cases.new (Ok (deeds.Claim n case.now s u))
+        (replies.Granted plan) }
 {
     let _ = case;
     cases.hold(p, n, s, u, plan);
-    Reply::Granted(plan)
 }
 
-/// Finishes a step that a user holds.
+/// Finishes a step that a user holds, and answers whether the case is then done.
 pub(crate) fn finish(
     p: &Policy,
     cases: &mut Cases,
@@ -313,18 +317,17 @@ pub(crate) fn finish(
     case: &Case,
     s: StepId,
     u: UserId,
-) -> Reply
+) -> bool
     requires kept { IsKept p.now cases.old }
     requires found { IsOpenAt p.now cases.old.rows n case.now }
     requires held { is_held (state_at case.now s) ≡ true }
-    ensures taken { HasTaken p.now cases.old cases.new (Ok (deeds.Finish n case.now s u)) result }
-    ensures memory { result ≢ replies.NoMemory }
+    ensures { HasTaken p.now cases.old cases.new (Ok (deeds.Finish n case.now s u))
+        (replies.Finished result) }
 {
     let _ = p;
     let _ = case;
     let _ = u;
-    let done = cases.finish(n, s);
-    Reply::Finished { done }
+    cases.finish(n, s)
 }
 
 /// Takes a held step from its holder.

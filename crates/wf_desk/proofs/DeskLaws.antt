@@ -18,7 +18,7 @@ use Rattle.wf_board.proofs.Counted.{count_from_more, count_later, count_past, en
 use Rattle.wf_desk.specs.declared.loss.Loss.{Loss}
 use Rattle.wf_desk.specs.Desks.{DeskShape, IsSoundDesk, loss_of, next_job, no_loss, served}
 use Rattle.wf_desk.specs.Commits.{floor_of, with_loss}
-use Rattle.wf_desk.specs.Keeping.{IsDesk, IsPlace, LossRests, own_start}
+use Rattle.wf_desk.specs.Keeping.{IsDesk, IsLanePlace, LossRests, own_start}
 use Rattle.wf_desk.specs.Places.{IsNextPlace}
 use Rattle.wf_desk.specs.DocketLaws.{batch_short, batch_within, front_more, lane_both, lane_own, next_at, served_other, served_own}
 
@@ -127,7 +127,7 @@ sound_grown d places e b spare place is grows = record {
 }
 
 own_place : (d : DeskShape) (places : List ℕ) (e : Entry) (b : BoardShape) (spare place : ℕ) → IsDesk d places → Grows d places e b spare place →
-    IsPlace (with_entry d e b spare) e.lane place
+    IsLanePlace (with_entry d e b spare) e.lane place
 own_place d places e b spare place is grows =
     let from = slice_index_or places e.lane 0 in
     let old = is.placed e.lane grows.known in
@@ -144,15 +144,15 @@ own_place d places e b spare place is grows =
     }
 
 place_grown : (d : DeskShape) (places : List ℕ) (e : Entry) (b : BoardShape) (spare place lane : ℕ) → IsDesk d places → Grows d places e b spare place → lane < LANE_LIMIT →
-    IsPlace (with_entry d e b spare) lane (slice_index_or (slice_set places e.lane place) lane 0)
+    IsLanePlace (with_entry d e b spare) lane (slice_index_or (slice_set places e.lane place) lane 0)
 place_grown d places e b spare place lane is grows known = elim (bool_cases (nat_eq e.lane lane)) [
   | inl own ↦
       let same : e.lane ≡ lane = eq_back e.lane lane own in
-      subst (λ n. IsPlace (with_entry d e b spare) n (slice_index_or (slice_set places e.lane place) n 0)) same
-      (subst (IsPlace (with_entry d e b spare) e.lane) (sym (get_or-set_same places e.lane place 0 grows.sized)) (own_place d places e b spare place is grows))
+      subst (λ n. IsLanePlace (with_entry d e b spare) n (slice_index_or (slice_set places e.lane place) n 0)) same
+      (subst (IsLanePlace (with_entry d e b spare) e.lane) (sym (get_or-set_same places e.lane place 0 grows.sized)) (own_place d places e b spare place is grows))
   | inr other ↦
       let old = is.placed lane known in
-      subst (IsPlace (with_entry d e b spare) lane) (sym (get_or-set_other places e.lane lane place 0 (differs e.lane lane other))) record {
+      subst (IsLanePlace (with_entry d e b spare) lane) (sym (get_or-set_other places e.lane lane place 0 (differs e.lane lane other))) record {
         within = old.within;
         before = served_other d.start d.entries e lane is.sound.begun other ∙ old.before;
         here = old.here;

@@ -11,7 +11,7 @@ use Rattle.wf_talk.specs.declared.entry.Entry.{Entry}
 use Rattle.wf_talk.specs.declared.job.Job.{Job}
 use Rattle.wf_board.specs.Histories.{EachAfter, RestsFrom, job_of_entry, lane_jobs}
 use Rattle.wf_desk.specs.Desks.{AreOfLanes, DeskShape, IsDone, IsSoundDesk, left_of, next_job, served, served_jobs}
-use Rattle.wf_desk.specs.Keeping.{IsPlace}
+use Rattle.wf_desk.specs.Keeping.{IsLanePlace}
 use Rattle.wf_desk.specs.BatchLaws.{AnswersBatch}
 use Rattle.wf_desk.specs.Fronts.{Fronts, fronts_short, fronts_within}
 
@@ -74,7 +74,7 @@ head_own lane [] here = refl
 head_own lane (j ∷ js) here = rw (eq_is j.lane lane here) refl
 
 -- a lane's next job stands at its place
-pub next_at : (d : DeskShape) (lane place : ℕ) → IsPlace d lane place → next_job d lane ≡ slice_get d.jobs place
+pub next_at : (d : DeskShape) (lane place : ℕ) → IsLanePlace d lane place → next_job d lane ≡ slice_get d.jobs place
 next_at d lane place is =
     let front = lane_jobs lane (take place d.jobs) in
     let behind = drop place d.jobs in
@@ -85,7 +85,7 @@ next_at d lane place is =
     ∙ get_first d.jobs place
 
 -- how many jobs a lane has left from its place on
-pub left_at : (d : DeskShape) (lane place : ℕ) → IsPlace d lane place → left_of d lane ≡ length (lane_jobs lane (drop place d.jobs))
+pub left_at : (d : DeskShape) (lane place : ℕ) → IsLanePlace d lane place → left_of d lane ≡ length (lane_jobs lane (drop place d.jobs))
 left_at d lane place is =
     let front = lane_jobs lane (take place d.jobs) in
     let behind = lane_jobs lane (drop place d.jobs) in
@@ -99,6 +99,12 @@ none_of_lanes lanes lane [] of_lanes past = refl
 none_of_lanes lanes lane (j ∷ js) of_lanes past =
     let other : nat_eq j.lane lane ≡ false = let below = of_lanes.0 in grind (arith, common_steps) in
     rw other (none_of_lanes lanes lane js of_lanes.1 past)
+
+-- the first jobs are of the lanes of all
+pub first_of_lanes : (lanes n : ℕ) (jobs : List Job) → AreOfLanes lanes jobs → AreOfLanes lanes (take n jobs)
+first_of_lanes lanes zero jobs of_lanes = tt
+first_of_lanes lanes (suc n) [] of_lanes = tt
+first_of_lanes lanes (suc n) (j ∷ jobs) of_lanes = (of_lanes.0, first_of_lanes lanes n jobs of_lanes.1)
 
 -- no job is of a lane past the number of lanes
 pub left_past : (d : DeskShape) (lane : ℕ) → AreOfLanes d.lanes d.jobs → d.lanes ≤ lane → left_of d lane ≡ 0

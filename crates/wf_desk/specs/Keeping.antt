@@ -23,7 +23,7 @@ LossRests d lane what =
     (loss_of d.losses lane).count + counted what (drop (floor_of d lane) d.entries) ≤ counted what (drop (own_start d lane) d.entries)
 
 -- a lane's next job stands at a place among the jobs
-pub record IsPlace (d : DeskShape) (lane place : ℕ) : Type 0 where
+pub record IsLanePlace (d : DeskShape) (lane place : ℕ) : Type 0 where
   pub within : place ≤ length d.jobs
   pub before : served d lane ≡ lane_jobs lane (take place d.jobs)
   pub here : IfSome (slice_get d.jobs place) (λ j. j.lane ≡ lane)
@@ -38,7 +38,7 @@ pub record IsDesk (d : DeskShape) (places : List ℕ) : Type 0 where
   pub small : d.start + length d.jobs < 4294967296
   pub ends : (lane : ℕ) → (loss_of d.losses lane).end ≤ length d.entries
   pub losses : (lane : ℕ) (j : Job) → next_job d lane ≡ Some j → LossRests d lane j.ask
-  pub placed : (lane : ℕ) → lane < LANE_LIMIT → IsPlace d lane (slice_index_or places lane 0)
+  pub placed : (lane : ℕ) → lane < LANE_LIMIT → IsLanePlace d lane (slice_index_or places lane 0)
 
 -- what became of a task that was stale
 abbrev pub HasMissed : DeskShape → DeskShape → Task → Outcome → Type 0

@@ -11,7 +11,7 @@ use wf_board::{Decider, Verdict};
 use wf_names::LANE_LIMIT;
 
 /// A turn of a lane.
-#[derive(Clone, Copy, PartialEq, Eq)]
+#[derive(Clone, Copy)]
 pub enum Event {
     /// The lane takes the task of its next job, in place of the one that it holds, and a verdict
     /// on it is found.

@@ -21,7 +21,7 @@ use Rattle.admin_edits.specs.Keeping.{KeepsNames}
 use Rattle.admin_edits.proofs.Keeping.{amendment_found}
 use Rattle.wf_board.specs.declared.deed.Deed.{Deed}
 use Rattle.wf_board.specs.declared.deed.Deed.TheVariants as deed
-use Rattle.wf_board.specs.States.{State, case_at, flow_named, step_named, user_named}
+use Rattle.wf_board.specs.States.{State, numbered_case, flow_named, step_named, user_named}
 use Rattle.wf_board.specs.Resolved.{edit_denial, on_edit, on_step, open_case_at, resolve}
 use Rattle.wf_board.specs.Decisions.{cause_aside, cause_full, decision_aside, decision_of}
 use Rattle.wf_board.specs.Kept.{IsOfPolicy, IsSoundState}
@@ -69,7 +69,7 @@ edit_fares p q make by e (Err why) made sound is = fault_alike p q why
 case_fares : (s : State) (q : PolicyShape) (n : ℕ) → IsSoundState s → Fares (IsOfPolicy s.book.policy) (IsToldAlike s.book.policy q) (open_case_at s.book n)
 case_fares s q n sound =
     let Q = IsToldAlike s.book.policy q in
-    then_fares (λ c. case_at s.book.cases n ≡ Some c) (IsOfPolicy s.book.policy) Q (or_fault (case_at s.book.cases n) denial.NoCase) _ (or_fares Q (case_at s.book.cases n) denial.NoCase refl)
+    then_fares (λ c. numbered_case s.book.cases n ≡ Some c) (IsOfPolicy s.book.policy) Q (or_fault (numbered_case s.book.cases n) denial.NoCase) _ (or_fares Q (numbered_case s.book.cases n) denial.NoCase refl)
     (λ c is. then_fares (λ _. Unit {0}) (IsOfPolicy s.book.policy) Q (check (is_open c) denial.Closed) _ (check_fares Q (is_open c) denial.Closed refl) (λ _ _. sound.cases n c is))
 
 step_fares : (s : State) (q : PolicyShape) (make : ℕ → CaseShape → ℕ → ℕ → Deed) (n : ℕ) (step user : List ℕ) → IsSoundState s
@@ -104,7 +104,7 @@ resolve_fares s q (ask.Request (request.Withdraw by n)) sound =
 resolve_fares s q (ask.Request (request.Change by e)) sound = edit_fares s.book.policy q deed.Change by e (amendment_of s.book.policy by e) (λ a found. found) sound.policy refl
 resolve_fares s q (ask.Request (request.Show n)) sound =
     let Q = IsToldAlike s.book.policy q in
-    then_fares (λ c. case_at s.book.cases n ≡ Some c) (IsDeedOf s.book.policy) Q (or_fault (case_at s.book.cases n) denial.NoCase) _ (or_fares Q (case_at s.book.cases n) denial.NoCase refl) (λ c is. sound.cases n c is)
+    then_fares (λ c. numbered_case s.book.cases n ≡ Some c) (IsDeedOf s.book.policy) Q (or_fault (numbered_case s.book.cases n) denial.NoCase) _ (or_fares Q (numbered_case s.book.cases n) denial.NoCase refl) (λ c is. sound.cases n c is)
 resolve_fares s q (ask.Request (request.Worklist user)) sound =
     let Q = IsToldAlike s.book.policy q in
     then_fares (λ u. user_named s.book user ≡ Some u) (IsDeedOf s.book.policy) Q (or_fault (user_named s.book user) denial.NoUser) _ (or_fares Q (user_named s.book user) denial.NoUser refl) (λ u _. tt)

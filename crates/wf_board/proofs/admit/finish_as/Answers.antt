@@ -4,4 +4,4 @@ use Rattle.wf_board.proofs.admit.finish_as.Goals as goal
 pub returns : goal.returns
 returns c =
     finished_same c.args.p.now c.args.cases.now c.finish.new.cases c.args.n c.args.case.now c.args.s c.args.u c.args.done c.finish.result
-    c.finish.ensures.taken c.finish.ensures.memory (c.is_told.ensures.0 c.if-not-is_told.false)
+    c.finish.ensures (c.is_told.ensures.0 c.if-not-is_told.false)

@@ -8,8 +8,8 @@ use Rattle.wf_board.proofs.Planned.{held_keeps}
 use Rattle.wf_board.proofs.Answering.{changed_taken}
 use Rattle.wf_board.proofs.taking.claim.Goals as goal
 
-pub returns-clause-taken : goal.returns-clause-taken
-returns-clause-taken c =
+pub returns : goal.returns
+returns c =
     let p = c.args.p.now in
     let k = c.args.case.now in
     let decision = Ok (deeds.Claim c.args.n k c.args.s c.args.u) in

@@ -7,11 +7,10 @@ use Rattle.wf_board.specs.Boards.{state_on}
 use Rattle.wf_board.specs.Decisions.{decision_of, needs_verdict}
 use Rattle.wf_board.specs.Taking.{board_of, HasAnsweredBy}
 use Rattle.wf_board.specs.Verdicts.{HasAnswered, HasUsed, MayLackMemory}
-use Rattle.wf_board.proofs.Answering.{reply_of}
 use Rattle.wf_board.proofs.board.Board.answer.Goals as goal
 
 pub returns-in-Edited-clause-memory : goal.returns-in-Edited-clause-memory
-returns-in-Edited-clause-memory c = λ short. absurd (c.edit.ensures.memory (reply_of c.edit.result replies.NoMemory short))
+returns-in-Edited-clause-memory c = λ short. absurd (cc)
 
 pub returns-in_default : goal.returns-in_default
 returns-in_default c =
