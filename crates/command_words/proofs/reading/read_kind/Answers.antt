@@ -1,4 +1,4 @@
-use Rattle.std.proofs.Common.{◌≡◌, ◌∙◌, true, ap, subst}
+use Rattle.std.proofs.Common.{◌∙◌, ap, subst}
 use Rattle.clap.specs.Words.{App, is_simple_and_free}
 use Rattle.command_words.specs.Finding.{PassesIn, rows_in}
 use Rattle.command_words.proofs.EachKind.{simple, within}
