@@ -28,13 +28,20 @@ fn copies_three(list: &List<u32>) -> Result<bool, Fail> {
 #[test]
 fn a_log_with_room_takes_its_entries(rt: HostRuntime) -> Result<(), Fail> {
     let mut log = Log::new(rt.alloc());
+    note_both(&mut log)?;
+    assert!(rt; copies_both(&log)?);
+    Ok(())
+}
+
+fn note_both(log: &mut Log<u32>) -> Result<(), AllocError> {
     log.reserve(2)?;
     log.push(3)?;
-    log.add(&5)?;
+    log.add(&5)
+}
+
+fn copies_both(log: &Log<u32>) -> Result<bool, AllocError> {
     let copy = log.copy()?;
-    assert!(rt; copy.as_slice() == [3u32, 5].as_slice());
-    assert!(rt; (copy.len(), *copy.get(1)) == (2, 5));
-    Ok(())
+    Ok(copy.as_slice() == [3u32, 5].as_slice() && copy.len() == 2 && *copy.get(1) == 5)
 }
 
 #[test]
@@ -59,9 +66,13 @@ fn a_log_copies_each_of_its_entries(rt: HostRuntime) -> Result<(), Fail> {
     let mut log = Log::new(rt.alloc());
     log.push(Noted(3))?;
     log.push(Noted(5))?;
-    let copy = log.copy_each()?;
-    assert!(rt; (copy.len(), copy.get(0).0, copy.get(1).0) == (2, 3, 5));
+    assert!(rt; copies_each(&log)?);
     Ok(())
+}
+
+fn copies_each(log: &Log<Noted>) -> Result<bool, AllocError> {
+    let copy = log.copy_each()?;
+    Ok(copy.len() == 2 && copy.get(0).0 == 3 && copy.get(1).0 == 5)
 }
 
 #[test]

@@ -72,9 +72,7 @@ fn is_put(alloc: Global, most: usize, failing: &[u64], bytes: &[u8]) -> Result<b
 fn a_shelf_finds_its_files(rt: HostRuntime) -> Result<(), Fail> {
     let files = one_file(rt.alloc())?;
     let mut shelf = MemShelf::new(files, [3].to_vec(rt.alloc())?);
-    finds_its_file(&rt, rt.alloc(), &mut shelf)?;
-    refuses(&rt, rt.alloc(), &mut shelf);
-    Ok(())
+    finds_its_file(&rt, rt.alloc(), &mut shelf)
 }
 
 fn one_file(alloc: Global) -> Result<Vec<MemFile>, Fail> {
@@ -94,6 +92,7 @@ fn policy_file(alloc: Global) -> Result<MemFile, Fail> {
 fn finds_its_file(rt: &impl Abort, alloc: Global, shelf: &mut MemShelf) -> Result<(), Fail> {
     let loaded = shelf.load(alloc, "pay.toml", 11)?;
     assert!(rt; loaded.as_bytes() == b"format = 1\n".as_slice());
+    refuses(rt, alloc, shelf);
     Ok(())
 }
 
@@ -111,7 +110,7 @@ fn fault_of(alloc: Global, shelf: &mut MemShelf, name: &str, limit: usize) -> Op
 #[test]
 fn loaded_bytes_are_a_list(rt: HostRuntime) -> Result<(), Fail> {
     let mut bytes = Loaded::new(rt.alloc());
-    assert!(rt; adds_both(&mut bytes)? && copies_both(&bytes)?);
+    assert!(rt; adds_both(&mut bytes)?);
     Ok(())
 }
 
@@ -120,7 +119,7 @@ fn adds_both(bytes: &mut Loaded) -> Result<bool, Fail>
 {
     bytes.push(b'h')?;
     bytes.push(b'i')?;
-    Ok(bytes.len() == 2 && *bytes.get(1) == b'i')
+    Ok(bytes.len() == 2 && *bytes.get(1) == b'i' && copies_both(bytes)?)
 }
 
 fn copies_both(bytes: &Loaded) -> Result<bool, Fail> {

@@ -7,9 +7,13 @@ use std::test::Fail;
 #[test]
 fn pairs_are_put_in_and_taken_out(rt: HostRuntime) -> Result<(), Fail> {
     let mut set = PairSet::new(rt.alloc());
+    put_in_and_take_out(&rt, &mut set)
+}
+
+fn put_in_and_take_out(rt: &impl Abort, set: &mut PairSet) -> Result<(), Fail> {
     assert!(rt; set.is_empty());
-    put_in(&rt, &mut set)?;
-    assert!(rt; copies_before(&rt, &mut set)?);
+    put_in(rt, set)?;
+    assert!(rt; copies_before(rt, set)?);
     assert!(rt; set.has(3, 1) && !set.has(1, 2) && set.len() == 2);
     Ok(())
 }

@@ -37,19 +37,27 @@ impl Copied for Counts {
 #[test]
 fn a_change_is_seen_by_its_holder_alone(rt: HostRuntime) -> Result<(), Fail> {
     let mut first = one_count(rt.alloc())?;
-    let second = first.share()?;
-    change(&mut first)?;
-    assert!(rt; count_and_last(&first) == (2, 7) && count_and_last(&second) == (1, 3));
+    assert!(rt; changes_alone(&mut first)?);
     Ok(())
+}
+
+fn changes_alone(first: &mut Shared<Counts>) -> Result<bool, AllocError> {
+    let second = first.share()?;
+    change(first)?;
+    Ok(count_and_last(first) == (2, 7) && count_and_last(&second) == (1, 3))
 }
 
 #[test]
 fn a_sole_holder_changes_the_part_in_place(rt: HostRuntime) -> Result<(), Fail> {
     let mut only = one_count(rt.alloc())?;
-    change(&mut only)?;
-    change(&mut only)?;
-    assert!(rt; count_and_last(&only) == (3, 7));
+    assert!(rt; changes_twice(&mut only)? == (3, 7));
     Ok(())
+}
+
+fn changes_twice(only: &mut Shared<Counts>) -> Result<(usize, u16), AllocError> {
+    change(only)?;
+    change(only)?;
+    Ok(count_and_last(only))
 }
 
 fn one_count(alloc: Global) -> Result<Shared<Counts>, Fail> {
