@@ -8,7 +8,7 @@ use Rattle.wf_board.specs.Histories.{batch_start, lane_jobs}
 use Rattle.wf_talk.specs.Jobs.{AreOfLanes}
 use Rattle.line_cutter.specs.Laws.{LeadTo}
 use Rattle.wf_desk.specs.BatchLaws.{EndAt}
-use Rattle.wf_desk.specs.DocketLaws.{none_of_lanes}
+use Rattle.wf_desk.specs.DocketLaws.{first_of_lanes, none_of_lanes}
 use Rattle.transcript_audit.specs.Audits.{end_at, start_at}
 use Rattle.transcript_audit.specs.Keeping.{IsBatchOf, end_of, part}
 
@@ -217,11 +217,6 @@ first_ends ends total k lead known =
 
 -- ---- lanes
 
-part_of_lanes : (lanes n : ℕ) (jobs : List Job) → AreOfLanes lanes jobs → AreOfLanes lanes (take n jobs)
-part_of_lanes lanes zero jobs of_lanes = tt
-part_of_lanes lanes (suc n) [] of_lanes = tt
-part_of_lanes lanes (suc n) (j ∷ js) of_lanes = (of_lanes.0, part_of_lanes lanes n js of_lanes.1)
-
 rest_of_lanes : (lanes n : ℕ) (jobs : List Job) → AreOfLanes lanes jobs → AreOfLanes lanes (drop n jobs)
 rest_of_lanes lanes zero jobs of_lanes = of_lanes
 rest_of_lanes lanes (suc n) [] of_lanes = tt
@@ -230,4 +225,4 @@ rest_of_lanes lanes (suc n) (j ∷ js) of_lanes = rest_of_lanes lanes n js of_la
 -- no job of a part is of a lane past the number of lanes
 pub part_none : (lanes lane from end : ℕ) (jobs : List Job) → AreOfLanes lanes jobs → lanes ≤ lane → lane_jobs lane (part from end jobs) ≡ []
 part_none lanes lane from end jobs of_lanes past =
-    none_of_lanes lanes lane (part from end jobs) (rest_of_lanes lanes from (take end jobs) (part_of_lanes lanes end jobs of_lanes)) past
+    none_of_lanes lanes lane (part from end jobs) (rest_of_lanes lanes from (take end jobs) (first_of_lanes lanes end jobs of_lanes)) past

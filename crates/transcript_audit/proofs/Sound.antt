@@ -199,7 +199,7 @@ filled_more a k e sound next full ahead =
     let answers = all_done (desk_of (with_entry a e) k) begun (λ lane. front_next a k e lane sound next) (rests_next a k e sound next) (all_answered a k e sound next full) in
     let long : length (take start a.jobs) ≡ start = length-take-le start a.jobs (start_within ends total k sound.order.ends known) in
     let at : EndAt (take k ends) (length (take start a.jobs)) = subst (EndAt (take k ends)) (sym long) (first_ends ends total k sound.order.ends known) in
-    let fills = batch_fills (take start new) (drop start new) (take start a.jobs) jobs (take k ends) (filled_next a k e sound) at answers in
+    let fills = batch_fills (take start new) (drop start new) (take start a.jobs) jobs (take k ends) record { fills = filled_next a k e sound; at_end = at; answers = answers } in
     let size = batch_size a k sound in
     let sum : length (take start a.jobs) + length jobs ≡ get_or ends k 0 = let read = end_read ends k ahead in omega (arith, long, size, read) in
     subst (λ es. FillsJobs es (take end a.jobs) (take (k + 1) ends)) (take-append-drop start new)

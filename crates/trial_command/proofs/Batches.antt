@@ -70,7 +70,7 @@ served_more first d e js batch ends so_far next = record {
   };
   done = next.done;
   fills = subst (λ es. FillsJobs es (js ++ batch) (ends ++ (length js + length batch) ∷ [])) (sym next.extends)
-      (batch_fills d.entries next.more js batch ends so_far.fills so_far.ends next.answers);
+      (batch_fills d.entries next.more js batch ends record { fills = so_far.fills; at_end = so_far.ends; answers = next.answers });
   ends = subst (EndAt (ends ++ (length js + length batch) ∷ [])) (sym (length-append js batch))
       (end_more ends (length js) (length js + length batch) so_far.ends (omega arith));
   once = subst AreAnsweredOnce (sym next.extends) (once_all d.entries next.more so_far.once next.once);

@@ -4,7 +4,8 @@ use Rattle.std.proofs.lemmas.List.Sums.{sum_by_more}
 use Rattle.wf_talk.specs.declared.entry.Entry.{Entry}
 use Rattle.wf_talk.specs.declared.reply.Reply.{Reply}
 use Rattle.trial_command.specs.declared.counts.Counts.{Counts}
-use Rattle.trial_command.specs.Counting.{counts_of, is_denied, is_edited, is_finished, is_granted, is_no_memory, is_opened, replies}
+use Rattle.wf_board.specs.Counting.{is_edited}
+use Rattle.trial_command.specs.Counting.{counts_of, tells_denied, tells_finished, tells_granted, tells_no_memory, tells_opened, replies}
 
 -- a count, with one more if this one counts
 abbrev pub one_more : Bool → ℕ → ℕ
@@ -14,12 +15,12 @@ one_more false n = n
 -- the counts, with one more reply
 abbrev pub with_reply : Counts → Reply → Counts
 with_reply c r = record {
-  opened = one_more (is_opened r) c.opened;
-  granted = one_more (is_granted r) c.granted;
-  finished = one_more (is_finished r) c.finished;
+  opened = one_more (tells_opened r) c.opened;
+  granted = one_more (tells_granted r) c.granted;
+  finished = one_more (tells_finished r) c.finished;
   edited = one_more (is_edited r) c.edited;
-  denied = one_more (is_denied r) c.denied;
-  no_memory = one_more (is_no_memory r) c.no_memory;
+  denied = one_more (tells_denied r) c.denied;
+  no_memory = one_more (tells_no_memory r) c.no_memory;
 }
 
 added : (b : Bool) (n : ℕ) → n + cond b 1 0 ≡ one_more b n
@@ -37,12 +38,12 @@ pub counts_more : (es : List Entry) (i : ℕ) (e : Entry) → i < length es → 
     → counts_of (take (i + 1) es) ≡ with_reply (counts_of (take i es)) e.reply
 counts_more es i e within is =
     rw (
-      replies_more is_opened es i e within is,
-      replies_more is_granted es i e within is,
-      replies_more is_finished es i e within is,
+      replies_more tells_opened es i e within is,
+      replies_more tells_granted es i e within is,
+      replies_more tells_finished es i e within is,
       replies_more is_edited es i e within is,
-      replies_more is_denied es i e within is,
-      replies_more is_no_memory es i e within is,
+      replies_more tells_denied es i e within is,
+      replies_more tells_no_memory es i e within is,
     ) refl
 
 pub counts_one : (es : List Entry) (i : ℕ) (e : Entry) (c d : Counts) (r : Reply) → i < length es → e ≡ get_or es i e → c ≡ counts_of (take i es)

@@ -19,6 +19,12 @@ pub record AnswersBatch (es new : List Entry) (more : List Job) : Type 0 where
   pub lanes : (lane : ℕ) → lane_jobs lane (map job_of_entry new) ≡ lane_jobs lane more
   pub rests : EachAfter (RestsFrom (length es)) es new
 
+-- entries fill the jobs of the batches so far, and new ones answer those of one more
+pub record AnswersNext (es new : List Entry) (js more : List Job) (ends : List ℕ) : Type 0 where
+  pub fills : FillsJobs es js ends
+  pub at_end : EndAt ends (length js)
+  pub answers : AnswersBatch es new more
+
 start_before : (ends : List ℕ) (x k : ℕ) → k < length ends + 1 → batch_start (ends ++ x ∷ []) k ≡ batch_start ends k
 start_before ends x k lt = get_or_append_left (0 ∷ ends) (x ∷ []) 0 k (omega (arith, lt))
 
@@ -65,21 +71,21 @@ old_jobs es new js more ends x k lane fills are lt =
     ∙ fills.batches k lt lane
     ∙ sym (ap (lane_jobs lane) (part_moved _ s _ e (js ++ more) begins stops ∙ part_old s e js more within))
 
-new_jobs : (es new : List Entry) (js more : List Job) (ends : List ℕ) (lane : ℕ) → FillsJobs es js ends → EndAt ends (length js) → AnswersBatch es new more
+new_jobs : (es new : List Entry) (js more : List Job) (ends : List ℕ) (lane : ℕ) → AnswersNext es new js more ends
     → lane_jobs lane (batch_jobs (ends ++ (length js + length more) ∷ []) (length ends) (map job_of_entry (es ++ new)))
     ≡ lane_jobs lane (batch_jobs (ends ++ (length js + length more) ∷ []) (length ends) (js ++ more))
-new_jobs es new js more ends lane fills are answers =
+new_jobs es new js more ends lane next =
     let x = length js + length more in
     let ys = map job_of_entry es in
     let zs = map job_of_entry new in
-    let size = entries_whole es js ends fills in
-    let more_size : length zs ≡ length more = length-map new job_of_entry ∙ answers.whole in
-    let begins = start_before ends x (length ends) (omega arith) ∙ are.closed in
+    let size = entries_whole es js ends next.fills in
+    let more_size : length zs ≡ length more = length-map new job_of_entry ∙ next.answers.whole in
+    let begins = start_before ends x (length ends) (omega arith) ∙ next.at_end.closed in
     let stops = end_last ends x in
     let s = batch_start (ends ++ x ∷ []) (length ends) in
     let e = batch_end (ends ++ x ∷ []) (length ends) in
     ap (lane_jobs lane) (ap (λ all. drop s (take e all)) (map-append job_of_entry es new) ∙ part_new s e ys zs (begins ∙ sym size) (omega (arith, stops, size, more_size)))
-    ∙ answers.lanes lane
+    ∙ next.answers.lanes lane
     ∙ sym (ap (lane_jobs lane) (part_new s e js more begins stops))
 
 old_rests : (es new : List Entry) (js : List Job) (ends : List ℕ) (x k : ℕ) → FillsJobs es js ends → EndAt ends (length js) → k < length ends
@@ -97,34 +103,34 @@ old_rests es new js ends x k fills are lt =
     (sym (part_moved _ s _ e (es ++ new) begins stops ∙ part_old s e es new (omega (arith, within, size))))
     (fills.rests k lt)
 
-new_rests : (es new : List Entry) (js more : List Job) (ends : List ℕ) → FillsJobs es js ends → EndAt ends (length js) → AnswersBatch es new more
+new_rests : (es new : List Entry) (js more : List Job) (ends : List ℕ) → AnswersNext es new js more ends
     → BatchRests (ends ++ (length js + length more) ∷ []) (length ends) (es ++ new)
-new_rests es new js more ends fills are answers =
+new_rests es new js more ends next =
     let x = length js + length more in
-    let size = fills.whole in
-    let begins = start_before ends x (length ends) (omega arith) ∙ are.closed ∙ sym size in
+    let size = next.fills.whole in
+    let begins = start_before ends x (length ends) (omega arith) ∙ next.at_end.closed ∙ sym size in
     let stops = end_last ends x in
-    let more_size = answers.whole in
+    let more_size = next.answers.whole in
     rests_moved (length es) _ es _ new _ (sym begins)
     (sym (ap (λ n. take n (es ++ new)) begins ∙ take-append-le (length es) es new (omega arith) ∙ take-length es))
     (sym (part_new _ _ es new begins (omega (arith, stops, size, more_size))))
-    answers.rests
+    next.answers.rests
 
 -- with one more batch, whose entries answer its jobs, the entries fill the jobs
-pub batch_fills : (es new : List Entry) (js more : List Job) (ends : List ℕ) → FillsJobs es js ends → EndAt ends (length js) → AnswersBatch es new more
+pub batch_fills : (es new : List Entry) (js more : List Job) (ends : List ℕ) → AnswersNext es new js more ends
     → FillsJobs (es ++ new) (js ++ more) (ends ++ (length js + length more) ∷ [])
-batch_fills es new js more ends fills are answers = record {
-  whole = omega (arith, length-append es new, length-append js more, fills.whole, answers.whole);
+batch_fills es new js more ends next = record {
+  whole = omega (arith, length-append es new, length-append js more, next.fills.whole, next.answers.whole);
   batches = λ k lt lane. elim (bool_cases (nat_lt k (length ends))) [
-    | inl old ↦ old_jobs es new js more ends (length js + length more) k lane fills are (grind (arith, common_steps))
+    | inl old ↦ old_jobs es new js more ends (length js + length more) k lane next.fills next.at_end (grind (arith, common_steps))
     | inr late ↦
         let last : k ≡ length ends = grind (arith, common_steps) in
-        rw last (new_jobs es new js more ends lane fills are answers)
+        rw last (new_jobs es new js more ends lane next)
   ];
   rests = λ k lt. elim (bool_cases (nat_lt k (length ends))) [
-    | inl old ↦ old_rests es new js ends (length js + length more) k fills are (grind (arith, common_steps))
+    | inl old ↦ old_rests es new js ends (length js + length more) k next.fills next.at_end (grind (arith, common_steps))
     | inr late ↦
         let last : k ≡ length ends = grind (arith, common_steps) in
-        rw last (new_rests es new js more ends fills are answers)
+        rw last (new_rests es new js more ends next)
   ];
 }

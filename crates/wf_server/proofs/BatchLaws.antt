@@ -11,7 +11,7 @@ use Rattle.wf_talk.specs.declared.job.Job.{Job}
 use Rattle.wf_board.specs.States.{State, opening_state}
 use Rattle.wf_board.specs.Histories.{FillsJobs, IsLegal, batch_start, state_after}
 use Rattle.wf_desk.specs.Desks.{DeskShape, IsDone, IsSoundDesk}
-use Rattle.wf_desk.specs.BatchLaws.{AnswersBatch, EndAt, batch_fills}
+use Rattle.wf_desk.specs.BatchLaws.{AnswersBatch, AnswersNext, EndAt, batch_fills}
 use Rattle.wf_desk.specs.DocketLaws.{batch_done}
 use Rattle.wf_desk.specs.Schedules.{HasGrown}
 use Rattle.wf_desk.proofs.Ends.{end_more}
@@ -81,10 +81,10 @@ no_entries : (new : List Entry) → length new ≡ 0 → new ≡ []
 no_entries [] none = refl
 no_entries (e ∷ new) none = absurd (omega (arith, none))
 
-fills_more : (es new : List Entry) (js more : List Job) (ends : List ℕ) → FillsJobs es js ends → EndAt ends (length js) → AnswersBatch es new more
+fills_more : (es new : List Entry) (js more : List Job) (ends : List ℕ) → AnswersNext es new js more ends
     → FillsJobs (es ++ new) (js ++ more) (ends_after ends (length js) more)
-fills_more es new js [] ends fills are answers = rw (no_entries new answers.whole, append-nil es, append-nil js) fills
-fills_more es new js (m ∷ more) ends fills are answers = rw (ends_some ends (length js) m more) (batch_fills es new js (m ∷ more) ends fills are answers)
+fills_more es new js [] ends next = rw (no_entries new next.answers.whole, append-nil es, append-nil js) next.fills
+fills_more es new js (m ∷ more) ends next = rw (ends_some ends (length js) m more) (batch_fills es new js (m ∷ more) ends next)
 
 -- ---- the text
 
@@ -125,7 +125,8 @@ batch_filled : (held mid : Option (List ℕ)) (old d : DeskShape) (before : Told
     → FillsJobs after.entries after.jobs after.batch_ends
 batch_filled held mid old d before batch after h =
     rw (h.added.jobs, h.added.ends, h.entries)
-    (fills_more before.entries h.new before.jobs batch before.batch_ends h.answered.fills h.answered.ends (the_batch held mid old d before batch after h))
+    (fills_more before.entries h.new before.jobs batch before.batch_ends
+    record { fills = h.answered.fills; at_end = h.answered.ends; answers = the_batch held mid old d before batch after h })
 
 -- what is written of the entries of the batch
 abbrev batch_text : DeskShape → Told → List Entry → List ℕ

@@ -1,5 +1,5 @@
 -- How the batches of a session follow one another.
-use Rattle.std.proofs.Common.{◌≡◌, ℕ, zero, suc, ◌+◌, ◌<◌, ◌≤◌, false, List, [], ◌∷◌, ◌++◌, length, take, drop, Option, Err, inl, inr, refl, sym, ◌∙◌, ap, subst, arith, append_assoc}
+use Rattle.std.proofs.Common.{◌≡◌, ℕ, ◌+◌, ◌<◌, ◌≤◌, false, List, [], ◌∷◌, ◌++◌, length, take, drop, Option, Err, inl, inr, refl, sym, ◌∙◌, ap, subst, arith, append_assoc}
 use Rattle.std.specs.Prelude.{◌≢◌}
 use Rattle.std.proofs.lemmas.List.{length-append, length-take, take-append-drop}
 use Rattle.wf_names.specs.declared.limits.TheConstants.{BATCH_LINE_LIMIT}
@@ -16,6 +16,7 @@ use Rattle.batch_reader.specs.Reading.{ReaderShape, Handed, handed_more, HasRead
 use Rattle.wf_board.specs.States.{opening_state}
 use Rattle.wf_board.specs.Histories.{FillsJobs, IsLegal}
 use Rattle.wf_desk.specs.Desks.{AreOfLanes, DeskShape}
+use Rattle.wf_desk.specs.DocketLaws.{first_of_lanes}
 use Rattle.policy_book.specs.Facts.{IsSoundPolicy}
 use Rattle.wf_board.specs.Laws.{HistoriesKeepCompletable}
 use Rattle.run_record.specs.declared.fault.RunFault.{RunFault}
@@ -40,11 +41,6 @@ counts_le paused.NoMemory before after counts = counts
 rest_of_lanes : (lanes : ℕ) (front jobs : List Job) → AreOfLanes lanes (front ++ jobs) → AreOfLanes lanes jobs
 rest_of_lanes lanes [] jobs all = all
 rest_of_lanes lanes (j ∷ front) jobs all = rest_of_lanes lanes front jobs all.1
-
-first_of_lanes : (lanes n : ℕ) (jobs : List Job) → AreOfLanes lanes jobs → AreOfLanes lanes (take n jobs)
-first_of_lanes lanes zero jobs all = tt
-first_of_lanes lanes (suc n) [] all = tt
-first_of_lanes lanes (suc n) (j ∷ jobs) all = (all.0, first_of_lanes lanes n jobs all.1)
 
 -- an end is near the one before it
 near_end : (before x total : ℕ) (ends rest : List ℕ) → LeadTo before (ends ++ (x ∷ rest)) total → x ≤ last_or before ends + BATCH_LINE_LIMIT
