@@ -1,7 +1,7 @@
 -- How an audit goes on, line by line.
-use Rattle.std.proofs.Common.{◌≡◌, ℕ, suc, ◌+◌, ◌<◌, ◌≤◌, Bool, true, false, List, [], ◌∷◌, ◌++◌, length, Option, None, Some, Result, Ok, Err, refl, ap, sym, subst, ◌∙◌, inl, inr, arith}
-use Rattle.std.specs.Prelude.{IfSome, ◌≢◌}
-use Rattle.std.proofs.Common.{◌⊎◌, rules}
+use Rattle.std.proofs.Common.{◌≡◌, ℕ, ◌+◌, ◌<◌, ◌≤◌, Bool, true, false, List, [], ◌∷◌, ◌++◌, length, Option, None, Some, Result, Ok, Err, refl, ap, sym, subst, ◌∙◌, inl, inr, arith}
+use Rattle.std.specs.Prelude.{IfSome}
+use Rattle.std.proofs.Common.{rules}
 use Rattle.std.proofs.lemmas.List.{append-nil, append_assoc, length-append}
 use Rattle.wf_names.specs.declared.limits.TheConstants.{TRANSCRIPT_LINE_LIMIT}
 use Rattle.wf_outside.specs.Outside.{HasTaken, IsAtEnd, bytes_before}
@@ -10,14 +10,14 @@ use Rattle.policy_book.specs.Shapes.{PolicyShape}
 use Rattle.wf_talk.specs.declared.entry.Entry.{Entry}
 use Rattle.wire_json.specs.Replies.{entry_text}
 use Rattle.line_reader.specs.Lines.{ReaderShape, pending, HasSeen, HasReadLine, HasEnded, HasPassed, first_line, behind_line, has_end, line_length, lines_of}
-use Rattle.line_reader.proofs.FirstLines.{line_alone, line_before, line_one, line_longer, lines_first, more_behind, ends_with_lf, split_line, first_some, open_line}
+use Rattle.line_reader.proofs.FirstLines.{line_alone, line_before, line_one, line_longer, lines_first, more_behind, ends_with_lf, split_line}
 use Rattle.transcript_audit.specs.declared.fault.AuditKind.{AuditKind}
 use Rattle.transcript_audit.specs.Audits.{AuditShape, HasFault, IsNext, with_entry}
 use Rattle.run_record.specs.declared.fault.RunFault.{RunFault}
 use Rattle.audit_command.specs.declared.finding.Finding.{Finding}
 use Rattle.audit_command.specs.declared.finding.Finding.TheVariants.{Legal, Fault, TooLong}
 use Rattle.audit_command.specs.declared.lines.TheConstants.{PIECE}
-use Rattle.audit_command.specs.Auditing.{EndsAs, StopsAt, GoesOn, IsAudited, IsFar, HasFound}
+use Rattle.audit_command.specs.Auditing.{EndsAs, StopsAt, IsAudited, IsFar, HasFound}
 use Rattle.audit_command.specs.Steps.{HasAudited, HasTakenSome, TakesLine, StepsTo}
 
 -- the text of an entry ends with LF

@@ -1,22 +1,22 @@
 -- How the steps of a run compose.
-use Rattle.std.proofs.Common.{◌≡◌, ℕ, true, false, List, [], Option, Result, Ok, Err, refl, sym, subst, ◌∙◌, arith}
-use Rattle.wf_outside.specs.Outside.{Filed, told, missing, untold, HasTaken, with_bytes}
+use Rattle.std.proofs.Common.{◌≡◌, ℕ, true, List, [], Option, Ok, Err, refl, subst, ◌∙◌}
+use Rattle.wf_outside.specs.Outside.{Filed, told, missing, untold, with_bytes}
 use Rattle.wf_outside.proofs.OutsideLaws.{nothing_put, nothing_taken}
 use Rattle.policy_book.specs.Shapes.{PolicyShape}
 use Rattle.run_record.specs.declared.fault.RunFault.{RunFault}
 use Rattle.run_record.specs.declared.fault.RunFault.TheVariants.{Nothing, Found, Usage, Policy, Read, Write, Load, NoMemory, FileTooLong, LineTooLong, TooManyLines, BadInput}
-use Rattle.run_record.specs.Fault.{fault_in, is_before_input, CountsLoads, CountsReads, CountsReadsAlone, CountsWrites}
+use Rattle.run_record.specs.Fault.{is_before_input, CountsLoads, CountsReadsAlone, CountsWrites}
 use Rattle.run_record.specs.Report.{nothing_told}
-use Rattle.run_record.specs.Run.{Run, IsOrderly, IsUntouched, OverFile}
-use Rattle.wf_commands.specs.Once.{AnswersOnce, Ends, IsQuiet, OverPolicy}
+use Rattle.run_record.specs.Run.{Run, OverFile}
+use Rattle.wf_commands.specs.Once.{Ends, IsQuiet, OverPolicy}
 use Rattle.wf_commands.specs.Load.{IsLoadEnding, IsFileEnding}
 use Rattle.wf_commands.specs.Answer as answer
 use Rattle.wf_commands.proofs.Runs.{ends_refused, no_writes, own_reads, quiet_refused}
 use Rattle.audit_command.specs.declared.finding.Finding.{Finding}
 use Rattle.audit_command.specs.declared.finding.Finding.TheVariants.{Legal, Fault, TooLong}
 use Rattle.audit_command.specs.Auditing.{ending_of, text_of}
-use Rattle.audit_command.specs.Running.{AuditOf, Input, AuditsPolicy, AuditsRun, EndsWithout, ReadsAsAudit}
-use Rattle.audit_command.specs.Steps.{FindsAs, FindsFile, HasTakenSome, IsRefusal}
+use Rattle.audit_command.specs.Running.{AuditsPolicy, AuditsRun, EndsWithout, ReadsAsAudit}
+use Rattle.audit_command.specs.Steps.{FindsFile, HasTakenSome, IsRefusal}
 
 -- ---- by the ending
 

@@ -1,15 +1,13 @@
 -- What an audit finds in a transcript, line after line.
-use Rattle.std.specs.Prelude.{◌≡◌, ℕ, ◌+◌, ◌<◌, ◌≤◌, true, List, [], ◌∷◌, ◌++◌, length, Option, IfSome, codes, decimal}
+use Rattle.std.specs.Prelude.{◌≡◌, ℕ, ◌+◌, ◌<◌, ◌≤◌, List, [], ◌∷◌, ◌++◌, length, Option, IfSome, codes, decimal}
 use Rattle.std.proofs.Common.{◌⊎◌}
 use Rattle.wf_names.specs.declared.limits.TheConstants.{TRANSCRIPT_LINE_LIMIT}
 use Rattle.wf_outside.specs.Outside.{HasTaken, IsAtEnd}
-use Rattle.policy_book.specs.Shapes.{PolicyShape}
 use Rattle.wf_talk.specs.declared.entry.Entry.{Entry}
-use Rattle.line_cutter.specs.Jobs.{jobs_of_input}
-use Rattle.line_reader.specs.Lines.{first_line, line_length, lines_of}
+use Rattle.line_reader.specs.Lines.{line_length, lines_of}
 use Rattle.transcript_audit.specs.declared.fault.AuditKind.{AuditKind}
 use Rattle.transcript_audit.specs.declared.fault.AuditKind.TheVariants.{Text, At, Job, Reply, Missing}
-use Rattle.transcript_audit.specs.Audits.{AuditShape, HasFault, IsNext, audit_of, with_entry}
+use Rattle.transcript_audit.specs.Audits.{AuditShape, HasFault, IsNext, with_entry}
 use Rattle.run_record.specs.declared.fault.RunFault.{RunFault}
 use Rattle.run_record.specs.declared.fault.RunFault.TheVariants.{Nothing, Found, LineTooLong}
 use Rattle.audit_command.specs.declared.finding.Finding.{Finding}

@@ -1,12 +1,12 @@
 -- The command `audit`: the transcript in the input is audited for a policy file and a requests file.
-use Rattle.std.specs.Prelude.{◌≡◌, ℕ, List, [], length, Option, MatchBool, nat_lt, true, Result, Ok, Err}
+use Rattle.std.specs.Prelude.{◌≡◌, ℕ, List, [], length, Option, MatchBool, nat_lt, true}
 use Rattle.wf_names.specs.declared.limits.TheConstants.{REQUESTS_FILE_LIMIT}
 use Rattle.wf_outside.specs.Outside.{Filed, told, missing, untold, HasTaken}
 use Rattle.policy_book.specs.Shapes.{PolicyShape}
 use Rattle.line_cutter.specs.Jobs.{jobs_of_input}
 use Rattle.transcript_audit.specs.Audits.{AuditShape, audit_of}
 use Rattle.run_record.specs.declared.fault.RunFault.{RunFault}
-use Rattle.run_record.specs.declared.fault.RunFault.TheVariants.{Nothing, Found, Usage, Policy, Read, Write, Load, NoMemory, FileTooLong, LineTooLong, TooManyLines, BadInput}
+use Rattle.run_record.specs.declared.fault.RunFault.TheVariants.{Policy, Load, FileTooLong}
 use Rattle.run_record.specs.Run.{Run, IsOrderly}
 use Rattle.wf_commands.specs.Once.{AnswersOnce, Refuses}
 use Rattle.wf_commands.specs.Load.{IsLoadEnding}

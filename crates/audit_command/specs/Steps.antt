@@ -4,7 +4,6 @@ use Rattle.wf_outside.specs.Outside.{Filed, told, missing, untold, HasPart, HasT
 use Rattle.policy_book.specs.Shapes.{PolicyShape}
 use Rattle.wf_talk.specs.declared.entry.Entry.{Entry}
 use Rattle.line_reader.specs.Lines.{lines_of}
-use Rattle.transcript_audit.specs.declared.fault.AuditKind.{AuditKind}
 use Rattle.transcript_audit.specs.Audits.{AuditShape, HasFault, IsNext, with_entry}
 use Rattle.run_record.specs.declared.fault.RunFault.{RunFault}
 use Rattle.run_record.specs.declared.fault.RunFault.TheVariants.{Policy, Read, Write, Load, NoMemory, FileTooLong}

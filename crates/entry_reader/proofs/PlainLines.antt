@@ -1,12 +1,11 @@
 -- A line that is the text of an entry of a plain reply.
-use Rattle.std.proofs.Common.{◌≡◌, ℕ, zero, suc, ◌+◌, ◌<◌, ◌≤◌, ◌^◌, List, [], ◌∷◌, length, map, max, refl, sym, ap, ◌∙◌, arith, true, ltb-true}
-use Rattle.std.specs.Prelude.{codes, nat_lt, Option, Some, None}
+use Rattle.std.proofs.Common.{◌≡◌, ℕ, zero, suc, ◌<◌, ◌≤◌, ◌^◌, List, [], ◌∷◌, map, max, refl, ap, arith, true, ltb-true}
+use Rattle.std.specs.Prelude.{nat_lt, Option, Some, None}
 use Rattle.std.specs.List.{All, list_all}
-use Rattle.serde_json.specs.Data.{Data, depth, items_depth}
+use Rattle.serde_json.specs.Data.{depth, items_depth}
 use Rattle.serde_json.specs.Read.{max_depth}
 use Rattle.serde_json.specs.View.{items_of}
 use Rattle.basics.proofs.Booleans.{and_both}
-use Rattle.wf_talk.specs.declared.entry.Entry.{Entry}
 use Rattle.wf_talk.specs.declared.request.Ask.{Ask}
 use Rattle.wf_talk.specs.declared.reply.Reply.{Reply}
 use Rattle.wf_talk.specs.declared.reply.Reply.TheVariants as reply
@@ -15,8 +14,8 @@ use Rattle.wire_json.specs.Entries.{named}
 use Rattle.wire_json.specs.Replies.{entry_data, entry_text}
 use Rattle.entry_reader.specs.declared.place.Place.{Place}
 use Rattle.entry_reader.specs.Named.{HasNames}
-use Rattle.entry_reader.specs.Places.{place_in, place_of_line}
-use Rattle.entry_reader.specs.Lines.{HasReply, IsEntry, IsLineOf, concerned, entry_at}
+use Rattle.entry_reader.specs.Places.{place_of_line}
+use Rattle.entry_reader.specs.Lines.{HasReply, IsLineOf, concerned, entry_at}
 use Rattle.entry_reader.specs.Plain.{IsPlainReply}
 use Rattle.entry_reader.specs.Within.{IsReply}
 use Rattle.entry_reader.proofs.LinesBack.{line_reply, line_place}

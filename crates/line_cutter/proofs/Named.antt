@@ -1,6 +1,6 @@
 -- The key that a bad line lacks has the form of a name.
-use Rattle.std.proofs.Common.{refl, subst, sym, ◌∙◌}
-use Rattle.std.specs.Prelude.{◌≡◌, ℕ, ◌==◌, ◌+◌, nat_lt, nat_le, Bool, true, false, ◌&&◌, List, [], ◌∷◌, ◌++◌, length, Option, Some, None, is_some, codes, nat_eq, option_map, option_and_then, Result, Ok, Err, IsTrue, if◌then◌else◌}
+use Rattle.std.proofs.Common.{refl, subst}
+use Rattle.std.specs.Prelude.{◌≡◌, ℕ, ◌==◌, ◌+◌, nat_lt, nat_le, Bool, true, false, ◌&&◌, List, [], ◌∷◌, ◌++◌, length, Option, Some, None, is_some, codes, nat_eq, option_map, option_and_then, Result, Ok, Err, if◌then◌else◌}
 use Rattle.std.specs.List.{list_all, find}
 use Rattle.std.specs.Option.{option_or}
 use Rattle.std.specs.Cmp.Lexicographic.{pointwise}

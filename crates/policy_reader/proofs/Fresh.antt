@@ -1,6 +1,6 @@
 -- A loop over a table: its keys ascend, so none is among the names that were read from those before it.
-use Rattle.std.proofs.Common.{◌≡◌, ℕ, Bool, false, List, [], ◌∷◌, ◌++◌, map, String, Global, string_bytes, refl, sym, ap, ◌∙◌, ◌<◌, length, Ok, subst, append_assoc, arith, nat_cmp, is_eq, is_some, nat_eq, position, Less}
-use Rattle.policy_reader.proofs.Words.{length-map, length-append, map-append, append-nil, ordering_reverse, slice_cmp, pointwise, nat_list_cmp_total, texts_ties, AllByRecursion, Value, Data, view, members_view, ◌>>=◌, each, Reading, entries, is_among, Ascend}
+use Rattle.std.proofs.Common.{◌≡◌, ℕ, Bool, false, List, [], ◌∷◌, ◌++◌, map, String, Global, string_bytes, refl, sym, ap, ◌∙◌, length, Ok, subst, append_assoc, arith, nat_cmp, is_eq, is_some, nat_eq, position, Less}
+use Rattle.policy_reader.proofs.Words.{length-map, map-append, append-nil, ordering_reverse, slice_cmp, pointwise, nat_list_cmp_total, texts_ties, AllByRecursion, Value, Data, view, members_view, ◌>>=◌, each, Reading, entries, is_among, Ascend}
 use Rattle.std.proofs.lemmas.Grind.{common_steps}
 use Rattle.std.specs.List.Sorted.{IsStrictlySortedBy}
 use Rattle.std.specs.Map.{keys_of}

@@ -1,5 +1,5 @@
 -- Whether some number below n passes, found one by one.
-use Rattle.std.proofs.Common.{◌≡◌, ℕ, zero, suc, ◌+◌, ◌<◌, Bool, true, false, refl, subst, inl, inr, arith, ◌&&◌, List, [], ◌∷◌, length, slice_set}
+use Rattle.std.proofs.Common.{◌≡◌, ℕ, zero, suc, ◌+◌, ◌<◌, Bool, true, refl, subst, inl, inr, arith, ◌&&◌, List, [], ◌∷◌, length, slice_set}
 use Rattle.policy_reader.proofs.Words.{cases_lt, or_left, or_right, any_below, any_from}
 
 pub any_at : (n : ℕ) (test : ℕ → Bool) (u : ℕ) → u < n → test u ≡ true → any_below n test ≡ true

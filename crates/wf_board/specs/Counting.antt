@@ -1,5 +1,5 @@
 -- Which entries count for a request: they changed what its decision rests on.
-use Rattle.std.specs.Prelude.{◌≡◌, ℕ, ◌+◌, ◌==◌, ◌||◌, nat_eq, Bool, false, true, is_some, List, [], ◌∷◌, drop, Option, None, Some, if◌then◌else◌}
+use Rattle.std.specs.Prelude.{◌≡◌, ℕ, ◌+◌, ◌||◌, nat_eq, Bool, false, true, is_some, List, [], ◌∷◌, drop, Option, None, Some, if◌then◌else◌}
 use Rattle.wf_talk.specs.declared.entry.Entry.{Entry}
 use Rattle.wf_talk.specs.declared.request.Request.{Request}
 use Rattle.wf_talk.specs.declared.request.Request.TheVariants as request
@@ -7,6 +7,7 @@ use Rattle.wf_talk.specs.declared.request.Ask.{Ask}
 use Rattle.wf_talk.specs.declared.request.Ask.TheVariants as ask
 use Rattle.wf_talk.specs.declared.reply.Reply.{Reply}
 use Rattle.wf_talk.specs.declared.reply.Reply.TheVariants as reply
+pub use Rattle.admin_edits.specs.Hurting.{is_number}
 
 -- the case that a request names by its number
 abbrev pub case_of_request : Request → Option ℕ
@@ -35,11 +36,6 @@ changed_case what reply.Returned = case_of_ask what
 changed_case what reply.Released = case_of_ask what
 changed_case what reply.Withdrawn = case_of_ask what
 changed_case what given = None
-
--- there is a number, and it is this
-abbrev pub is_number : ℕ → Option ℕ → Bool
-is_number n None = false
-is_number n (Some m) = m == n
 
 -- a reply to an edit that changed the policy
 abbrev pub is_edited : Reply → Bool

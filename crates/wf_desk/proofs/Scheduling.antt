@@ -9,10 +9,10 @@ use Rattle.wf_talk.specs.declared.entry.Entry.{Entry}
 use Rattle.wf_talk.specs.declared.job.Job.{Job}
 use Rattle.wf_talk.specs.declared.reply.Reply.{Reply}
 use Rattle.wf_board.specs.declared.verdict.Verdict.{Verdict}
-use Rattle.wf_board.specs.Boards.{BoardShape, SnapShape, book_on, state_on}
+use Rattle.wf_board.specs.Boards.{SnapShape, book_on, state_on}
 use Rattle.wf_board.specs.Histories.{EachAfter, IsRightAfter, job_of_entry, lane_jobs, state_after}
 use Rattle.wf_board.specs.States.{State, opening_state}
-use Rattle.wf_board.specs.Verdicts.{Decides, IsRight, snap_of}
+use Rattle.wf_board.specs.Verdicts.{Decides, IsRight}
 use Rattle.wf_board.proofs.Snaps.{snaps_suffice}
 use Rattle.wf_desk.specs.declared.outcome.Outcome.{Outcome}
 use Rattle.wf_desk.specs.declared.outcome.Outcome.TheVariants as outcome
@@ -22,7 +22,7 @@ use Rattle.wf_desk.specs.declared.schedule.Event.TheVariants.{Commit}
 use Rattle.wf_desk.specs.declared.schedule.Mark.{Mark}
 use Rattle.wf_desk.specs.declared.schedule.Solved.{Solved}
 use Rattle.wf_desk.specs.Desks.{DeskShape, HasAdded, IsSoundDesk, served, state_at}
-use Rattle.wf_desk.specs.Commits.{HasCommitted, HasServed, IsRightFor, IsTask, job_of_task, with_loss}
+use Rattle.wf_desk.specs.Commits.{HasCommitted, HasServed, IsTask, job_of_task, with_loss}
 use Rattle.wf_desk.specs.Schedules.{AreEventsOf, HasDone, HasDoneAll, HasGoneOn, HasGrown, Standing, held_by, lane_answers, lane_left, lane_of, mark_of}
 use Rattle.wf_desk.specs.Holding.{AreHeld, IsHeld}
 

@@ -1,5 +1,5 @@
 -- The parts of a reply are written alike with the names of two policies where the later one keeps those of the other.
-use Rattle.std.proofs.Common.{◌≡◌, ℕ, zero, suc, ◌+◌, ◌<◌, Bool, true, false, ◌&&◌, ◌==◌, List, [], ◌∷◌, ◌++◌, length, map, slice_index_or, Option, Some, refl, sym, ap, subst, ◌∙◌, arith, append-nil, append_assoc, codes, if◌then◌else◌}
+use Rattle.std.proofs.Common.{◌≡◌, ℕ, zero, suc, ◌+◌, ◌<◌, Bool, true, false, ◌&&◌, ◌==◌, List, [], ◌∷◌, ◌++◌, length, map, slice_index_or, Option, Some, refl, sym, ap, subst, ◌∙◌, append-nil, append_assoc, codes, if◌then◌else◌}
 use Rattle.std.proofs.lemmas.List.{get_or_append_left}
 use Rattle.serde_json.specs.Data.{string, array, object, no_members, member}
 use Rattle.serde_json.specs.View.{items_of}

@@ -1,5 +1,4 @@
 use Rattle.std.proofs.Common.{ℕ, List, subst}
-use Rattle.transcript_audit.specs.Audits.{AuditShape}
 use Rattle.audit_command.specs.Steps.{TakesLine}
 use Rattle.audit_command.proofs.Passing.{line_taken, end_found, long_found}
 use Rattle.audit_command.proofs.lines.audit_line.Goals as goal

@@ -1,4 +1,4 @@
-use Rattle.std.proofs.Common.{◌≡◌, length, refl, sym, ap, arith}
+use Rattle.std.proofs.Common.{length, refl, sym, ap, arith}
 use Rattle.line_reader.specs.Lines.{pending}
 use Rattle.audit_command.proofs.Passing.{audit_begins, steps_found, taken_on}
 use Rattle.audit_command.proofs.lines.audit_lines.Goals as goal

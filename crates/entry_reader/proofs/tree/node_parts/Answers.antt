@@ -1,4 +1,4 @@
-use Rattle.std.proofs.Common.{◌≡◌, Bool, true, false, sym, ap, ap₂, ◌∙◌, string_bytes}
+use Rattle.std.proofs.Common.{◌≡◌, true, false, sym, ap, ap₂, ◌∙◌, string_bytes}
 use Rattle.std.specs.Prelude.{option_and_then}
 use Rattle.entry_reader.specs.Values.{are_node_keys, node_at}
 use Rattle.entry_reader.proofs.Small.{node_none, node_told}

@@ -1,5 +1,4 @@
 use Rattle.std.proofs.Common.{take, ◌++◌}
-use Rattle.line_cutter.specs.Whole.{HasCutUp}
 use Rattle.line_cutter.proofs.CutUp.{cut_more, cut_further, cut_batch, few_cut}
 use Rattle.line_cutter.proofs.whole.cut_some.Goals as goal
 

@@ -1,5 +1,3 @@
-use Rattle.std.proofs.Common.{sym, ◌∙◌}
-use Rattle.line_cutter.specs.Whole.{HasCutUp}
 use Rattle.line_cutter.proofs.CutUp.{cut_none, few_whole, whole_jobs, whole_ends, in_order, named}
 use Rattle.line_cutter.proofs.whole.jobs_of.Goals as goal
 

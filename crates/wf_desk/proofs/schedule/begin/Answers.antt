@@ -1,4 +1,4 @@
-use Rattle.std.proofs.Common.{◌≡◌, refl, sym, ap, subst}
+use Rattle.std.proofs.Common.{refl, sym, ap, subst}
 use Rattle.wf_desk.specs.declared.schedule.Solved.{Solved}
 use Rattle.wf_desk.specs.Holding.{AreHeld, standing}
 use Rattle.wf_desk.proofs.Scheduling.{begun_held, held_put}

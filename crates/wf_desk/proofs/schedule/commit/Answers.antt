@@ -1,6 +1,5 @@
-use Rattle.std.proofs.Common.{◌≡◌, ◌<◌, ◌∙◌, Some, sym, subst}
-use Rattle.wf_desk.specs.Holding.{AreHeld, IsHeld, standing}
-use Rattle.wf_desk.specs.Schedules.{held_by}
+use Rattle.std.proofs.Common.{◌<◌, ◌∙◌, sym, subst}
+use Rattle.wf_desk.specs.Holding.{AreHeld, standing}
 use Rattle.wf_desk.proofs.Scheduling.{all_held_on, committed_done, grown_committed, held_none}
 use Rattle.wf_desk.proofs.schedule.commit.Goals as goal
 

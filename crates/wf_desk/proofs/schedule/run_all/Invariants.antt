@@ -1,4 +1,4 @@
-use Rattle.std.proofs.Common.{◌≡◌, length, take, vec_capacity, vec_len}
+use Rattle.std.proofs.Common.{◌≡◌, take, vec_capacity, vec_len}
 use Rattle.wf_desk.specs.Holding.{AreHeld, standing}
 use Rattle.wf_desk.specs.Schedules.{HasDoneAll, HasGrown, no_tasks}
 use Rattle.wf_desk.proofs.schedule.run_all.Given as goal
