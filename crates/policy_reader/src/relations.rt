@@ -222,8 +222,8 @@ fn next_relation(
         (key.now, view value.now)) }
     ensures names { OnOk result (names_of (shapes relations.new.items)
         ≡ names_of (shapes relations.old.items) ++ key.now ∷ []) }
-    ensures kept { OnOk result (AreReadRelations (length users.now.names) (entries (table_view all.now))
-        (shapes relations.new.items)) }
+    ensures kept { OnOk result (AreReadRelations (length users.now.names)
+        (entries (table_view all.now)) (shapes relations.new.items)) }
 {
     let number = relations.len() as u32 + 2;
     let name = free_name(key, number)?;
