@@ -25,7 +25,7 @@ use Rattle.admin_edits.specs.declared.amendment.Amendment.TheVariants as amend
 use Rattle.admin_edits.specs.declared.fault.EditFault.{EditFault}
 use Rattle.admin_edits.specs.declared.fault.EditFault.TheVariants.{Unknown}
 use Rattle.admin_edits.specs.Edits.{allowed, amended, amendment_of, found, is_admin}
-use Rattle.admin_edits.specs.Found.{AreMember, ArePair, ArePermit, IsFound}
+use Rattle.admin_edits.specs.Found.{AreMember, ArePair, ArePermit, IsKnownChange}
 use Rattle.admin_edits.specs.Keeping.{ChangesKeepNames, ChangesKeepPoliciesSound, KeepsNames}
 use Rattle.admin_edits.proofs.Unhurt.{flow_there}
 
@@ -70,7 +70,7 @@ changes_keep_names p (amend.Forbid f r s) is = flow_keeps_names p f _ is.flow re
 changes_keep_names p (amend.Retire f) is = flow_keeps_names p f _ is refl
 
 -- what gives users of a policy to steps of a workflow does so after a change
-pub within_after : (p : PolicyShape) (a : Amendment) (f : ℕ) (assigned : List (Option ℕ)) → IsFound p a → IsWithin (problem_of p f) assigned → IsWithin (problem_of (amended p a) f) assigned
+pub within_after : (p : PolicyShape) (a : Amendment) (f : ℕ) (assigned : List (Option ℕ)) → IsKnownChange p a → IsWithin (problem_of p f) assigned → IsWithin (problem_of (amended p a) f) assigned
 within_after p a f assigned is within =
     let keeps = changes_keep_names p a is in
     let longer : length (amended p a).roster.users ≡ length p.roster.users + length keeps.more = ap length keeps.users ∙ length-append p.roster.users keeps.more in
@@ -165,43 +165,43 @@ a_permit p flow role step change =
     or_fault (place_of p.flow_names flow) (Unknown Flow) >>= (λ f. or_fault (place_of (flow_at p f).flow.steps step) (Unknown Step) >>= (λ s.
     or_fault (place_of p.roster.roles role) (Unknown Role) >>= (λ r. Ok (change f r s))))
 
-member_there : (p : PolicyShape) (user role : List ℕ) (change : ℕ → ℕ → Amendment) → ((u r : ℕ) → AreMember p u r → IsFound p (change u r)) → HoldsOf (IsFound p) (a_member p user role change)
+member_there : (p : PolicyShape) (user role : List ℕ) (change : ℕ → ℕ → Amendment) → ((u r : ℕ) → AreMember p u r → IsKnownChange p (change u r)) → HoldsOf (IsKnownChange p) (a_member p user role change)
 member_there p user role change is =
-    found_in (IsFound p) (length p.roster.users) p.roster.users user (Unknown User) _ refl (λ u hu.
-    found_in (IsFound p) (length p.roster.roles) p.roster.roles role (Unknown Role) (λ r. Ok (change u r)) refl (λ r hr. is u r (record { user = hu; role = hr })))
+    found_in (IsKnownChange p) (length p.roster.users) p.roster.users user (Unknown User) _ refl (λ u hu.
+    found_in (IsKnownChange p) (length p.roster.roles) p.roster.roles role (Unknown Role) (λ r. Ok (change u r)) refl (λ r hr. is u r (record { user = hu; role = hr })))
 
-pair_there : (p : PolicyShape) (first second : List ℕ) (change : ℕ → ℕ → Amendment) → ((u v : ℕ) → ArePair p u v → IsFound p (change u v)) → HoldsOf (IsFound p) (a_pair p first second change)
+pair_there : (p : PolicyShape) (first second : List ℕ) (change : ℕ → ℕ → Amendment) → ((u v : ℕ) → ArePair p u v → IsKnownChange p (change u v)) → HoldsOf (IsKnownChange p) (a_pair p first second change)
 pair_there p first second change is =
-    found_in (IsFound p) (length p.roster.users) p.roster.users first (Unknown User) _ refl (λ u hu.
-    found_in (IsFound p) (length p.roster.users) p.roster.users second (Unknown User) (λ v. Ok (change u v)) refl (λ v hv. is u v (record { first = hu; second = hv })))
+    found_in (IsKnownChange p) (length p.roster.users) p.roster.users first (Unknown User) _ refl (λ u hu.
+    found_in (IsKnownChange p) (length p.roster.users) p.roster.users second (Unknown User) (λ v. Ok (change u v)) refl (λ v hv. is u v (record { first = hu; second = hv })))
 
-permit_there : (p : PolicyShape) (flow role step : List ℕ) (change : ℕ → ℕ → ℕ → Amendment) → length p.flow_names ≡ length p.flows → ((f r s : ℕ) → ArePermit p f r s → IsFound p (change f r s)) →
-    HoldsOf (IsFound p) (a_permit p flow role step change)
+permit_there : (p : PolicyShape) (flow role step : List ℕ) (change : ℕ → ℕ → ℕ → Amendment) → length p.flow_names ≡ length p.flows → ((f r s : ℕ) → ArePermit p f r s → IsKnownChange p (change f r s)) →
+    HoldsOf (IsKnownChange p) (a_permit p flow role step change)
 permit_there p flow role step change named is =
-    found_in (IsFound p) (length p.flows) p.flow_names flow (Unknown Flow) _ named (λ f hf.
-    found_in (IsFound p) (length (flow_at p f).flow.steps) (flow_at p f).flow.steps step (Unknown Step) _ refl (λ s hs.
-    found_in (IsFound p) (length p.roster.roles) p.roster.roles role (Unknown Role) (λ r. Ok (change f r s)) refl (λ r hr. is f r s (record { flow = hf; role = hr; step = hs }))))
+    found_in (IsKnownChange p) (length p.flows) p.flow_names flow (Unknown Flow) _ named (λ f hf.
+    found_in (IsKnownChange p) (length (flow_at p f).flow.steps) (flow_at p f).flow.steps step (Unknown Step) _ refl (λ s hs.
+    found_in (IsKnownChange p) (length p.roster.roles) p.roster.roles role (Unknown Role) (λ r. Ok (change f r s)) refl (λ r hr. is f r s (record { flow = hf; role = hr; step = hs }))))
 
 -- the numbers that an edit finds are those of the policy
-found_there : (p : PolicyShape) (e : Edit) → length p.flow_names ≡ length p.flows → HoldsOf (IsFound p) (found p e)
+found_there : (p : PolicyShape) (e : Edit) → length p.flow_names ≡ length p.flows → HoldsOf (IsKnownChange p) (found p e)
 found_there p (edit.AddUser user) named = tt
-found_there p (edit.Leave user) named = found_in (IsFound p) (length p.roster.users) p.roster.users user (Unknown User) (λ u. Ok (amend.Leave u)) refl (λ u h. h)
+found_there p (edit.Leave user) named = found_in (IsKnownChange p) (length p.roster.users) p.roster.users user (Unknown User) (λ u. Ok (amend.Leave u)) refl (λ u h. h)
 found_there p (edit.Enrol role user) named = member_there p user role amend.Enrol (λ u r is. is)
 found_there p (edit.Dismiss role user) named = member_there p user role amend.Dismiss (λ u r is. is)
 found_there p (edit.Relate first relation second) named =
-    then_holds (λ _. Unit {0}) (IsFound p) (or_fault (place_of (known_names p.relations) relation) (Unknown Relation)) (λ rho. a_pair p first second (amend.Relate rho)) (always _)
+    then_holds (λ _. Unit {0}) (IsKnownChange p) (or_fault (place_of (known_names p.relations) relation) (Unknown Relation)) (λ rho. a_pair p first second (amend.Relate rho)) (always _)
     (λ rho _. pair_there p first second (amend.Relate rho) (λ u v is. is))
 found_there p (edit.Unrelate first relation second) named =
-    then_holds (λ _. Unit {0}) (IsFound p) (or_fault (place_of (known_names p.relations) relation) (Unknown Relation)) (λ rho. a_pair p first second (amend.Unrelate rho)) (always _)
+    then_holds (λ _. Unit {0}) (IsKnownChange p) (or_fault (place_of (known_names p.relations) relation) (Unknown Relation)) (λ rho. a_pair p first second (amend.Unrelate rho)) (always _)
     (λ rho _. pair_there p first second (amend.Unrelate rho) (λ u v is. is))
 found_there p (edit.Permit flow role step) named = permit_there p flow role step amend.Permit named (λ f r s is. is)
 found_there p (edit.Forbid flow role step) named = permit_there p flow role step amend.Forbid named (λ f r s is. is)
-found_there p (edit.Retire flow) named = found_in (IsFound p) (length p.flows) p.flow_names flow (Unknown Flow) (λ f. Ok (amend.Retire f)) named (λ f h. h)
+found_there p (edit.Retire flow) named = found_in (IsKnownChange p) (length p.flows) p.flow_names flow (Unknown Flow) (λ f. Ok (amend.Retire f)) named (λ f h. h)
 
 -- a change that an edit makes names what is there, and has no fault
-pub amendment_found : (p : PolicyShape) (by : List ℕ) (e : Edit) (a : Amendment) → IsSoundPolicy p → amendment_of p by e ≡ Ok a → IsFound p a × (allowed p a ≡ Ok tt)
+pub amendment_found : (p : PolicyShape) (by : List ℕ) (e : Edit) (a : Amendment) → IsSoundPolicy p → amendment_of p by e ≡ Ok a → IsKnownChange p a × (allowed p a ≡ Ok tt)
 amendment_found p by e a sound is =
-    subst (HoldsOf (λ (x : Amendment). IsFound p x × (allowed p x ≡ Ok tt))) is
+    subst (HoldsOf (λ (x : Amendment). IsKnownChange p x × (allowed p x ≡ Ok tt))) is
     (then_holds (λ _. Unit {0}) _ (check (is_admin p by) EditFault.NotAdmin) _ (always _) (λ _ _.
-    then_holds (IsFound p) _ (found p e) _ (found_there p e sound.named) (λ x there.
+    then_holds (IsKnownChange p) _ (found p e) _ (found_there p e sound.named) (λ x there.
     then_holds (λ _. allowed p x ≡ Ok tt) _ (allowed p x) _ (fine (allowed p x) refl) (λ _ same. (there, same)))))

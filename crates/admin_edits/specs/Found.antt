@@ -1,4 +1,4 @@
--- Inside: the numbers of a change are those of a policy.
+-- The numbers of a change are those of a policy.
 use Rattle.std.specs.Prelude.{ℕ, ◌<◌, length}
 use Rattle.policy_book.specs.Shapes.{PolicyShape}
 use Rattle.policy_book.specs.Policies.{flow_at}
@@ -22,13 +22,13 @@ pub record ArePermit (p : PolicyShape) (f r s : ℕ) : Type 0 where
   pub step : s < length (flow_at p f).flow.steps
 
 -- the numbers of a change are those of a policy
-abbrev pub IsFound : PolicyShape → Amendment → Type 0
-IsFound p (amend.AddUser name) = Unit {0}
-IsFound p (amend.Leave u) = u < length p.roster.users
-IsFound p (amend.Enrol u r) = AreMember p u r
-IsFound p (amend.Dismiss u r) = AreMember p u r
-IsFound p (amend.Relate rho u v) = ArePair p u v
-IsFound p (amend.Unrelate rho u v) = ArePair p u v
-IsFound p (amend.Permit f r s) = ArePermit p f r s
-IsFound p (amend.Forbid f r s) = ArePermit p f r s
-IsFound p (amend.Retire f) = f < length p.flows
+abbrev pub IsKnownChange : PolicyShape → Amendment → Type 0
+IsKnownChange p (amend.AddUser name) = Unit {0}
+IsKnownChange p (amend.Leave u) = u < length p.roster.users
+IsKnownChange p (amend.Enrol u r) = AreMember p u r
+IsKnownChange p (amend.Dismiss u r) = AreMember p u r
+IsKnownChange p (amend.Relate rho u v) = ArePair p u v
+IsKnownChange p (amend.Unrelate rho u v) = ArePair p u v
+IsKnownChange p (amend.Permit f r s) = ArePermit p f r s
+IsKnownChange p (amend.Forbid f r s) = ArePermit p f r s
+IsKnownChange p (amend.Retire f) = f < length p.flows

@@ -12,7 +12,7 @@ use Rattle.policy_book.specs.Plans.{IsValidPlan}
 use Rattle.admin_edits.specs.declared.amendment.Amendment.{Amendment}
 use Rattle.admin_edits.specs.declared.amendment.Amendment.TheVariants as amend
 use Rattle.admin_edits.specs.Edits.{amended}
-use Rattle.admin_edits.specs.Found.{IsFound}
+use Rattle.admin_edits.specs.Found.{IsKnownChange}
 
 -- a plan gives a step that is not finished to a user
 abbrev pub gives_open : List Bool → List ℕ → ℕ → Bool
@@ -46,5 +46,5 @@ may_hurt p (amend.Retire g) f finished plan = false
 abbrev pub UnhurtPlansStayValid : Type 0
 UnhurtPlansStayValid =
     (p : PolicyShape) (a : Amendment) (f : ℕ) (assigned : List (Option ℕ)) (finished : List Bool) (plan : List ℕ) →
-    IsFound p a → may_hurt p a f finished plan ≡ false →
+    IsKnownChange p a → may_hurt p a f finished plan ≡ false →
     IsValidPlan (problem_of p f) assigned finished plan → IsValidPlan (problem_of (amended p a) f) assigned finished plan

@@ -5,7 +5,7 @@ use Rattle.policy_book.specs.Facts.{IsSoundPolicy}
 use Rattle.policy_book.specs.Policies.{flow_at}
 use Rattle.admin_edits.specs.declared.amendment.Amendment.{Amendment}
 use Rattle.admin_edits.specs.Edits.{allowed, amended}
-use Rattle.admin_edits.specs.Found.{IsFound}
+use Rattle.admin_edits.specs.Found.{IsKnownChange}
 
 -- each number has the name that it had; there may be more users
 pub record KeepsNames (before after : PolicyShape) : Type 0 where
@@ -18,9 +18,9 @@ pub record KeepsNames (before after : PolicyShape) : Type 0 where
 
 -- a change whose names are found keeps all names
 abbrev pub ChangesKeepNames : Type 0
-ChangesKeepNames = (p : PolicyShape) (a : Amendment) → IsFound p a → KeepsNames p (amended p a)
+ChangesKeepNames = (p : PolicyShape) (a : Amendment) → IsKnownChange p a → KeepsNames p (amended p a)
 
 -- a change that has no fault keeps what every policy keeps
 abbrev pub ChangesKeepPoliciesSound : Type 0
 ChangesKeepPoliciesSound =
-    (p : PolicyShape) (a : Amendment) → IsSoundPolicy p → IsFound p a → allowed p a ≡ Ok tt → IsSoundPolicy (amended p a)
+    (p : PolicyShape) (a : Amendment) → IsSoundPolicy p → IsKnownChange p a → allowed p a ≡ Ok tt → IsSoundPolicy (amended p a)

@@ -3,7 +3,7 @@ ghost use Rattle.std.specs.Prelude.{◌≡◌, ◌==◌, ◌&&◌, not, option_m
 ghost use Rattle.first_fault.specs.Reading.{check};
 ghost use Rattle.admin_edits.specs.declared.amendment.Amendment.TheVariants as amend;
 ghost use Rattle.admin_edits.specs.Edits.{allowed, amendment_of, edit_cause, has_other, has_some_role, is_last_admin, pair_fault, unless_fault};
-ghost use Rattle.admin_edits.specs.Found.{IsFound};
+ghost use Rattle.admin_edits.specs.Found.{IsKnownChange};
 ghost use Rattle.rbac_state.specs.Rosters.{has_role};
 
 use crate::find::{check_admin, find};
@@ -28,7 +28,7 @@ pub fn edit_cause(p: &Policy, by: &Name, e: &Edit) -> Option<EditFault>
 /// What an edit changes, with numbers in place of names, or its first fault. Takes no memory.
 pub fn amendment_of(p: &Policy, by: &Name, e: &Edit) -> Result<Amendment, EditFault>
     ensures amendment { result ≡ amendment_of p.now by.now e.now }
-    ensures within { IfOk result (IsFound p.now) }
+    ensures within { IfOk result (IsKnownChange p.now) }
     ensures allowed { IfOk result (λ a. allowed p.now a ≡ Ok tt) }
 {
     check_admin(p, by)?;
@@ -39,7 +39,7 @@ pub fn amendment_of(p: &Policy, by: &Name, e: &Edit) -> Result<Amendment, EditFa
 
 /// The first fault of a change whose names are known.
 fn allowed(p: &Policy, a: &Amendment) -> Result<(), EditFault>
-    requires { IsFound p.now a.now }
+    requires { IsKnownChange p.now a.now }
     ensures { result ≡ allowed p.now a.now }
 {
     match *a {

@@ -3,7 +3,7 @@ ghost use Rattle.std.specs.Prelude.{◌≡◌, ◌<◌, length, None, OnErr, OnO
 ghost use Rattle.admin_edits.specs.declared.amendment.Amendment.TheVariants as amend;
 ghost use Rattle.admin_edits.specs.declared.fault.EditFault.{EditFault};
 ghost use Rattle.admin_edits.specs.Edits.{allowed, amended, edit_cause, edited_policy};
-ghost use Rattle.admin_edits.specs.Found.{AreMember, ArePair, IsFound};
+ghost use Rattle.admin_edits.specs.Found.{AreMember, ArePair, IsKnownChange};
 
 use crate::cause::amendment_of;
 use crate::{Amendment, EditFault};
@@ -34,7 +34,7 @@ pub fn apply(p: &Policy, by: &Name, e: &Edit) -> Result<Policy, EditFault>
 /// A copy of a policy with one change that has no fault. The policy that it is made of stays as it
 /// is. Whoever found the change before, as the decider of a session has, need not find it again.
 pub fn amended(p: &Policy, a: Amendment) -> Result<Policy, AllocError>
-    requires within { IsFound p.now a }
+    requires within { IsKnownChange p.now a }
     requires allowed { allowed p.now a ≡ Ok tt }
     ensures { IfOk result (λ q. q ≡ amended p.now a) }
 {
@@ -45,7 +45,7 @@ pub fn amended(p: &Policy, a: Amendment) -> Result<Policy, AllocError>
 
 /// Makes one change that has no fault.
 fn amend(p: &mut Policy, a: Amendment) -> Result<(), AllocError>
-    requires within { IsFound p.old a }
+    requires within { IsKnownChange p.old a }
     requires allowed { allowed p.old a ≡ Ok tt }
     ensures { OnOk result (p.new ≡ amended p.old a) }
 {

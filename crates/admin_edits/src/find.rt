@@ -7,7 +7,7 @@ ghost use Rattle.wf_names.specs.Table.{place_of};
 ghost use Rattle.wf_talk.specs.declared.edit.Edit.TheVariants as edit;
 ghost use Rattle.admin_edits.specs.declared.amendment.Amendment.TheVariants as amend;
 ghost use Rattle.admin_edits.specs.Edits.{found, is_admin};
-ghost use Rattle.admin_edits.specs.Found.{AreMember, ArePair, ArePermit, IsFound};
+ghost use Rattle.admin_edits.specs.Found.{AreMember, ArePair, ArePermit, IsKnownChange};
 
 use crate::{Amendment, EditFault};
 use policy_book::Policy;
@@ -17,7 +17,7 @@ use wf_talk::{Edit, Missing};
 /// What is changed, or the first name that the policy does not have.
 pub(crate) fn find(p: &Policy, e: &Edit) -> Result<Amendment, EditFault>
     ensures found { result ≡ found p.now e.now }
-    ensures within { IfOk result (IsFound p.now) }
+    ensures within { IfOk result (IsKnownChange p.now) }
 {
     match e {
         Edit::AddUser { user } => Ok(Amendment::AddUser { name: *user }),

@@ -4,7 +4,7 @@ ghost use Rattle.std.specs.List.{list_any};
 ghost use Rattle.constraint_forms.specs.Assigned.{is_member, planned};
 ghost use Rattle.user_relations.specs.Relations.{complement_of};
 ghost use Rattle.policy_book.specs.Policies.{flow_at};
-ghost use Rattle.admin_edits.specs.Found.{IsFound};
+ghost use Rattle.admin_edits.specs.Found.{IsKnownChange};
 ghost use Rattle.admin_edits.specs.Hurting.{gives_open, is_number, is_over, may_hurt};
 
 use crate::Amendment;
@@ -16,7 +16,7 @@ use wf_names::{FlowId, RelId, RoleId, StepId, UserId};
 /// Whether a change may make a valid plan of a case of a workflow invalid. Where it may not, the
 /// plan needs no check; where it may, the plan may still be valid. Takes no memory.
 pub fn may_hurt(p: &Policy, a: &Amendment, f: FlowId, done: &StepSet, plan: &Plan) -> bool
-    requires found { IsFound p.now a.now }
+    requires found { IsKnownChange p.now a.now }
     requires flow { f < length p.now.flows }
     requires whole { length plan.now ≡ length (flow_at p.now f).flow.steps }
     ensures { result ≡ may_hurt p.now a.now f done.now plan.now }

@@ -12,7 +12,7 @@ use Rattle.wire_json.specs.Replies.{entry_text}
 use Rattle.line_reader.specs.Lines.{ReaderShape, pending, HasSeen, HasReadLine, HasEnded, HasPassed, first_line, behind_line, has_end, line_length, lines_of}
 use Rattle.line_reader.proofs.FirstLines.{line_alone, line_before, line_one, line_longer, lines_first, more_behind, ends_with_lf, split_line}
 use Rattle.transcript_audit.specs.declared.fault.AuditKind.{AuditKind}
-use Rattle.transcript_audit.specs.Audits.{AuditShape, HasFault, IsNext, with_entry}
+use Rattle.transcript_audit.specs.Audits.{AuditShape, HasFault, IsNextLine, with_entry}
 use Rattle.run_record.specs.declared.fault.RunFault.{RunFault}
 use Rattle.audit_command.specs.declared.finding.Finding.{Finding}
 use Rattle.audit_command.specs.declared.finding.Finding.TheVariants.{Legal, Fault, TooLong}
@@ -25,7 +25,7 @@ text_ends : (p : PolicyShape) (e : Entry) → has_end (entry_text p e) ≡ true
 unfolding entry_text
 text_ends p e = search (rules, ends_with_lf)
 
-next_ends : (a : AuditShape) (line : List ℕ) (e : Entry) → IsNext a line e → has_end line ≡ true
+next_ends : (a : AuditShape) (line : List ℕ) (e : Entry) → IsNextLine a line e → has_end line ≡ true
 next_ends a line e next = ap has_end next.written ∙ text_ends _ e
 
 -- what was taken so far, with what was taken now
@@ -47,11 +47,11 @@ audit_begins a left pending none nothing = record {
 
 -- a line of an entry that comes next
 pub audit_goes : (first a b : AuditShape) (before middle after : Option (List ℕ)) (r s : ReaderShape) (e : Entry) → HasAudited first a before middle (pending r)
-    → HasReadLine middle after r s → r.limit ≡ TRANSCRIPT_LINE_LIMIT → IsNext a s.line e → b ≡ with_entry a e → HasAudited first b before after (pending s)
+    → HasReadLine middle after r s → r.limit ≡ TRANSCRIPT_LINE_LIMIT → IsNextLine a s.line e → b ≡ with_entry a e → HasAudited first b before after (pending s)
 audit_goes first a b before middle after r s e h read limit next is =
     let seen = read.bytes in
     let line = first_line seen in
-    let next_line : IsNext a line e = subst (λ (l : List ℕ). IsNext a l e) read.line next in
+    let next_line : IsNextLine a line e = subst (λ (l : List ℕ). IsNextLine a l e) read.line next in
     let alone = line_alone seen in
     let ended : has_end seen ≡ true = sym alone.ended ∙ next_ends a line e next_line in
     let fits : line_length line ≤ TRANSCRIPT_LINE_LIMIT = let f = read.fits in let c = alone.counted in omega (arith, f, c, limit) in
@@ -96,7 +96,7 @@ same_line seen left after false is ended some =
 -- a line stops the audit
 line_stops : (first a : AuditShape) (before middle after : Option (List ℕ)) (r : ReaderShape) (seen rest : List ℕ) (f : Finding) → HasAudited first a before middle (pending r)
     → HasSeen middle after r seen → 0 < length seen → rest ≡ behind_line seen → StopsAt a (first_line seen) f
-    → ((bytes : List ℕ) → length (lines_of bytes) ≡ length a.entries + 1 → IsFar f bytes rest after)
+    → (length (lines_of (h.bytes ++ first_line seen)) ≡ length a.entries + 1 → IsFar f (h.bytes ++ first_line seen) rest after)
     → ((left : List ℕ) → after ≡ Some left → StopsAt a (first_line (seen ++ left)) f) → HasFound first f before after
 line_stops first a before middle after r seen rest f h read some left stops far whole =
     let line = first_line seen in
@@ -108,7 +108,7 @@ line_stops first a before middle after r seen rest f h read some left stops far 
       rest = rest;
       taken = subst (λ (xs : List ℕ). HasTaken before after xs) all taken;
       found = h.goes line f (subst (λ (ls : List (List ℕ)). IsAudited a ls f) (sym one) (inl stops));
-      far = far (h.bytes ++ line) (h.count line ∙ ap (λ ls. length a.entries + length ls) one);
+      far = far (h.count line ∙ ap (λ ls. length a.entries + length ls) one);
       whole = whole_of first (h.bytes ++ seen) f before after taken
           (whole_stops first a h.bytes seen f after (λ more. h.goes more f) (λ some_left is. omega (arith, some, length-append seen some_left)) whole);
     }
@@ -121,7 +121,7 @@ fault_found first a before middle after r s n kind h read limit room number faul
     let fits : line_length (first_line seen) ≤ TRANSCRIPT_LINE_LIMIT = let f = read.fits in let c = alone.counted in omega (arith, f, c, limit) in
     let stops : StopsAt a (first_line seen) (Fault n kind) = (number, (fits, subst (λ (l : List ℕ). HasFault a l kind) read.line fault)) in
     line_stops first a before middle after r seen s.ahead (Fault n kind) h read.seen read.some read.behind stops
-    (λ bytes count. inr (count ∙ ap (λ k. k + 1) (sym number), subst (λ (k : ℕ). length s.ahead < k) room read.less))
+    (λ count. inr (count ∙ ap (λ k. k + 1) (sym number), subst (λ (k : ℕ). length s.ahead < k) room read.less))
     (λ left is. subst (λ (l : List ℕ). StopsAt a l (Fault n kind)) (sym (same_line seen left after (has_end seen) refl read.ended is)) stops)
 
 pub long_found : (first a : AuditShape) (before middle after : Option (List ℕ)) (r s : ReaderShape) (n : ℕ) → HasAudited first a before middle (pending r)
@@ -135,7 +135,13 @@ long_found first a before middle after r s n h read limit room number =
     let some : 0 < length seen = omega (arith, long, within, size) in
     line_stops first a before middle after r seen (behind_line seen) (TooLong n) h read.seen some refl
     (number, let c = alone.counted in omega (arith, long, c, limit))
-    (λ bytes count. (count ∙ ap (λ k. k + 1) (sym number), let less = read.less in omega (arith, less, size, long, within, limit, room)))
+    (λ count. (count ∙ ap (λ k. k + 1) (sym number), record {
+      front = h.bytes;
+      long = first_line seen;
+      parts = refl;
+      lines = let c = h.count [] in let same = ap (λ xs. length (lines_of xs)) (append-nil h.bytes) in omega (arith, c, same, number);
+      few = let less = read.less in omega (arith, less, size, limit, room);
+    }))
     (λ left is.
     let whole = line_alone (seen ++ left) in
     let c = whole.counted in

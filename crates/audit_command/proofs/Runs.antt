@@ -16,7 +16,7 @@ use Rattle.audit_command.specs.declared.finding.Finding.{Finding}
 use Rattle.audit_command.specs.declared.finding.Finding.TheVariants.{Legal, Fault, TooLong}
 use Rattle.audit_command.specs.Auditing.{ending_of, text_of}
 use Rattle.audit_command.specs.Running.{AuditsPolicy, AuditsRun, EndsWithout, ReadsAsAudit}
-use Rattle.audit_command.specs.Steps.{FindsFile, HasTakenSome, IsRefusal}
+use Rattle.audit_command.specs.Steps.{FindsFile, HasTakenSome, IsAuditEnding}
 
 -- ---- by the ending
 
@@ -121,7 +121,7 @@ told_run policy requests lanes rounds r f is finds without loads reads writes in
 }
 
 -- nothing was found: so may every command end
-is_refusal : (fault : RunFault) → IsRefusal fault → answer.IsRefusal fault
+is_refusal : (fault : RunFault) → IsAuditEnding fault → answer.IsCommandEnding fault
 is_refusal Load ending = tt
 is_refusal FileTooLong ending = tt
 is_refusal (Policy e) ending = tt
@@ -135,7 +135,7 @@ is_refusal (LineTooLong n) ending = absurd ending
 is_refusal TooManyLines ending = absurd ending
 is_refusal (BadInput e) ending = absurd ending
 
-refused_early : (fault : RunFault) (before after : Option (List ℕ)) → IsRefusal fault → is_before_input fault ≡ true → ReadsAsAudit fault before after → after ≡ before
+refused_early : (fault : RunFault) (before after : Option (List ℕ)) → IsAuditEnding fault → is_before_input fault ≡ true → ReadsAsAudit fault before after → after ≡ before
 refused_early Load before after ending early reads = reads
 refused_early FileTooLong before after ending early reads = reads
 refused_early (Policy e) before after ending early reads = reads
@@ -149,13 +149,13 @@ refused_early (LineTooLong n) before after ending early reads = absurd ending
 refused_early TooManyLines before after ending early reads = absurd ending
 refused_early (BadInput e) before after ending early reads = absurd ending
 
-refused_file : (A : PolicyShape → RunFault → List ℕ → Type 0) (filed : Filed) (fault : RunFault) (before after : Option (List ℕ)) → IsRefusal fault → FindsFile A filed (Err fault)
+refused_file : (A : PolicyShape → RunFault → List ℕ → Type 0) (filed : Filed) (fault : RunFault) (before after : Option (List ℕ)) → IsAuditEnding fault → FindsFile A filed (Err fault)
     → after ≡ before → OverFile filed fault (λ file. Ends (OverPolicy A file) before after fault)
 refused_file A untold fault before after ending h same = tt
 refused_file A missing fault before after ending h same = cc
 refused_file A (told file) fault before after ending h same = ends_refused (OverPolicy A file) before after fault (is_refusal fault ending) h same
 
-pub refused_run : (policy requests : List ℕ) (lanes rounds : ℕ) (r : Run) → IsRefusal r.fault
+pub refused_run : (policy requests : List ℕ) (lanes rounds : ℕ) (r : Run) → IsAuditEnding r.fault
     → FindsFile (AuditsPolicy (record { requests = r.files requests; lanes = lanes; rounds = rounds }) (record { before = r.before.input; after = r.after.input })) (r.files policy) (Err r.fault)
     → EndsWithout (r.files requests) r.fault → CountsLoads r.fault r.load_faults r.load_faults_after → CountsReadsAlone r.fault r.before.read_faults r.after.read_faults
     → r.after.write_faults ≡ r.before.write_faults → ReadsAsAudit r.fault r.before.input r.after.input → r.after.output ≡ r.before.output → r.told ≡ nothing_told

@@ -7,7 +7,7 @@ use Rattle.wf_talk.specs.declared.entry.Entry.{Entry}
 use Rattle.line_reader.specs.Lines.{line_length, lines_of}
 use Rattle.transcript_audit.specs.declared.fault.AuditKind.{AuditKind}
 use Rattle.transcript_audit.specs.declared.fault.AuditKind.TheVariants.{Text, At, Job, Reply, Missing}
-use Rattle.transcript_audit.specs.Audits.{AuditShape, HasFault, IsNext, with_entry}
+use Rattle.transcript_audit.specs.Audits.{AuditShape, HasFault, IsNextLine, with_entry}
 use Rattle.run_record.specs.declared.fault.RunFault.{RunFault}
 use Rattle.run_record.specs.declared.fault.RunFault.TheVariants.{Nothing, Found, LineTooLong}
 use Rattle.audit_command.specs.declared.finding.Finding.{Finding}
@@ -28,7 +28,7 @@ StopsAt a line (TooLong n) = (n ≡ length a.entries) × (TRANSCRIPT_LINE_LIMIT 
 
 -- the line is the text of an entry that comes next, and not too long
 abbrev pub GoesOn : AuditShape → List ℕ → Entry → Type 0
-GoesOn a line e = (line_length line ≤ TRANSCRIPT_LINE_LIMIT) × IsNext a line e
+GoesOn a line e = (line_length line ≤ TRANSCRIPT_LINE_LIMIT) × IsNextLine a line e
 
 -- what is found in some lines
 abbrev pub IsAudited : AuditShape → List (List ℕ) → Finding → Type 0
@@ -55,13 +55,21 @@ text_of Legal = codes "legal\n"
 text_of (Fault n kind) = codes "fault " ++ decimal n ++ codes " " ++ word_of kind ++ codes "\n"
 text_of (TooLong n) = []
 
--- how far the input was read: to its end where no line has a fault or is too long; else past that line, of which the audit
--- has seen at most so many bytes more than a line may have, by less than a piece
+-- behind so many lines the audit has seen, of the next one and behind it, at most a piece more than a line may have
+pub record HasSeenLong (n : ℕ) (bytes rest : List ℕ) : Type 0 where
+  pub front : List ℕ
+  pub long : List ℕ
+  pub parts : bytes ≡ front ++ long
+  pub lines : length (lines_of front) ≡ n
+  pub few : length long + length rest ≤ TRANSCRIPT_LINE_LIMIT + PIECE
+
+-- how far the input was read: to its end where no line has a fault or is too long; else past the line that has the fault by
+-- less than a piece, and of the one that is too long by at most a piece more than a line may have
 abbrev pub IsFar : Finding → List ℕ → List ℕ → Option (List ℕ) → Type 0
 IsFar Legal bytes rest after = (rest ≡ []) × IsAtEnd after
 IsFar (Fault n kind) bytes rest after =
     ((kind ≡ Missing) × ((rest ≡ []) × IsAtEnd after)) ⊎ ((length (lines_of bytes) ≡ n + 1) × (length rest < PIECE))
-IsFar (TooLong n) bytes rest after = (length (lines_of bytes) ≡ n + 1) × (length rest < PIECE)
+IsFar (TooLong n) bytes rest after = (length (lines_of bytes) ≡ n + 1) × HasSeenLong n bytes rest
 
 -- what was found in the input that a source gave: in the bytes that were looked at, and in all of the input where it tells
 pub record HasFound (a : AuditShape) (f : Finding) (before after : Option (List ℕ)) : Type 0 where

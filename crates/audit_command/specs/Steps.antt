@@ -4,7 +4,7 @@ use Rattle.wf_outside.specs.Outside.{Filed, told, missing, untold, HasPart, HasT
 use Rattle.policy_book.specs.Shapes.{PolicyShape}
 use Rattle.wf_talk.specs.declared.entry.Entry.{Entry}
 use Rattle.line_reader.specs.Lines.{lines_of}
-use Rattle.transcript_audit.specs.Audits.{AuditShape, HasFault, IsNext, with_entry}
+use Rattle.transcript_audit.specs.Audits.{AuditShape, HasFault, IsNextLine, with_entry}
 use Rattle.run_record.specs.declared.fault.RunFault.{RunFault}
 use Rattle.run_record.specs.declared.fault.RunFault.TheVariants.{Policy, Read, Write, Load, NoMemory, FileTooLong}
 use Rattle.wf_commands.specs.Answer.{AnswersAs}
@@ -27,7 +27,7 @@ HasTakenSome before after = (bytes : List ℕ) × HasTaken before after bytes
 
 -- what becomes of a line
 abbrev pub TakesLine : AuditShape → AuditShape → List ℕ → Result (Option Finding) RunFault → Type 0
-TakesLine a b line (Ok None) = (e : Entry) × (IsNext a line e × (b ≡ with_entry a e))
+TakesLine a b line (Ok None) = (e : Entry) × (IsNextLine a line e × (b ≡ with_entry a e))
 TakesLine a b line (Ok (Some Legal)) = ⊥
 TakesLine a b line (Ok (Some (Fault n kind))) = (n ≡ length a.entries) × HasFault a line kind
 TakesLine a b line (Ok (Some (TooLong n))) = ⊥
@@ -53,13 +53,13 @@ IsReadEnding NoMemory = Unit {0}
 IsReadEnding fault = ⊥
 
 -- the endings without a finding
-abbrev pub IsRefusal : RunFault → Type 0
-IsRefusal FileTooLong = Unit {0}
-IsRefusal (Policy fault) = Unit {0}
-IsRefusal Load = Unit {0}
-IsRefusal Read = Unit {0}
-IsRefusal NoMemory = Unit {0}
-IsRefusal fault = ⊥
+abbrev pub IsAuditEnding : RunFault → Type 0
+IsAuditEnding FileTooLong = Unit {0}
+IsAuditEnding (Policy fault) = Unit {0}
+IsAuditEnding Load = Unit {0}
+IsAuditEnding Read = Unit {0}
+IsAuditEnding NoMemory = Unit {0}
+IsAuditEnding fault = ⊥
 
 -- a finding is one of these; the ending without one as that of every command
 abbrev pub FindsAs : (RunFault → List ℕ → Type 0) → Result Finding RunFault → Type 0

@@ -6,7 +6,7 @@ ghost use Rattle.run_record.specs.Fault.{fault_in, status_of, CountsLoads, Count
 ghost use Rattle.run_record.specs.Run.{run_of, streams_of};
 ghost use Rattle.audit_command.specs.Auditing.{text_of};
 ghost use Rattle.audit_command.specs.Running.{AuditsPolicy, AuditsRun, EndsWithout, ReadsAsAudit};
-ghost use Rattle.audit_command.specs.Steps.{FailsAs, FindsAs, FindsFile, IsRefusal};
+ghost use Rattle.audit_command.specs.Steps.{FailsAs, FindsAs, FindsFile, IsAuditEnding};
 
 use crate::finding::Finding;
 use crate::lines::audit_input;
@@ -71,7 +71,7 @@ fn find<V: Decider, F: Shelf, S: Source>(
     ensures finds { FindsFile (AuditsPolicy
         (record { requests = F.file shelf.old requests.now; lanes = lanes; rounds = rounds })
         (record { before = S.left source.old; after = S.left source.new })) (F.file shelf.old policy.now) result }
-    ensures ending { IfErr result IsRefusal }
+    ensures ending { IfErr result IsAuditEnding }
     ensures without { EndsWithout (F.file shelf.old requests.now) (fault_in result) }
     ensures loads { CountsLoads (fault_in result) (F.faults shelf.old) (F.faults shelf.new) }
     ensures reads { CountsReadsAlone (fault_in result) (S.faults source.old) (S.faults source.new) }
@@ -100,7 +100,7 @@ fn find_under<V: Decider, F: Shelf, S: Source>(
     ensures finds { FindsAs (AuditsPolicy
         (record { requests = F.file shelf.old requests.now; lanes = lanes; rounds = rounds })
         (record { before = S.left source.old; after = S.left source.new }) policy) result }
-    ensures ending { IfErr result IsRefusal }
+    ensures ending { IfErr result IsAuditEnding }
     ensures without { EndsWithout (F.file shelf.old requests.now) (fault_in result) }
     ensures loads { CountsLoads (fault_in result) (F.faults shelf.old) (F.faults shelf.new) }
     ensures reads { CountsReadsAlone (fault_in result) (S.faults source.old) (S.faults source.new) }

@@ -13,7 +13,7 @@ use Rattle.grant_table.specs.declared.rows.Row.{Row}
 use Rattle.grant_table.specs.Tables.{case_in, plan_of, row_at}
 use Rattle.wf_talk.specs.declared.reply.Denial.{Denial}
 use Rattle.denial_reasons.specs.Causes.{assigned_with}
-use Rattle.wsp_solver.specs.Searches.{Decides}
+use Rattle.wsp_solver.specs.Searches.{HasSolved}
 use Rattle.wsp_solver.specs.declared.search.Outcome.{Outcome}
 use Rattle.wsp_solver.specs.declared.search.Outcome.TheVariants as outcome
 use Rattle.wf_board.specs.declared.deed.Deed.{Deed}
@@ -25,7 +25,7 @@ use Rattle.wf_board.specs.declared.verdict.Verdict.TheVariants as verdict
 use Rattle.wf_board.specs.States.{Book}
 use Rattle.wf_board.specs.Decisions.{decision_aside, needs_verdict, takes_memory}
 use Rattle.wf_board.specs.Refusals.{denial_in}
-use Rattle.wf_board.specs.Verdicts.{Decides as IsDecided}
+use Rattle.wf_board.specs.Verdicts.{Decides}
 use Rattle.wf_talk.specs.declared.request.Ask.{Ask}
 use Rattle.std.proofs.lemmas.Bool.{false≢true}
 use Rattle.wf_board.specs.Kept.{ArePlanned, IsOfPolicy, IsPlanned}
@@ -109,7 +109,7 @@ decides_same p q f g a b d e v policy flow assigned done h =
     (subst (λ x. DecidesFor (problem_of q g) b x v) done h)))
 
 -- what a search found is a verdict
-pub verdict_decides : (p : Problem) (a : List (Option ℕ)) (d : List Bool) (o : Outcome) (v : Verdict) → Decides p a d o → IsVerdictOf o v → DecidesFor p a d v
+pub verdict_decides : (p : Problem) (a : List (Option ℕ)) (d : List Bool) (o : Outcome) (v : Verdict) → HasSolved p a d o → IsVerdictOf o v → DecidesFor p a d v
 verdict_decides p a d (outcome.Plan plan) v found is = subst (DecidesFor p a d) (sym is) found
 verdict_decides p a d (outcome.Refuted tree) v found is = subst (DecidesFor p a d) (sym is) found.refutes
 
@@ -173,7 +173,7 @@ refused_needs_none reading (refused.Denied d) gives memory = ap needs_verdict gi
 refused_needs_none reading refused.NoMemory gives memory = listed_needs_none reading (memory refl)
 
 -- and nothing is right
-pub nothing_decides : (b c : Book) (what : Ask) → c ≡ b → needs_verdict (decision_aside c what) ≡ false → IsDecided b what verdict.Nothing
+pub nothing_decides : (b c : Book) (what : Ask) → c ≡ b → needs_verdict (decision_aside c what) ≡ false → Decides b what verdict.Nothing
 nothing_decides b c what same none = record {
   right = tt;
   nothing = λ e. refl;

@@ -19,7 +19,7 @@ use Rattle.wf_talk.specs.declared.reply.Denial.{Denial}
 use Rattle.wf_talk.specs.declared.reply.Denial.TheVariants.{Taken}
 use Rattle.wf_talk.specs.declared.reply.WorkItem.{WorkItem}
 use Rattle.denial_reasons.specs.Causes.{assigned_with, first_cause, first_of}
-use Rattle.wsp_solver.specs.Searches.{Decides}
+use Rattle.wsp_solver.specs.Searches.{HasSolved}
 use Rattle.wsp_solver.specs.declared.search.Outcome.{Outcome}
 use Rattle.wsp_solver.specs.declared.search.Outcome.TheVariants as outcome
 use Rattle.wf_board.specs.Boards.{numbered}
@@ -67,7 +67,7 @@ free_of (Finished v) rest clear = cc
 
 -- where nothing is against a claim, what was found of its case tells whether it would be granted
 pub told_by : (p : PolicyShape) (c : CaseShape) (t u : ℕ) (o : Outcome) → IsWellFormed (problem_of p c.flow) → first_cause p c t u ≡ None →
-    Decides (problem_of p c.flow) (assigned_with c t u) (finished_of c) o → MatchBool (is_plan o) (IsGrantable p c t u) (¬ IsGrantable p c t u)
+    HasSolved (problem_of p c.flow) (assigned_with c t u) (finished_of c) o → MatchBool (is_plan o) (IsGrantable p c t u) (¬ IsGrantable p c t u)
 told_by p c t u (outcome.Plan plan) well clear found = record { clear = clear; completable = (plan, found) }
 told_by p c t u (outcome.Refuted tree) well clear found = λ grantable.
     refutes_soundly (problem_of p c.flow) (assigned_with c t u) (finished_of c) (shape_of tree) well (claimed_assigned c t u (free_of (state_at c t) _ clear)) found.refutes grantable.completable

@@ -5,7 +5,7 @@ use Rattle.policy_book.specs.Policies.{problem_of}
 use Rattle.case_record.specs.Cases.{assigned_of, finished_of, is_open}
 use Rattle.grant_table.specs.declared.rows.Row.{Row}
 use Rattle.wf_talk.specs.declared.reply.WorkItem.{WorkItem}
-use Rattle.wsp_solver.specs.Searches.{Decides}
+use Rattle.wsp_solver.specs.Searches.{HasSolved}
 use Rattle.wsp_solver.specs.declared.search.Outcome.{Outcome}
 use Rattle.wsp_solver.specs.declared.search.Outcome.TheVariants as outcome
 use Rattle.wf_board.specs.Boards.{numbered}
@@ -43,7 +43,7 @@ list_of (Some x) = x ∷ []
 abbrev pub IsLeftAt : PolicyShape → Row → Option Outcome → Type 0
 IsLeftAt p r None = is_open r.case ≡ false
 IsLeftAt p r (Some o) =
-    (is_open r.case ≡ true) × Decides (problem_of p r.case.flow) (assigned_of r.case) (finished_of r.case) o
+    (is_open r.case ≡ true) × HasSolved (problem_of p r.case.flow) (assigned_of r.case) (finished_of r.case) o
 
 -- what was found is a plan
 abbrev pub is_plan : Outcome → Bool

@@ -4,7 +4,7 @@ ghost use Rattle.policy_book.specs.Policies.{problem_of};
 ghost use Rattle.policy_book.specs.Plans.{AreAssigned, IsWithin};
 ghost use Rattle.case_record.specs.Cases.{assigned_of, finished_of};
 ghost use Rattle.admin_edits.specs.Edits.{amended};
-ghost use Rattle.wsp_solver.specs.Searches.{Decides};
+ghost use Rattle.wsp_solver.specs.Searches.{HasSolved};
 ghost use Rattle.wf_board.specs.Boards.{book_on};
 ghost use Rattle.wf_board.specs.Edited.{IsPlanOf};
 ghost use Rattle.wf_board.specs.Found.{IsAllowed};
@@ -172,7 +172,7 @@ fn plan_for(
     requires after { after.now ≡ amended p.now a.now }
     requires known { IsOfPolicy p.now case.now }
     requires valid { IsPlanOf p.now case.now kept }
-    ensures { IfOk result (Decides (problem_of after.now case.now.flow) (assigned_of case.now)
+    ensures { IfOk result (HasSolved (problem_of after.now case.now.flow) (assigned_of case.now)
         (finished_of case.now)) }
 {
     if may_hurt(p, a, case.flow(), &case.finished(), &kept) {
@@ -186,7 +186,7 @@ fn plan_for(
 fn outcome_of(alloc: Global, p: &Policy, case: &Case, kept: &Plan) -> Result<Outcome, AllocError>
     requires flow { case.now.flow < length p.now.flows }
     requires within { IsWithin (problem_of p.now case.now.flow) (assigned_of case.now) }
-    ensures { IfOk result (Decides (problem_of p.now case.now.flow) (assigned_of case.now)
+    ensures { IfOk result (HasSolved (problem_of p.now case.now.flow) (assigned_of case.now)
         (finished_of case.now)) }
 {
     let (assigned, done) = progress_of(case);

@@ -5,7 +5,7 @@ ghost use Rattle.policy_book.specs.Plans.{AreAssigned, IsWithin};
 ghost use Rattle.wf_names.specs.declared.limits.TheConstants.{STEP_LIMIT};
 ghost use Rattle.case_record.specs.Cases.{assigned_of, finished_of};
 ghost use Rattle.denial_reasons.specs.Causes.{assigned_with};
-ghost use Rattle.wsp_solver.specs.Searches.{Decides};
+ghost use Rattle.wsp_solver.specs.Searches.{HasSolved};
 ghost use Rattle.wf_board.specs.Edited.{IsPlanOf};
 ghost use Rattle.wf_board.specs.Kept.{IsOfPolicy};
 
@@ -30,7 +30,7 @@ pub(crate) fn outcome_with(
     requires valid { IsPlanOf p.now case.now kept.now }
     requires step { step < length case.now.states }
     requires user { user < length p.now.roster.users }
-    ensures { IfOk result (Decides (problem_of p.now case.now.flow)
+    ensures { IfOk result (HasSolved (problem_of p.now case.now.flow)
         (assigned_with case.now step user)
         (finished_of case.now)) }
 {
@@ -65,7 +65,7 @@ pub(crate) fn outcome_near(
     requires flow { f < length p.now.flows }
     requires within { IsWithin (problem_of p.now f) a.now }
     requires assigned { AreAssigned done.now a.now }
-    ensures { IfOk result (Decides (problem_of p.now f) a.now done.now) }
+    ensures { IfOk result (HasSolved (problem_of p.now f) a.now done.now) }
 {
     match plan_near(p, f, a, done, kept) {
         Some(near) => Ok(Outcome::Plan(near)),

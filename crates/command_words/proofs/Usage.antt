@@ -15,7 +15,7 @@ use Rattle.clap.specs.declared.parser.matches.ValueSource.{ValueSource}
 use Rattle.clap.specs.declared.parser.matches.ValueSource.TheVariants.{CommandLine, DefaultValue}
 use Rattle.clap.proofs.OnLiterals.{clap_on_literals}
 use Rattle.wf_names.specs.declared.limits.TheConstants.{DEFAULT_LANES, DEFAULT_ROUNDS, LANE_LIMIT, ROUND_LIMIT}
-use Rattle.command_words.specs.Words.{AreOptions, Options, audit, audit_form, audit_of, command_of, found, number_of, plan, plan_form, plan_of, policy_in, serve, serve_form, serve_of, show, show_form, solve, solve_form, trial, trial_form}
+use Rattle.command_words.specs.Words.{AreOptions, Options, audit, audit_form, audit_in, command_of, found, number_in, plan, plan_form, plan_in, policy_in, serve, serve_form, serve_in, show, show_form, solve, solve_form, trial, trial_form}
 use Rattle.command_words.specs.Usage.{IsPlain, option_words, options_with}
 use Rattle.command_words.proofs.Decimals.{decimal_plain, signed_taken, unsigned_taken, value_of, value_without_minus}
 use Rattle.command_words.proofs.Walking.{at, ends, goes, goes_plain, taken}
@@ -247,7 +247,7 @@ numbers_are o are =
     ap₂ with_numbers (value_without_minus o.lanes (omega arith)) (value_without_minus o.rounds (omega arith))
 
 pub plan_read : (p f : Text) → IsPlain p → IsPlain f → command_of (codes "plan" ∷ p ∷ f ∷ []) ≡ Some (plan p f)
-plan_read p f plain plain_f = ap (option_and_then plan_of) (plan_found p f plain plain_f)
+plan_read p f plain plain_f = ap (option_and_then plan_in) (plan_found p f plain plain_f)
 
 pub show_read : (p : Text) → IsPlain p → command_of (codes "show" ∷ p ∷ []) ≡ Some (show p)
 show_read p plain = ap (λ rows. option_map show (option_and_then policy_in rows)) (show_found p plain)
@@ -255,14 +255,14 @@ show_read p plain = ap (λ rows. option_map show (option_and_then policy_in rows
 pub solve_read : (p : Text) → IsPlain p → command_of (codes "solve" ∷ p ∷ []) ≡ Some (solve p)
 solve_read p plain = ap (λ rows. option_map solve (option_and_then policy_in rows)) (solve_found p plain)
 
-serve_rows : (p : Text) (lanes rounds : Option ℕ) → serve_of (serve_files p ++ option_rows lanes rounds)
+serve_rows : (p : Text) (lanes rounds : Option ℕ) → serve_in (serve_files p ++ option_rows lanes rounds)
     ≡ Some (serve p (with_numbers (number (options_with lanes rounds).lanes) (number (options_with lanes rounds).rounds)))
 serve_rows p None None = refl
 serve_rows p (Some lanes) None = refl
 serve_rows p None (Some rounds) = refl
 serve_rows p (Some lanes) (Some rounds) = refl
 
-audit_rows : (p q : Text) (lanes rounds : Option ℕ) → audit_of (audit_files p q ++ option_rows lanes rounds)
+audit_rows : (p q : Text) (lanes rounds : Option ℕ) → audit_in (audit_files p q ++ option_rows lanes rounds)
     ≡ Some (audit p q (with_numbers (number (options_with lanes rounds).lanes) (number (options_with lanes rounds).rounds)))
 audit_rows p q None None = refl
 audit_rows p q (Some lanes) None = refl
@@ -272,16 +272,16 @@ audit_rows p q (Some lanes) (Some rounds) = refl
 pub serve_read : (p : Text) (lanes rounds : Option ℕ) → IsPlain p → AreOptions (options_with lanes rounds)
     → command_of (codes "serve" ∷ p ∷ option_words lanes rounds) ≡ Some (serve p (options_with lanes rounds))
 serve_read p lanes rounds plain are =
-    ap (option_and_then serve_of) (serve_found p plain lanes rounds are) ∙ serve_rows p lanes rounds
+    ap (option_and_then serve_in) (serve_found p plain lanes rounds are) ∙ serve_rows p lanes rounds
     ∙ ap (λ (o : Options). Some (serve p o)) (numbers_are (options_with lanes rounds) are)
 
 pub audit_read : (p q : Text) (lanes rounds : Option ℕ) → IsPlain p → IsPlain q → AreOptions (options_with lanes rounds)
     → command_of (codes "audit" ∷ p ∷ q ∷ option_words lanes rounds) ≡ Some (audit p q (options_with lanes rounds))
 audit_read p q lanes rounds plain plain_q are =
-    ap (option_and_then audit_of) (audit_found p q plain plain_q lanes rounds are) ∙ audit_rows p q lanes rounds
+    ap (option_and_then audit_in) (audit_found p q plain plain_q lanes rounds are) ∙ audit_rows p q lanes rounds
     ∙ ap (λ (o : Options). Some (audit p q o)) (numbers_are (options_with lanes rounds) are)
 
 pub trial_read : (seed : ℕ) → seed < 2 ^ 64 → command_of (codes "trial" ∷ decimal seed ∷ []) ≡ Some (trial seed)
 trial_read seed small =
-    ap (λ rows. option_map trial (option_and_then (number_of (codes "SEED")) rows)) (trial_found (decimal seed) (decimal_plain seed small) (unsigned_taken seed small))
+    ap (λ rows. option_map trial (option_and_then (number_in (codes "SEED")) rows)) (trial_found (decimal seed) (decimal_plain seed small) (unsigned_taken seed small))
     ∙ ap (λ (n : ℕ). Some (trial n)) (value_of seed small)

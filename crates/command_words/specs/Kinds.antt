@@ -3,7 +3,7 @@ use Rattle.std.specs.Prelude.{List, Option, None, Some, option_map, option_and_t
 use Rattle.clap.specs.Words.{App, Row, Text}
 use Rattle.command_words.specs.declared.kind.Kind.{Kind}
 use Rattle.command_words.specs.declared.kind.Kind.TheVariants as kind
-use Rattle.command_words.specs.Words.{Command, audit_form, audit_of, found, number_of, plan_form, plan_of, policy_in, serve_form, serve_of, show, show_form, solve, solve_form, trial, trial_form}
+use Rattle.command_words.specs.Words.{Command, audit_form, audit_in, found, number_in, plan_form, plan_in, policy_in, serve_form, serve_in, show, show_form, solve, solve_form, trial, trial_form}
 use Rattle.command_words.specs.Finding.{HasOptions, WritesWithin}
 
 abbrev pub form_of : Kind → App
@@ -16,12 +16,12 @@ form_of kind.Trial = trial_form
 
 -- the command, by what is found at the words
 abbrev pub command_by : Kind → Option (List Row) → Option Command
-command_by kind.Plan rows = option_and_then plan_of rows
+command_by kind.Plan rows = option_and_then plan_in rows
 command_by kind.Show rows = option_map show (option_and_then policy_in rows)
 command_by kind.Solve rows = option_map solve (option_and_then policy_in rows)
-command_by kind.Serve rows = option_and_then serve_of rows
-command_by kind.Audit rows = option_and_then audit_of rows
-command_by kind.Trial rows = option_map trial (option_and_then (number_of (codes "SEED")) rows)
+command_by kind.Serve rows = option_and_then serve_in rows
+command_by kind.Audit rows = option_and_then audit_in rows
+command_by kind.Trial rows = option_map trial (option_and_then (number_in (codes "SEED")) rows)
 
 -- the command of a kind, at all the words
 abbrev pub of_kind : Option Kind → List Text → Option Command

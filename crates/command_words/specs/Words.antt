@@ -88,8 +88,8 @@ unfoldable pub found : App → List Text → Option (List Row)
 found app words = if is_empty (fault_of app words) then Some (matches_of app words) else None
 
 -- the number that was found under a name
-abbrev pub number_of : Text → List Row → Option ℕ
-number_of name rows =
+abbrev pub number_in : Text → List Row → Option ℕ
+number_in name rows =
     option_map (λ text. digits_value 10 (without_leading_plus text)) (one_of name rows)
 
 -- both, where both are there
@@ -101,16 +101,16 @@ policy_in rows = first_of (codes "POLICY") rows
 
 abbrev pub options_of : List Row → Option Options
 options_of rows = with_both (λ lanes rounds. record { lanes = lanes; rounds = rounds })
-    (number_of (codes "lanes") rows) (number_of (codes "rounds") rows)
+    (number_in (codes "lanes") rows) (number_in (codes "rounds") rows)
 
-abbrev pub plan_of : List Row → Option Command
-plan_of rows = with_both plan (policy_in rows) (first_of (codes "FLOW") rows)
+abbrev pub plan_in : List Row → Option Command
+plan_in rows = with_both plan (policy_in rows) (first_of (codes "FLOW") rows)
 
-abbrev pub serve_of : List Row → Option Command
-serve_of rows = with_both serve (policy_in rows) (options_of rows)
+abbrev pub serve_in : List Row → Option Command
+serve_in rows = with_both serve (policy_in rows) (options_of rows)
 
-abbrev pub audit_of : List Row → Option Command
-audit_of rows = option_and_then (λ policy.
+abbrev pub audit_in : List Row → Option Command
+audit_in rows = option_and_then (λ policy.
     with_both (audit policy) (first_of (codes "REQUESTS") rows) (options_of rows)) (policy_in rows)
 
 -- ---- the command
@@ -122,15 +122,15 @@ is_word word other = pointwise nat_eq word other
 -- the command of this first word, at all the words
 abbrev pub command_at : Text → List Text → Option Command
 command_at word words =
-    if is_word word (codes "plan") then option_and_then plan_of (found plan_form words) else
+    if is_word word (codes "plan") then option_and_then plan_in (found plan_form words) else
     if is_word word (codes "show")
     then option_map show (option_and_then policy_in (found show_form words)) else
     if is_word word (codes "solve")
     then option_map solve (option_and_then policy_in (found solve_form words)) else
-    if is_word word (codes "serve") then option_and_then serve_of (found serve_form words) else
-    if is_word word (codes "audit") then option_and_then audit_of (found audit_form words) else
+    if is_word word (codes "serve") then option_and_then serve_in (found serve_form words) else
+    if is_word word (codes "audit") then option_and_then audit_in (found audit_form words) else
     if is_word word (codes "trial")
-    then option_map trial (option_and_then (number_of (codes "SEED")) (found trial_form words)) else
+    then option_map trial (option_and_then (number_in (codes "SEED")) (found trial_form words)) else
     None
 
 -- the command that the words are, where they are one

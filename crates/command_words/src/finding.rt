@@ -1,7 +1,7 @@
 //! What `clap` finds at the words.
 ghost use Rattle.std.specs.Prelude.{◌≡◌, ◌<◌, ◌≤◌, ◌-◌, ◌^◌, IfOk, IfSome, map, option_map, string_bytes, codes, true};
 ghost use Rattle.clap.specs.Words.{app_of, first_of, is_simple_and_free};
-ghost use Rattle.command_words.specs.Words.{found, number_of};
+ghost use Rattle.command_words.specs.Words.{found, number_in};
 ghost use Rattle.command_words.specs.Finding.{PassesIn, WritesWithin, rows_in};
 
 use clap::error::ErrorKind;
@@ -38,7 +38,7 @@ pub(crate) fn word_in<'a>(matches: &ArgMatches<'a>, name: &str) -> Option<&'a st
 /// The number that was found under a name, which is within these bounds.
 pub(crate) fn number_in(matches: &ArgMatches<'_>, name: &str, least: u8, most: u8) -> Option<u8>
     requires within { WritesWithin least most name.now (rows_in matches.now) }
-    ensures number { result ≡ number_of name.now (rows_in matches.now) }
+    ensures number { result ≡ number_in name.now (rows_in matches.now) }
     ensures within { IfSome result (λ n. (least ≤ n) × (n ≤ most)) }
 {
     matches.get_one::<u8>(name)
@@ -47,7 +47,7 @@ pub(crate) fn number_in(matches: &ArgMatches<'_>, name: &str, least: u8, most: u
 /// The number that was found as the seed.
 pub(crate) fn seed_in(matches: &ArgMatches<'_>) -> Option<u64>
     requires within { WritesWithin 0 (2 ^ 64 - 1) (codes "SEED") (rows_in matches.now) }
-    ensures { result ≡ number_of (codes "SEED") (rows_in matches.now) }
+    ensures { result ≡ number_in (codes "SEED") (rows_in matches.now) }
 {
     matches.get_one::<u64>("SEED")
 }

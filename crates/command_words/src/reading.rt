@@ -1,6 +1,6 @@
 //! Reading the words of the command line.
 ghost use Rattle.std.specs.Prelude.{◌≡◌, ◌-◌, ◌^◌, IfOk, IfSome, Some, map, option_map, string_bytes, codes};
-ghost use Rattle.command_words.specs.Words.{AreOptions, audit_of, command_at, command_of, found, number_of, options_of, plan_of, policy_in, serve_of, show, solve, trial};
+ghost use Rattle.command_words.specs.Words.{AreOptions, audit_in, command_at, command_of, found, number_in, options_of, plan_in, policy_in, serve_in, show, solve, trial};
 ghost use Rattle.command_words.specs.Asked.{CanServe, asked, options_in};
 ghost use Rattle.command_words.specs.Finding.{HasOptions, WritesWithin, rows_in};
 ghost use Rattle.command_words.specs.Kinds.{AreWithin, command_by, form_of};
@@ -75,7 +75,7 @@ fn command_in<'a>(kind: Kind, matches: &ArgMatches<'a>) -> Option<Command<'a>>
 }
 
 fn plan_in<'a>(matches: &ArgMatches<'a>) -> Option<Command<'a>>
-    ensures command { option_map asked result ≡ plan_of (rows_in matches.now) }
+    ensures command { option_map asked result ≡ plan_in (rows_in matches.now) }
     ensures served { IfSome result CanServe }
 {
     let policy = word_in(matches, "POLICY")?;
@@ -101,7 +101,7 @@ fn solve_in<'a>(matches: &ArgMatches<'a>) -> Option<Command<'a>>
 
 fn serve_in<'a>(matches: &ArgMatches<'a>) -> Option<Command<'a>>
     requires options { HasOptions (rows_in matches.now) }
-    ensures command { option_map asked result ≡ serve_of (rows_in matches.now) }
+    ensures command { option_map asked result ≡ serve_in (rows_in matches.now) }
     ensures served { IfSome result CanServe }
 {
     let policy = word_in(matches, "POLICY")?;
@@ -111,7 +111,7 @@ fn serve_in<'a>(matches: &ArgMatches<'a>) -> Option<Command<'a>>
 
 fn audit_in<'a>(matches: &ArgMatches<'a>) -> Option<Command<'a>>
     requires options { HasOptions (rows_in matches.now) }
-    ensures command { option_map asked result ≡ audit_of (rows_in matches.now) }
+    ensures command { option_map asked result ≡ audit_in (rows_in matches.now) }
     ensures served { IfSome result CanServe }
 {
     let policy = word_in(matches, "POLICY")?;
@@ -127,7 +127,7 @@ fn audit_in<'a>(matches: &ArgMatches<'a>) -> Option<Command<'a>>
 fn trial_in<'a>(matches: &ArgMatches<'a>) -> Option<Command<'a>>
     requires within { WritesWithin 0 (2 ^ 64 - 1) (codes "SEED") (rows_in matches.now) }
     ensures command { option_map asked result
-        ≡ option_map trial (number_of (codes "SEED") (rows_in matches.now)) }
+        ≡ option_map trial (number_in (codes "SEED") (rows_in matches.now)) }
     ensures served { IfSome result CanServe }
 {
     let seed = seed_in(matches)?;

@@ -79,7 +79,7 @@ pub record FitsStranded (s : State) (n f : ℕ) (tree : Tree) : Type 0 where
   pub flow : f < length s.book.policy.flow_names
   pub fits : FitsTree s.book.policy f (shape_of tree)
 
-amended_problem : (p : PolicyShape) (a : Amendment) (f : ℕ) → edits.IsFound p a → IsSoundPolicy (amended p a) → f < length p.flows → (amended p a).roster.users ≡ p.roster.users
+amended_problem : (p : PolicyShape) (a : Amendment) (f : ℕ) → edits.IsKnownChange p a → IsSoundPolicy (amended p a) → f < length p.flows → (amended p a).roster.users ≡ p.roster.users
     → IsProblemOf p f (problem_of (amended p a) f)
 amended_problem p a f found sound known same =
     let names = changes_keep_names p a found in

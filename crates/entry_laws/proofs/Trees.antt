@@ -17,7 +17,7 @@ use Rattle.policy_book.specs.Refuting.{all_refute, authorised_users, have_users,
 use Rattle.certificate_check.proofs.Assigned.{not_some}
 use Rattle.wf_board.proofs.Below.{AllBelow, one_below, passing_all}
 use Rattle.wire_json.specs.Trees.{branches_data, tree_data}
-use Rattle.entry_reader.specs.Within.{AreKids, IsStep, IsTree}
+use Rattle.entry_reader.specs.Within.{AreKids, IsStepOf, IsTree}
 
 -- ---- steps that nobody has
 
@@ -102,7 +102,7 @@ broken_there : (pr : Problem) (a : List (Option ℕ)) (k : ℕ) (o : Option Rule
 broken_there pr a k None is broken = cc
 broken_there pr a k (Some r) is broken = slice_get_within pr.rules k r is
 
-step_there : (p : PolicyShape) (f : ℕ) (pr : Problem) (s : ℕ) → IsProblemOf p f pr → s < pr.steps → IsStep p f s
+step_there : (p : PolicyShape) (f : ℕ) (pr : Problem) (s : ℕ) → IsProblemOf p f pr → s < pr.steps → IsStepOf p f s
 step_there p f pr s of below = subst (λ n. s < n) of.steps below
 
 mutual

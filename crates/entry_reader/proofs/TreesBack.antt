@@ -11,7 +11,7 @@ use Rattle.policy_book.specs.Policies.{flow_at}
 use Rattle.wire_json.specs.Entries.{single, user_data, step_data}
 use Rattle.wire_json.specs.Trees.{tree_data, branches_data}
 use Rattle.entry_reader.specs.Named.{HasNames}
-use Rattle.entry_reader.specs.Within.{IsUser, IsStep, IsTree, AreKids}
+use Rattle.entry_reader.specs.Within.{IsUser, IsStepOf, IsTree, AreKids}
 use Rattle.entry_reader.specs.Values.{below, user_in, step_in, twin_in, with_kid, are_node_keys, tree_in, tree_at, kids_of, kids_in, kid_in, kid_at}
 use Rattle.entry_reader.proofs.Readings.{and_then_some, map_some, none_some, some_same}
 use Rattle.entry_reader.proofs.NamesBack.{numbered_named, IsNumbered, numbered_is}
@@ -24,7 +24,7 @@ below_back bound n h = rw (lt-ltb n bound h) refl
 pub user_back : (p : PolicyShape) (u : ℕ) → HasNames p → IsUser p u → user_in p (user_data p u) ≡ Some u
 user_back p u k h = numbered_named p.roster.users u k.users h
 
-pub step_back : (p : PolicyShape) (f s : ℕ) → HasNames p → IsStep p f s → step_in p f (step_data p f s) ≡ Some s
+pub step_back : (p : PolicyShape) (f s : ℕ) → HasNames p → IsStepOf p f s → step_in p f (step_data p f s) ≡ Some s
 step_back p f s k h = numbered_named (flow_at p f).flow.steps s (k.steps f) h
 
 no_twin : (p : PolicyShape) (f : ℕ) (t : Shape) → twin_in p (tree_data p f t) ≡ None

@@ -29,8 +29,8 @@ IsRole p r = r < length p.roster.roles
 abbrev pub IsFlow : PolicyShape → ℕ → Type 0
 IsFlow p f = f < length p.flow_names
 
-abbrev pub IsStep : PolicyShape → ℕ → ℕ → Type 0
-IsStep p f s = s < length (flow_at p f).flow.steps
+abbrev pub IsStepOf : PolicyShape → ℕ → ℕ → Type 0
+IsStepOf p f s = s < length (flow_at p f).flow.steps
 
 -- the numbers that rules and cases may have
 abbrev pub IsRule : ℕ → Type 0
@@ -46,9 +46,9 @@ IsPlan p plan = (length plan ≤ STEP_LIMIT) × All (IsUser p) plan
 abbrev mutual
   -- a tree over users of the policy and steps of a workflow
   pub IsTree : PolicyShape → ℕ → Shape → Type 0
-  IsTree p f (holder s) = IsStep p f s
+  IsTree p f (holder s) = IsStepOf p f s
   IsTree p f (rule k) = IsRule k
-  IsTree p f (node s kids) = IsStep p f s × AreKids p f kids
+  IsTree p f (node s kids) = IsStepOf p f s × AreKids p f kids
 
   pub AreKids : PolicyShape → ℕ → Kids → Type 0
   AreKids p f no_kids = Unit {0}
@@ -89,7 +89,7 @@ IsDenial p flows concerned denial.Closed = Unit {0}
 IsDenial p flows concerned denial.NoStep = Unit {0}
 IsDenial p flows concerned denial.NoUser = Unit {0}
 IsDenial p flows concerned (denial.Taken u) = IsUser p u
-IsDenial p flows concerned (denial.Order f s) = IsConcerned p concerned f × IsStep p f s
+IsDenial p flows concerned (denial.Order f s) = IsConcerned p concerned f × IsStepOf p f s
 IsDenial p flows concerned (denial.Role roles) = All (IsRole p) roles
 IsDenial p flows concerned (denial.Rule k) = IsRule k
 IsDenial p flows concerned (denial.Stranded f tree) = IsConcerned p concerned f × IsTree p f (shape_of tree)
@@ -105,7 +105,7 @@ IsDenial p flows concerned (denial.Strands c f tree) =
 
 -- a step of a work list: its workflow is that of the case
 abbrev pub IsWorkItem : PolicyShape → (ℕ → Option ℕ) → WorkItem → Type 0
-IsWorkItem p flows i = IsCase i.case × IsConcerned p (flows i.case) i.flow × IsStep p i.flow i.step
+IsWorkItem p flows i = IsCase i.case × IsConcerned p (flows i.case) i.flow × IsStepOf p i.flow i.step
 
 -- a reply
 abbrev pub IsReply : PolicyShape → (ℕ → Option ℕ) → Option ℕ → Reply → Type 0

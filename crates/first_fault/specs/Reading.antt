@@ -22,10 +22,6 @@ abbrev pub each : {S D F : Type 0} → (S → D → Result S F) → S → List D
 each read so_far [] = Ok so_far
 each read so_far (d ∷ ds) = read so_far d >>= (λ next. each read next ds)
 
--- reads members from the first to the last, each a key and its value
-abbrev pub each_key : {S K D F : Type 0} → (S → K → D → Result S F) → S → List (K × D) → Result S F
-each_key read so_far members = each (λ s member. read s member.0 member.1) so_far members
-
 -- what a reading gives where code ended with an error: its fault, or anything where the error is no fault
 abbrev pub Fails : {Y F : Type 0} → Option F → Result Y F → Type 0
 Fails None reading = Unit {0}

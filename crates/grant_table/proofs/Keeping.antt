@@ -11,7 +11,7 @@ use Rattle.wf_names.specs.declared.states.Phase.TheVariants.{Live, Done, Withdra
 use Rattle.case_record.specs.Cases.{CaseShape, as_finished, is_open, state_at}
 use Rattle.grant_table.specs.declared.rows.Row.{Row}
 use Rattle.grant_table.specs.Tables.{CasesShape, case_at, case_in, change_row, finished_row, is_open_case, ones, open_count, plan_of, plan_while, row_at, with_row}
-use Rattle.grant_table.specs.Kept.{AreNumberedBelow, ArePlanned, AscendFrom, IsSoundTable}
+use Rattle.grant_table.specs.Kept.{AreNumberedBelow, ArePlannedWhileOpen, AscendFrom, IsSoundTable}
 
 abbrev or_else : Row → Option Row → Row
 or_else d None = d
@@ -50,7 +50,7 @@ below_changed high n (x ∷ xs) r new below h same = elim (row_case n x xs r h) 
   | inr miss ↦ rw miss.0 (below.0, below_changed high n xs r new below.1 miss.1 same)
 ]
 
-planned_changed : (n : ℕ) (rows : List Row) (r new : Row) → ArePlanned rows → row_at n rows ≡ Some r → is_some new.plan ≡ is_open new.case → ArePlanned (change_row n (λ _. new) rows)
+planned_changed : (n : ℕ) (rows : List Row) (r new : Row) → ArePlannedWhileOpen rows → row_at n rows ≡ Some r → is_some new.plan ≡ is_open new.case → ArePlannedWhileOpen (change_row n (λ _. new) rows)
 planned_changed n [] r new planned h is = tt
 planned_changed n (x ∷ xs) r new planned h is = elim (row_case n x xs r h) [
   | inl hit ↦ rw hit.0 (is, planned.1)
@@ -58,7 +58,7 @@ planned_changed n (x ∷ xs) r new planned h is = elim (row_case n x xs r h) [
 ]
 
 -- a plan is kept for a case exactly where it is open
-pub planned_at : (n : ℕ) (rows : List Row) (r : Row) → ArePlanned rows → row_at n rows ≡ Some r → is_some r.plan ≡ is_open r.case
+pub planned_at : (n : ℕ) (rows : List Row) (r : Row) → ArePlannedWhileOpen rows → row_at n rows ≡ Some r → is_some r.plan ≡ is_open r.case
 planned_at n [] r planned h = cc
 planned_at n (x ∷ xs) r planned h = elim (row_case n x xs r h) [
   | inl hit ↦ subst (λ (y : Row). is_some y.plan ≡ is_open y.case) hit.1 planned.0
@@ -142,7 +142,7 @@ below_added : (rows : List Row) (new : Row) → AreNumberedBelow new.number rows
 below_added [] new below = (omega arith, tt)
 below_added (r ∷ rs) new below = (omega (arith, below.0), below_added rs new below.1)
 
-planned_added : (rows : List Row) (new : Row) → ArePlanned rows → is_some new.plan ≡ is_open new.case → ArePlanned (rows ++ new ∷ [])
+planned_added : (rows : List Row) (new : Row) → ArePlannedWhileOpen rows → is_some new.plan ≡ is_open new.case → ArePlannedWhileOpen (rows ++ new ∷ [])
 planned_added [] new planned is = (is, tt)
 planned_added (r ∷ rs) new planned is = (planned.0, planned_added rs new planned.1 is)
 
@@ -201,7 +201,7 @@ case_changed P t n r new h same holds =
     subst (λ o. IsSomeAnd (option_map (λ (y : Row). y.case) o) P) (sym found) holds
 
 -- a plan is kept for the case with a number exactly where it is open
-pub planned_case : (n : ℕ) (rows : List Row) → ArePlanned rows → is_some (plan_of (row_at n rows)) ≡ is_open_case (case_in n rows)
+pub planned_case : (n : ℕ) (rows : List Row) → ArePlannedWhileOpen rows → is_some (plan_of (row_at n rows)) ≡ is_open_case (case_in n rows)
 planned_case n rows planned = at_row (row_at n rows) refl
   where
     at_row : (o : Option Row) → row_at n rows ≡ o → is_some (plan_of o) ≡ is_open_case (option_map (λ (r : Row). r.case) o)

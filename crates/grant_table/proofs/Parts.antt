@@ -3,7 +3,7 @@ use Rattle.std.proofs.Common.{◌≡◌, ℕ, zero, suc, ◌+◌, ◌<◌, ◌�
 use Rattle.std.specs.List.{filter}
 use Rattle.grant_table.specs.declared.rows.Row.{Row}
 use Rattle.grant_table.specs.Tables.{is_open_row, ones, only, open_count, open_rows, row_at}
-use Rattle.grant_table.specs.Kept.{AreNumberedBelow, ArePlanned, AscendFrom, IsSoundTable, rows_of}
+use Rattle.grant_table.specs.Kept.{AreNumberedBelow, ArePlannedWhileOpen, AscendFrom, IsSoundTable, rows_of}
 use Rattle.basics.proofs.Booleans.{bool_cases, eq_above, eq_back}
 use Rattle.grant_table.proofs.Counts.{counted}
 use Rattle.grant_table.proofs.Places.{ascend_from_less}
@@ -22,7 +22,7 @@ below_filter p high (r ∷ rs) below = elim (bool_cases (p r)) [
   | inr miss ↦ rw miss (below_filter p high rs below.1)
 ]
 
-planned_filter : (p : Row → Bool) (rows : List Row) → ArePlanned rows → ArePlanned (filter p rows)
+planned_filter : (p : Row → Bool) (rows : List Row) → ArePlannedWhileOpen rows → ArePlannedWhileOpen (filter p rows)
 planned_filter p [] planned = tt
 planned_filter p (r ∷ rs) planned = elim (bool_cases (p r)) [
   | inl hit ↦ rw hit (planned.0, planned_filter p rs planned.1)

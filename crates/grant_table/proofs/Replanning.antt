@@ -6,7 +6,7 @@ use Rattle.basics.proofs.Booleans.{bool_cases}
 use Rattle.basics.proofs.Lists.{take_next}
 use Rattle.grant_table.specs.declared.rows.Row.{Row}
 use Rattle.grant_table.specs.Tables.{is_open_row, open_count, replanned, replanned_row}
-use Rattle.grant_table.specs.Kept.{AreNumberedBelow, ArePlanned, AscendFrom, IsSoundTable}
+use Rattle.grant_table.specs.Kept.{AreNumberedBelow, ArePlannedWhileOpen, AscendFrom, IsSoundTable}
 use Rattle.grant_table.proofs.Counts.{counted}
 use Rattle.grant_table.proofs.Places.{taken_off}
 
@@ -77,7 +77,7 @@ below_replanned high (r ∷ rs) (plan ∷ plans) below = elim (bool_cases (is_op
   | inr closed ↦ rw closed (below.0, below_replanned high rs (plan ∷ plans) below.1)
 ]
 
-planned_replanned : (rows : List Row) (plans : List (List ℕ)) → ArePlanned rows → ArePlanned (replanned rows plans)
+planned_replanned : (rows : List Row) (plans : List (List ℕ)) → ArePlannedWhileOpen rows → ArePlannedWhileOpen (replanned rows plans)
 planned_replanned [] plans planned = tt
 planned_replanned (r ∷ rs) [] planned = planned
 planned_replanned (r ∷ rs) (plan ∷ plans) planned = elim (bool_cases (is_open_row r)) [

@@ -16,16 +16,16 @@ AreNumberedBelow high [] = Unit {0}
 AreNumberedBelow high (r ∷ rs) = (r.number < high) × AreNumberedBelow high rs
 
 -- a plan is kept exactly for the open cases
-abbrev pub ArePlanned : List Row → Type 0
-ArePlanned [] = Unit {0}
-ArePlanned (r ∷ rs) = (is_some r.plan ≡ is_open r.case) × ArePlanned rs
+abbrev pub ArePlannedWhileOpen : List Row → Type 0
+ArePlannedWhileOpen [] = Unit {0}
+ArePlannedWhileOpen (r ∷ rs) = (is_some r.plan ≡ is_open r.case) × ArePlannedWhileOpen rs
 
 -- what every table keeps: ascending numbers below the count of cases ever opened, a plan for each
 -- open case and no other, the number of open cases, and both limits
 pub record IsSoundTable (rows : List Row) (ever live : ℕ) : Type 0 where
   pub ascend : AscendFrom 0 rows
   pub below : AreNumberedBelow ever rows
-  pub planned : ArePlanned rows
+  pub planned : ArePlannedWhileOpen rows
   pub counted : open_count rows ≡ live
   pub few : live ≤ OPEN_CASE_LIMIT
   pub limit : ever ≤ CASE_LIMIT
@@ -37,7 +37,7 @@ IsRowPlace n (r ∷ rs) zero = nat_eq r.number n ≡ true
 IsRowPlace n (r ∷ rs) (suc i) = (nat_eq r.number n ≡ false) × IsRowPlace n rs i
 
 -- the search for the number n has found its row at i
-pub record IsFound (n : ℕ) (rows : List Row) (i : ℕ) : Type 0 where
+pub record IsRowFound (n : ℕ) (rows : List Row) (i : ℕ) : Type 0 where
   pub place : IsRowPlace n rows i
   pub found : row_at n rows ≡ slice_get rows i
   pub within : i < length rows

@@ -3,7 +3,7 @@ ghost use Rattle.std.specs.Prelude.{◌≡◌, ℕ, ◌+◌, ◌<◌, ◌≤◌,
 ghost use Rattle.std.specs.List.{prefix_len};
 ghost use Rattle.std.specs.Vec.{vec_capacity, vec_len};
 ghost use Rattle.grant_table.specs.Tables.{case_in, change_row, next_open, only, open_count, open_rows, plan_of, replanned, row_at};
-ghost use Rattle.grant_table.specs.Kept.{AscendFrom, IsFound, rows_of};
+ghost use Rattle.grant_table.specs.Kept.{AscendFrom, IsRowFound, rows_of};
 
 use crate::changes::replanned;
 use case_record::Case;
@@ -54,7 +54,7 @@ fn place_from(rows: &[Row], n: u32) -> usize
 /// Where the row with a number stands.
 fn find(rows: &[Row], n: u16) -> Option<usize>
     requires { AscendFrom 0 rows.now }
-    ensures { MatchOption result (row_at n rows.now ≡ None) (λ i. IsFound n rows.now i) }
+    ensures { MatchOption result (row_at n rows.now ≡ None) (λ i. IsRowFound n rows.now i) }
 {
     let i = place_from(rows, n as u32);
     if i < rows.len() && rows[i].number == n {

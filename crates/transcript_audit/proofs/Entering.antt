@@ -27,7 +27,7 @@ use Rattle.entry_laws.proofs.Entries.{text_stays}
 use Rattle.transcript_audit.specs.declared.fault.AuditKind.TheVariants as kinds
 use Rattle.transcript_audit.specs.declared.flaw.Flaw.{Flaw}
 use Rattle.transcript_audit.specs.declared.flaw.Flaw.TheVariants as flaw
-use Rattle.transcript_audit.specs.Audits.{AuditShape, ComesNext, HasFault, IsNext, flows_now, next_job, present_jobs, present_start, state_now, with_entry}
+use Rattle.transcript_audit.specs.Audits.{AuditShape, ComesNext, HasFault, IsNextLine, flows_now, next_job, present_jobs, present_start, state_now, with_entry}
 use Rattle.transcript_audit.specs.Keeping.{HasEntered, HasRead, HasTried, again_in, entry_next, rests_on}
 use Rattle.transcript_audit.proofs.Excludes.{one_place, told_named}
 
@@ -189,7 +189,7 @@ read_named : (a : AuditShape) (line : List ℕ) (j : Job) (r : Reply) → (read 
 read_named a line j r read = one_place read.reply.place read.place (sym read.reply.named ∙ told_named line read.place read.stands.told)
 
 -- a line whose reply comes next is the text of that entry
-pub read_next : (a : AuditShape) (line : List ℕ) (j : Job) (r : Reply) → HasRead a line j r → ComesNext a (entry_next a j r) → IsNext a line (entry_next a j r)
+pub read_next : (a : AuditShape) (line : List ℕ) (j : Job) (r : Reply) → HasRead a line j r → ComesNext a (entry_next a j r) → IsNextLine a line (entry_next a j r)
 read_next a line j r read next =
     let e = entry_next a j r in
     let there : entry_at read.reply.place j.ask r ≡ e = ap (λ p. entry_at p j.ask r) (read_named a line j r read) ∙ entry_there a line j r read in

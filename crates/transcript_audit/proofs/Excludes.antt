@@ -21,7 +21,7 @@ use Rattle.entry_reader.proofs.LinesBack.{line_placed}
 use Rattle.entry_laws.specs.Laws.{EntriesAreLines, IsLastOf, IsOneLine, TextsAreLines}
 use Rattle.transcript_audit.specs.declared.fault.AuditKind.{AuditKind}
 use Rattle.transcript_audit.specs.declared.fault.AuditKind.TheVariants.{Text, At, Job as WrongJob, Reply as WrongReply, Missing}
-use Rattle.transcript_audit.specs.Audits.{AuditShape, ComesNext, HasFault, IsDue, IsNext, audit_of, end_at, flows_now, next_job, place_told, present_jobs, present_start, state_now}
+use Rattle.transcript_audit.specs.Audits.{AuditShape, ComesNext, HasFault, IsDue, IsNextLine, audit_of, end_at, flows_now, next_job, place_told, present_jobs, present_start, state_now}
 use Rattle.transcript_audit.specs.Laws.{AreOfSession, FaultsExclude, HaveSmallLines}
 use Rattle.transcript_audit.specs.Keeping.{IsSoundAudit}
 use Rattle.transcript_audit.proofs.Batches.{part_none}
@@ -107,7 +107,7 @@ last_of a k e is next =
     }
 
 -- it is a line of the entry
-line_of : EntriesAreLines → (a : AuditShape) (k : ℕ) (line : List ℕ) (e : Entry) → IsOfSession a k → IsNext a line e → IsLineOf (state_now a).book.policy (flows_now a) line e
+line_of : EntriesAreLines → (a : AuditShape) (k : ℕ) (line : List ℕ) (e : Entry) → IsOfSession a k → IsNextLine a line e → IsLineOf (state_now a).book.policy (flows_now a) line e
 line_of law a k line e is next =
     subst (λ text. IsLineOf (state_now a).book.policy (flows_now a) text e) (sym next.written)
     (law a.opening a.rounds a.entries e (last_of a k e is next.next))
@@ -138,7 +138,7 @@ one_job : (x y : Job) → Some x ≡ Some y → x ≡ y
 one_job x y same = cc
 
 -- it tells the entry's place
-told_own : EntriesAreLines → TextsAreLines → (a : AuditShape) (k : ℕ) (line : List ℕ) (e : Entry) → IsOfSession a k → IsNext a line e → place_told line ≡ Some (own_place e)
+told_own : EntriesAreLines → TextsAreLines → (a : AuditShape) (k : ℕ) (line : List ℕ) (e : Entry) → IsOfSession a k → IsNextLine a line e → place_told line ≡ Some (own_place e)
 told_own law texts a k line e is next =
     let one : IsOneLine line = subst IsOneLine (sym next.written) (texts _ e) in
     let ends : slice_index_or line (length line - 1) 0 ≡ 10 = ap (λ l. slice_index_or l (length l - 1) 0) one.ends ∙ ends_line one.front in
@@ -146,7 +146,7 @@ told_own law texts a k line e is next =
     (line_placed (state_now a).book.policy (flows_now a) line e is.names (line_of law a k line e is next))
 
 -- and no other
-own_told : EntriesAreLines → TextsAreLines → (a : AuditShape) (k : ℕ) (line : List ℕ) (e : Entry) (place : Place) → IsOfSession a k → IsNext a line e → place_told line ≡ Some place →
+own_told : EntriesAreLines → TextsAreLines → (a : AuditShape) (k : ℕ) (line : List ℕ) (e : Entry) (place : Place) → IsOfSession a k → IsNextLine a line e → place_told line ≡ Some place →
     place ≡ own_place e
 own_told law texts a k line e place is next told = one_place place (own_place e) (sym told ∙ told_own law texts a k line e is next)
 
@@ -162,7 +162,7 @@ due_own a e place next same = record {
   line = sym (ap (λ (p : Place). p.line) same);
 }
 
-excluded : EntriesAreLines → TextsAreLines → (a : AuditShape) (k : ℕ) (line : List ℕ) (kind : AuditKind) (e : Entry) → IsOfSession a k → HasFault a line kind → IsNext a line e → ⊥
+excluded : EntriesAreLines → TextsAreLines → (a : AuditShape) (k : ℕ) (line : List ℕ) (kind : AuditKind) (e : Entry) → IsOfSession a k → HasFault a line kind → IsNextLine a line e → ⊥
 excluded law texts a k line Text e is (inl none) next =
     let told = told_own law texts a k line e is next in
     let no : None ≡ Some (own_place e) = sym none ∙ told in

@@ -7,7 +7,7 @@ use Rattle.transcript_audit.specs.declared.fault.AuditKind.{AuditKind}
 use Rattle.transcript_audit.specs.declared.fault.AuditKind.TheVariants as kinds
 use Rattle.transcript_audit.specs.declared.flaw.Flaw.TheVariants as flaw
 use Rattle.transcript_audit.specs.Audits.{AuditShape}
-use Rattle.transcript_audit.specs.Outcomes.{HasEnded, HasTaken, IsFirstFault, IsLastFault, IsWhole}
+use Rattle.transcript_audit.specs.Outcomes.{HasEnded, HasTakenLine, IsFirstFault, IsLastFault, IsWhole}
 use Rattle.transcript_audit.specs.Keeping.{HasTried}
 
 abbrev with_fault : AuditShape → AuditKind → AuditShape
@@ -17,13 +17,13 @@ fault_eta : (a : AuditShape) (kind : AuditKind) → a.fault ≡ Some kind → a 
 fault_eta a kind is = (λ i. record a { fault = is i })
 
 -- after a fault
-pub still_refused : (a b : AuditShape) (line : List ℕ) (n : ℕ) (kind : AuditKind) → b ≡ a → Some kind ≡ a.fault → n ≡ length a.entries → HasTaken a b line (Err (At n kind))
+pub still_refused : (a b : AuditShape) (line : List ℕ) (n : ℕ) (kind : AuditKind) → b ≡ a → Some kind ≡ a.fault → n ≡ length a.entries → HasTakenLine a b line (Err (At n kind))
 still_refused a b line n kind same is count =
     (count, (subst (λ f. IsFirstFault f a line kind) is refl, same ∙ fault_eta a kind (sym is)))
 
 -- the first fault
 pub first_refused : (a mid b : AuditShape) (line : List ℕ) (n : ℕ) (kind : AuditKind) → None ≡ a.fault → HasTried a mid line (Err (flaw.Kind kind)) → b ≡ with_fault mid kind →
-    n ≡ length b.entries → HasTaken a b line (Err (At n kind))
+    n ≡ length b.entries → HasTakenLine a b line (Err (At n kind))
 first_refused a mid b line n kind none tried kept count =
     let after : b ≡ with_fault a kind = kept ∙ ap (λ x. with_fault x kind) tried.1 in (
       count ∙ ap (λ (x : AuditShape). length x.entries) after,
@@ -31,10 +31,10 @@ first_refused a mid b line n kind none tried kept count =
     )
 
 -- no fault
-pub well_taken : (a b : AuditShape) (line : List ℕ) → None ≡ a.fault → HasTried a b line (Ok tt) → HasTaken a b line (Ok tt)
+pub well_taken : (a b : AuditShape) (line : List ℕ) → None ≡ a.fault → HasTried a b line (Ok tt) → HasTakenLine a b line (Ok tt)
 well_taken a b line none tried = (sym none, tried)
 
-pub no_memory : (a b : AuditShape) (line : List ℕ) → None ≡ a.fault → HasTried a b line (Err flaw.NoMemory) → HasTaken a b line (Err NoMemory)
+pub no_memory : (a b : AuditShape) (line : List ℕ) → None ≡ a.fault → HasTried a b line (Err flaw.NoMemory) → HasTakenLine a b line (Err NoMemory)
 no_memory a b line none tried = (sym none, tried)
 
 -- ---- the end

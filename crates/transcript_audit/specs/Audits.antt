@@ -72,7 +72,7 @@ abbrev pub next_text : AuditShape → Entry → List ℕ
 next_text a e = entry_text (state_after (opening_state a.opening) (a.entries ++ e ∷ [])).book.policy e
 
 -- a line is the text of an entry that comes next
-pub record IsNext (a : AuditShape) (line : List ℕ) (e : Entry) : Type 0 where
+pub record IsNextLine (a : AuditShape) (line : List ℕ) (e : Entry) : Type 0 where
   pub next : ComesNext a e
   pub written : line ≡ next_text a e
 
@@ -110,7 +110,7 @@ HasFault a line Missing = ⊥
 -- the lines are the texts of entries of which each comes next
 abbrev pub AreNext : AuditShape → List (List ℕ) → List Entry → Type 0
 AreNext a [] [] = Unit {0}
-AreNext a (line ∷ lines) (e ∷ es) = IsNext a line e × AreNext (with_entry a e) lines es
+AreNext a (line ∷ lines) (e ∷ es) = IsNextLine a line e × AreNext (with_entry a e) lines es
 AreNext a lines es = ⊥
 
 -- the lines are those of a legal history that fills the jobs

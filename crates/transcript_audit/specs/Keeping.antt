@@ -24,7 +24,7 @@ use Rattle.transcript_audit.specs.declared.cursor.Cursor.{Cursor}
 use Rattle.transcript_audit.specs.declared.fault.AuditKind.TheVariants as kinds
 use Rattle.transcript_audit.specs.declared.flaw.Flaw.{Flaw}
 use Rattle.transcript_audit.specs.declared.flaw.Flaw.TheVariants as flaw
-use Rattle.transcript_audit.specs.Audits.{AuditShape, ComesNext, HasFault, IsDue, IsNext, StandsAt, flows_now, state_now, with_entry}
+use Rattle.transcript_audit.specs.Audits.{AuditShape, ComesNext, HasFault, IsDue, IsNextLine, StandsAt, flows_now, state_now, with_entry}
 
 -- an audit, with the room that is left for more entries
 pub record RecordShape : Type 0 where
@@ -152,6 +152,6 @@ HasEntered before after j r (Err flaw.NoMemory) = after ≡ before
 
 -- what came of a line, where there was no fault before
 abbrev pub HasTried : AuditShape → AuditShape → List ℕ → Result (Unit {0}) Flaw → Type 0
-HasTried before after line (Ok done) = (e : Entry) × (IsNext before line e × (after ≡ with_entry before e))
+HasTried before after line (Ok done) = (e : Entry) × (IsNextLine before line e × (after ≡ with_entry before e))
 HasTried before after line (Err (flaw.Kind kind)) = HasFault before line kind × (after ≡ before)
 HasTried before after line (Err flaw.NoMemory) = after ≡ before

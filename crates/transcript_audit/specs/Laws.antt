@@ -11,7 +11,7 @@ use Rattle.wf_board.specs.Histories.{state_after}
 use Rattle.entry_reader.specs.Named.{HasNames}
 use Rattle.entry_laws.specs.Laws.{HasFewSteps}
 use Rattle.transcript_audit.specs.declared.fault.AuditKind.{AuditKind}
-use Rattle.transcript_audit.specs.Audits.{AreNext, HasFault, IsNext, IsTranscript, audit_of}
+use Rattle.transcript_audit.specs.Audits.{AreNext, HasFault, IsNextLine, IsTranscript, audit_of}
 
 -- the numbers of their lines fit
 abbrev pub HaveSmallLines : List Job → Type 0
@@ -36,7 +36,7 @@ FaultsExclude =
     HasNames (state_after (opening_state p) es).book.policy →
     (line : List ℕ) (kind : AuditKind) (e : Entry) →
     HasFault (record (audit_of p rounds jobs batch_ends) { entries = es }) line kind →
-    ¬ IsNext (record (audit_of p rounds jobs batch_ends) { entries = es }) line e
+    ¬ IsNextLine (record (audit_of p rounds jobs batch_ends) { entries = es }) line e
 
 -- all lines are the texts of entries that come next, one for each job, exactly where they are those of a legal history
 -- that fills the jobs

@@ -7,7 +7,7 @@ use Rattle.transcript_audit.specs.declared.fault.AuditFault.{AuditFault}
 use Rattle.transcript_audit.specs.declared.fault.AuditFault.TheVariants.{At, NoMemory}
 use Rattle.transcript_audit.specs.declared.fault.AuditKind.{AuditKind}
 use Rattle.transcript_audit.specs.declared.fault.AuditKind.TheVariants.{Missing}
-use Rattle.transcript_audit.specs.Audits.{AuditShape, HasFault, IsNext, with_entry}
+use Rattle.transcript_audit.specs.Audits.{AuditShape, HasFault, IsNextLine, with_entry}
 
 -- the kind of the first fault: the one that there was before, or the one that this line has
 abbrev pub IsFirstFault : Option AuditKind → AuditShape → List ℕ → AuditKind → Type 0
@@ -16,12 +16,12 @@ IsFirstFault (Some first) a line kind = kind ≡ first
 
 -- what became of a line: it is the text of an entry that comes next, and the entry is taken; the first fault is told, and
 -- kept; or there was no memory, and nothing is changed
-abbrev pub HasTaken : AuditShape → AuditShape → List ℕ → Result (Unit {0}) AuditFault → Type 0
-HasTaken before after line (Ok done) =
-    (before.fault ≡ None) × ((e : Entry) × (IsNext before line e × (after ≡ with_entry before e)))
-HasTaken before after line (Err (At n kind)) =
+abbrev pub HasTakenLine : AuditShape → AuditShape → List ℕ → Result (Unit {0}) AuditFault → Type 0
+HasTakenLine before after line (Ok done) =
+    (before.fault ≡ None) × ((e : Entry) × (IsNextLine before line e × (after ≡ with_entry before e)))
+HasTakenLine before after line (Err (At n kind)) =
     (n ≡ length before.entries) × (IsFirstFault before.fault before line kind × (after ≡ record before { fault = Some kind }))
-HasTaken before after line (Err NoMemory) = (before.fault ≡ None) × (after ≡ before)
+HasTakenLine before after line (Err NoMemory) = (before.fault ≡ None) × (after ≡ before)
 
 -- the entries are a legal history that fills the jobs
 pub record IsWhole (a : AuditShape) : Type 0 where

@@ -7,7 +7,7 @@ ghost use Rattle.entry_reader.specs.Lines.{HasNoReply, HasReply};
 ghost use Rattle.entry_reader.specs.Places.{place_of_line};
 ghost use Rattle.wf_talk.specs.declared.reply.Reply.TheVariants as reply;
 ghost use Rattle.transcript_audit.specs.Audits.{ComesNext, audit_of, flows_now, next_job, place_told, state_now};
-ghost use Rattle.transcript_audit.specs.Outcomes.{HasEnded, HasTaken};
+ghost use Rattle.transcript_audit.specs.Outcomes.{HasEnded, HasTakenLine};
 ghost use Rattle.transcript_audit.specs.Keeping.{HasEntered, HasRead, HasTried, IsDueIf, IsReading, again_in, entry_next};
 
 use crate::again::again_in;
@@ -79,7 +79,7 @@ impl Auditor {
         line: &[u8],
     ) -> Result<(), AuditFault>
         requires ready { V.ready decider.now }
-        ensures taken { HasTaken self.old self.new line.now result }
+        ensures taken { HasTakenLine self.old self.new line.now result }
         ensures few { OnOk result (length self.new.entries ≤ length self.new.jobs) }
     {
         if let Some(kind) = self.record.fault() {

@@ -3,7 +3,8 @@ ghost use Rattle.transcript_audit.specs.Laws.{AuditIsExact, FaultsExclude};
 
 use entry_laws::{entries_are_lines, texts_are_lines};
 
-/// A line that has a fault is the text of no entry that comes next.
+/// A line that has a fault is the text of no entry that comes next, where all lines before it are such
+/// texts, and the names of the policy after them have a name's form.
 pub fn faults_exclude()
     ensures { FaultsExclude }
 {

@@ -47,7 +47,7 @@ use Rattle.wf_board.specs.Kept.{IsSoundState}
 use Rattle.wf_board.specs.Views.{AreStranded, IsWorkOf, steps_of}
 use Rattle.wf_talk.specs.declared.reply.WorkItem.{WorkItem}
 use Rattle.wf_board.specs.Steps.{Answers, IsReplyTo, IsStep, state_after_decision}
-use Rattle.wf_board.specs.Taking.{board_of, full_or, keeps_policy, HasTaken, IsKept}
+use Rattle.wf_board.specs.Taking.{board_of, full_or, keeps_policy, HasTakenStep, IsKept}
 use Rattle.wf_board.specs.Verdicts.{IsEditionFor, IsMadeOf, IsPlanFor, IsRight, IsStrandingFor, IsTreeFor, IsViewFor}
 use Rattle.wf_board.proofs.Amended.{IsChange, IsFoundCase, change_decided, edition_change, plans_complete, same_case, stranded_case}
 use Rattle.wf_board.proofs.Answering.{same_taken}
@@ -217,9 +217,9 @@ want_answers s (Ok d) = tt
 want_answers s (Err d) = inr refl
 
 -- want of memory is taken whatever is asked
-pub want_taken : (p : PolicyShape) (t : CasesShape) (r : Result Deed Denial) (given : Reply) → IsKept p t → given ≡ reply.NoMemory → HasTaken p t t r given
+pub want_taken : (p : PolicyShape) (t : CasesShape) (r : Result Deed Denial) (given : Reply) → IsKept p t → given ≡ reply.NoMemory → HasTakenStep p t t r given
 want_taken p t r given kept is =
-    subst (HasTaken p t t r) (sym is) (same_taken p t r reply.NoMemory kept (λ edits. want_answers (state_on (board_of p t edits)) r) (λ s. want_stays s r))
+    subst (HasTakenStep p t t r) (sym is) (same_taken p t r reply.NoMemory kept (λ edits. want_answers (state_on (board_of p t edits)) r) (λ s. want_stays s r))
 
 -- a reply that changes nothing is taken where a test of it passes
 pub test_admitted : (p : PolicyShape) (t : CasesShape) (r : Result Deed Denial) (given : Reply) (b : Bool) (result : Result (Unit {0}) AdmitFault) → IsKept p t → result ≡ when b →
@@ -391,20 +391,20 @@ strands_only s a d other is = is
 
 -- ---- what was done is what the reply says
 
-pub opened_same : (p : PolicyShape) (before after : CasesShape) (f n : ℕ) (plan : List ℕ) (done : Reply) → HasTaken p before after (Ok (deed.Open f)) done → IsMadeOf (verdict.Plan plan) done → done ≢ reply.NoMemory → n ≡ before.ever →
-    HasTaken p before after (Ok (deed.Open f)) (reply.Opened n plan)
+pub opened_same : (p : PolicyShape) (before after : CasesShape) (f n : ℕ) (plan : List ℕ) (done : Reply) → HasTakenStep p before after (Ok (deed.Open f)) done → IsMadeOf (verdict.Plan plan) done → done ≢ reply.NoMemory → n ≡ before.ever →
+    HasTakenStep p before after (Ok (deed.Open f)) (reply.Opened n plan)
 opened_same p before after f n plan reply.NoMemory taken made memory is = absurd (memory refl)
 opened_same p before after f n plan (reply.Granted q) taken made memory is = absurd (taken.step 0)
 opened_same p before after f n plan (reply.Opened m q) taken made memory is =
     let number : m ≡ n = (taken.step 0).0 ∙ sym is in
-    subst (λ k. HasTaken p before after (Ok (deed.Open f)) (reply.Opened k plan)) number
-    (subst (λ x. HasTaken p before after (Ok (deed.Open f)) (reply.Opened m x)) made taken)
+    subst (λ k. HasTakenStep p before after (Ok (deed.Open f)) (reply.Opened k plan)) number
+    (subst (λ x. HasTakenStep p before after (Ok (deed.Open f)) (reply.Opened m x)) made taken)
 opened_same p before after f n plan done taken made memory is = absurd made
 
-pub finished_same : (p : PolicyShape) (before after : CasesShape) (n : ℕ) (c : CaseShape) (s u : ℕ) (told done : Bool) → HasTaken p before after (Ok (deed.Finish n c s u)) (reply.Finished done) →
-    told ≡ is_done (finished_case c s).phase → HasTaken p before after (Ok (deed.Finish n c s u)) (reply.Finished told)
+pub finished_same : (p : PolicyShape) (before after : CasesShape) (n : ℕ) (c : CaseShape) (s u : ℕ) (told done : Bool) → HasTakenStep p before after (Ok (deed.Finish n c s u)) (reply.Finished done) →
+    told ≡ is_done (finished_case c s).phase → HasTakenStep p before after (Ok (deed.Finish n c s u)) (reply.Finished told)
 finished_same p before after n c s u told done taken is =
-    subst (λ b. HasTaken p before after (Ok (deed.Finish n c s u)) (reply.Finished b)) (taken.step 0 ∙ sym is) taken
+    subst (λ b. HasTakenStep p before after (Ok (deed.Finish n c s u)) (reply.Finished b)) (taken.step 0 ∙ sym is) taken
 
 -- ---- edits
 

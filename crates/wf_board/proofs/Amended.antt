@@ -17,7 +17,7 @@ use Rattle.wf_talk.specs.declared.request.Ask.{Ask}
 use Rattle.wf_talk.specs.declared.reply.Denial.{Denial}
 use Rattle.admin_edits.specs.declared.amendment.Amendment.{Amendment}
 use Rattle.admin_edits.specs.Edits.{amended}
-use Rattle.admin_edits.specs.Found.{IsFound}
+use Rattle.admin_edits.specs.Found.{IsKnownChange}
 use Rattle.admin_edits.proofs.Keeping.{changes_keep_names, within_after}
 use Rattle.wf_board.specs.declared.deed.Deed.{Deed}
 use Rattle.wf_board.specs.declared.deed.Deed.TheVariants as deed
@@ -50,7 +50,7 @@ open_can p (x ∷ xs) all n c h live = at_first (is_open x.case) (nat_eq x.numbe
     at_first false false is can found rest = rest can found
 
 -- a case of the policy is one of the policy after a change
-pub of_policy_amended : (p : PolicyShape) (a : Amendment) (c : CaseShape) → IsFound p a → IsOfPolicy p c → IsOfPolicy (amended p a) c
+pub of_policy_amended : (p : PolicyShape) (a : Amendment) (c : CaseShape) → IsKnownChange p a → IsOfPolicy p c → IsOfPolicy (amended p a) c
 of_policy_amended p a c found known =
     let names = changes_keep_names p a found in
     record {
@@ -90,7 +90,7 @@ abbrev ArePlansAfter : PolicyShape → Bool → Row → List Row → List (List 
 ArePlansAfter p b r rs plans = ArePlansOf p (if b then numbered r ∷ open_cases (map numbered rs) else open_cases (map numbered rs)) plans
 
 -- each row is planned again
-pub each_replanned : (p : PolicyShape) (rows : List Row) (plans : List (List ℕ)) → table.ArePlanned rows → ArePlansOf p (open_cases (map numbered rows)) plans →
+pub each_replanned : (p : PolicyShape) (rows : List Row) (plans : List (List ℕ)) → table.ArePlannedWhileOpen rows → ArePlansOf p (open_cases (map numbered rows)) plans →
     EachRow (λ r. IsPlanned p r.case r.plan) (replanned rows plans)
 each_replanned p [] plans kept is = tt
 each_replanned p (r ∷ rs) [] kept is = elim (bool_cases (is_open_row r)) [
@@ -107,7 +107,7 @@ each_replanned p (r ∷ rs) (plan ∷ plans) kept is = elim (bool_cases (is_open
 ]
 
 -- the cases of the rows stay of the policy
-each_of_policy : (p : PolicyShape) (a : Amendment) (rows : List Row) (plans : List (List ℕ)) → IsFound p a → EachRow (λ r. IsOfPolicy p r.case) rows →
+each_of_policy : (p : PolicyShape) (a : Amendment) (rows : List Row) (plans : List (List ℕ)) → IsKnownChange p a → EachRow (λ r. IsOfPolicy p r.case) rows →
     EachRow (λ r. IsOfPolicy (amended p a) r.case) (replanned rows plans)
 each_of_policy p a [] plans found each = tt
 each_of_policy p a (r ∷ rs) [] found each =
@@ -126,7 +126,7 @@ abbrev pub with_plans : CasesShape → List (List ℕ) → CasesShape
 with_plans t plans = record t { rows = replanned t.rows plans }
 
 -- what a board keeps of its table is kept under the changed policy, with the plans for it
-pub edited_keeps : (p : PolicyShape) (t : CasesShape) (a : Amendment) (plans : List (List ℕ)) → IsKept p t → IsFound p a → table.ArePlanned t.rows →
+pub edited_keeps : (p : PolicyShape) (t : CasesShape) (a : Amendment) (plans : List (List ℕ)) → IsKept p t → IsKnownChange p a → table.ArePlannedWhileOpen t.rows →
     ArePlansOf (amended p a) (open_cases (map numbered t.rows)) plans → IsKept (amended p a) (with_plans t plans)
 edited_keeps p t a plans kept found planned are = record {
   planned = record {

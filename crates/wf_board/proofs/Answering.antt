@@ -36,7 +36,7 @@ use Rattle.wf_board.specs.Decisions.{cause_aside, decision_aside, decision_of, n
 use Rattle.wf_board.specs.Resolved.{resolve}
 use Rattle.wf_board.specs.States.{Book, State, is_full, open_cases}
 use Rattle.wf_board.specs.Steps.{Answers, state_after_decision, with_changed}
-use Rattle.wf_board.specs.Taking.{board_of, full_or, HasAnsweredAlone, HasAnsweredBy, HasChanged, HasTaken, IsKept}
+use Rattle.wf_board.specs.Taking.{board_of, full_or, HasAnsweredAlone, HasAnsweredBy, HasChanged, HasTakenStep, IsKept}
 use Rattle.wf_board.specs.Verdicts.{HasAnswered, IsEditionFor, is_opening, IsMadeOf, IsPlanFor, IsStrandingFor, IsTreeFor}
 use Rattle.wf_board.proofs.Rows.{case_numbered, open_numbered}
 use Rattle.wf_board.proofs.Planned.{known_case, opened_keeps, opened_state, plan_kept}
@@ -45,7 +45,7 @@ use Rattle.wf_board.specs.Kept.{ArePlanned, IsSoundState, KeepsCompletable}
 
 -- a step that changes one case
 pub changed_taken : (p : PolicyShape) (before after : CasesShape) (n : ℕ) (g : CaseShape → CaseShape) (decision : Result Deed Denial) (given : Reply) → HasChanged p before after n g →
-    ((edits : ℕ) → Answers (state_on (board_of p before edits)) decision given) → ((s : State) → state_after_decision s decision given ≡ with_changed s n g) → HasTaken p before after decision given
+    ((edits : ℕ) → Answers (state_on (board_of p before edits)) decision given) → ((s : State) → state_after_decision s decision given ≡ with_changed s n g) → HasTakenStep p before after decision given
 changed_taken p before after n g decision given changed step next = record {
   kept = changed.kept;
   step = step;
@@ -55,7 +55,7 @@ changed_taken p before after n g decision given changed step next = record {
 
 -- a step that changes nothing
 pub same_taken : (p : PolicyShape) (t : CasesShape) (decision : Result Deed Denial) (given : Reply) → IsKept p t →
-    ((edits : ℕ) → Answers (state_on (board_of p t edits)) decision given) → ((s : State) → state_after_decision s decision given ≡ s) → HasTaken p t t decision given
+    ((edits : ℕ) → Answers (state_on (board_of p t edits)) decision given) → ((s : State) → state_after_decision s decision given ≡ s) → HasTakenStep p t t decision given
 same_taken p t decision given kept step next = record {
   kept = kept;
   step = step;
@@ -64,7 +64,7 @@ same_taken p t decision given kept step next = record {
 }
 
 -- a denial
-pub denied_taken : (p : PolicyShape) (t : CasesShape) (d : Denial) → IsKept p t → HasTaken p t t (Err d) (reply.Denied d)
+pub denied_taken : (p : PolicyShape) (t : CasesShape) (d : Denial) → IsKept p t → HasTakenStep p t t (Err d) (reply.Denied d)
 denied_taken p t d kept = same_taken p t (Err d) (reply.Denied d) kept (λ edits. inl refl) (λ s. refl)
 
 -- ---- full
@@ -94,13 +94,13 @@ kept_with_room p t more kept = record { planned = kept.planned; numbered = kept.
 -- a case is opened, once there is room for it
 pub opened_taken : (p : PolicyShape) (t roomy after : CasesShape) (f n : ℕ) (plan : List ℕ) → IsKept p t → f < length p.flows → IsValidPlan (problem_of p f) no_users no_steps plan →
     is_full (book_of p t) ≡ false → roomy ≡ record t { spare = roomy.spare } → t.spare ≤ roomy.spare → n ≡ roomy.ever →
-    after ≡ with_case roomy f (length (flow_at p f).flow.steps) plan → HasTaken p t after (full_or (book_of p t) (deed.Open f)) (reply.Opened n plan)
+    after ≡ with_case roomy f (length (flow_at p f).flow.steps) plan → HasTakenStep p t after (full_or (book_of p t) (deed.Open f)) (reply.Opened n plan)
 opened_taken p t roomy after f n plan kept known valid left same more number is =
     let steps = length (flow_at p f).flow.steps in
     let grown = record t { spare = roomy.spare } in
     let end : after ≡ with_case grown f steps plan = is ∙ ap (λ (x : CasesShape). with_case x f steps plan) same in
-    subst (λ d. HasTaken p t after d (reply.Opened n plan)) (sym (room_left (book_of p t) f left))
-    (subst (λ (x : CasesShape). HasTaken p t x (Ok (deed.Open f)) (reply.Opened n plan)) (sym end) record {
+    subst (λ d. HasTakenStep p t after d (reply.Opened n plan)) (sym (room_left (book_of p t) f left))
+    (subst (λ (x : CasesShape). HasTakenStep p t x (Ok (deed.Open f)) (reply.Opened n plan)) (sym end) record {
       kept = opened_keeps p grown f plan (kept_with_room p t roomy.spare kept) known valid;
       step = λ edits. (number ∙ ap (λ (x : CasesShape). x.ever) same, valid);
       next = λ edits. opened_state p grown f plan edits;
@@ -151,13 +151,13 @@ no_tree b what x tree is right = absurd (subst (λ r. IsTreeFor b (r >>= (λ giv
 
 -- a denial by a case that would be stranded
 pub stranding_taken : (p : PolicyShape) (t : CasesShape) (what : Ask) (n f : ℕ) (tree : Tree) → IsKept p t → AscendFrom 0 t.rows → IsStrandingFor (book_of p t) (decision_aside (book_of p t) what) n tree →
-    ((c : CaseShape) → case_in n t.rows ≡ Some c → f ≡ c.flow) → HasTaken p t t (decision_of (book_of p t) what) (reply.Denied (Strands n f tree))
+    ((c : CaseShape) → case_in n t.rows ≡ Some c → f ≡ c.flow) → HasTakenStep p t t (decision_of (book_of p t) what) (reply.Denied (Strands n f tree))
 stranding_taken p t what n f tree kept order is flow =
     let change = stranding_change (book_of p t) (decision_aside (book_of p t) what) n tree is in
     let a = change.amendment in
     let found = stranded_case (amended p a) t.rows n change.flow tree order change.stranded in
     let same : change.flow ≡ f = sym found.flow ∙ sym (flow found.case found.there) in
-    subst (λ r. HasTaken p t t r (reply.Denied (Strands n f tree))) (sym (change_decided (book_of p t) what a change.decided))
+    subst (λ r. HasTakenStep p t t r (reply.Denied (Strands n f tree))) (sym (change_decided (book_of p t) what a change.decided))
     (same_taken p t (Ok (deed.Change a)) (reply.Denied (Strands n f tree)) kept
     (λ edits. subst (λ g. IsFirstStranded (amended p a) (open_cases (book_of p t).cases) n g tree) same change.stranded) (λ s. refl))
 
@@ -216,13 +216,13 @@ pub needs_alone : (p : PolicyShape) (t : CasesShape) (decision : Result Deed Den
 needs_alone p t decision d is needs = (ap needs_verdict is ∙ needs, refl)
 
 pub done_alone : (p : PolicyShape) (before after : CasesShape) (decision : Result Deed Denial) (d : Deed) (given : Reply) → decision ≡ Ok d → needs_plan d ≡ false →
-    HasTaken p before after (Ok d) given → ¬ (given ≡ reply.NoMemory) → HasAnsweredAlone p before after decision (Done given)
+    HasTakenStep p before after (Ok d) given → ¬ (given ≡ reply.NoMemory) → HasAnsweredAlone p before after decision (Done given)
 done_alone p before after decision d given is needs taken memory =
-    (subst (λ x. HasTaken p before after x given) (sym is) taken, (ap needs_verdict is ∙ needs, λ short. absurd (memory short)))
+    (subst (λ x. HasTakenStep p before after x given) (sym is) taken, (ap needs_verdict is ∙ needs, λ short. absurd (memory short)))
 
 pub denied_alone : (p : PolicyShape) (t : CasesShape) (decision : Result Deed Denial) (d : Denial) → decision ≡ Err d → IsKept p t → HasAnsweredAlone p t t decision (Done (reply.Denied d))
 denied_alone p t decision d is kept =
-    (subst (λ x. HasTaken p t t x (reply.Denied d)) (sym is) (denied_taken p t d kept), (ap needs_verdict is, λ short. cc))
+    (subst (λ x. HasTakenStep p t t x (reply.Denied d)) (sym is) (denied_taken p t d kept), (ap needs_verdict is, λ short. cc))
 
 pub short_alone : (p : PolicyShape) (t : CasesShape) (decision : Result Deed Denial) → takes_memory decision ≡ true → IsKept p t → HasAnsweredAlone p t t decision (Done reply.NoMemory)
 short_alone p t (Ok d) takes kept = cc
@@ -234,7 +234,7 @@ pub reply_of : (a b : Reply) → Done a ≡ Done b → a ≡ b
 reply_of a b h = cc
 
 -- a step that was taken by a verdict
-pub verdict_answers : (p : PolicyShape) (before after : CasesShape) (what : Ask) (v : Verdict) (given : Reply) → ¬ (v ≡ verdict.Nothing) → HasTaken p before after (decision_of (book_of p before) what) given →
+pub verdict_answers : (p : PolicyShape) (before after : CasesShape) (what : Ask) (v : Verdict) (given : Reply) → ¬ (v ≡ verdict.Nothing) → HasTakenStep p before after (decision_of (book_of p before) what) given →
     (needs_verdict (decision_of (book_of p before) what) ≡ true → IsMadeOf v given) →
     (given ≡ reply.NoMemory → (is_opening (decision_of (book_of p before) what) ≡ true) × (before.spare ≡ 0)) → (given ≡ reply.NoMemory → after ≡ before) →
     HasAnsweredBy p before after what v (Done given)
@@ -288,7 +288,7 @@ short_answers p before after what given alone = record {
     apart needed = let is : true ≡ false = sym needed ∙ alone.1.0 in cc
 
 -- want of memory, where a verdict is needed
-pub short_step : (p : PolicyShape) (t : CasesShape) (decision : Result Deed Denial) → needs_verdict decision ≡ true → IsKept p t → HasTaken p t t decision reply.NoMemory
+pub short_step : (p : PolicyShape) (t : CasesShape) (decision : Result Deed Denial) → needs_verdict decision ≡ true → IsKept p t → HasTakenStep p t t decision reply.NoMemory
 short_step p t (Ok d) needed kept = same_taken p t (Ok d) reply.NoMemory kept (λ edits. no_memory_replies (state_on (board_of p t edits)) d) (λ s. no_memory_stays s d)
   where
     no_memory_replies : (s : State) (d : Deed) → Answers s (Ok d) reply.NoMemory

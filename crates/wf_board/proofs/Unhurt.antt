@@ -9,7 +9,7 @@ use Rattle.wf_talk.specs.declared.reply.Reply.TheVariants as reply
 use Rattle.admin_edits.specs.declared.amendment.Amendment.{Amendment}
 use Rattle.admin_edits.specs.declared.amendment.Amendment.TheVariants as amend
 use Rattle.admin_edits.specs.Edits.{amended}
-use Rattle.admin_edits.specs.Found.{IsFound}
+use Rattle.admin_edits.specs.Found.{IsKnownChange}
 use Rattle.admin_edits.specs.Hurting.{may_hurt}
 use Rattle.admin_edits.proofs.Unhurt.{unhurt_plans_stay_valid}
 use Rattle.wf_board.specs.declared.verdict.Verdict.TheVariants as verdict
@@ -39,7 +39,7 @@ each_still : (P Q : Row → Type 0) (rows : List Row) → ((r : Row) → P r →
 each_still P Q [] still each = tt
 each_still P Q (r ∷ rs) still each = (still r each.0, each_still P Q rs still each.1)
 
-planned_still : (p : PolicyShape) (a : Amendment) (c : CaseShape) (o : Option (List ℕ)) → IsFound p a → is_harmless a ≡ true → IsPlanned p c o → IsPlanned (amended p a) c o
+planned_still : (p : PolicyShape) (a : Amendment) (c : CaseShape) (o : Option (List ℕ)) → IsKnownChange p a → is_harmless a ≡ true → IsPlanned p c o → IsPlanned (amended p a) c o
 planned_still p a c None found harmless planned = planned
 planned_still p a c (Some plan) found harmless planned =
     unhurt_plans_stay_valid p a c.flow (assigned_of c) (finished_of c) plan found (hurts_none p a c.flow (finished_of c) plan harmless) planned

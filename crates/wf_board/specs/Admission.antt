@@ -17,7 +17,7 @@ use Rattle.wf_board.specs.States.{Book}
 use Rattle.wf_board.specs.Boards.{BoardShape, state_on}
 use Rattle.wf_board.specs.Decisions.{decision_of}
 use Rattle.wf_board.specs.Steps.{Answers, IsStep, state_after_step}
-use Rattle.wf_board.specs.Taking.{board_of, HasTaken}
+use Rattle.wf_board.specs.Taking.{board_of, HasTakenStep}
 use Rattle.wf_board.specs.Verdicts.{IsStrandingFor, IsViewFor}
 
 -- a denial that shows no tree
@@ -39,7 +39,7 @@ IsNoAnswer p t decision given = (edits : ℕ) → ¬ Answers (state_on (board_of
 -- a reply was taken, where the deed or the cause against it is this; or it is no step, or there was no memory, and nothing
 -- has changed
 abbrev pub HasAdmitted : PolicyShape → CasesShape → CasesShape → Result Deed Denial → Reply → Result (Unit {0}) AdmitFault → Type 0
-HasAdmitted p before after decision given (Ok done) = HasTaken p before after decision given
+HasAdmitted p before after decision given (Ok done) = HasTakenStep p before after decision given
 HasAdmitted p before after decision given (Err NotStep) = (after ≡ before) × IsNoAnswer p before decision given
 HasAdmitted p before after decision given (Err NoMemory) = (after ≡ before) × MayLackMemoryFor before.spare decision
 

@@ -10,7 +10,8 @@ use Rattle.wf_talk.specs.declared.request.Request.TheVariants as request
 use Rattle.wf_talk.specs.declared.request.Ask.{Ask}
 use Rattle.wf_talk.specs.declared.request.Ask.TheVariants as ask
 use Rattle.wf_talk.specs.declared.reply.Denial.{Denial}
-use Rattle.wf_talk.specs.declared.reply.Denial.TheVariants.{Retired, Full, NotHeld, Role}
+use Rattle.wf_talk.specs.declared.reply.Denial.TheVariants.{Retired, Full, NotHeld}
+use Rattle.denial_reasons.specs.Causes as causes
 use Rattle.denial_reasons.specs.Causes.{first_cause, unless}
 use Rattle.wf_board.specs.declared.deed.Deed.{Deed}
 use Rattle.wf_board.specs.declared.deed.Deed.TheVariants as deed
@@ -76,5 +77,5 @@ is_view what = false
 
 -- a denial that takes memory
 abbrev pub takes_memory : Result Deed Denial → Bool
-takes_memory (Err (Role roles)) = true
-takes_memory given = false
+takes_memory (Err d) = causes.takes_memory (Some d)
+takes_memory (Ok d) = false

@@ -25,7 +25,7 @@ pub record AreFound (p : PolicyShape) (rows : List Row) (n : ℕ) (c : CaseShape
 
 -- a change of the policy names what is there, and has no fault
 pub record IsAllowed (p : PolicyShape) (a : Amendment) : Type 0 where
-  pub found : edits.IsFound p a
+  pub found : edits.IsKnownChange p a
   pub allowed : allowed p a ≡ Ok tt
 
 -- the numbers of a deed are those of things that are there

@@ -70,7 +70,7 @@ IsCertificateOf p assigned finished (verdict.Refuted tree) = IsTrue (refutes p a
 IsCertificateOf p assigned finished v = ⊥
 
 -- a step was taken, where the deed or the cause against it is this
-pub record HasTaken (p : PolicyShape) (before after : CasesShape) (decision : Result Deed Denial) (given : Reply) : Type 0 where
+pub record HasTakenStep (p : PolicyShape) (before after : CasesShape) (decision : Result Deed Denial) (given : Reply) : Type 0 where
   pub kept : IsKept p after
   pub step : (edits : ℕ) → Answers (state_on (board_of p before edits)) decision given
   pub next : (edits : ℕ) → state_on (board_of p after edits) ≡ state_after_decision (state_on (board_of p before edits)) decision given
@@ -86,7 +86,7 @@ pub record HasChanged (p : PolicyShape) (before after : CasesShape) (n : ℕ) (c
 abbrev pub HasAnsweredAlone : PolicyShape → CasesShape → CasesShape → Result Deed Denial → Answered → Type 0
 HasAnsweredAlone p before after decision Needs = (needs_verdict decision ≡ true) × (after ≡ before)
 HasAnsweredAlone p before after decision (Done given) =
-    HasTaken p before after decision given
+    HasTakenStep p before after decision given
     × ((needs_verdict decision ≡ false) × (given ≡ reply.NoMemory → (takes_memory decision ≡ true) × (after ≡ before)))
 
 -- all that a board promises of an answer

@@ -11,19 +11,21 @@ pub fn histories_keep_completable()
     ensures { HistoriesKeepCompletable }
 {}
 
-/// A claim is granted exactly where no cause is against it and its case can still be completed.
+/// In a state of one policy, a claim against which there is no cause and for which there is memory is
+/// granted exactly where its case can then be completed.
 pub fn claims_are_exact()
     ensures { ClaimsAreExact }
 {}
 
-/// A claim is granted exactly where its user is authorised, its step is ready, and its case can
-/// then be completed.
+/// In a state of one policy, a claim of a step and for a user that are there, in an open case, for
+/// which there is memory is granted exactly where its user is authorised, its step is ready, and its
+/// case can then be completed.
 pub fn grants_are_exact()
     ensures { GrantsAreExact }
 {}
 
-/// An edit is accepted exactly where no cause is against it and each open case can be completed
-/// under the policy that it leaves.
+/// In a state of one policy, an edit against which there is no cause and for which there is memory is
+/// accepted exactly where each open case can be completed under the policy that it leaves.
 pub fn edits_are_exact()
     ensures { EditsAreExact }
 {}

@@ -16,7 +16,7 @@ ghost use Rattle.wf_board.specs.Decisions.{cause_aside, decision_aside, decision
 ghost use Rattle.wf_board.specs.Found.{AreFound, IsFound, IsOpenAt};
 ghost use Rattle.wf_board.specs.States.{is_full};
 ghost use Rattle.wf_board.specs.Steps.{face_of};
-ghost use Rattle.wf_board.specs.Taking.{full_or, keeps_policy, HasAnsweredAlone, HasAnsweredBy, HasChanged, HasTaken, IsKept};
+ghost use Rattle.wf_board.specs.Taking.{full_or, keeps_policy, HasAnsweredAlone, HasAnsweredBy, HasChanged, HasTakenStep, IsKept};
 ghost use Rattle.wf_board.specs.Verdicts.{is_opening, IsMadeOf, IsPlanFor, IsRight, IsStrandingFor, IsTreeFor};
 
 use crate::decision::{Refused, decision_of, is_full, needs_plan};
@@ -80,7 +80,7 @@ pub(crate) fn by_plan(p: &Policy, cases: &mut Cases, ask: &Ask, plan: Plan) -> R
     requires kept { IsKept p.now cases.old }
     requires plan { IsPlanFor (book_of p.now cases.old)
         (decision_aside (book_of p.now cases.old) ask.now) plan }
-    ensures taken { HasTaken p.now cases.old cases.new
+    ensures taken { HasTakenStep p.now cases.old cases.new
         (decision_of (book_of p.now cases.old) ask.now) result }
     ensures made { needs_verdict (decision_of (book_of p.now cases.old) ask.now) ≡ true
         → IsMadeOf (verdicts.Plan plan) result }
@@ -100,7 +100,7 @@ fn plan_for(p: &Policy, cases: &mut Cases, deed: Deed, plan: Plan) -> Reply
     requires found { IsFound p.now cases.old.rows deed }
     requires cause { cause_aside (book_of p.now cases.old) deed ≡ None }
     requires plan { IsPlanFor (book_of p.now cases.old) (Ok deed) plan }
-    ensures taken { HasTaken p.now cases.old cases.new (full_or (book_of p.now cases.old)
+    ensures taken { HasTakenStep p.now cases.old cases.new (full_or (book_of p.now cases.old)
         deed) result }
     ensures made { needs_verdict (full_or (book_of p.now cases.old) deed) ≡ true
         → IsMadeOf (verdicts.Plan plan) result }
@@ -128,7 +128,7 @@ pub(crate) fn by_tree(p: &Policy, cases: &Cases, ask: &Ask, tree: Tree) -> Reply
     requires kept { IsKept p.now cases.now }
     requires tree { IsTreeFor (book_of p.now cases.now)
         (decision_aside (book_of p.now cases.now) ask.now) tree }
-    ensures taken { HasTaken p.now cases.now cases.now
+    ensures taken { HasTakenStep p.now cases.now cases.now
         (decision_of (book_of p.now cases.now) ask.now) result }
     ensures made { needs_verdict (decision_of (book_of p.now cases.now) ask.now) ≡ true
         → IsMadeOf (verdicts.Refuted tree) result }
@@ -144,7 +144,7 @@ pub(crate) fn by_tree(p: &Policy, cases: &Cases, ask: &Ask, tree: Tree) -> Reply
 fn tree_for(p: &Policy, cases: &Cases, deed: Deed, tree: Tree) -> Reply
     requires kept { IsKept p.now cases.now }
     requires tree { IsTreeFor (book_of p.now cases.now) (Ok deed) tree }
-    ensures taken { HasTaken p.now cases.now cases.now (full_or (book_of p.now cases.now)
+    ensures taken { HasTakenStep p.now cases.now cases.now (full_or (book_of p.now cases.now)
         deed) result }
     ensures made { needs_verdict (full_or (book_of p.now cases.now) deed) ≡ true
         → IsMadeOf (verdicts.Refuted tree) result }
@@ -164,7 +164,7 @@ fn tree_for(p: &Policy, cases: &Cases, deed: Deed, tree: Tree) -> Reply
 fn unsatisfiable(p: &Policy, cases: &Cases, flow: FlowId, tree: Tree) -> Reply
     requires kept { IsKept p.now cases.now }
     requires tree { IsTreeFor (book_of p.now cases.now) (Ok (deeds.Open flow)) tree }
-    ensures taken { HasTaken p.now cases.now cases.now
+    ensures taken { HasTakenStep p.now cases.now cases.now
         (full_or (book_of p.now cases.now) (deeds.Open flow)) result }
     ensures made { is_full (book_of p.now cases.now) ≡ false
         → IsMadeOf (verdicts.Refuted tree) result }
@@ -187,7 +187,7 @@ pub(crate) fn by_stranding(
     requires kept { IsKept p.now cases.now }
     requires tree { IsStrandingFor (book_of p.now cases.now)
         (decision_aside (book_of p.now cases.now) ask.now) number tree }
-    ensures taken { HasTaken p.now cases.now cases.now
+    ensures taken { HasTakenStep p.now cases.now cases.now
         (decision_of (book_of p.now cases.now) ask.now) result }
     ensures made { IsMadeOf (verdicts.Strands number tree) result }
     ensures memory { result ≢ replies.NoMemory }
@@ -211,7 +211,7 @@ fn perform(p: &Policy, cases: &mut Cases, deed: Deed) -> Reply
     requires found { IsFound p.now cases.old.rows deed }
     requires cause { cause_aside (book_of p.now cases.old) deed ≡ None }
     requires aside { needs_plan deed ≡ false }
-    ensures taken { HasTaken p.now cases.old cases.new (Ok deed) result }
+    ensures taken { HasTakenStep p.now cases.old cases.new (Ok deed) result }
     ensures memory { result ≢ replies.NoMemory }
 {
     match deed {
@@ -255,7 +255,7 @@ pub(crate) fn open(p: &Policy, cases: &mut Cases, flow: FlowId, plan: Plan) -> R
     requires kept { IsKept p.now cases.old }
     requires flow { flow < length p.now.flows }
     requires valid { IsValidPlan (problem_of p.now flow) no_users no_steps plan }
-    ensures taken { HasTaken p.now cases.old cases.new
+    ensures taken { HasTakenStep p.now cases.old cases.new
         (full_or (book_of p.now cases.old) (deeds.Open flow)) result }
     ensures made { is_full (book_of p.now cases.old) ≡ false
         → IsMadeOf (verdicts.Plan plan) result }
@@ -302,7 +302,7 @@ pub(crate) fn claim(
     requires free { state_at case.now s ≡ FreeStep }
     requires valid { IsValidPlan (problem_of p.now case.now.flow) (assigned_with case.now s u)
         (finished_of case.now) plan }
-    ensures { HasTaken p.now cases.old cases.new (Ok (deeds.Claim n case.now s u))
+    ensures { HasTakenStep p.now cases.old cases.new (Ok (deeds.Claim n case.now s u))
         (replies.Granted plan) }
 {
     let _ = case;
@@ -321,7 +321,7 @@ pub(crate) fn finish(
     requires kept { IsKept p.now cases.old }
     requires found { IsOpenAt p.now cases.old.rows n case.now }
     requires held { is_held (state_at case.now s) ≡ true }
-    ensures { HasTaken p.now cases.old cases.new (Ok (deeds.Finish n case.now s u))
+    ensures { HasTakenStep p.now cases.old cases.new (Ok (deeds.Finish n case.now s u))
         (replies.Finished result) }
 {
     let _ = p;

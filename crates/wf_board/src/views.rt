@@ -7,7 +7,7 @@ ghost use Rattle.wf_board.specs.Admission.{HasAdmitted, IsVerdictFor};
 ghost use Rattle.wf_board.specs.Boards.{book_of};
 ghost use Rattle.wf_board.specs.Decisions.{decision_aside, decision_of};
 ghost use Rattle.wf_board.specs.Found.{IsAllowed};
-ghost use Rattle.wf_board.specs.Taking.{HasTaken, IsKept};
+ghost use Rattle.wf_board.specs.Taking.{HasTakenStep, IsKept};
 ghost use Rattle.wf_board.specs.Verdicts.{IsMadeOf, IsViewFor};
 
 use crate::admit::when;
@@ -23,7 +23,7 @@ pub(crate) fn by_view(p: &Policy, cases: &Cases, ask: &Ask, view: View) -> Reply
     requires kept { IsKept p.now cases.now }
     requires view { IsViewFor (book_of p.now cases.now)
         (decision_aside (book_of p.now cases.now) ask.now) view }
-    ensures taken { HasTaken p.now cases.now cases.now
+    ensures taken { HasTakenStep p.now cases.now cases.now
         (decision_of (book_of p.now cases.now) ask.now) result }
     ensures made { IsMadeOf (verdicts.View view) result }
     ensures memory { result ≢ replies.NoMemory }

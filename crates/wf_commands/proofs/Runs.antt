@@ -15,7 +15,7 @@ use Rattle.wf_commands.specs.declared.question.Question.{Question}
 use Rattle.wf_commands.specs.declared.question.Question.TheVariants.{Plan, Show, Solve}
 use Rattle.wf_commands.specs.Once.{AnswersOnce, Ends, IsQuiet, OverPolicy}
 use Rattle.wf_commands.specs.Questions.{answers, AnswersQuestion, ReadsAs}
-use Rattle.wf_commands.specs.Answer.{AnswersAs, AnswersFile, IsRefusal}
+use Rattle.wf_commands.specs.Answer.{AnswersAs, AnswersFile, IsCommandEnding}
 use Rattle.wf_commands.specs.Load.{IsLoadEnding}
 
 -- where no policy was loaded nothing is read
@@ -40,7 +40,7 @@ pub unread_after : (q : Question) (result : Result Answer RunFault) (fault : Run
 unread_after q (Ok answer) fault left is ending = absurd is
 unread_after q (Err e) fault left is ending = rw is (unread q fault left ending)
 
-pub no_writes : (fault : RunFault) (before after : ℕ) → IsRefusal fault → after ≡ before → CountsWrites fault before after
+pub no_writes : (fault : RunFault) (before after : ℕ) → IsCommandEnding fault → after ≡ before → CountsWrites fault before after
 no_writes Nothing before after ending same = absurd ending
 no_writes Found before after ending same = absurd ending
 no_writes Usage before after ending same = absurd ending
@@ -69,7 +69,7 @@ own_reads (LineTooLong line) before after counts = counts
 own_reads TooManyLines before after counts = counts
 own_reads (BadInput e) before after counts = counts
 
-pub quiet_refused : (fault : RunFault) (before after : Option (List ℕ)) → IsRefusal fault → after ≡ before → IsQuiet fault before after
+pub quiet_refused : (fault : RunFault) (before after : Option (List ℕ)) → IsCommandEnding fault → after ≡ before → IsQuiet fault before after
 quiet_refused Nothing before after ending same = absurd ending
 quiet_refused Found before after ending same = absurd ending
 quiet_refused Usage before after ending same = absurd ending
@@ -84,7 +84,7 @@ quiet_refused TooManyLines before after ending same = absurd ending
 quiet_refused (BadInput e) before after ending same = same
 
 pub ends_refused : (A : RunFault → List ℕ → Type 0) (before after : Option (List ℕ)) (fault : RunFault)
-    → IsRefusal fault → AnswersAs A (Err fault) → after ≡ before → Ends A before after fault
+    → IsCommandEnding fault → AnswersAs A (Err fault) → after ≡ before → Ends A before after fault
 ends_refused A before after Nothing ending h same = absurd ending
 ends_refused A before after Found ending h same = absurd ending
 ends_refused A before after Usage ending h same = absurd ending
@@ -99,13 +99,13 @@ ends_refused A before after TooManyLines ending h same = absurd ending
 ends_refused A before after (BadInput e) ending h same = ([], h, same ∙ sym (nothing_put before))
 
 over_refused : (A : PolicyShape → RunFault → List ℕ → Type 0) (f : Filed) (before after : Option (List ℕ)) (fault : RunFault)
-    → IsRefusal fault → AnswersFile A f (Err fault) → after ≡ before → OverFile f fault (λ file. Ends (OverPolicy A file) before after fault)
+    → IsCommandEnding fault → AnswersFile A f (Err fault) → after ≡ before → OverFile f fault (λ file. Ends (OverPolicy A file) before after fault)
 over_refused A untold before after fault ending h same = tt
 over_refused A missing before after fault ending h same = cc
 over_refused A (told file) before after fault ending h same = ends_refused (OverPolicy A file) before after fault ending h same
 
 early_unread : (q : Question) (fault : RunFault) (before after : Option (List ℕ))
-    → IsRefusal fault → is_before_input fault ≡ true → ReadsAs q fault before after → after ≡ before
+    → IsCommandEnding fault → is_before_input fault ≡ true → ReadsAs q fault before after → after ≡ before
 early_unread (Plan flow) Nothing before after ending early reads = absurd ending
 early_unread (Plan flow) Found before after ending early reads = absurd ending
 early_unread (Plan flow) Usage before after ending early reads = absurd ending
@@ -139,7 +139,7 @@ pub record WritesNothing (r : Run) : Type 0 where
 
 -- a run that ends without an answer
 pub without_answer : (q : Question) (policy : List ℕ) (r : Run)
-    → AnswersFile (answers q r.before.input) (r.files policy) (Err r.fault) → IsRefusal r.fault
+    → AnswersFile (answers q r.before.input) (r.files policy) (Err r.fault) → IsCommandEnding r.fault
     → CountsLoads r.fault r.load_faults r.load_faults_after → CountsReadsAlone r.fault r.before.read_faults r.after.read_faults
     → ReadsAs q r.fault r.before.input r.after.input → WritesNothing r → AnswersQuestion q policy r
 without_answer q policy r answer ending loads reads input nothing =

@@ -8,13 +8,13 @@ use Rattle.wf_commands.specs.declared.answer.Answer.{Answer}
 use Rattle.wf_commands.specs.Once.{OverPolicy}
 
 -- how a run with an answer ends
-abbrev pub ending_of : Bool → RunFault
-ending_of true = Found
-ending_of false = Nothing
+abbrev pub ending_with : Bool → RunFault
+ending_with true = Found
+ending_with false = Nothing
 
 -- an answer is one of these; so is the ending without one, where the outside and memory did not fail
 abbrev pub AnswersAs : (RunFault → List ℕ → Type 0) → Result Answer RunFault → Type 0
-AnswersAs Answers (Ok answer) = Answers (ending_of answer.found) (string_bytes answer.text)
+AnswersAs Answers (Ok answer) = Answers (ending_with answer.found) (string_bytes answer.text)
 AnswersAs Answers (Err Read) = Unit {0}
 AnswersAs Answers (Err Load) = Unit {0}
 AnswersAs Answers (Err NoMemory) = Unit {0}
@@ -36,12 +36,12 @@ IsAnswerEnding (BadInput fault) = Unit {0}
 IsAnswerEnding fault = ⊥
 
 -- all endings without an answer
-abbrev pub IsRefusal : RunFault → Type 0
-IsRefusal FileTooLong = Unit {0}
-IsRefusal (Policy fault) = Unit {0}
-IsRefusal Load = Unit {0}
-IsRefusal Read = Unit {0}
-IsRefusal NoMemory = Unit {0}
-IsRefusal (LineTooLong line) = Unit {0}
-IsRefusal (BadInput fault) = Unit {0}
-IsRefusal fault = ⊥
+abbrev pub IsCommandEnding : RunFault → Type 0
+IsCommandEnding FileTooLong = Unit {0}
+IsCommandEnding (Policy fault) = Unit {0}
+IsCommandEnding Load = Unit {0}
+IsCommandEnding Read = Unit {0}
+IsCommandEnding NoMemory = Unit {0}
+IsCommandEnding (LineTooLong line) = Unit {0}
+IsCommandEnding (BadInput fault) = Unit {0}
+IsCommandEnding fault = ⊥

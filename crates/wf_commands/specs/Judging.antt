@@ -8,9 +8,9 @@ use Rattle.run_record.specs.declared.fault.RunFault.{RunFault}
 use Rattle.run_record.specs.declared.fault.RunFault.TheVariants.{Nothing, Read, NoMemory, LineTooLong, BadInput}
 use Rattle.run_record.specs.declared.fault.InputFault.TheVariants.{NoFlow}
 use Rattle.wf_commands.specs.declared.answer.Answer.{Answer}
-use Rattle.wf_commands.specs.Answer.{ending_of}
+use Rattle.wf_commands.specs.Answer.{ending_with}
 use Rattle.wf_commands.specs.Input.{plan_of_input}
-use Rattle.wf_commands.specs.Plan.{Judges, HasReadAll}
+use Rattle.wf_commands.specs.Plan.{Judges, HasReadPlan}
 
 -- the input, or that it is too long, or that reading or memory failed
 abbrev pub GivesInput : List ℕ → Result (List ℕ) RunFault → Type 0
@@ -27,7 +27,7 @@ IsInputEnding fault = ⊥
 
 -- how much of the input is taken
 abbrev pub TakesInput : RunFault → Option (List ℕ) → Option (List ℕ) → Type 0
-TakesInput Nothing before after = HasReadAll before after
+TakesInput Nothing before after = HasReadPlan before after
 TakesInput (LineTooLong line) before after = HasTakenCount before after (LINE_LIMIT + 1)
 TakesInput fault before after = HasTakenAtMost before after (LINE_LIMIT + 1)
 
@@ -35,7 +35,7 @@ TakesInput fault before after = HasTakenAtMost before after (LINE_LIMIT + 1)
 abbrev pub JudgesAs : PolicyShape → ℕ → List ℕ → Result Answer RunFault → Type 0
 JudgesAs p f input (Ok answer) =
     (users : List ℕ) × (plan_of_input p (length (flow_at p f).flow.steps) input ≡ Ok users)
-    × Judges p f users (ending_of answer.found) (string_bytes answer.text)
+    × Judges p f users (ending_with answer.found) (string_bytes answer.text)
 JudgesAs p f input (Err (BadInput fault)) =
     plan_of_input p (length (flow_at p f).flow.steps) input ≡ Err fault
 JudgesAs p f input (Err fault) = Unit {0}

@@ -45,7 +45,7 @@ JudgesInput p word told fault text =
     (λ f. IfSome told (λ input. JudgesAll p f input fault text))
 
 -- all of the input was read, to its end
-pub record HasReadAll (before after : Option (List ℕ)) : Type 0 where
+pub record HasReadPlan (before after : Option (List ℕ)) : Type 0 where
   pub bytes : List ℕ
   pub taken : HasTaken before after bytes
   pub within : length bytes ≤ LINE_LIMIT
@@ -55,14 +55,14 @@ pub record HasReadAll (before after : Option (List ℕ)) : Type 0 where
 -- past the limit one byte, which shows that it is too long; no more where reading or memory failed;
 -- and else nothing
 abbrev pub ReadsAsPlan : RunFault → Option (List ℕ) → Option (List ℕ) → Type 0
-ReadsAsPlan Nothing before after = HasReadAll before after
-ReadsAsPlan Found before after = HasReadAll before after
-ReadsAsPlan Write before after = HasReadAll before after
+ReadsAsPlan Nothing before after = HasReadPlan before after
+ReadsAsPlan Found before after = HasReadPlan before after
+ReadsAsPlan Write before after = HasReadPlan before after
 ReadsAsPlan (LineTooLong line) before after = HasTakenCount before after (LINE_LIMIT + 1)
 ReadsAsPlan Read before after = HasTakenAtMost before after (LINE_LIMIT + 1)
 ReadsAsPlan NoMemory before after = HasTakenAtMost before after (LINE_LIMIT + 1)
 ReadsAsPlan (BadInput NoFlow) before after = after ≡ before
-ReadsAsPlan (BadInput fault) before after = HasReadAll before after
+ReadsAsPlan (BadInput fault) before after = HasReadPlan before after
 ReadsAsPlan fault before after = after ≡ before
 
 -- a run of `plan` with a policy file and the name of a workflow

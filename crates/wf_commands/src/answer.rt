@@ -1,6 +1,6 @@
 //! What a command answers.
 ghost use Rattle.std.specs.Prelude.{◌≡◌};
-ghost use Rattle.wf_commands.specs.Answer.{ending_of};
+ghost use Rattle.wf_commands.specs.Answer.{ending_with};
 
 use run_record::RunFault;
 
@@ -14,7 +14,7 @@ pub(crate) struct Answer {
 impl Answer {
     /// How the run ends where all of the text is written.
     pub(crate) fn ending(&self) -> RunFault
-        ensures { result ≡ ending_of self.now.found }
+        ensures { result ≡ ending_with self.now.found }
     {
         if self.found {
             RunFault::Found

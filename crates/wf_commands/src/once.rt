@@ -6,7 +6,7 @@ ghost use Rattle.policy_reader.specs.Printable.{IsPrintable};
 ghost use Rattle.run_record.specs.Fault.{fault_in, status_of, CountsLoads, CountsReadsAlone};
 ghost use Rattle.run_record.specs.Run.{run_of, streams_of};
 ghost use Rattle.wf_commands.specs.Questions.{answers, reads_input, AnswersQuestion, ReadsAs};
-ghost use Rattle.wf_commands.specs.Answer.{AnswersAs, AnswersFile, IsAnswerEnding, IsRefusal};
+ghost use Rattle.wf_commands.specs.Answer.{AnswersAs, AnswersFile, IsAnswerEnding, IsCommandEnding};
 
 use crate::answer::Answer;
 use crate::load::load_policy;
@@ -55,7 +55,7 @@ fn find_answer<F: Shelf, S: Source>(
 ) -> Result<Answer, RunFault>
     ensures answer { AnswersFile (answers question.now (S.left source.old))
         (F.file shelf.old policy.now) result }
-    ensures ending { IfErr result IsRefusal }
+    ensures ending { IfErr result IsCommandEnding }
     ensures loads { CountsLoads (fault_in result) (F.faults shelf.old) (F.faults shelf.new) }
     ensures reads { CountsReadsAlone (fault_in result) (S.faults source.old) (S.faults source.new) }
     ensures input { ReadsAs question.now (fault_in result) (S.left source.old) (S.left source.new) }

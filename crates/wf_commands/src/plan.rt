@@ -4,7 +4,7 @@ ghost use Rattle.certificate_check.specs.Faults.{plan_verdict};
 ghost use Rattle.constraint_forms.specs.Assigned.{no_steps, no_users, planned};
 ghost use Rattle.policy_book.specs.Policies.{flow_at, problem_of};
 ghost use Rattle.run_record.specs.Fault.{fault_in, CountsReadsAlone};
-ghost use Rattle.wf_commands.specs.Answer.{ending_of, AnswersAs, IsAnswerEnding};
+ghost use Rattle.wf_commands.specs.Answer.{ending_with, AnswersAs, IsAnswerEnding};
 ghost use Rattle.wf_commands.specs.Input.{number_named};
 ghost use Rattle.wf_commands.specs.Plan.{Judges, JudgesInput, ReadsAsPlan, fault_line};
 ghost use Rattle.wf_commands.specs.Judging.{GivesInput, JudgesAs, IsInputEnding, IsJudgedEnding, TakesInput};
@@ -89,7 +89,7 @@ fn judge_plan(alloc: Global, p: &Policy, f: FlowId, plan: &Plan) -> Result<Answe
     requires users { (s : ℕ) → s < length plan.now
         → planned plan.now s < length p.now.roster.users }
     ensures { IfOk result (λ answer.
-        Judges p.now f plan.now (ending_of answer.found) (string_bytes answer.text)) }
+        Judges p.now f plan.now (ending_with answer.found) (string_bytes answer.text)) }
 {
     match check_plan(p, f, &Assign::empty(), &StepSet::empty(), plan) {
         Ok(()) => Ok(Answer {

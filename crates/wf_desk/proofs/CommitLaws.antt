@@ -27,7 +27,7 @@ use Rattle.wf_desk.specs.declared.task.Task.{Task}
 use Rattle.wf_desk.specs.declared.outcome.Outcome.{Outcome}
 use Rattle.wf_desk.specs.declared.outcome.Outcome.TheVariants as outcome
 use Rattle.wf_desk.specs.Desks.{DeskShape, HasAdded, loss_of, next_job, no_loss, served}
-use Rattle.wf_desk.specs.Commits.{HasCommittedChecked, IsNext, IsReplyWhere, IsRightFor, IsTask, floor_of, is_fresh, is_kept, is_last_round, is_lost, job_of_task}
+use Rattle.wf_desk.specs.Commits.{HasCommittedChecked, IsNext, IsReplyWhere, IsRightFor, IsTask, floor_of, is_fresh, is_fresh_or_change, is_last_round, is_lost, job_of_task}
 use Rattle.wf_desk.specs.Keeping.{HasCommittedNone, IsDesk, own_start}
 use Rattle.wf_desk.specs.Places.{IsNextPlace, entry_for}
 use Rattle.wf_desk.proofs.DeskLaws.{Grows, HasMoved, MayLose, desk_added, desk_lost, with_parts}
@@ -330,9 +330,9 @@ checked_none d e t v outcome.NotNext next none has = absurd has
 checked_none d e t v outcome.Lost next none has = (next, (none, has))
 checked_none d e t v (outcome.Recorded place) next none has = (
   next,
-  added_as d e (job_of_task t) place (IsReplyWhere (is_kept d t) (is_lost d t) d t verdict.Nothing)
+  added_as d e (job_of_task t) place (IsReplyWhere (is_fresh_or_change d t) (is_lost d t) d t verdict.Nothing)
       (λ given. (IsCertified (state_on d.board).book t.ask v × IsDecided d.board t.ask v given)
-      ⊎ (¬ IsCertified (state_on d.board).book t.ask v × IsReplyWhere (is_kept d t) (is_lost d t) d t verdict.Nothing given))
+      ⊎ (¬ IsCertified (state_on d.board).book t.ask v × IsReplyWhere (is_fresh_or_change d t) (is_lost d t) d t verdict.Nothing given))
       (λ given is. inr (none, is)) has,
 )
 
@@ -343,6 +343,6 @@ checked_by d e t v place next certified has = (
   next,
   added_as d e (job_of_task t) place (IsDecided d.board t.ask v)
       (λ given. (IsCertified (state_on d.board).book t.ask v × IsDecided d.board t.ask v given)
-      ⊎ (¬ IsCertified (state_on d.board).book t.ask v × IsReplyWhere (is_kept d t) (is_lost d t) d t verdict.Nothing given))
+      ⊎ (¬ IsCertified (state_on d.board).book t.ask v × IsReplyWhere (is_fresh_or_change d t) (is_lost d t) d t verdict.Nothing given))
       (λ given is. inl (certified, is)) has,
 )

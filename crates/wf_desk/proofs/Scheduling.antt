@@ -21,7 +21,7 @@ use Rattle.wf_desk.specs.declared.schedule.Event.{Event}
 use Rattle.wf_desk.specs.declared.schedule.Event.TheVariants.{Commit}
 use Rattle.wf_desk.specs.declared.schedule.Mark.{Mark}
 use Rattle.wf_desk.specs.declared.schedule.Solved.{Solved}
-use Rattle.wf_desk.specs.Desks.{DeskShape, HasAdded, IsSoundDesk, served, state_at}
+use Rattle.wf_desk.specs.Desks.{DeskShape, HasAdded, IsSoundDesk, served, state_after_first}
 use Rattle.wf_desk.specs.Commits.{HasCommitted, HasServed, IsTask, job_of_task, with_loss}
 use Rattle.wf_desk.specs.Schedules.{AreEventsOf, HasDone, HasDoneAll, HasGoneOn, HasGrown, Standing, held_by, lane_answers, lane_left, lane_of, mark_of}
 use Rattle.wf_desk.specs.Holding.{AreHeld, IsHeld}
@@ -107,7 +107,7 @@ goes_on d e before after grown = record { grown = grown; next = next }
 
 -- ---- what lanes hold
 
-state_stays : (d e : DeskShape) (n : ℕ) → HasGrown d e → n ≤ length d.entries → state_at e n ≡ state_at d n
+state_stays : (d e : DeskShape) (n : ℕ) → HasGrown d e → n ≤ length d.entries → state_after_first e n ≡ state_after_first d n
 state_stays d e n grown within =
     ap (λ p. state_after (opening_state p) (take n e.entries)) grown.opening
     ∙ ap (λ es. state_after (opening_state d.opening) (take n es)) grown.extends
@@ -172,7 +172,7 @@ begun_held d lane x sound task decides = record {
   right =
       let on_snap = subst (λ (s : SnapShape). IsRight (book_on s) x.task.ask x.verdict) task.snap decides.right in
       let on_board = snaps_suffice d.board x.task.ask x.task.snap.cases.spare x.verdict on_snap in
-      let now : state_on d.board ≡ state_at d x.task.number =
+      let now : state_on d.board ≡ state_after_first d x.task.number =
       sound.state ∙ ap (state_after (opening_state d.opening)) (sym (ap (λ n. take n d.entries) task.number ∙ take-length d.entries)) in
       subst (λ s. IsRight s.book x.task.ask x.verdict) now on_board;
 }

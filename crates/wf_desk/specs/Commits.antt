@@ -16,7 +16,7 @@ use Rattle.wf_board.specs.Verdicts.{IsCertified, IsDecided, IsRight, snap_of}
 use Rattle.wf_desk.specs.declared.task.Task.{Task}
 use Rattle.wf_desk.specs.declared.outcome.Outcome.{Outcome}
 use Rattle.wf_desk.specs.declared.outcome.Outcome.TheVariants as outcome
-use Rattle.wf_desk.specs.Desks.{DeskShape, HasAdded, loss_of, next_job, state_at}
+use Rattle.wf_desk.specs.Desks.{DeskShape, HasAdded, loss_of, next_job, state_after_first}
 
 -- the job of a task
 abbrev pub job_of_task : Task → Job
@@ -31,7 +31,7 @@ pub record IsTask (d : DeskShape) (of : ℕ) (t : Task) : Type 0 where
 
 -- a verdict is right for the state on which its task was found
 abbrev pub IsRightFor : DeskShape → Task → Verdict → Type 0
-IsRightFor d t v = IsRight (state_at d t.number).book t.ask v
+IsRightFor d t v = IsRight (state_after_first d t.number).book t.ask v
 
 -- a task is for its lane's next job
 abbrev pub IsNext : DeskShape → Task → Type 0
@@ -87,22 +87,22 @@ abbrev pub is_change : Ask → Bool
 is_change (ask.Request (request.Change by edit)) = true
 is_change what = false
 
--- a task that is not lost where its verdict is not certified: no entry since counts for it, or it is an edit
-abbrev pub is_kept : DeskShape → Task → Bool
-is_kept d t = is_fresh d t || is_change t.ask
+-- no entry since counts for a task, or it is an edit
+abbrev pub is_fresh_or_change : DeskShape → Task → Bool
+is_fresh_or_change d t = is_fresh d t || is_change t.ask
 
 -- a task was committed with a verdict that was checked once more, whatever was known of it: as above, but that a plan or
 -- a tree that is right now decides, and that an edit or a view is always decided anew inside the turn
 abbrev pub HasCommittedChecked : DeskShape → DeskShape → Task → Verdict → Outcome → Type 0
 HasCommittedChecked before after t v outcome.NotNext = ¬ IsNext before t × (after ≡ before)
 HasCommittedChecked before after t v outcome.Lost =
-    IsNext before t × (¬ IsCertified (state_on before.board).book t.ask v × ((is_kept before t ≡ false)
+    IsNext before t × (¬ IsCertified (state_on before.board).book t.ask v × ((is_fresh_or_change before t ≡ false)
     × ((is_lost before t ≡ true) × ((is_last_round before t.lane ≡ false) × (after ≡ with_loss before t.lane)))))
 HasCommittedChecked before after t v (outcome.Recorded place) =
     IsNext before t × HasAdded before after (job_of_task t) place (λ given.
     (IsCertified (state_on before.board).book t.ask v × IsDecided before.board t.ask v given)
     ⊎ (¬ IsCertified (state_on before.board).book t.ask v
-    × IsReplyWhere (is_kept before t) (is_lost before t) before t verdict.Nothing given))
+    × IsReplyWhere (is_fresh_or_change before t) (is_lost before t) before t verdict.Nothing given))
 
 -- a lane's next job was decided inside the turn, if it has one
 abbrev pub HasServed : DeskShape → DeskShape → ℕ → Bool → Type 0

@@ -27,8 +27,8 @@ pub record DeskShape : Type 0 where
   pub losses : List Loss
 
 -- the state after the first so many entries
-abbrev pub state_at : DeskShape → ℕ → State
-state_at d n = state_after (opening_state d.opening) (take n d.entries)
+abbrev pub state_after_first : DeskShape → ℕ → State
+state_after_first d n = state_after (opening_state d.opening) (take n d.entries)
 
 -- a lane's jobs that the entries from a place on answer
 abbrev pub served_jobs : ℕ → List Entry → ℕ → List Job

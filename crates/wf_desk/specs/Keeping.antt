@@ -10,7 +10,7 @@ use Rattle.wf_desk.specs.declared.task.Task.{Task}
 use Rattle.wf_desk.specs.declared.outcome.Outcome.{Outcome}
 use Rattle.wf_desk.specs.declared.outcome.Outcome.TheVariants as outcome
 use Rattle.wf_desk.specs.Desks.{AreOfLanes, DeskShape, HasAdded, IsSoundDesk, loss_of, next_job, served}
-use Rattle.wf_desk.specs.Commits.{IsReplyWhere, floor_of, is_kept, is_last_round, is_lost, job_of_task, with_loss}
+use Rattle.wf_desk.specs.Commits.{IsReplyWhere, floor_of, is_fresh_or_change, is_last_round, is_lost, job_of_task, with_loss}
 
 -- behind a lane's last entry of the batch
 abbrev pub own_start : DeskShape → ℕ → ℕ
@@ -51,6 +51,6 @@ HasMissed before after t (outcome.Recorded place) =
 abbrev pub HasCommittedNone : DeskShape → DeskShape → Task → Outcome → Type 0
 HasCommittedNone before after t outcome.NotNext = ⊥
 HasCommittedNone before after t outcome.Lost =
-    (is_kept before t ≡ false) × ((is_lost before t ≡ true) × ((is_last_round before t.lane ≡ false) × (after ≡ with_loss before t.lane)))
+    (is_fresh_or_change before t ≡ false) × ((is_lost before t ≡ true) × ((is_last_round before t.lane ≡ false) × (after ≡ with_loss before t.lane)))
 HasCommittedNone before after t (outcome.Recorded place) =
-    HasAdded before after (job_of_task t) place (IsReplyWhere (is_kept before t) (is_lost before t) before t verdict.Nothing)
+    HasAdded before after (job_of_task t) place (IsReplyWhere (is_fresh_or_change before t) (is_lost before t) before t verdict.Nothing)

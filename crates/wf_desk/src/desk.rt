@@ -5,7 +5,7 @@ ghost use Rattle.wf_board.specs.Boards.{book_on, state_on};
 ghost use Rattle.wf_board.specs.States.{opening_state};
 ghost use Rattle.wf_board.specs.Verdicts.{Decides, IsDecided, IsRight};
 ghost use Rattle.wf_desk.specs.Desks.{AreOfLanes, HasAdded, IsDone, IsSoundDesk, left_of, next_job, no_loss, with_batch, with_room};
-ghost use Rattle.wf_desk.specs.Commits.{HasCommitted, HasCommittedChecked, HasServed, IsAgain, IsNext, IsRightFor, IsTask, floor_of, is_change, is_fresh, is_kept, is_last_round, is_lost, job_of_task, with_loss};
+ghost use Rattle.wf_desk.specs.Commits.{HasCommitted, HasCommittedChecked, HasServed, IsAgain, IsNext, IsRightFor, IsTask, floor_of, is_change, is_fresh, is_fresh_or_change, is_last_round, is_lost, job_of_task, with_loss};
 ghost use Rattle.wf_desk.specs.Keeping.{HasCommittedNone, HasMissed};
 
 use crate::docket::{count_of_lane, first_places, go_on, job_at};
@@ -274,9 +274,9 @@ impl Desk {
         !any_counts(entries_from(&self.journal, task.number), &task.ask)
     }
 
-    // Whether a task is not lost where its verdict is not certified.
-    fn is_kept(&self, task: &Task) -> bool
-        ensures kept { result ≡ is_kept self.now task.now }
+    // Whether no entry since counts for a task, or it is an edit.
+    fn is_fresh_or_change(&self, task: &Task) -> bool
+        ensures kept { result ≡ is_fresh_or_change self.now task.now }
         ensures stale { result ≡ false → is_fresh self.now task.now ≡ false }
     {
         self.is_fresh(task) || is_change(&task.ask)
@@ -324,7 +324,7 @@ impl Desk {
         requires next { IsNext self.old task.now }
         ensures { HasCommittedNone self.old self.new task.now result }
     {
-        if self.is_kept(task) {
+        if self.is_fresh_or_change(task) {
             return Outcome::Recorded(self.serve(alloc, decider, job, Verdict::Nothing));
         }
         self.miss(alloc, decider, task, job)

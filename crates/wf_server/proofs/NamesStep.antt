@@ -62,7 +62,7 @@ without_below n zero u members below = below
 without_below n (suc k) u members below = all_remove (λ v r. v < n) (without_roles k u members) u k (without_below n k u members below)
 
 -- no change gives a role to anybody but a user whom there is
-pub amended_below : (p : PolicyShape) (a : Amendment) → edits.IsFound p a → AreMembersBelow (length p.roster.users) p.roster.members
+pub amended_below : (p : PolicyShape) (a : Amendment) → edits.IsKnownChange p a → AreMembersBelow (length p.roster.users) p.roster.members
     → AreMembersBelow (length p.roster.users) (amended p a).roster.members
 amended_below p (amend.AddUser name) found below = below
 amended_below p (amend.Leave u) found below = without_below (length p.roster.users) (length p.roster.roles) u p.roster.members below

@@ -39,10 +39,10 @@ IsDeedOf p (deed.Finish n c t u) = IsOfPolicy p c
 IsDeedOf p (deed.GiveBack n c t u) = IsOfPolicy p c
 IsDeedOf p (deed.Release n c t) = IsOfPolicy p c
 IsDeedOf p (deed.Withdraw n) = Unit {0}
-IsDeedOf p (deed.Change a) = edits.IsFound p a
+IsDeedOf p (deed.Change a) = edits.IsKnownChange p a
 IsDeedOf p (deed.Show c) = IsOfPolicy p c
 IsDeedOf p (deed.Work u) = Unit {0}
-IsDeedOf p (deed.WhatIf a) = edits.IsFound p a
+IsDeedOf p (deed.WhatIf a) = edits.IsKnownChange p a
 IsDeedOf p (deed.TurnAway bad) = Unit {0}
 
 -- a denial is written alike with the names of two policies
@@ -59,7 +59,7 @@ fault_alike p q fault.Full = refl
 fault_alike p q fault.LastAdmin = refl
 fault_alike p q fault.NoMemory = refl
 
-edit_fares : (p q : PolicyShape) (make : Amendment → Deed) (by : List ℕ) (e : Edit) (r : Result Amendment EditFault) → ((a : Amendment) → edits.IsFound p a → IsDeedOf p (make a))
+edit_fares : (p q : PolicyShape) (make : Amendment → Deed) (by : List ℕ) (e : Edit) (r : Result Amendment EditFault) → ((a : Amendment) → edits.IsKnownChange p a → IsDeedOf p (make a))
     → IsSoundPolicy p → amendment_of p by e ≡ r → Fares (IsDeedOf p) (IsToldAlike p q) (on_edit make r)
 edit_fares p q make by e (Ok a) made sound is = made a (amendment_found p by e a sound is).0
 edit_fares p q make by e (Err why) made sound is = fault_alike p q why

@@ -26,7 +26,7 @@ use Rattle.run_record.specs.Report.{Told, nothing_told}
 use Rattle.run_record.specs.Run.{Streams}
 use Rattle.wf_server.specs.Sessions.{ReadsFor, Served, Setting, handed_in}
 use Rattle.wf_server.specs.Ways.{setting_of}
-use Rattle.wf_server.specs.Batches.{Serves, HasAnswered, IsAdded, IsBatch, AnswersTo, IsServing, BatchEnds, IsWriteEnding, ending_of}
+use Rattle.wf_server.specs.Batches.{Serves, HasAnswered, IsAdded, IsBatch, AnswersTo, IsServing, BatchEnds, IsWriteEnding, ending_after}
 use Rattle.wf_server.proofs.BatchLaws.{ends_some, writes_whole}
 
 -- no count of faults falls
@@ -101,7 +101,7 @@ pub done_ends : (before mid aft : Streams) (r t : ReaderShape) (d e : DeskShape)
     → IsServing before mid r d told → setting_of e ≡ setting_of d → ReadsTo before.input aft.input t.room (handed_more (handed_in d.lanes told) batch) how
     → (how ≡ paused.Batch → HasRead before.input aft.input (handed_more (handed_in d.lanes told) batch) t)
     → IsAdded told batch after → HasAnswered before.output aft.output e after
-    → CountsAs how mid.read_faults aft.read_faults → aft.write_faults ≡ mid.write_faults → BatchEnds before aft t e after (ending_of how)
+    → CountsAs how mid.read_faults aft.read_faults → aft.write_faults ≡ mid.write_faults → BatchEnds before aft t e after (ending_after how)
 done_ends before mid aft r t d e told after batch paused.Batch serving same reads goes_on added answered counts writes = record {
   read = subst (λ (h : Handed). HasRead before.input aft.input h t) (handed_next d e told batch after same added) (goes_on refl);
   answered = answered;

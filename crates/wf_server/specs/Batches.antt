@@ -31,7 +31,7 @@ abbrev pub entries_text : PolicyShape → List Entry → List ℕ
 entries_text p [] = []
 entries_text p (e ∷ es) = entry_text p e ++ entries_text p es
 
--- a session, but that its history is legal
+-- a session, but that its history is legal and keeps each open case completable
 pub record Serves (set : Setting) (room : ℕ) (before after : Streams) (told : Told) (fault : RunFault) : Type 0 where
   pub reads : ReadsFor before.input after.input room (handed_in set.lanes told) fault
   pub fills : FillsJobs told.entries told.jobs told.batch_ends
@@ -81,13 +81,13 @@ IsWriteEnding NoMemory = Unit {0}
 IsWriteEnding fault = ⊥
 
 -- how a session ends where reading paused so and all is answered, if it does
-abbrev pub ending_of : Paused → Option RunFault
-ending_of paused.Batch = None
-ending_of paused.End = Some Nothing
-ending_of paused.Failed = Some Read
-ending_of (paused.Stopped (stop.LineTooLong line)) = Some (LineTooLong line)
-ending_of (paused.Stopped stop.TooManyLines) = Some TooManyLines
-ending_of paused.NoMemory = Some NoMemory
+abbrev pub ending_after : Paused → Option RunFault
+ending_after paused.Batch = None
+ending_after paused.End = Some Nothing
+ending_after paused.Failed = Some Read
+ending_after (paused.Stopped (stop.LineTooLong line)) = Some (LineTooLong line)
+ending_after (paused.Stopped stop.TooManyLines) = Some TooManyLines
+ending_after paused.NoMemory = Some NoMemory
 
 -- between two batches: all that was handed over is answered and written, and no call has failed
 pub record IsServing (before after : Streams) (r : ReaderShape) (d : DeskShape) (told : Told) : Type 0 where

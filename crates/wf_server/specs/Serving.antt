@@ -24,7 +24,8 @@ EndsBefore file fault = ⊥
 abbrev pub setting : PolicyShape → Options → Setting
 setting p options = record { policy = p; lanes = options.lanes; rounds = options.rounds }
 
--- the policy of a file is served; only an opening, a claim or an edit is answered with want of memory
+-- the policy of a file is served; only an opening, a claim, an edit or a view over the open cases is answered with want of
+-- memory
 pub record ServesPolicy (file : List ℕ) (options : Options) (r : Run) : Type 0 where
   pub policy : PolicyShape
   pub within : length file ≤ POLICY_FILE_LIMIT

@@ -11,7 +11,7 @@ ghost use Rattle.run_record.specs.Run.{Streams, streams_of};
 ghost use Rattle.command_words.specs.Words.{AreOptions};
 ghost use Rattle.command_words.specs.Asked.{options_in};
 ghost use Rattle.wf_server.specs.Serving.{setting};
-ghost use Rattle.wf_server.specs.Batches.{told_of, ending_of, IsServing, BatchEnds, Serves};
+ghost use Rattle.wf_server.specs.Batches.{told_of, ending_after, IsServing, BatchEnds, Serves};
 ghost use Rattle.wf_server.specs.Ways.{IsWay, ServesOnce, setting_of};
 
 use crate::batch::{Answered, answer_batch};
@@ -126,14 +126,14 @@ fn serve_batch<S: Source, K: Sink, W: Fn(Desk) -> Desk>(
     }
     let (served, answered) = answer_batch(alloc, way, desk, told, jobs.as_slice(), sink);
     match answered {
-        Ok(()) => (served, ending_of(paused)),
+        Ok(()) => (served, ending_after(paused)),
         Err(fault) => (served, Some(fault)),
     }
 }
 
 // How the session ends where all that was read is answered, if it does.
-fn ending_of(paused: Paused) -> Option<RunFault>
-    ensures { result ≡ ending_of paused }
+fn ending_after(paused: Paused) -> Option<RunFault>
+    ensures { result ≡ ending_after paused }
 {
     match paused {
         Paused::Batch => None,

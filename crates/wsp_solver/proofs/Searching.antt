@@ -16,7 +16,7 @@ use Rattle.policy_book.specs.Refuting.{have_users, passing, is_misheld, is_broke
 use Rattle.certificate_check.proofs.Below.{all_pass, each_passes}
 use Rattle.certificate_check.proofs.Assigned.{none_not_some, given_other, given_same}
 use Rattle.policy_book.proofs.Passing.{passing_at}
-use Rattle.wsp_solver.specs.Searches.{AreOfUsersBelow, IsPlanOf, NoLeafRefutes, NoLeafRefutesWithout, free_count}
+use Rattle.wsp_solver.specs.Searches.{AreOfUsersBelow, IsAssignedPlan, NoLeafRefutes, NoLeafRefutesWithout, free_count}
 
 -- ---- plans
 
@@ -38,7 +38,7 @@ held_rightly true true d h e f = absurd (false≢true (sym f))
 held_rightly false c d h e f = absurd (false≢true e)
 
 -- an assignment of every step that no leaf refutes is a valid plan
-pub valid_full : (p : Problem) (a : List (Option ℕ)) (done : List Bool) (plan : List ℕ) → IsWellFormed p → IsWithin p a → NoLeafRefutes p a done → IsPlanOf p.steps a plan → IsValidPlan p a done plan
+pub valid_full : (p : Problem) (a : List (Option ℕ)) (done : List Bool) (plan : List ℕ) → IsWellFormed p → IsWithin p a → NoLeafRefutes p a done → IsAssignedPlan p.steps a plan → IsValidPlan p a done plan
 valid_full p a done plan formed within none full = record {
   whole = full.whole;
   known = λ s below. within.users s (planned plan s) (full.given s below);

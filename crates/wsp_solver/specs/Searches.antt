@@ -20,9 +20,9 @@ pub record IsLeanRefutation (p : Problem) (assigned : List (Option ℕ)) (finish
   pub lean : IsTrue (is_lean p assigned (shape_of tree))
 
 -- a plan that is valid, or a lean tree that refutes
-abbrev pub Decides : Problem → List (Option ℕ) → List Bool → Outcome → Type 0
-Decides p assigned finished (Plan plan) = IsValidPlan p assigned finished plan
-Decides p assigned finished (Refuted tree) = IsLeanRefutation p assigned finished tree
+abbrev pub HasSolved : Problem → List (Option ℕ) → List Bool → Outcome → Type 0
+HasSolved p assigned finished (Plan plan) = IsValidPlan p assigned finished plan
+HasSolved p assigned finished (Refuted tree) = IsLeanRefutation p assigned finished tree
 
 -- a set has the steps that a tree mentions, and no other
 abbrev pub AreMentioned : List Rule → Shape → List Bool → Type 0
@@ -55,7 +55,7 @@ pub record NoLeafRefutesWithout (p : Problem) (assigned : List (Option ℕ)) (fi
   pub rules : (k : ℕ) → is_rule_naming step (slice_get p.rules k) ≡ false → refutes p assigned finished (rule k) ≡ false
 
 -- a plan gives each of the first n steps to the user whom the assignment gives it to
-pub record IsPlanOf (n : ℕ) (assigned : List (Option ℕ)) (plan : List ℕ) : Type 0 where
+pub record IsAssignedPlan (n : ℕ) (assigned : List (Option ℕ)) (plan : List ℕ) : Type 0 where
   pub whole : length plan ≡ n
   pub given : (s : ℕ) → s < n → user_at assigned s ≡ Some (planned plan s)
 

@@ -4,7 +4,7 @@ ghost use Rattle.wf_names.specs.declared.limits.TheConstants.{STEP_LIMIT};
 ghost use Rattle.constraint_forms.specs.Assigned.{user_at};
 ghost use Rattle.policy_book.specs.Policies.{problem_of};
 ghost use Rattle.policy_book.specs.Refuting.{is_unassigned};
-ghost use Rattle.wsp_solver.specs.Searches.{IsPlanOf};
+ghost use Rattle.wsp_solver.specs.Searches.{IsAssignedPlan};
 
 use plan_finder::Finder;
 use policy_book::{Assign, Plan, Policy};
@@ -58,7 +58,7 @@ fn first_free(p: &Policy, f: FlowId, a: &Assign) -> Option<StepId>
 pub(crate) fn plan_of(p: &Policy, f: FlowId, a: &Assign) -> Plan
     requires flow { f < length p.now.flows }
     requires full { (s : ℕ) → s < (problem_of p.now f).steps → is_some (user_at a.now s) ≡ true }
-    ensures { IsPlanOf (problem_of p.now f).steps a.now result }
+    ensures { IsAssignedPlan (problem_of p.now f).steps a.now result }
 {
     let steps = p.flow(f).steps().len() as usize;
     let mut users = no_users();

@@ -6,7 +6,7 @@ ghost use Rattle.policy_book.specs.Plans.{AreAssigned, IsWithin};
 ghost use Rattle.policy_book.specs.Policies.{problem_of};
 ghost use Rattle.policy_book.specs.Refuting.{is_unassigned};
 ghost use Rattle.wsp_solver.specs.Crews.{IsCrewOf};
-ghost use Rattle.wsp_solver.specs.Searches.{Decides, HasSearched, NoLeafRefutes, NoLeafRefutesWithout};
+ghost use Rattle.wsp_solver.specs.Searches.{HasSolved, HasSearched, NoLeafRefutes, NoLeafRefutesWithout};
 
 use crate::crew::{Crew, duties_at};
 use crate::found::found;
@@ -52,7 +52,7 @@ pub fn solve(
     requires flow { f < length p.now.flows }
     requires within { IsWithin (problem_of p.now f) a.now }
     requires assigned { AreAssigned done.now a.now }
-    ensures { IfOk result (Decides (problem_of p.now f) a.now done.now) }
+    ensures { IfOk result (HasSolved (problem_of p.now f) a.now done.now) }
 {
     let mut finder = Finder::new(alloc, p, f)?;
     if let Some(plan) = found(alloc, p, f, a, done, &mut finder)? {

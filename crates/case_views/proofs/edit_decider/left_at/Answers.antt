@@ -2,7 +2,7 @@ use Rattle.std.proofs.Common.{◌≡◌, true, sym, ap, subst, ◌∙◌}
 use Rattle.wf_names.specs.States.{is_live}
 use Rattle.policy_book.specs.Policies.{problem_of}
 use Rattle.case_record.specs.Cases.{CaseShape, assigned_of, finished_of, is_open}
-use Rattle.wsp_solver.specs.Searches.{Decides}
+use Rattle.wsp_solver.specs.Searches.{HasSolved}
 use Rattle.case_views.proofs.Editing.{kept_plan_of}
 use Rattle.case_views.proofs.edit_decider.left_at.Goals as goal
 
@@ -14,4 +14,4 @@ pub returns-in_ok-plan_for-in-Some : goal.returns-in_ok-plan_for-in-Some
 returns-in_ok-plan_for-in-Some c =
     let k = c.args.row.now.case in
     let live : is_open k ≡ true = ap is_open (sym c.case.ensures) ∙ ap is_live (sym c.phase.ensures) ∙ sym c.is_live.ensures ∙ c.if-is_live.true in
-    (live, subst (λ (x : CaseShape). Decides (problem_of c.args.after.now x.flow) (assigned_of x) (finished_of x) c.in_ok-plan_for-in-Some.field-0) c.case-in-Some.ensures c.in_ok-plan_for-in-Some.ensures)
+    (live, subst (λ (x : CaseShape). HasSolved (problem_of c.args.after.now x.flow) (assigned_of x) (finished_of x) c.in_ok-plan_for-in-Some.field-0) c.case-in-Some.ensures c.in_ok-plan_for-in-Some.ensures)

@@ -2,7 +2,7 @@ use Rattle.std.proofs.Common.{◌≡◌, IfOk, arith}
 use Rattle.std.proofs.lemmas.Grind.{common_steps}
 use Rattle.constraint_forms.specs.Assigned.{planned}
 use Rattle.policy_book.specs.Policies.{problem_of}
-use Rattle.wsp_solver.specs.Searches.{Decides}
+use Rattle.wsp_solver.specs.Searches.{HasSolved}
 use Rattle.denial_reasons.specs.Causes.{assigned_with}
 use Rattle.case_record.specs.Cases.{finished_of}
 use Rattle.case_views.proofs.Deciding.{kept_length, search_assigned, search_within, valid_with}
@@ -32,5 +32,5 @@ outcome_near-requires-clause-assigned c =
 pub returns : goal.returns
 returns c =
     let k = c.args.case.now in
-    said_same (λ q a d. IfOk c.outcome_near.result (Decides q a d)) c.args.p.now k.flow c.flow.result (assigned_with k c.args.step c.args.user) c.assigned_with-assigned.result (finished_of k) c.finished.result
+    said_same (λ q a d. IfOk c.outcome_near.result (HasSolved q a d)) c.args.p.now k.flow c.flow.result (assigned_with k c.args.step c.args.user) c.assigned_with-assigned.result (finished_of k) c.finished.result
     c.flow.ensures c.assigned_with-assigned.ensures.given c.finished.ensures.value c.outcome_near.ensures

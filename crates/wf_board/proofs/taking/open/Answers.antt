@@ -4,7 +4,7 @@ use Rattle.grant_table.specs.Tables.{open_count}
 use Rattle.wf_talk.specs.declared.reply.Reply.TheVariants as replies
 use Rattle.wf_talk.specs.declared.reply.Denial.TheVariants.{Full}
 use Rattle.wf_board.specs.Boards.{book_of}
-use Rattle.wf_board.specs.Taking.{HasTaken}
+use Rattle.wf_board.specs.Taking.{HasTakenStep}
 use Rattle.wf_board.proofs.Answering.{below_limits, denied_taken, full_denied, on_err, opened_taken}
 use Rattle.wf_board.proofs.taking.open.Goals as goal
 
@@ -12,7 +12,7 @@ pub returns-then-is_full-clause-taken : goal.returns-then-is_full-clause-taken
 returns-then-is_full-clause-taken c =
     let p = c.args.p.now in
     let full = full_denied (book_of p c.args.cases.now) c.args.flow (sym c.is_full.ensures ∙ c.if-is_full.true) in
-    subst (λ d. HasTaken p c.args.cases.now c.args.cases.now d (replies.Denied Full)) (sym full) (denied_taken p c.args.cases.now Full c.requires.kept)
+    subst (λ d. HasTakenStep p c.args.cases.now c.args.cases.now d (replies.Denied Full)) (sym full) (denied_taken p c.args.cases.now Full c.requires.kept)
 
 pub returns-then-is_full-clause-made : goal.returns-then-is_full-clause-made
 returns-then-is_full-clause-made c =

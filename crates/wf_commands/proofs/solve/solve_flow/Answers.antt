@@ -6,7 +6,7 @@ use Rattle.policy_book.specs.Policies.{problem_of}
 use Rattle.policy_book.specs.Refuting.{refutes}
 use Rattle.policy_book.specs.Lean.{is_lean}
 use Rattle.refutation_tree.specs.Views.{shape_of}
-use Rattle.wsp_solver.specs.Searches.{Decides}
+use Rattle.wsp_solver.specs.Searches.{HasSolved}
 use Rattle.wsp_solver.specs.declared.search.Outcome.{Outcome}
 use Rattle.wf_commands.proofs.solve.solve_flow.Goals as goal
 
@@ -14,7 +14,7 @@ pub returns-in-Plan : goal.returns-in-Plan
 returns-in-Plan c =
     let problem = problem_of c.args.p.now c.args.f in
     let plan = c.in-Plan.plan in
-    let found = subst (λ (o : Outcome). Decides problem c.empty.result c.empty-2.result o) c.in-Plan.is c.in_ok-plan.ensures in
+    let found = subst (λ (o : Outcome). HasSolved problem c.empty.result c.empty-2.result o) c.in-Plan.is c.in_ok-plan.ensures in
     let valid = subst (λ (a : List (Option ℕ)). IsValidPlan problem a no_steps plan) c.empty.ensures.value
     (subst (λ (d : List Bool). IsValidPlan problem c.empty.result d plan) c.empty-2.ensures.value found) in
     IfOk-weaker c.write_plan.result _ _ (λ line same. inl (plan, valid, same)) c.write_plan.ensures
@@ -23,7 +23,7 @@ pub returns-in-Refuted : goal.returns-in-Refuted
 returns-in-Refuted c =
     let problem = problem_of c.args.p.now c.args.f in
     let tree = shape_of c.in-Refuted.tree in
-    let found = subst (λ (o : Outcome). Decides problem c.empty.result c.empty-2.result o) c.in-Refuted.is c.in_ok-plan.ensures in
+    let found = subst (λ (o : Outcome). HasSolved problem c.empty.result c.empty-2.result o) c.in-Refuted.is c.in_ok-plan.ensures in
     let refuting = subst (λ (a : List (Option ℕ)). refutes problem a no_steps tree ≡ true) c.empty.ensures.value
     (subst (λ (d : List Bool). refutes problem c.empty.result d tree ≡ true) c.empty-2.ensures.value found.refutes) in
     let lean = subst (λ (a : List (Option ℕ)). is_lean problem a tree ≡ true) c.empty.ensures.value found.lean in

@@ -32,7 +32,7 @@ returns-in-Ok-clause-batch g c before serving =
     let how = c.next_batch-jobs.result.paused in
     let answers = rw c.in-Ok.is at c.answer_batch-served.ensures.answers before.output serving.answered in
     let writes = rw c.in-Ok.is at c.answer_batch-served.ensures.counts in
-    subst (BatchEnds before after t e (told_of e c.answer_batch-served.new.told)) (sym c.ending_of.ensures)
+    subst (BatchEnds before after t e (told_of e c.answer_batch-served.new.told)) (sym c.ending_after.ensures)
     (done_ends before (record { input = g.S.Source.left c.args.source.now; output = g.K.Sink.held c.args.sink.now; read_faults = g.S.Source.faults c.args.source.now; write_faults = g.K.Sink.faults c.args.sink.now }) after
     c.args.reader.now t d e told (told_of e c.answer_batch-served.new.told) jobs how serving c.answer_batch-served.ensures.setting
     (rw same (c.next_batch-jobs.ensures.reads before.input h serving.read)) (λ batch. rw same (c.next_batch-jobs.ensures.goes_on batch before.input h serving.read))
