@@ -1,31 +1,67 @@
 //! Valid plans near another plan.
-ghost use Rattle.std.specs.Prelude.{◌≡◌, ◌<◌, ◌≤◌, length, IfSome};
+ghost use Rattle.std.specs.Prelude.{◌<◌, length, IfSome};
 ghost use Rattle.wf_names.specs.declared.limits.TheConstants.{STEP_LIMIT};
 ghost use Rattle.policy_book.specs.Plans.{IsWithin, IsValidPlan};
 ghost use Rattle.policy_book.specs.Policies.{problem_of};
 
-use crate::found::checked;
-use crate::next::no_users;
+use crate::next::{is_unassigned, no_users};
 use certificate_check::is_valid_plan;
 use constraint_forms::{Rule, falsified};
 use policy_book::{Assign, Plan, Policy, StepSet};
 use wf_names::{FlowId, STEP_LIMIT, StepId, UserId};
 
-/// A valid plan that gives each step that is not assigned to the same user as another plan, but for
-/// at most one. Where there is none, there may be a valid plan all the same. Takes no memory.
+/// A valid plan near another plan: what is assigned stands in it, and while it is not valid, one step
+/// that is not assigned is given to another user, as many times as a workflow may have steps at most.
+/// Where there is none, there may be a valid plan all the same. Takes no memory.
 pub fn plan_near(p: &Policy, f: FlowId, a: &Assign, done: &StepSet, plan: &Plan) -> Option<Plan>
     requires flow { f < length p.now.flows }
     requires within { IsWithin (problem_of p.now f) a.now }
     ensures { IfSome result (IsValidPlan (problem_of p.now f) a.now done.now) }
 {
-    let moved = with_assigned(plan, a);
-    if is_valid_plan(p, f, a, done, &moved) {
-        return Some(moved);
+    let mut near = with_assigned(plan, a);
+    for _ in 0..STEP_LIMIT {
+        if is_valid_plan(p, f, a, done, &near) {
+            return Some(near);
+        }
+        near = mended(p, f, a, &near)?;
     }
-    match first_broken(p, f, &moved) {
-        Some(rule) => mended_for(p, f, a, done, &moved, &rule),
-        None => None,
+    None
+}
+
+// The plan with another user for one step that is not assigned: for the first whose user may not
+// perform it, or else for the first of a broken rule that can have another.
+fn mended(p: &Policy, f: FlowId, a: &Assign, plan: &Plan) -> Option<Plan>
+    requires { f < length p.now.flows }
+{
+    match first_unauthorised(p, f, a, plan) {
+        Some(step) => with_another(p, f, plan, step),
+        None => with_rule_kept(p, f, a, plan, &first_broken(p, f, plan)?),
     }
+}
+
+// The first step that is not assigned and that a plan gives to a user who may not perform it.
+fn first_unauthorised(p: &Policy, f: FlowId, a: &Assign, plan: &Plan) -> Option<StepId>
+    requires { f < length p.now.flows }
+    ensures { IfSome result (λ s. s < STEP_LIMIT) }
+{
+    for s in 0..p.flow(f).steps().len() {
+        let step = StepId(s as u8);
+        if is_unassigned(p, f, a, step) && !may_perform(p, f, plan, step) {
+            return Some(step);
+        }
+    }
+    None
+}
+
+// Whether a plan gives a step to a user who may perform it.
+fn may_perform(p: &Policy, f: FlowId, plan: &Plan, step: StepId) -> bool
+    requires { f < length p.now.flows }
+{
+    if step.0 >= plan.len() || (step.0 as u16) >= p.flow(f).steps().len() {
+        return false;
+    }
+    let user = plan.at(step);
+    user.0 < p.roster().users().len() && p.authorised(f, step, user)
 }
 
 // The first rule that a plan breaks.
@@ -50,51 +86,33 @@ fn assignment_of(plan: &Plan) -> Assign {
     given
 }
 
-// A valid plan that gives one step of a rule to another user.
-fn mended_for(
-    p: &Policy,
-    f: FlowId,
-    a: &Assign,
-    done: &StepSet,
-    plan: &Plan,
-    rule: &Rule,
-) -> Option<Plan>
-    requires flow { f < length p.now.flows }
-    requires within { IsWithin (problem_of p.now f) a.now }
-    ensures { IfSome result (IsValidPlan (problem_of p.now f) a.now done.now) }
+// The plan with another user for one step of a rule.
+fn with_rule_kept(p: &Policy, f: FlowId, a: &Assign, plan: &Plan, rule: &Rule) -> Option<Plan>
+    requires { f < length p.now.flows }
 {
     for s in 0..p.flow(f).steps().len() {
         let step = StepId(s as u8);
-        if rule.names(step) && a.at(step).is_none() {
-            if let Some(mended) = mended_at(p, f, a, done, plan, step) {
-                return Some(mended);
+        if rule.names(step) && is_unassigned(p, f, a, step) {
+            if let Some(other) = with_another(p, f, plan, step) {
+                return Some(other);
             }
         }
     }
     None
 }
 
-// Any candidate for the step beside the rest of the plan does as well as another.
-fn mended_at(
-    p: &Policy,
-    f: FlowId,
-    a: &Assign,
-    done: &StepSet,
-    plan: &Plan,
-    step: StepId,
-) -> Option<Plan>
+// The plan with another user for a step, who breaks no rule: while the other steps stay as they
+// are, any candidate does as well as another.
+fn with_another(p: &Policy, f: FlowId, plan: &Plan, step: StepId) -> Option<Plan>
     requires flow { f < length p.now.flows }
-    requires within { IsWithin (problem_of p.now f) a.now }
-    requires step { step < (problem_of p.now f).steps }
     requires room { step < STEP_LIMIT }
-    ensures { IfSome result (IsValidPlan (problem_of p.now f) a.now done.now) }
 {
     let others = assignment_of(plan).without(step);
-    prove!(others.at(step).is_none());
-    match p.candidates(f, step, &others).next(0) {
-        Some(user) => checked(p, f, a, done, with_assigned(plan, &a.with(step, user))),
-        None => None,
+    if !is_unassigned(p, f, &others, step) {
+        return None;
     }
+    let user = p.candidates(f, step, &others).next(0)?;
+    Some(with_assigned(plan, &Assign::empty().with(step, user)))
 }
 
 // A plan with what is assigned in it.
