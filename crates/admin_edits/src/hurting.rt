@@ -11,7 +11,7 @@ use crate::Amendment;
 use constraint_forms::{Plan, Rule, Rules, StepSet};
 use policy_book::Policy;
 use user_relations::Relations;
-use wf_names::{FlowId, RelId, RoleId, StepId, UserId};
+use wf_names::{FlowId, RelId, StepId, UserId};
 
 /// Whether a change may make a valid plan of a case of a workflow invalid. Where it may not, the
 /// plan needs no check; where it may, the plan may still be valid. Takes no memory.

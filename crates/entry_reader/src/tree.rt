@@ -16,7 +16,7 @@ use policy_book::Policy;
 use refutation_tree::{Branch, Branches, Kid, Tree};
 use serde_json::Value;
 use std::alloc::Global;
-use wf_names::{FlowId, StepId, UserId};
+use wf_names::{FlowId, UserId};
 
 /// The tree over users of the policy and steps of a workflow whose value this is.
 #[tactic(auto, using(crate::proofs::LinesBack::tree_told, crate::proofs::LinesBack::no_tree))]

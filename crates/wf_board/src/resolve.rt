@@ -20,7 +20,7 @@ use admin_edits::{Amendment, EditFault, amendment_of};
 use case_record::Case;
 use grant_table::Cases;
 use policy_book::Policy;
-use wf_names::{CaseId, FlowId, Name, StepId, UserId};
+use wf_names::{CaseId, Name, StepId, UserId};
 use wf_talk::{Ask, Denial, Edit, Request};
 
 /// What a line asks, or the first of its names and numbers that is nothing; of an edit its first

@@ -13,8 +13,8 @@ ghost use Rattle.wf_commands.specs.Input.{plan_of_input, number_named, next_user
 use policy_book::{Plan, Policy};
 use run_record::InputFault;
 use serde_json::Value;
-use std::alloc::{AllocError, Global};
-use wf_names::{FlowId, Name, UserId};
+use std::alloc::Global;
+use wf_names::{Name, UserId};
 use wire_json::read_value;
 
 /// Why an input was not read as a plan.
