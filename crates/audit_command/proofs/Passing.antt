@@ -94,7 +94,7 @@ same_line seen left after false is ended some =
     ap (λ xs. first_line (seen ++ xs)) none ∙ ap first_line (append-nil seen)
 
 -- a line stops the audit
-line_stops : (first a : AuditShape) (before middle after : Option (List ℕ)) (r : ReaderShape) (seen rest : List ℕ) (f : Finding) → HasAudited first a before middle (pending r)
+line_stops : (first a : AuditShape) (before middle after : Option (List ℕ)) (r : ReaderShape) (seen rest : List ℕ) (f : Finding) (h : HasAudited first a before middle (pending r))
     → HasSeen middle after r seen → 0 < length seen → rest ≡ behind_line seen → StopsAt a (first_line seen) f
     → (length (lines_of (h.bytes ++ first_line seen)) ≡ length a.entries + 1 → IsFar f (h.bytes ++ first_line seen) rest after)
     → ((left : List ℕ) → after ≡ Some left → StopsAt a (first_line (seen ++ left)) f) → HasFound first f before after
