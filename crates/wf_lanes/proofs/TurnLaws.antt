@@ -43,7 +43,7 @@ on_next b c lane true (job, (next, more)) = record {
 }
 on_next b c lane false (none, same) = rw same (on_none b)
 
--- of the first lanes none has a job left, where none was served
+-- the first lanes had their turn, and where no job was served, none of them has one left
 pub record HasTurned (a c : DeskShape) (lanes : ℕ) (had : Bool) : Type 0 where
   pub on : HasServedOn a c
   pub turn : AreTurnsBefore lanes a c on.grown.more
