@@ -1,9 +1,11 @@
 -- How the entries of a batch follow those before.
-use Rattle.std.proofs.Common.{◌≡◌, ℕ, zero, suc, ◌+◌, ◌-◌, ◌<◌, ◌≤◌, List, [], ◌∷◌, ◌++◌, length, take, drop, refl, sym, ◌∙◌, ap, subst, arith}
+use Rattle.std.proofs.Common.{◌≡◌, ℕ, zero, suc, ◌+◌, ◌-◌, ◌<◌, ◌≤◌, inl, inr, List, [], ◌∷◌, ◌++◌, length, take, drop, refl, sym, ◌∙◌, ap, subst, arith}
 use Rattle.std.specs.List.{All}
 use Rattle.std.proofs.lemmas.List.Elements.{All-head, All-tail, All-take, All-drop}
-use Rattle.std.proofs.lemmas.List.{length-append, length-take-le, take_more}
-use Rattle.std.proofs.Math.Seq.{drop-append_seam, take-append_seam}
+use Rattle.std.proofs.lemmas.Bool.Decides.{leb_tells}
+use Rattle.std.proofs.lemmas.List.{get_or_append_left, length-append, length-take-le, take-append-le, take_more}
+use Rattle.std.proofs.Math.Seq.{drop-append_seam, get_or-append_seam, take-append_seam, take-length}
+use Rattle.wf_talk.specs.declared.entry.Entry.{Entry}
 use Rattle.wf_talk.specs.declared.job.Job.{Job}
 use Rattle.wf_board.specs.Histories.{AreAnsweredOnce, FillsJobs, batch_end, batch_start}
 use Rattle.wf_board.specs.HistoryLaws.{once_all}
@@ -11,17 +13,19 @@ use Rattle.wf_desk.specs.BatchLaws.{AnswersBatch, EndAt, batch_fills}
 use Rattle.wf_desk.specs.Desks.{AreOfLanes, DeskShape, IsDone, IsSoundDesk, with_batch, with_room}
 use Rattle.wf_desk.specs.DocketLaws.{batch_done}
 use Rattle.wf_desk.proofs.Ends.{end_more}
-use Rattle.wf_lanes.specs.Turns.{HasServedOn}
+use Rattle.wf_lanes.specs.Turns.{AreByTurns, HasServedByTurns}
 use Rattle.trial_maker.specs.TrialLaws.{AreBatches}
+use Rattle.trial_command.specs.Running.{AreBatchesByTurns, batch_entries}
 use Rattle.trial_command.specs.Serving.{HasServedAll, HasServedBatch}
 
 -- a batch that was loaded and served by turns
 pub batch_served : (old loaded d : DeskShape) (batch : List Job) (spare cases : ℕ) → loaded ≡ with_room (with_batch old batch) spare cases
-    → HasServedOn loaded d → IsDone d → IsSoundDesk d → HasServedBatch old d batch
-batch_served old loaded d batch spare cases is on done sound = at (subst (λ x. HasServedOn x d) is on)
+    → HasServedByTurns loaded d → IsDone d → IsSoundDesk d → HasServedBatch old d batch
+batch_served old loaded d batch spare cases is by_turns done sound = at (subst (λ x. HasServedByTurns x d) is by_turns)
   where
-    at : HasServedOn (with_room (with_batch old batch) spare cases) d → HasServedBatch old d batch
-    at on =
+    at : HasServedByTurns (with_room (with_batch old batch) spare cases) d → HasServedBatch old d batch
+    at by_turns =
+        let on = by_turns.on in
         let new = on.grown.more in
         let first : take d.start d.entries ≡ old.entries = ap (λ n. take n d.entries) on.grown.start ∙ ap (take (length old.entries)) on.grown.extends ∙ take-append_seam old.entries new in
         let rest : drop d.start d.entries ≡ new = ap (λ n. drop n d.entries) on.grown.start ∙ ap (drop (length old.entries)) on.grown.extends ∙ drop-append_seam old.entries new in
@@ -31,6 +35,7 @@ batch_served old loaded d batch spare cases is on done sound = at (subst (λ x. 
           extends = on.grown.extends;
           answers = subst (λ es. AnswersBatch es new batch) first (subst (λ es. AnswersBatch (take d.start d.entries) es batch) rest
               (subst (AnswersBatch (take d.start d.entries) (drop d.start d.entries)) on.grown.jobs (batch_done d sound done)));
+          turns = by_turns.turns;
           once = on.once;
           done = done;
         }
@@ -57,6 +62,44 @@ pub of_lanes : (lanes : ℕ) (jobs : List Job) → All (λ j. j.lane < lanes) jo
 of_lanes lanes [] all = tt
 of_lanes lanes (j ∷ jobs) all = (All-head (λ (x : Job). x.lane < lanes) j jobs all, of_lanes lanes jobs (All-tail (λ (x : Job). x.lane < lanes) j jobs all))
 
+-- ---- the entries of the batches so far
+
+start_before : (ends : List ℕ) (x k : ℕ) → k < length ends + 1 → batch_start (ends ++ x ∷ []) k ≡ batch_start ends k
+start_before ends x k lt = get_or_append_left (0 ∷ ends) (x ∷ []) 0 k (omega (arith, lt))
+
+end_before : (ends : List ℕ) (x k : ℕ) → k < length ends → batch_end (ends ++ x ∷ []) k ≡ batch_end ends k
+end_before ends x k lt = get_or_append_left ends (x ∷ []) 0 k lt
+
+end_last : (ends : List ℕ) (x : ℕ) → batch_end (ends ++ x ∷ []) (length ends) ≡ x
+end_last ends x = get_or-append_seam ends x [] 0
+
+-- with one more batch those of an earlier one are the same
+entries_before : (ends : List ℕ) (x k : ℕ) (es new : List Entry) → k < length ends → batch_end ends k ≤ length es
+    → batch_entries (ends ++ x ∷ []) k (es ++ new) ≡ batch_entries ends k es
+entries_before ends x k es new lt within =
+    ap (λ n. drop n (take (batch_end (ends ++ x ∷ []) k) (es ++ new))) (start_before ends x k (omega (arith, lt)))
+    ∙ ap (λ n. drop (batch_start ends k) (take n (es ++ new))) (end_before ends x k lt)
+    ∙ ap (drop (batch_start ends k)) (take-append-le (batch_end ends k) es new within)
+
+-- and those of the last are the new ones
+entries_last : (ends : List ℕ) (x : ℕ) (es new : List Entry) → batch_start ends (length ends) ≡ length es → x ≡ length es + length new
+    → batch_entries (ends ++ x ∷ []) (length ends) (es ++ new) ≡ new
+entries_last ends x es new begins stops =
+    ap (λ n. drop n (take (batch_end (ends ++ x ∷ []) (length ends)) (es ++ new))) (start_before ends x (length ends) (omega arith) ∙ begins)
+    ∙ ap (λ n. drop (length es) (take n (es ++ new))) (end_last ends x ∙ stops ∙ sym (length-append es new))
+    ∙ ap (drop (length es)) (take-length (es ++ new)) ∙ drop-append_seam es new
+
+-- in one more batch the lanes take turns as well
+turns_more : (ends : List ℕ) (x : ℕ) (es new : List Entry) → EndAt ends (length es) → x ≡ length es + length new
+    → AreBatchesByTurns ends es → AreByTurns new → AreBatchesByTurns (ends ++ x ∷ []) (es ++ new)
+turns_more ends x es new are stops so_far next k lt = elim (leb_tells (length ends) k) [
+  | inl late ↦
+      let last : k ≡ length ends = let past = late.1 in omega (arith, past, lt, length-append ends (x ∷ [])) in
+      subst (λ n. AreByTurns (batch_entries (ends ++ x ∷ []) n (es ++ new))) (sym last)
+      (subst AreByTurns (sym (entries_last ends x es new are.closed stops)) next)
+  | inr old ↦ subst AreByTurns (sym (entries_before ends x k es new old.1 (are.within k old.1))) (so_far k old.1)
+]
+
 -- ---- the batches so far
 
 -- with one more batch
@@ -73,6 +116,9 @@ served_more first d e js batch ends so_far next = record {
       (batch_fills d.entries next.more js batch ends record { fills = so_far.fills; at_end = so_far.ends; answers = next.answers });
   ends = subst (EndAt (ends ++ (length js + length batch) ∷ [])) (sym (length-append js batch))
       (end_more ends (length js) (length js + length batch) so_far.ends (omega arith));
+  turns = subst (AreBatchesByTurns (ends ++ (length js + length batch) ∷ [])) (sym next.extends)
+      (turns_more ends (length js + length batch) d.entries next.more (subst (EndAt ends) (sym so_far.fills.whole) so_far.ends)
+      (omega (arith, so_far.fills.whole, next.answers.whole)) so_far.turns next.turns);
   once = subst AreAnsweredOnce (sym next.extends) (once_all d.entries next.more so_far.once next.once);
 }
 

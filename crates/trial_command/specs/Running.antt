@@ -1,8 +1,10 @@
 -- The command `trial`: the jobs of a seed's trial are served, and the replies are counted.
-use Rattle.std.specs.Prelude.{◌≡◌, ℕ, List, ◌++◌, length, Option, codes, decimal}
+use Rattle.std.specs.Prelude.{◌≡◌, ℕ, ◌<◌, List, ◌++◌, length, drop, take, Option, codes, decimal}
 use Rattle.wf_outside.specs.Outside.{HasPart, with_bytes}
 use Rattle.wf_board.specs.States.{opening_state}
-use Rattle.wf_board.specs.Histories.{AreAnsweredOnce, FillsJobs, IsLegal}
+use Rattle.wf_talk.specs.declared.entry.Entry.{Entry}
+use Rattle.wf_board.specs.Histories.{AreAnsweredOnce, FillsJobs, IsLegal, batch_end, batch_start}
+use Rattle.wf_lanes.specs.Turns.{AreByTurns}
 use Rattle.trial_maker.specs.TrialPolicy.{trial_policy}
 use Rattle.trial_maker.specs.Trials.{trial_ends, trial_jobs}
 use Rattle.run_record.specs.declared.fault.RunFault.{RunFault}
@@ -13,13 +15,25 @@ use Rattle.trial_command.specs.declared.counts.Counts.{Counts}
 use Rattle.trial_command.specs.declared.session.TheConstants.{CASES}
 use Rattle.trial_command.specs.Counting.{counts_of}
 
+-- the entries of one batch
+abbrev pub batch_entries : List ℕ → ℕ → List Entry → List Entry
+batch_entries batch_ends k entries =
+    drop (batch_start batch_ends k) (take (batch_end batch_ends k) entries)
+
+-- in each batch the lanes take turns
+abbrev pub AreBatchesByTurns : List ℕ → List Entry → Type 0
+AreBatchesByTurns batch_ends entries =
+    (k : ℕ) → k < length batch_ends → AreByTurns (batch_entries batch_ends k entries)
+
 -- a session of the trial of a seed: its entries are a legal history that holds each of the trial's
--- jobs once, in the order of their batches and lanes, and none is answered again
+-- jobs once, batch after batch, and in each batch by turns, one of each lane after the other; none
+-- is answered again
 pub record IsServedTrial (seed : ℕ) (told : Told) : Type 0 where
   pub jobs : told.jobs ≡ trial_jobs seed CASES
   pub ends : told.batch_ends ≡ trial_ends CASES
   pub legal : IsLegal (opening_state (trial_policy seed)) 0 told.entries
   pub fills : FillsJobs told.entries told.jobs told.batch_ends
+  pub turns : AreBatchesByTurns told.batch_ends told.entries
   pub once : AreAnsweredOnce told.entries
 
 -- the line for a seed, so many jobs and such counts of replies

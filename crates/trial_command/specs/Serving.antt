@@ -6,10 +6,12 @@ use Rattle.wf_talk.specs.declared.job.Job.{Job}
 use Rattle.wf_board.specs.Histories.{AreAnsweredOnce, FillsJobs}
 use Rattle.wf_desk.specs.BatchLaws.{AnswersBatch, EndAt}
 use Rattle.wf_desk.specs.Desks.{DeskShape, IsDone}
+use Rattle.wf_lanes.specs.Turns.{AreByTurns}
 use Rattle.trial_maker.specs.TrialLaws.{AreBatches}
 use Rattle.run_record.specs.Report.{Told}
 use Rattle.trial_command.specs.declared.session.Served.{Served}
 use Rattle.trial_command.specs.declared.session.TheConstants.{LANES}
+use Rattle.trial_command.specs.Running.{AreBatchesByTurns}
 
 -- what a session tells
 abbrev pub told_of : Served → Told
@@ -27,6 +29,7 @@ pub record HasServedBatch (before after : DeskShape) (batch : List Job) : Type 0
   pub more : List Entry
   pub extends : after.entries ≡ before.entries ++ more
   pub answers : AnswersBatch before.entries more batch
+  pub turns : AreByTurns more
   pub once : AreAnsweredOnce more
   pub done : IsDone after
 
@@ -36,6 +39,7 @@ pub record HasServedAll (before after : DeskShape) (jobs : List Job) (batch_ends
   pub done : IsDone after
   pub fills : FillsJobs after.entries jobs batch_ends
   pub ends : EndAt batch_ends (length jobs)
+  pub turns : AreBatchesByTurns batch_ends after.entries
   pub once : AreAnsweredOnce after.entries
 
 -- these jobs, cut so, can be served

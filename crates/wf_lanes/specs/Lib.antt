@@ -1,2 +1,3 @@
+pub mod TurnSteps
 pub mod Turns
 pub mod Workers

@@ -1,7 +1,8 @@
 //! Serving the jobs of a batch by turns.
 ghost use Rattle.std.specs.Prelude.{◌≡◌, ◌<◌, true, false, length};
 ghost use Rattle.wf_desk.specs.Desks.{AreOfLanes, IsDone};
-ghost use Rattle.wf_lanes.specs.Turns.{HasServedOn, left_at};
+ghost use Rattle.wf_lanes.specs.TurnSteps.{HasServedTurn};
+ghost use Rattle.wf_lanes.specs.Turns.{HasServedByTurns, left_at};
 
 use std::alloc::Global;
 use wf_board::Decider;
@@ -12,7 +13,7 @@ use wf_desk::Desk;
 pub fn serve_by_turns<V: Decider>(alloc: Global, decider: &V, desk: &mut Desk)
     requires ready { V.ready decider.now }
     requires lanes { AreOfLanes desk.old.lanes desk.old.jobs }
-    ensures on { HasServedOn desk.old desk.new }
+    ensures turns { HasServedByTurns desk.old desk.new }
     ensures done { IsDone desk.new }
 {
     'serving: loop {
@@ -26,7 +27,7 @@ pub fn serve_by_turns<V: Decider>(alloc: Global, decider: &V, desk: &mut Desk)
 fn serve_turn<V: Decider>(alloc: Global, decider: &V, desk: &mut Desk) -> bool
     requires ready { V.ready decider.now }
     requires lanes { AreOfLanes desk.old.lanes desk.old.jobs }
-    ensures on { HasServedOn desk.old desk.new }
+    ensures turn { HasServedTurn desk.old desk.new }
     ensures done { result ≡ false → IsDone desk.new }
     ensures less { result ≡ true → left_at desk.new < left_at desk.old }
 {
