@@ -1,3 +1,4 @@
+pub mod OneOrder
 pub mod TurnLaws
 pub mod TurnOrder
 pub mod Turning

@@ -15,13 +15,13 @@ use Rattle.wf_lanes.specs.Turns.{IsInTurn, turns_of}
 use Rattle.wf_lanes.specs.TurnSteps.{IsAtTurn}
 
 -- one more entry is one more turn of its lane
-turns_with : (k : ℕ) (es : List Entry) (e : Entry) → turns_of k (es ++ e ∷ []) ≡ turns_of k es + cond (nat_eq e.lane k) 1 0
+pub turns_with : (k : ℕ) (es : List Entry) (e : Entry) → turns_of k (es ++ e ∷ []) ≡ turns_of k es + cond (nat_eq e.lane k) 1 0
 turns_with k es e = let sum = sum_by-append (λ (x : Entry). cond (nat_eq x.lane k) 1 0) es (e ∷ []) in omega (arith, sum)
 
-turns_own : (es : List Entry) (e : Entry) (k : ℕ) → e.lane ≡ k → turns_of k (es ++ e ∷ []) ≡ turns_of k es + 1
+pub turns_own : (es : List Entry) (e : Entry) (k : ℕ) → e.lane ≡ k → turns_of k (es ++ e ∷ []) ≡ turns_of k es + 1
 turns_own es e k own = turns_with k es e ∙ ap (λ b. turns_of k es + cond b 1 0) (eq_is e.lane k own)
 
-turns_other : (es : List Entry) (e : Entry) (k : ℕ) → nat_eq e.lane k ≡ false → turns_of k (es ++ e ∷ []) ≡ turns_of k es
+pub turns_other : (es : List Entry) (e : Entry) (k : ℕ) → nat_eq e.lane k ≡ false → turns_of k (es ++ e ∷ []) ≡ turns_of k es
 turns_other es e k other = let h = turns_with k es e ∙ ap (λ b. turns_of k es + cond b 1 0) other in omega (arith, h)
 
 -- an entry of another lane does not count among a lane's answered jobs

@@ -1,3 +1,4 @@
+pub mod Laws
 pub mod TurnSteps
 pub mod Turns
 pub mod Workers

@@ -4,6 +4,7 @@
 
 mod gate;
 mod lanes;
+pub mod laws;
 mod table_turns;
 mod turns;
 mod worker;
