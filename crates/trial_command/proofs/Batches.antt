@@ -3,13 +3,13 @@ use Rattle.std.proofs.Common.{◌≡◌, ℕ, zero, suc, ◌+◌, ◌-◌, ◌<�
 use Rattle.std.specs.List.{All}
 use Rattle.std.proofs.lemmas.List.Elements.{All-head, All-tail, All-take, All-drop}
 use Rattle.std.proofs.lemmas.Bool.Decides.{leb_tells}
-use Rattle.std.proofs.lemmas.List.{get_or_append_left, length-append, length-take-le, take-append-le, take_more}
-use Rattle.std.proofs.Math.Seq.{drop-append_seam, get_or-append_seam, take-append_seam, take-length}
+use Rattle.std.proofs.lemmas.List.{length-append, length-take-le, take-append-le, take_more}
+use Rattle.std.proofs.Math.Seq.{drop-append_seam, take-append_seam, take-length}
 use Rattle.wf_talk.specs.declared.entry.Entry.{Entry}
 use Rattle.wf_talk.specs.declared.job.Job.{Job}
 use Rattle.wf_board.specs.Histories.{AreAnsweredOnce, FillsJobs, batch_end, batch_start}
 use Rattle.wf_board.specs.HistoryLaws.{once_all}
-use Rattle.wf_desk.specs.BatchLaws.{AnswersBatch, EndAt, batch_fills}
+use Rattle.wf_desk.specs.BatchLaws.{AnswersBatch, EndAt, batch_fills, end_before, end_last, start_before}
 use Rattle.wf_desk.specs.Desks.{AreOfLanes, DeskShape, IsDone, IsSoundDesk, with_batch, with_room}
 use Rattle.wf_desk.specs.DocketLaws.{batch_done}
 use Rattle.wf_desk.proofs.Ends.{end_more}
@@ -63,15 +63,6 @@ of_lanes lanes [] all = tt
 of_lanes lanes (j ∷ jobs) all = (All-head (λ (x : Job). x.lane < lanes) j jobs all, of_lanes lanes jobs (All-tail (λ (x : Job). x.lane < lanes) j jobs all))
 
 -- ---- the entries of the batches so far
-
-start_before : (ends : List ℕ) (x k : ℕ) → k < length ends + 1 → batch_start (ends ++ x ∷ []) k ≡ batch_start ends k
-start_before ends x k lt = get_or_append_left (0 ∷ ends) (x ∷ []) 0 k (omega (arith, lt))
-
-end_before : (ends : List ℕ) (x k : ℕ) → k < length ends → batch_end (ends ++ x ∷ []) k ≡ batch_end ends k
-end_before ends x k lt = get_or_append_left ends (x ∷ []) 0 k lt
-
-end_last : (ends : List ℕ) (x : ℕ) → batch_end (ends ++ x ∷ []) (length ends) ≡ x
-end_last ends x = get_or-append_seam ends x [] 0
 
 -- with one more batch those of an earlier one are the same
 entries_before : (ends : List ℕ) (x k : ℕ) (es new : List Entry) → k < length ends → batch_end ends k ≤ length es

@@ -25,13 +25,13 @@ pub record AnswersNext (es new : List Entry) (js more : List Job) (ends : List �
   pub at_end : EndAt ends (length js)
   pub answers : AnswersBatch es new more
 
-start_before : (ends : List ℕ) (x k : ℕ) → k < length ends + 1 → batch_start (ends ++ x ∷ []) k ≡ batch_start ends k
+pub start_before : (ends : List ℕ) (x k : ℕ) → k < length ends + 1 → batch_start (ends ++ x ∷ []) k ≡ batch_start ends k
 start_before ends x k lt = get_or_append_left (0 ∷ ends) (x ∷ []) 0 k (omega (arith, lt))
 
-end_before : (ends : List ℕ) (x k : ℕ) → k < length ends → batch_end (ends ++ x ∷ []) k ≡ batch_end ends k
+pub end_before : (ends : List ℕ) (x k : ℕ) → k < length ends → batch_end (ends ++ x ∷ []) k ≡ batch_end ends k
 end_before ends x k lt = get_or_append_left ends (x ∷ []) 0 k lt
 
-end_last : (ends : List ℕ) (x : ℕ) → batch_end (ends ++ x ∷ []) (length ends) ≡ x
+pub end_last : (ends : List ℕ) (x : ℕ) → batch_end (ends ++ x ∷ []) (length ends) ≡ x
 end_last ends x = get_or-append_seam ends x [] 0
 
 start_within : (ends : List ℕ) (count k : ℕ) → EndAt ends count → k < length ends → batch_start ends k ≤ count
