@@ -135,13 +135,16 @@ long_found first a before middle after r s n h read limit room number =
     let some : 0 < length seen = omega (arith, long, within, size) in
     line_stops first a before middle after r seen (behind_line seen) (TooLong n) h read.seen some refl
     (number, let c = alone.counted in omega (arith, long, c, limit))
-    (λ count. (count ∙ ap (λ k. k + 1) (sym number), record {
-      front = h.bytes;
-      long = first_line seen;
-      parts = refl;
-      lines = let c = h.count [] in let same = ap (λ xs. length (lines_of xs)) (append-nil h.bytes) in omega (arith, c, same, number);
-      few = let less = read.less in omega (arith, less, size, limit, room);
-    }))
+    (λ count. (
+      count ∙ ap (λ k. k + 1) (sym number),
+      record {
+        front = h.bytes;
+        long = first_line seen;
+        parts = refl;
+        lines = let c = h.count [] in let same = ap (λ xs. length (lines_of xs)) (append-nil h.bytes) in omega (arith, c, same, number);
+        few = let less = read.less in omega (arith, less, size, limit, room);
+      },
+    ))
     (λ left is.
     let whole = line_alone (seen ++ left) in
     let c = whole.counted in
