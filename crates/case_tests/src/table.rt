@@ -119,6 +119,7 @@ fn copy_in_part(rt: &impl Abort, alloc: Global, table: &Cases) -> Result<(), All
     assert!(rt; copies_all(table)?);
     assert!(rt; copies_one(alloc, table)?);
     assert!(rt; copies_open(alloc, table)?);
+    assert!(rt; remembers_the_plan(&table.copy_none(alloc)));
     Ok(())
 }
 
@@ -148,6 +149,12 @@ fn has_the_done_case(copy: &Cases) -> bool {
 
 fn copies_open(alloc: Global, table: &Cases) -> Result<bool, AllocError> {
     Ok(has_the_open_cases(&table.copy_open(alloc)?))
+}
+
+// Whether the plan of the openings is remembered for their workflow, and none for another.
+fn remembers_the_plan(copy: &Cases) -> bool {
+    copy.recent_plan(FlowId(0)) == Some(Plan::of(&[ANN, BOB]))
+        && copy.recent_plan(FlowId(1)).is_none()
 }
 
 fn has_the_open_cases(copy: &Cases) -> bool {

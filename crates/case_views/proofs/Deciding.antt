@@ -100,14 +100,6 @@ search_within p c plan t u known valid step user = claimed_within p c t u known 
 pub search_assigned : (c : CaseShape) (t u : ℕ) → t < length (assigned_of c) → AreAssigned (finished_of c) (assigned_with c t u)
 search_assigned c t u below = still_assigned (finished_of c) (assigned_of c) t u below (finished_assigned c)
 
-pub decides_same : (p q : PolicyShape) (f g : ℕ) (a b : List (Option ℕ)) (d e : List Bool) (v : Verdict) → q ≡ p → g ≡ f → b ≡ a → e ≡ d
-    → DecidesFor (problem_of q g) b e v → DecidesFor (problem_of p f) a d v
-decides_same p q f g a b d e v policy flow assigned done h =
-    subst (λ x. DecidesFor (problem_of x f) a d v) policy
-    (subst (λ x. DecidesFor (problem_of q x) a d v) flow
-    (subst (λ x. DecidesFor (problem_of q g) x d v) assigned
-    (subst (λ x. DecidesFor (problem_of q g) b x v) done h)))
-
 -- what a search found is a verdict
 pub verdict_decides : (p : Problem) (a : List (Option ℕ)) (d : List Bool) (o : Outcome) (v : Verdict) → HasSolved p a d o → IsVerdictOf o v → DecidesFor p a d v
 verdict_decides p a d (outcome.Plan plan) v found is = subst (DecidesFor p a d) (sym is) found

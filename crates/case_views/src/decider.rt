@@ -1,7 +1,7 @@
 //! The decider on one thread.
 ghost use Rattle.std.specs.Prelude.{◌≡◌, ◌<◌, length, MatchResult};
+ghost use Rattle.constraint_forms.specs.Assigned.{no_steps, no_users};
 ghost use Rattle.policy_book.specs.Policies.{problem_of};
-ghost use Rattle.policy_book.specs.Plans.{AreAssigned, IsWithin};
 ghost use Rattle.case_record.specs.Cases.{finished_of};
 ghost use Rattle.denial_reasons.specs.Causes.{assigned_with};
 ghost use Rattle.wf_board.specs.Boards.{book_on};
@@ -9,22 +9,23 @@ ghost use Rattle.wf_board.specs.Found.{AreFound, IsAllowed, IsFound};
 ghost use Rattle.case_views.specs.Deciding.{DecidesDeed, DecidesFor, DecidesWhatIf, DecidesWork, IsVerdictOf};
 
 use crate::edit_decider::edit_verdict;
-use crate::found::outcome_with;
+use crate::found::{outcome_fresh, outcome_with};
 use crate::stranded::stranded_by;
 use crate::work_lists::worklist;
 use admin_edits::Amendment;
 use case_record::Case;
-use constraint_forms::{Assign, StepSet};
+use constraint_forms::Plan;
 use policy_book::Policy;
 use std::alloc::{AllocError, Global};
 use wf_board::{Decider, Deed, Refused, Snap, Verdict, View, decision_aside};
 use wf_names::{CaseId, FlowId, StepId, UserId};
 use wf_talk::{Ask, CaseList, WorkList};
-use wsp_solver::{Outcome, solve};
+use wsp_solver::Outcome;
 
 /// Finds verdicts one after the other, on one thread. For a claim the plan that is kept for the
 /// case decides where it gives the step to the user, else a plan near it where one is valid, and
-/// else a search. An edit or a view goes over the open cases in order.
+/// else a search; for an opening a plan with which a case of the workflow was opened before, or one
+/// near it, and else a search. An edit or a view goes over the open cases in order.
 pub struct PlainDecider;
 
 impl Decider for PlainDecider {
@@ -50,13 +51,7 @@ pub(crate) fn verdict_on(alloc: Global, snap: &Snap, deed: &Deed) -> Verdict
 {
     match deed {
         Deed::Open { flow } => {
-            searched(
-                alloc,
-                snap.policy(),
-                *flow,
-                &Assign::empty(),
-                &StepSet::empty(),
-            )
+            open_verdict(alloc, snap.policy(), *flow, snap.cases().recent_plan(*flow))
         }
         Deed::Claim {
             number,
@@ -94,14 +89,12 @@ fn claim_verdict(
     }
 }
 
-// The verdict that a search finds.
-fn searched(alloc: Global, p: &Policy, f: FlowId, a: &Assign, done: &StepSet) -> Verdict
-    requires flow { f < length p.now.flows }
-    requires within { IsWithin (problem_of p.now f) a.now }
-    requires assigned { AreAssigned done.now a.now }
-    ensures { DecidesFor (problem_of p.now f) a.now done.now result }
+// The verdict on an opening, by a plan with which a case of the workflow was opened before.
+fn open_verdict(alloc: Global, p: &Policy, f: FlowId, recent: Option<Plan>) -> Verdict
+    requires { f < length p.now.flows }
+    ensures { DecidesFor (problem_of p.now f) no_users no_steps result }
 {
-    match solve(alloc, p, f, a, done) {
+    match outcome_fresh(alloc, p, f, recent) {
         Ok(outcome) => verdict_of(outcome),
         Err(_) => Verdict::NoMemory,
     }

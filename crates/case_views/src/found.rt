@@ -1,5 +1,6 @@
-//! Whether an assignment can be completed, as the plan kept for its case and then a search tells.
+//! Whether an assignment can be completed, as a plan that is known and then a search tells.
 ghost use Rattle.std.specs.Prelude.{◌≡◌, ◌<◌, length, IfOk};
+ghost use Rattle.constraint_forms.specs.Assigned.{no_steps, no_users};
 ghost use Rattle.policy_book.specs.Policies.{problem_of};
 ghost use Rattle.policy_book.specs.Plans.{AreAssigned, IsWithin};
 ghost use Rattle.wf_names.specs.declared.limits.TheConstants.{STEP_LIMIT};
@@ -52,8 +53,26 @@ fn assigned_with(case: &Case, step: StepId, user: UserId) -> Assign
     case.assigned().with(step, user)
 }
 
-/// A plan for an assignment: one near the plan that is kept for the case where one is valid, and
-/// else what a search finds.
+/// A plan for a fresh case of a workflow: one near another plan, where there is one and one near it
+/// is valid, and else what a search finds.
+pub(crate) fn outcome_fresh(
+    alloc: Global,
+    p: &Policy,
+    f: FlowId,
+    recent: Option<Plan>,
+) -> Result<Outcome, AllocError>
+    requires { f < length p.now.flows }
+    ensures { IfOk result (HasSolved (problem_of p.now f) no_users no_steps) }
+{
+    let (assigned, done) = (Assign::empty(), StepSet::empty());
+    match recent {
+        Some(kept) => outcome_near(alloc, p, f, &assigned, &done, &kept),
+        None => solve(alloc, p, f, &assigned, &done),
+    }
+}
+
+/// A plan for an assignment: one near another plan where one is valid, and else what a search
+/// finds.
 pub(crate) fn outcome_near(
     alloc: Global,
     p: &Policy,

@@ -7,6 +7,7 @@ ghost use Rattle.grant_table.specs.Kept.{IsSoundTable};
 ghost use Rattle.grant_table.specs.Tables.{case_at, finished_row, freed_row, held_row, is_open_case, next_open, only, open_count, open_rows, ones, plan_at, replanned, row_at, with_case, with_row, withdrawn_row, IsNextOpen, HasFreeStep, HasHeldStep};
 
 use crate::changes::{finished, freed, held, withdrawn};
+use crate::recent::Recent;
 use crate::rows::{
     Row, case_of, next_open, one_live, only, open_rows, plan_in, put, replan, row_of, still_open,
 };
@@ -24,6 +25,7 @@ pub struct Cases {
     rows: Vec<Row>,
     ever: u16,
     live: u16,
+    recent: Recent,
 }
 
 impl Model for Cases {
@@ -48,6 +50,7 @@ impl Cases {
             rows: Vec::new(alloc),
             ever: 0,
             live: 0,
+            recent: Recent::none(),
         })
     }
 
@@ -79,6 +82,7 @@ impl Cases {
         self.rows.push_reserved(row);
         self.ever += 1;
         self.live += 1;
+        self.recent.keep(f, plan);
         CaseId(number)
     }
 
@@ -145,6 +149,12 @@ impl Cases {
         plan_in(&self.rows, c.0)
     }
 
+    /// A plan with which a case of the workflow was opened, where one is remembered: a hint where
+    /// to look for the next one. Nothing is promised of it.
+    pub fn recent_plan(&self, f: FlowId) -> Option<Plan> {
+        self.recent.plan(f)
+    }
+
     /// All cases with their numbers and kept plans, by ascending number.
     pub fn rows(&self) -> &[Row]
         ensures { result.now ≡ self.now.rows }
@@ -189,6 +199,7 @@ impl Cases {
             rows: self.rows.clone()?,
             ever: self.ever,
             live: self.live,
+            recent: self.recent,
         })
     }
 
@@ -201,6 +212,7 @@ impl Cases {
             rows: only(alloc, &self.rows, c.0)?,
             ever: self.ever,
             live: one_live(row_of(&self.rows, c.0)),
+            recent: self.recent,
         })
     }
 
@@ -212,6 +224,7 @@ impl Cases {
             rows: Vec::new(alloc),
             ever: self.ever,
             live: 0,
+            recent: self.recent,
         }
     }
 
@@ -221,9 +234,10 @@ impl Cases {
             { rows = open_rows self.now.rows; spare = t.spare }) }
     {
         Ok(Cases {
-            rows: open_rows(alloc, &self.rows)?,
+            rows: open_rows(alloc, &self.rows, self.live)?,
             ever: self.ever,
             live: self.live,
+            recent: self.recent,
         })
     }
 

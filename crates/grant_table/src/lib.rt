@@ -4,6 +4,7 @@
 mod cases;
 mod changes;
 mod planned;
+mod recent;
 mod rows;
 
 pub use cases::Cases;

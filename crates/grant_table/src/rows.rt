@@ -173,11 +173,11 @@ pub(crate) fn one_live(row: Option<Row>) -> u16
     }
 }
 
-/// The rows of the open cases.
-pub(crate) fn open_rows(alloc: Global, rows: &[Row]) -> Result<Vec<Row>, AllocError>
+/// The rows of the open cases, of which there should be so many.
+pub(crate) fn open_rows(alloc: Global, rows: &[Row], live: u16) -> Result<Vec<Row>, AllocError>
     ensures { IfOk result (λ some. some.items ≡ open_rows rows.now) }
 {
-    let mut some = Vec::new(alloc);
+    let mut some = Vec::with_capacity(alloc, live as usize)?;
     'rows: for row in rows {
         if row.case.phase().is_live() {
             some.push(*row)?;

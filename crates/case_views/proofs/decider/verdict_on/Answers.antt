@@ -1,16 +1,18 @@
-use Rattle.std.proofs.Common.{refl, sym, subst}
+use Rattle.std.proofs.Common.{sym, subst}
+use Rattle.constraint_forms.specs.Assigned.{no_steps, no_users}
+use Rattle.policy_book.specs.Shapes.{PolicyShape}
+use Rattle.policy_book.specs.Policies.{problem_of}
 use Rattle.wf_board.specs.Boards.{book_on}
-use Rattle.case_views.specs.Deciding.{DecidesDeed}
-use Rattle.case_views.proofs.Deciding.{decides_change, decides_claim, decides_open, decides_same, decides_what_if, decides_work}
+use Rattle.case_views.specs.Deciding.{DecidesDeed, DecidesFor}
+use Rattle.case_views.proofs.Deciding.{decides_change, decides_claim, decides_open, decides_what_if, decides_work}
 use Rattle.case_views.proofs.decider.verdict_on.Goals as goal
 
 pub returns-in-Open : goal.returns-in-Open
 returns-in-Open c =
     let b = book_on c.args.snap.now in
-    subst (λ d. DecidesDeed b d c.searched.result) (sym c.in-Open.is)
-    (decides_open b c.in-Open.flow c.searched.result
-    (decides_same c.args.snap.now.policy c.policy.result.now c.in-Open.flow c.in-Open.flow _ c.empty.result _ c.empty-in-Open.result c.searched.result
-    c.policy.ensures.policy refl c.empty.ensures.value c.empty-in-Open.ensures.value c.searched.ensures))
+    subst (λ d. DecidesDeed b d c.open_verdict.result) (sym c.in-Open.is)
+    (decides_open b c.in-Open.flow c.open_verdict.result
+    (subst (λ (q : PolicyShape). DecidesFor (problem_of q c.in-Open.flow) no_users no_steps c.open_verdict.result) c.policy.ensures.policy c.open_verdict.ensures))
 
 pub returns-in-Claim : goal.returns-in-Claim
 returns-in-Claim c =

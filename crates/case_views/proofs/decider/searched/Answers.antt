@@ -1,8 +1,0 @@
-use Rattle.policy_book.specs.Policies.{problem_of}
-use Rattle.case_views.proofs.Deciding.{verdict_decides}
-use Rattle.case_views.proofs.decider.searched.Goals as goal
-
-pub returns-in-Ok : goal.returns-in-Ok
-returns-in-Ok c =
-    verdict_decides (problem_of c.args.p.now c.args.f) c.args.a.now c.args.done.now c.in-Ok.outcome c.verdict_of.result
-    c.in-Ok.ensures c.verdict_of.ensures
