@@ -1,10 +1,11 @@
 -- Inside: what is true of the parts of a policy as they are read.
-use Rattle.std.specs.Prelude.{◌≡◌, ℕ, ◌<◌, Bool, true, false, List}
+use Rattle.std.specs.Prelude.{◌≡◌, ℕ, ◌<◌, Bool, true, false, List, []}
 use Rattle.std.specs.List.{AllByRecursion}
 use Rattle.policy_book.specs.Shapes.{PolicyShape}
 use Rattle.workflow_schema.specs.declared.fault.FlowFault.{FlowFault}
 use Rattle.workflow_schema.specs.declared.fault.FlowFault.TheVariants.{TooMany, Twice, Cycle, NoMemory}
 use Rattle.constraint_forms.specs.Assigned.{is_member}
+use Rattle.policy_reader.specs.Printable.{IsBegun}
 
 -- a group has only steps below n
 abbrev pub HasStepsBelow : ℕ → List Bool → Type 0
@@ -16,6 +17,12 @@ IsCycleOrMemory TooMany = ⊥
 IsCycleOrMemory Twice = ⊥
 IsCycleOrMemory (Cycle s) = Unit {0}
 IsCycleOrMemory NoMemory = Unit {0}
+
+-- a policy before its workflows are read
+pub record IsBare (p : PolicyShape) : Type 0 where
+  pub begun : IsBegun p
+  pub names : p.flow_names ≡ []
+  pub flows : p.flows ≡ []
 
 -- a policy with more workflows, none of them retired where none was before
 pub record IsGrown (before after : PolicyShape) : Type 0 where

@@ -2,7 +2,7 @@
 ghost use Rattle.std.specs.Prelude.{◌≡◌, Some};
 ghost use Rattle.policy_reader.specs.Words.{kind_word, part_word, fault_text};
 ghost use Rattle.policy_reader.specs.declared.fault.ReadFault.TheVariants.{Policy, NoMemory};
-ghost use Rattle.policy_reader.specs.Faults.{fault, fault_about, as_name};
+ghost use Rattle.policy_reader.specs.Faults.{fault, fault_about};
 
 use std::alloc::AllocError;
 use std::fmt;
@@ -126,12 +126,10 @@ impl fmt::Display for PolicyFault {
 
     fn fmt<W: fmt::Write>(&self, f: &mut fmt::Formatter<W>) -> fmt::Result {
         let (kind, table, index) = (self.kind.word(), self.table.word(), self.index);
+        write!(f, "{kind} {table} {index}")?;
         match self.name {
-            None => write!(f, "{kind} {table} {index}"),
-            Some(name) => {
-                let name = name.as_str();
-                write!(f, "{kind} {table} {index} {name}")
-            }
+            None => Ok(()),
+            Some(name) => write!(f, " {}", name.as_str()),
         }
     }
 }
@@ -170,12 +168,6 @@ pub(crate) fn refuse_text(kind: PolicyKind, table: PolicyPart, index: u32, text:
         kind,
         table,
         index,
-        name: name_of(text),
+        name: Name::read(text),
     })
-}
-
-fn name_of(text: &str) -> Option<Name>
-    ensures { result ≡ as_name text.now }
-{
-    Name::read(text)
 }

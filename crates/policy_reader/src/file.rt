@@ -5,7 +5,8 @@ ghost use Rattle.toml.specs.View.{table_view};
 ghost use Rattle.policy_reader.specs.declared.fault.ReadFault.TheVariants.{NoMemory};
 ghost use Rattle.policy_reader.specs.Faults.{fault_of};
 ghost use Rattle.policy_reader.specs.Files as spec;
-ghost use Rattle.policy_reader.specs.Printable.{Ascend, IsBegun, IsPrintable};
+ghost use Rattle.policy_reader.specs.Kept.{IsBare};
+ghost use Rattle.policy_reader.specs.Printable.{Ascend, IsPrintable};
 ghost use Rattle.policy_book.specs.Facts.{AreOfUsers};
 ghost use Rattle.policy_reader.specs.Relations.{names_of};
 ghost use Rattle.policy_reader.specs.Rosters.{some_user_has};
@@ -83,9 +84,7 @@ fn read_rest(
     policy: &mut Policy,
     file: &Table,
 ) -> Result<(), ReadFault>
-    requires none { policy.old.flow_names ≡ [] }
-    requires bare { policy.old.flows ≡ [] }
-    requires begun { IsBegun policy.old }
+    requires bare { IsBare policy.old }
     ensures read { Gives fault_of (λ _. policy.new) result
         (spec.rest_of format policy.old (table_view file.now)) }
     ensures printable { OnOk result (IsPrintable policy.new) }
@@ -100,28 +99,14 @@ fn read_rest(
 }
 
 /// Reads what a document says after its format and before its workflows.
-#[tactic(auto, unfolding(crate::specs::Files::start_of))]
+#[tactic(auto, unfolding(crate::specs::Files::start_of, crate::specs::Files::start_named))]
 fn read_start(alloc: Global, file: &Table) -> Result<Policy, ReadFault>
     ensures read { Gives fault_of (λ p. p) result (spec.start_of (table_view file.now)) }
-    ensures none { IfOk result (λ p. p.flow_names ≡ []) }
-    ensures bare { IfOk result (λ p. p.flows ≡ []) }
-    ensures begun { IfOk result IsBegun }
+    ensures bare { IfOk result IsBare }
 {
     let name = read_admin(file)?;
-    start_named(alloc, &name, file)
-}
-
-/// Reads the rest of it, with this name of the admin role.
-#[tactic(auto, unfolding(crate::specs::Files::start_named))]
-fn start_named(alloc: Global, name: &Name, file: &Table) -> Result<Policy, ReadFault>
-    ensures read { Gives fault_of (λ p. p) result
-        (spec.start_named name.now (table_view file.now)) }
-    ensures none { IfOk result (λ p. p.flow_names ≡ []) }
-    ensures bare { IfOk result (λ p. p.flows ≡ []) }
-    ensures begun { IfOk result IsBegun }
-{
     match start_roster(alloc, file) {
-        Ok(roster) => start_with(alloc, roster, name, file),
+        Ok(roster) => start_with(alloc, roster, &name, file),
         Err(fault) => Err(fault),
     }
 }
@@ -138,9 +123,7 @@ fn start_with(
     requires none { roster ≡ record { users = []; roles = roster.roles; members = set.empty } }
     ensures read { Gives fault_of (λ p. p) result
         (spec.start_with roster.roles name.now (table_view file.now)) }
-    ensures none { IfOk result (λ p. p.flow_names ≡ []) }
-    ensures bare { IfOk result (λ p. p.flows ≡ []) }
-    ensures begun { IfOk result IsBegun }
+    ensures bare { IfOk result IsBare }
 {
     match read_staff(&mut roster, name, file) {
         Ok(admin) => start_over(alloc, roster, admin, file),
@@ -198,28 +181,9 @@ fn start_over(
     requires ascend { Ascend roster.users }
     ensures read { Gives fault_of (λ p. p) result
         (spec.start_over roster admin (table_view file.now)) }
-    ensures none { IfOk result (λ p. p.flow_names ≡ []) }
-    ensures bare { IfOk result (λ p. p.flows ≡ []) }
-    ensures begun { IfOk result IsBegun }
+    ensures bare { IfOk result IsBare }
 {
-    match relations_over(alloc, &roster, admin, file) {
-        Ok(relations) => start_policy(alloc, roster, relations, admin),
-        Err(fault) => Err(fault),
-    }
-}
-
-fn start_policy(
-    alloc: Global,
-    roster: Roster,
-    relations: Relations,
-    admin: RoleId,
-) -> Result<Policy, ReadFault>
-    requires related { AreOfUsers (length roster.users) relations }
-    requires admin { admin < length roster.roles }
-    ensures started { IfOk result (λ p. p ≡ record
-        { roster = roster; relations = relations; flow_names = []; flows = []; admin = admin }) }
-    ensures memory { IfErr result (λ e. e ≡ NoMemory) }
-{
+    let relations = relations_over(alloc, &roster, admin, file)?;
     match Policy::start(alloc, roster, relations, admin) {
         Ok(policy) => Ok(policy),
         Err(_) => Err(ReadFault::NoMemory),

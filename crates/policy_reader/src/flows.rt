@@ -6,8 +6,8 @@ ghost use Rattle.wf_names.specs.Table.{place_of};
 ghost use Rattle.policy_book.specs.Facts.{AreSoundRules, PermitsRolesBelow};
 ghost use Rattle.std.specs.FinSet as set;
 ghost use Rattle.workflow_schema.specs.Flows.{is_count};
-ghost use Rattle.policy_reader.specs.Kept.{IsGrown};
-ghost use Rattle.policy_reader.specs.Printable.{IsBegun, IsPrintable};
+ghost use Rattle.policy_reader.specs.Kept.{IsBare, IsGrown};
+ghost use Rattle.policy_reader.specs.Printable.{IsPrintable};
 ghost use Rattle.policy_reader.specs.Faults.{fault_of};
 ghost use Rattle.policy_reader.specs.Parts.{entries};
 ghost use Rattle.policy_reader.specs.Flows as spec;
@@ -153,11 +153,9 @@ fn next_flow(alloc: Global, policy: &mut Policy, key: &str, value: &Value) -> Re
 }
 
 fn all_flows(alloc: Global, policy: &mut Policy, flows: &Table) -> Result<(), ReadFault>
-    requires none { policy.old.flow_names ≡ [] }
+    requires bare { IsBare policy.old }
     requires room { length flows.now.entries ≤ FLOW_LIMIT }
     requires some { 0 < length flows.now.entries }
-    requires bare { policy.old.flows ≡ [] }
-    requires begun { IsBegun policy.old }
     ensures read { Gives fault_of (λ _. policy.new) result
         (each spec.next_flow policy.old (entries (table_view flows.now))) }
     ensures printable { OnOk result (IsPrintable policy.new) }
@@ -173,9 +171,7 @@ fn all_flows(alloc: Global, policy: &mut Policy, flows: &Table) -> Result<(), Re
 /// Reads the workflows into a policy that has none.
 #[tactic(auto, unfolding(crate::specs::Flows::flows_of))]
 pub(crate) fn read_flows(alloc: Global, policy: &mut Policy, file: &Table) -> Result<(), ReadFault>
-    requires none { policy.old.flow_names ≡ [] }
-    requires bare { policy.old.flows ≡ [] }
-    requires begun { IsBegun policy.old }
+    requires bare { IsBare policy.old }
     ensures read { Gives fault_of (λ _. policy.new) result
         (spec.flows_of policy.old (table_view file.now)) }
     ensures printable { OnOk result (IsPrintable policy.new) }

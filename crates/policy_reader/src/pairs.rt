@@ -34,14 +34,7 @@ fn texts_of(items: &[Value]) -> Option<(&str, &str)>
     if items.len() != 2 {
         return None;
     }
-    both_texts(&items[0], &items[1])
-}
-
-fn both_texts<'t>(first: &'t Value, second: &'t Value) -> Option<(&'t str, &'t str)>
-    ensures { option_map (λ p. (p.0.now, p.1.now)) result
-        ≡ parts.both_texts (view first.now) (view second.now) }
-{
-    match (first.as_str(), second.as_str()) {
+    match (items[0].as_str(), items[1].as_str()) {
         (Some(first), Some(second)) => Some((first, second)),
         _ => None,
     }

@@ -107,25 +107,8 @@ pub(crate) fn at_least_one(count: usize, part: PolicyPart, index: u32) -> Result
     Ok(())
 }
 
-/// The array at a key that has to be there.
-#[tactic(auto, unfolding(crate::specs::Parts::array_at, crate::specs::Parts::value_at))]
-fn array_at<'t>(
-    table: &'t Table,
-    key: &str,
-    part: PolicyPart,
-    index: u32,
-) -> Result<&'t Array, ReadFault>
-    ensures { Gives fault_of (λ v. array_view v.now) result
-        (parts.array_at part index key.now (table_view table.now)) }
-{
-    match find(table, key) {
-        Some(value) => array_of(value, part, index),
-        None => Err(refuse_text(PolicyKind::Missing, part, index, key)),
-    }
-}
-
 /// The table at a key that has to be there.
-#[tactic(auto, unfolding(crate::specs::Parts::table_at, crate::specs::Parts::value_at))]
+#[tactic(auto, unfolding(crate::specs::Parts::table_at))]
 pub(crate) fn table_at<'t>(
     table: &'t Table,
     key: &str,
@@ -135,10 +118,8 @@ pub(crate) fn table_at<'t>(
     ensures { Gives fault_of (λ v. table_view v.now) result
         (parts.table_at part index key.now (table_view table.now)) }
 {
-    match find(table, key) {
-        Some(value) => table_of(value, part, index),
-        None => Err(refuse_text(PolicyKind::Missing, part, index, key)),
-    }
+    let value = value_at(table, key, part, index)?;
+    table_of(value, part, index)
 }
 
 /// A count that may neither be 0 nor pass a limit.
@@ -155,7 +136,7 @@ fn counted(limit: usize, count: usize, part: PolicyPart, index: u32) -> Result<(
 }
 
 /// The array at a key, of at least one item and at most so many.
-#[tactic(auto, unfolding(crate::specs::Parts::items_at), using(crate::proofs::Counts::count_items))]
+#[tactic(auto, unfolding(crate::specs::Parts::items_at, crate::specs::Parts::array_at), using(crate::proofs::Counts::count_items))]
 pub(crate) fn items_at<'t>(
     limit: usize,
     table: &'t Table,
@@ -168,7 +149,8 @@ pub(crate) fn items_at<'t>(
     ensures some { IfOk result (λ v. 0 < length v.now.items) }
     ensures few { IfOk result (λ v. length v.now.items ≤ limit) }
 {
-    let items = array_at(table, key, part, index)?;
+    let value = value_at(table, key, part, index)?;
+    let items = array_of(value, part, index)?;
     match counted(limit, items.len(), part, index) {
         Ok(()) => Ok(items),
         Err(fault) => Err(fault),

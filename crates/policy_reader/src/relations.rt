@@ -167,12 +167,6 @@ fn kind_at(
     }
 }
 
-fn is_built_in(text: &str) -> bool
-    ensures { result ≡ spec.is_built_in text.now }
-{
-    is_among(&["same", "other"], text)
-}
-
 fn push_relation(relations: &mut Vec<Relation>, name: Name, kind: Kind) -> Result<(), ReadFault>
     ensures added { OnOk result (shapes relations.new.items
         ≡ shapes relations.old.items ++ record { name = name; kind = kind_view kind } ∷ []) }
@@ -192,7 +186,7 @@ fn free_name(text: &str, number: u32) -> Result<Name, ReadFault>
     ensures free { IfOk result (λ _. spec.is_built_in text.now ≡ false) }
 {
     let name = name_of(text, PolicyPart::Relations, number)?;
-    if is_built_in(text) {
+    if is_among(&["same", "other"], text) {
         return Err(refuse_text(PolicyKind::Reserved, PolicyPart::Relations, number, text));
     }
     Ok(name)

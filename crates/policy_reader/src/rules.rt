@@ -24,13 +24,14 @@ use toml::value::Table;
 use user_relations::Relations;
 use wf_names::{Name, NameTable, RULE_LIMIT, RelId, StepId};
 
-/// The relation that a value names.
-#[tactic(auto, unfolding(crate::specs::Rules::relation_in, crate::specs::Parts::number_in))]
-fn relation_of(relations: &Relations, value: &Value, flow: u32) -> Result<RelId, ReadFault>
+/// The relation that is named in a table.
+#[tactic(auto, unfolding(crate::specs::Rules::relation_at, crate::specs::Rules::relation_in, crate::specs::Parts::number_in))]
+fn relation_at(table: &Table, relations: &Relations, flow: u32) -> Result<RelId, ReadFault>
     ensures read { Gives fault_of (λ rho. rho) result
-        (spec.relation_in flow relations.now (view value.now)) }
+        (spec.relation_at flow relations.now (table_view table.now)) }
     ensures within { IfOk result (λ rho. rho < length relations.now + 2) }
 {
+    let value = value_at(table, "relation", PolicyPart::Flows, flow)?;
     let text = text_of(value, PolicyPart::Flows, flow)?;
     let Some(name) = Name::read(text) else {
         return Err(refuse(PolicyKind::Unknown, PolicyPart::Flows, flow));
@@ -41,14 +42,15 @@ fn relation_of(relations: &Relations, value: &Value, flow: u32) -> Result<RelId,
     }
 }
 
-/// The step that a value names.
-#[tactic(auto, unfolding(crate::specs::Rules::step_in))]
-fn step_of(steps: &NameTable, value: &Value, flow: u32) -> Result<StepId, ReadFault>
+/// The step that is named at a key.
+#[tactic(auto, unfolding(crate::specs::Rules::step_at, crate::specs::Rules::step_in))]
+fn step_at(table: &Table, key: &str, steps: &NameTable, flow: u32) -> Result<StepId, ReadFault>
     requires few { length steps.now.names ≤ STEP_LIMIT }
     ensures read { Gives fault_of (λ s. s) result
-        (spec.step_in flow steps.now.names (view value.now)) }
+        (spec.step_at flow steps.now.names key.now (table_view table.now)) }
     ensures within { IfOk result (λ s. s < length steps.now.names) }
 {
+    let value = value_at(table, key, PolicyPart::Flows, flow)?;
     match named_of(steps, value, PolicyPart::Flows, flow) {
         Ok(number) => Ok(StepId(number as u8)),
         Err(fault) => Err(fault),
@@ -79,15 +81,16 @@ fn next_member(
     Ok(())
 }
 
-/// The group of steps that a value gives.
-#[tactic(auto, unfolding(crate::specs::Rules::group_in), using(crate::proofs::Counts::count_items))]
-fn group_of(steps: &NameTable, value: &Value, flow: u32) -> Result<StepSet, ReadFault>
+/// The group in a table.
+#[tactic(auto, unfolding(crate::specs::Rules::group_at, crate::specs::Rules::group_in), using(crate::proofs::Counts::count_items))]
+fn group_at(table: &Table, steps: &NameTable, flow: u32) -> Result<StepSet, ReadFault>
     requires few { length steps.now.names ≤ STEP_LIMIT }
     ensures read { Gives fault_of (λ g. g) result
-        (spec.group_in flow steps.now.names (view value.now)) }
+        (spec.group_at flow steps.now.names (table_view table.now)) }
     ensures within { IfOk result (HasStepsBelow (length steps.now.names)) }
     ensures some { IfOk result (λ g. IsTrue (any_from 0 g (λ _. true))) }
 {
+    let value = value_at(table, "group", PolicyPart::Flows, flow)?;
     let items = array_of(value, PolicyPart::Flows, flow)?;
     at_least_one(items.len(), PolicyPart::Flows, flow)?;
     all_members(steps, items, flow)
@@ -111,61 +114,8 @@ fn all_members(steps: &NameTable, items: &[Value], flow: u32) -> Result<StepSet,
     Ok(group)
 }
 
-/// The relation that is named in a table.
-#[tactic(auto, unfolding(crate::specs::Rules::relation_at))]
-fn relation_at(table: &Table, relations: &Relations, flow: u32) -> Result<RelId, ReadFault>
-    ensures read { Gives fault_of (λ rho. rho) result
-        (spec.relation_at flow relations.now (table_view table.now)) }
-    ensures within { IfOk result (λ rho. rho < length relations.now + 2) }
-{
-    match value_at(table, "relation", PolicyPart::Flows, flow) {
-        Ok(value) => relation_of(relations, value, flow),
-        Err(fault) => Err(fault),
-    }
-}
-
-/// The step that is named at a key.
-#[tactic(auto, unfolding(crate::specs::Rules::step_at))]
-fn step_at(table: &Table, key: &str, steps: &NameTable, flow: u32) -> Result<StepId, ReadFault>
-    requires few { length steps.now.names ≤ STEP_LIMIT }
-    ensures read { Gives fault_of (λ s. s) result
-        (spec.step_at flow steps.now.names key.now (table_view table.now)) }
-    ensures within { IfOk result (λ s. s < length steps.now.names) }
-{
-    match value_at(table, key, PolicyPart::Flows, flow) {
-        Ok(value) => step_of(steps, value, flow),
-        Err(fault) => Err(fault),
-    }
-}
-
-/// The group in a table.
-#[tactic(auto, unfolding(crate::specs::Rules::group_at))]
-fn group_at(table: &Table, steps: &NameTable, flow: u32) -> Result<StepSet, ReadFault>
-    requires few { length steps.now.names ≤ STEP_LIMIT }
-    ensures read { Gives fault_of (λ g. g) result
-        (spec.group_at flow steps.now.names (table_view table.now)) }
-    ensures within { IfOk result (HasStepsBelow (length steps.now.names)) }
-    ensures some { IfOk result (λ g. IsTrue (any_from 0 g (λ _. true))) }
-{
-    match value_at(table, "group", PolicyPart::Flows, flow) {
-        Ok(value) => group_of(steps, value, flow),
-        Err(fault) => Err(fault),
-    }
-}
-
-/// Whether a key is there.
-#[tactic(auto, unfolding(crate::specs::Rules::key_in))]
-fn check_key(table: &Table, key: &str, flow: u32) -> Result<(), ReadFault>
-    ensures { Gives fault_of (λ u. u) result (spec.key_in flow key.now (table_view table.now)) }
-{
-    match value_at(table, key, PolicyPart::Flows, flow) {
-        Ok(_) => Ok(()),
-        Err(fault) => Err(fault),
-    }
-}
-
 /// Whether a rule of a form has a relation and two further keys, and no others.
-#[tactic(auto, unfolding(crate::specs::Rules::keys_in))]
+#[tactic(auto, unfolding(crate::specs::Rules::keys_in, crate::specs::Rules::key_in))]
 fn check_keys(
     form: Form,
     first: &str,
@@ -176,15 +126,9 @@ fn check_keys(
     ensures { Gives fault_of (λ u. u) result
         (spec.keys_in form first.now second.now flow (table_view table.now)) }
 {
-    if let Err(fault) = check_key(table, "relation", flow) {
-        return Err(fault);
-    }
-    if let Err(fault) = check_key(table, first, flow) {
-        return Err(fault);
-    }
-    if let Err(fault) = check_key(table, second, flow) {
-        return Err(fault);
-    }
+    value_at(table, "relation", PolicyPart::Flows, flow)?;
+    value_at(table, first, PolicyPart::Flows, flow)?;
+    value_at(table, second, PolicyPart::Flows, flow)?;
     no_others(table, form.keys(), PolicyPart::Flows, flow)
 }
 
@@ -360,27 +304,8 @@ fn all_rules(
     Ok(rules)
 }
 
-#[tactic(auto, unfolding(crate::specs::Rules::rules_in), using(crate::proofs::Counts::count_items))]
-fn rules_in(
-    alloc: Global,
-    value: &Value,
-    relations: &Relations,
-    steps: &NameTable,
-    flow: u32,
-) -> Result<Rules, ReadFault>
-    requires few { length steps.now.names ≤ STEP_LIMIT }
-    ensures read { Gives fault_of (λ r. r) result
-        (spec.rules_in flow relations.now steps.now.names (view value.now)) }
-    ensures sound { IfOk result (AreSoundRules (length steps.now.names) (length relations.now)) }
-    ensures few { IfOk result (λ r. length r ≤ RULE_LIMIT) }
-{
-    let items = array_of(value, PolicyPart::Flows, flow)?;
-    at_most(RULE_LIMIT, items.len(), PolicyPart::Flows, flow)?;
-    all_rules(alloc, items, relations, steps, flow)
-}
-
 /// Reads the rules of a workflow's table.
-#[tactic(auto, unfolding(crate::specs::Rules::rules_of))]
+#[tactic(auto, unfolding(crate::specs::Rules::rules_of, crate::specs::Rules::rules_in), using(crate::proofs::Counts::count_items))]
 pub(crate) fn read_rules(
     alloc: Global,
     table: &Table,
@@ -394,8 +319,10 @@ pub(crate) fn read_rules(
     ensures sound { IfOk result (AreSoundRules (length steps.now.names) (length relations.now)) }
     ensures few { IfOk result (λ r. length r ≤ RULE_LIMIT) }
 {
-    match find(table, "rules") {
-        Some(value) => rules_in(alloc, value, relations, steps, flow),
-        None => Ok(Rules::new(alloc)),
-    }
+    let Some(value) = find(table, "rules") else {
+        return Ok(Rules::new(alloc));
+    };
+    let items = array_of(value, PolicyPart::Flows, flow)?;
+    at_most(RULE_LIMIT, items.len(), PolicyPart::Flows, flow)?;
+    all_rules(alloc, items, relations, steps, flow)
 }

@@ -59,7 +59,7 @@ fn all_steps(alloc: Global, items: &[Value], flow: u32) -> Result<NameTable, Rea
 }
 
 /// Reads the pairs of a workflow's order.
-#[tactic(auto, unfolding(crate::specs::Flows::order_pairs), using(pair_set::specs::PairLaws::all_empty))]
+#[tactic(auto, unfolding(crate::specs::Flows::order_pairs, crate::specs::Flows::order_in), using(pair_set::specs::PairLaws::all_empty))]
 pub(crate) fn read_order(
     alloc: Global,
     steps: &NameTable,
@@ -70,23 +70,9 @@ pub(crate) fn read_order(
         (spec.order_pairs flow steps.now.names (table_view table.now)) }
     ensures within { IfOk result (AreBelow (length steps.now.names)) }
 {
-    match find(table, "order") {
-        Some(value) => order_of(alloc, steps, value, flow),
-        None => Ok(PairSet::new(alloc)),
-    }
-}
-
-#[tactic(auto, unfolding(crate::specs::Flows::order_in))]
-fn order_of(
-    alloc: Global,
-    steps: &NameTable,
-    value: &Value,
-    flow: u32,
-) -> Result<PairSet, ReadFault>
-    ensures read { Gives fault_of (λ pairs. pairs) result
-        (spec.order_in flow steps.now.names (view value.now)) }
-    ensures within { IfOk result (AreBelow (length steps.now.names)) }
-{
+    let Some(value) = find(table, "order") else {
+        return Ok(PairSet::new(alloc));
+    };
     let items = array_of(value, PolicyPart::Flows, flow)?;
     read_pairs(alloc, steps, items, PolicyPart::Flows, flow)
 }
@@ -124,7 +110,10 @@ fn flow_fault(steps: &NameTable, fault: FlowFault, flow: u32) -> ReadFault
     ensures memory { fault ≡ FlowFault.NoMemory → result ≡ NoMemory }
 {
     match fault {
-        FlowFault::Cycle(s) => cycle_fault(steps, s, flow),
+        FlowFault::Cycle(s) => {
+            let name = steps.name(s.0 as u16);
+            refuse_text(PolicyKind::Cycle, PolicyPart::Flows, flow, name.as_str())
+        }
         FlowFault::NoMemory => ReadFault::NoMemory,
         _ => unreachable!(),
     }
@@ -145,15 +134,6 @@ fn order_flow(
     ensures known { IfErr result IsCycleOrMemory }
 {
     Flow::build(alloc, steps, pairs, &[])
-}
-
-fn cycle_fault(steps: &NameTable, s: StepId, flow: u32) -> ReadFault
-    requires { s < length steps.now.names }
-    ensures { result ≡ Policy (fault_about kind.Cycle Flows flow
-        (slice_index_or steps.now.names s [])) }
-{
-    let name = steps.name(s.0 as u16);
-    refuse_text(PolicyKind::Cycle, PolicyPart::Flows, flow, name.as_str())
 }
 
 fn step_pairs(alloc: Global, pairs: &[(u16, u16)]) -> Result<Vec<(StepId, StepId)>, AllocError>

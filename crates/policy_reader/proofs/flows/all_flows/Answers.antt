@@ -6,7 +6,7 @@ use Rattle.policy_reader.proofs.flows.all_flows.Goals as goal
 pub entries-init : goal.entries-init
 entries-init c =
     let made = c.into_iter-key-iterator.ensures.into_iter_gives in
-    rw made.0 (left_start next_flow (λ p. p.flow_names) c.args.policy.now c.args.flows.now.entries c.requires.none made.5, grown_none _)
+    rw made.0 (left_start next_flow (λ p. p.flow_names) c.args.policy.now c.args.flows.now.entries c.requires.bare.names made.5, grown_none _)
 
 pub next_flow-requires-clause-fresh : goal.next_flow-requires-clause-fresh
 next_flow-requires-clause-fresh c =
@@ -23,4 +23,4 @@ pub returns-clause-printable : goal.returns-clause-printable
 returns-clause-printable c =
     let ascend = left_ascend next_flow (λ p. p.flow_names) c.args.flows.now.entries _ c.entries.policy c.entries.key-iterator c.in-None.ensures.steps.0 c.entries.invariant.0 in
     let count = left_count next_flow (λ p. p.flow_names) c.args.flows.now.entries _ c.entries.policy c.entries.key-iterator c.in-None.ensures.steps.0 c.entries.invariant.0 in
-    printable c.args.policy.now c.entries.policy c.requires.begun c.requires.bare c.entries.invariant.1 ascend (omega (arith, count, c.requires.some))
+    printable c.args.policy.now c.entries.policy c.requires.bare.begun c.requires.bare.flows c.entries.invariant.1 ascend (omega (arith, count, c.requires.some))
