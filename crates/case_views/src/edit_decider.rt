@@ -80,8 +80,7 @@ fn left_open(
     requires kept { ArePlanned p.now rows.now }
     ensures { IfOk result (IsLeft after.now (open_in rows.now)) }
 {
-    let mut plans = Vec::new(alloc);
-    plans.reserve(rows.len())?;
+    let mut plans = Vec::with_capacity(alloc, rows.len())?;
     'rows: for i in 0..rows.len() {
         let row = &rows[i];
         if let Some(tree) = add_plan(alloc, p, a, after, row, &mut plans)? {

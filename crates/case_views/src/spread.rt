@@ -103,8 +103,7 @@ fn left_of(alloc: Global, rows: &[Row], parts: &[Option<Outcome>]) -> Result<Lef
     ensures { IfOk result (λ left. (p : PolicyShape) → AllZip (IsLeftAt p) rows.now parts.now
         → IsLeft p (open_in rows.now) left) }
 {
-    let mut plans = Vec::new(alloc);
-    plans.reserve(rows.len())?;
+    let mut plans = Vec::with_capacity(alloc, rows.len())?;
     'rows: for i in 0..rows.len() {
         let row = &rows[i];
         if let Some(tree) = add_part(&parts[i], &mut plans)? {

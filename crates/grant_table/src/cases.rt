@@ -149,8 +149,8 @@ impl Cases {
         plan_in(&self.rows, c.0)
     }
 
-    /// A plan with which a case of the workflow was opened, where one is remembered: a hint where
-    /// to look for the next one. Nothing is promised of it.
+    /// The plan with which a case of a workflow was last opened, where it is remembered: a hint
+    /// where to look for the next one. Nothing is promised of it.
     pub fn recent_plan(&self, f: FlowId) -> Option<Plan> {
         self.recent.plan(f)
     }

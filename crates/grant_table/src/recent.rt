@@ -2,14 +2,14 @@
 use constraint_forms::Plan;
 use wf_names::FlowId;
 
-/// So many plans are remembered.
+/// How many plans are remembered.
 const REMEMBERED: usize = 8;
 
-/// For some workflows, a plan with which a case was opened: a hint where to look for the next one.
-/// Nothing is promised of it, so whoever takes it has to check it.
+/// For some workflows, the plan with which a case was last opened: a hint where to look for the next
+/// one. Nothing is promised of it, so whoever takes it has to check it.
 #[derive(Clone, Copy)]
 pub(crate) struct Recent {
-    plans: [Option<Plan>; REMEMBERED],
+    plans: [Option<(FlowId, Plan)>; REMEMBERED],
 }
 
 impl Recent {
@@ -20,13 +20,14 @@ impl Recent {
         }
     }
 
-    /// Remembers the plan of an opening.
+    /// Remembers the plan of an opening, in the place of that of another workflow.
     pub(crate) fn keep(&mut self, f: FlowId, plan: Plan) {
-        self.plans[f.0 as usize % REMEMBERED] = Some(plan);
+        self.plans[f.0 as usize % REMEMBERED] = Some((f, plan));
     }
 
-    /// The plan of an opening of the workflow, or of another one in its place.
+    /// The plan of the last opening of a workflow, if it is remembered.
     pub(crate) fn plan(&self, f: FlowId) -> Option<Plan> {
-        self.plans[f.0 as usize % REMEMBERED]
+        let (of, plan) = self.plans[f.0 as usize % REMEMBERED]?;
+        if of == f { Some(plan) } else { None }
     }
 }

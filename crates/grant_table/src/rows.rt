@@ -69,10 +69,7 @@ pub(crate) fn row_of(rows: &[Row], n: u16) -> Option<Row>
     requires { AscendFrom 0 rows.now }
     ensures { result ≡ row_at n rows.now }
 {
-    match find(rows, n) {
-        Some(i) => Some(rows[i]),
-        None => None,
-    }
+    Some(rows[find(rows, n)?])
 }
 
 /// The case with a number.
@@ -81,10 +78,7 @@ pub(crate) fn case_of(rows: &[Row], n: u16) -> Option<&Case>
     ensures { MatchOption result (case_in n rows.now ≡ None)
         (λ c. case_in n rows.now ≡ Some c.now) }
 {
-    match find(rows, n) {
-        Some(i) => Some(&rows[i].case),
-        None => None,
-    }
+    Some(&rows[find(rows, n)?].case)
 }
 
 /// The plan that is kept for the case with a number.
@@ -92,10 +86,7 @@ pub(crate) fn plan_in(rows: &[Row], n: u16) -> Option<Plan>
     requires { AscendFrom 0 rows.now }
     ensures { result ≡ plan_of (row_at n rows.now) }
 {
-    match row_of(rows, n) {
-        Some(row) => row.plan,
-        None => None,
-    }
+    row_of(rows, n)?.plan
 }
 
 /// Puts a row in the place of the one with its number.
@@ -173,7 +164,7 @@ pub(crate) fn one_live(row: Option<Row>) -> u16
     }
 }
 
-/// The rows of the open cases, of which there should be so many.
+/// The rows of the open cases. Room for `live` of them is made at once.
 pub(crate) fn open_rows(alloc: Global, rows: &[Row], live: u16) -> Result<Vec<Row>, AllocError>
     ensures { IfOk result (λ some. some.items ≡ open_rows rows.now) }
 {
