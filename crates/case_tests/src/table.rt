@@ -177,13 +177,13 @@ fn take_two_back(rt: &impl Abort, alloc: Global, p: &Policy) -> Result<(), Alloc
 fn take_back(rt: &impl Abort, p: &Policy, table: &mut Cases) {
     open_three(rt, p, table);
     give_back_and_withdraw(p, table);
-    let plan = Plan::of(&[ANN, BOB]);
+    let plan = Plan::of(&[ANN, CYD]);
     assert!(rt; is_live_with(table, CaseId(0), StepState::Free, StepState::Free, &plan));
     assert!(rt; is_withdrawn(table, CaseId(1)) && table.live() == 2);
 }
 
 fn give_back_and_withdraw(p: &Policy, table: &mut Cases) {
-    held(p, table, CaseId(0), FIRST, ANN, Plan::of(&[ANN, BOB]));
+    held(p, table, CaseId(0), FIRST, ANN, Plan::of(&[ANN, CYD]));
     if holds(table, CaseId(0), FIRST) {
         table.give_back(CaseId(0), FIRST);
     }
