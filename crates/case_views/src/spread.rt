@@ -24,8 +24,8 @@ use wf_names::{CaseId, UserId};
 use wf_talk::{Ask, CaseList, WorkList};
 use wsp_solver::Outcome;
 
-/// Finds the same verdicts as `PlainDecider`. For an edit or a view it goes over the open cases in
-/// as many threads as are worth it; openings and claims stay on one.
+/// Finds right verdicts, as `PlainDecider` does, and the same lists. For an edit or a view it goes
+/// over the open cases in as many threads as are worth it; openings and claims stay on one.
 pub struct SpreadDecider<'a, R: Threads + Sync> {
     rt: &'a R,
 }

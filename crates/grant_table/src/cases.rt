@@ -17,7 +17,7 @@ use std::alloc::{AllocError, Global};
 use std::marker::Model;
 use wf_names::{CaseId, FlowId, StepId, UserId};
 
-/// Cases at their numbers and, for each open one, a plan by which it can be completed.
+/// Cases at their numbers, and a plan for each open one.
 ///
 /// The table holds no policy. A look-up takes logarithmic time.
 #[derive(Drop)]
