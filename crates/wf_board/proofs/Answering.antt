@@ -37,7 +37,7 @@ use Rattle.wf_board.specs.Resolved.{resolve}
 use Rattle.wf_board.specs.States.{Book, State, is_full, open_cases}
 use Rattle.wf_board.specs.Steps.{Answers, state_after_decision, with_changed}
 use Rattle.wf_board.specs.Taking.{board_of, full_or, HasAnsweredAlone, HasAnsweredBy, HasChanged, HasTakenStep, IsKept}
-use Rattle.wf_board.specs.Verdicts.{HasAnswered, IsEditionFor, is_opening, IsMadeOf, IsPlanFor, IsStrandingFor, IsTreeFor}
+use Rattle.wf_board.specs.Verdicts.{HasAnswered, IsEditionFor, is_opening, IsMadeOf, IsPlanFor, IsStrandingFor, IsTreeFor, room_used}
 use Rattle.wf_board.proofs.Rows.{case_numbered, open_numbered}
 use Rattle.wf_board.proofs.Planned.{known_case, opened_keeps, opened_state, plan_kept}
 use Rattle.policy_book.specs.Facts.{IsSoundPolicy}
@@ -104,7 +104,7 @@ opened_taken p t roomy after f n plan kept known valid left same more number is 
       kept = opened_keeps p grown f plan (kept_with_room p t roomy.spare kept) known valid;
       step = λ edits. (number ∙ ap (λ (x : CasesShape). x.ever) same, valid);
       next = λ edits. opened_state p grown f plan edits;
-      room = omega (arith, more);
+      room = let one : t.spare ≤ (with_case grown f steps plan).spare + 1 = omega (arith, more) in one;
     })
 
 -- ---- decisions
@@ -230,6 +230,12 @@ short_alone p t (Err d) takes kept = (same_taken p t (Err d) reply.NoMemory kept
 
 -- ---- answers
 
+-- an answer takes one place at most
+pub one_at_most : (before after : ℕ) (given : Answered) → before ≤ after + room_used given → before ≤ after + 1
+one_at_most before after Needs room = let none : before ≤ after + 0 = room in omega (arith, none)
+one_at_most before after (Done (reply.Opened n plan)) room = room
+one_at_most before after (Done given) room = let none : before ≤ after + 0 = room in omega (arith, none)
+
 pub reply_of : (a b : Reply) → Done a ≡ Done b → a ≡ b
 reply_of a b h = cc
 
@@ -257,7 +263,7 @@ nothing_answers p before after what Needs kept alone = record {
   made = λ needed. refl;
   memory = λ edits short. cc;
   lacking = λ short. cc;
-  room = subst (λ (t : CasesShape). before.spare ≤ t.spare + 1) (sym alone.1) (omega arith);
+  room = let same = ap (λ (t : CasesShape). t.spare) alone.1 in omega (arith, same);
 }
 nothing_answers p before after what (Done given) kept alone = record {
   kept = alone.0.kept;

@@ -1,5 +1,5 @@
 -- Inside: how a board takes a reply over its policy and its table of cases.
-use Rattle.std.specs.Prelude.{◌≡◌, ℕ, Bool, false, true, Result, Ok, Err}
+use Rattle.std.specs.Prelude.{◌≡◌, ℕ, ◌+◌, ◌≤◌, Bool, false, true, Result, Ok, Err}
 use Rattle.policy_book.specs.Shapes.{PolicyShape}
 use Rattle.grant_table.specs.Tables.{CasesShape}
 use Rattle.wf_talk.specs.declared.request.Ask.{Ask}
@@ -16,7 +16,7 @@ use Rattle.wf_board.specs.Admitting.{MayLackMemoryFor}
 use Rattle.wf_board.specs.States.{Book}
 use Rattle.wf_board.specs.Boards.{BoardShape, state_on}
 use Rattle.wf_board.specs.Decisions.{decision_of}
-use Rattle.wf_board.specs.Steps.{Answers, IsStep, state_after_step}
+use Rattle.wf_board.specs.Steps.{Answers, IsStep, room_taken, state_after_step}
 use Rattle.wf_board.specs.Taking.{board_of, HasTakenStep}
 use Rattle.wf_board.specs.Verdicts.{IsStrandingFor, IsViewFor}
 
@@ -57,7 +57,8 @@ IsVerdictFor b given v = Unit {0}
 -- a board has taken a reply, or has not changed
 abbrev pub HasAdmittedStep : BoardShape → BoardShape → Ask → Reply → Result (Unit {0}) AdmitFault → Type 0
 HasAdmittedStep before after what given (Ok done) =
-    IsStep (state_on before) what given × (state_on after ≡ state_after_step (state_on before) what given)
+    IsStep (state_on before) what given
+    × ((state_on after ≡ state_after_step (state_on before) what given) × (before.cases.spare ≤ after.cases.spare + room_taken given))
 HasAdmittedStep before after what given (Err NotStep) = (after ≡ before) × (¬ IsStep (state_on before) what given)
 HasAdmittedStep before after what given (Err NoMemory) =
     (after ≡ before) × MayLackMemoryFor before.cases.spare (decision_of (state_on before).book what)

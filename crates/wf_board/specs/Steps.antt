@@ -63,6 +63,11 @@ Answers s (Err d) answer = (answer ≡ reply.Denied d) ⊎ (answer ≡ reply.NoM
 abbrev pub IsStep : State → Ask → Reply → Type 0
 IsStep s what answer = Answers s (decision_of s.book what) answer
 
+-- how much of the room for more cases a reply takes: one place where a case was opened
+abbrev pub room_taken : Reply → ℕ
+room_taken (reply.Opened n plan) = 1
+room_taken given = 0
+
 -- with a fresh case of a workflow
 abbrev pub with_opened : State → ℕ → State
 with_opened s f = record s {

@@ -23,9 +23,9 @@ use Rattle.wf_board.specs.declared.verdict.Answered.TheVariants.{Done, Needs}
 use Rattle.wf_board.specs.States.{Book}
 use Rattle.wf_board.specs.Boards.{BoardShape, book_of, state_on}
 use Rattle.wf_board.specs.Decisions.{cause_aside, cause_full, decision_of, needs_verdict, takes_memory, unless_denied}
-use Rattle.wf_board.specs.Steps.{Answers, state_after_decision, with_changed}
+use Rattle.wf_board.specs.Steps.{Answers, room_taken, state_after_decision, with_changed}
 use Rattle.wf_board.specs.Kept.{AreNumbered, ArePlanned}
-use Rattle.wf_board.specs.Verdicts.{HasAnswered, HasUsed, MayLackMemory}
+use Rattle.wf_board.specs.Verdicts.{HasAnswered, HasUsed, MayLackMemory, room_used}
 
 -- what a board keeps of its table
 pub record IsKept (p : PolicyShape) (t : CasesShape) : Type 0 where
@@ -74,7 +74,7 @@ pub record HasTakenStep (p : PolicyShape) (before after : CasesShape) (decision 
   pub kept : IsKept p after
   pub step : (edits : ℕ) → Answers (state_on (board_of p before edits)) decision given
   pub next : (edits : ℕ) → state_on (board_of p after edits) ≡ state_after_decision (state_on (board_of p before edits)) decision given
-  pub room : before.spare ≤ after.spare + 1
+  pub room : before.spare ≤ after.spare + room_taken given
 
 -- one case was changed
 pub record HasChanged (p : PolicyShape) (before after : CasesShape) (n : ℕ) (change : CaseShape → CaseShape) : Type 0 where
@@ -97,4 +97,4 @@ pub record HasAnsweredBy (p : PolicyShape) (before after : CasesShape) (what : A
   pub made : needs_verdict (decision_of (book_of p before) what) ≡ true → HasUsed v given
   pub memory : (edits : ℕ) → given ≡ Done reply.NoMemory → MayLackMemory (board_of p before edits) what v
   pub lacking : given ≡ Done reply.NoMemory → after ≡ before
-  pub room : before.spare ≤ after.spare + 1
+  pub room : before.spare ≤ after.spare + room_used given

@@ -32,7 +32,7 @@ use Rattle.wf_board.specs.Boards.{BoardShape, EditionShape, SnapShape, state_on}
 use Rattle.wf_board.specs.Edited.{ArePlansOf, IsFirstStranded}
 use Rattle.wf_board.specs.Views.{AreStranded, IsWorkOf}
 use Rattle.wf_board.specs.Decisions.{decision_aside, decision_of, needs_verdict, takes_memory}
-use Rattle.wf_board.specs.Steps.{IsStep, state_after_step}
+use Rattle.wf_board.specs.Steps.{IsStep, room_taken, state_after_step}
 
 -- a plan by which the case of a deed can be completed
 abbrev pub IsPlanFor : Book → Result Deed Denial → List ℕ → Type 0
@@ -108,6 +108,11 @@ IsMadeOf v given = ⊥
 abbrev pub HasUsed : Verdict → Answered → Type 0
 HasUsed v Needs = v ≡ verdict.Nothing
 HasUsed v (Done given) = IsMadeOf v given
+
+-- how much of the room for more cases an answer takes
+abbrev pub room_used : Answered → ℕ
+room_used Needs = 0
+room_used (Done given) = room_taken given
 
 -- an opening, where nothing stands against it
 abbrev pub is_opening : Result Deed Denial → Bool

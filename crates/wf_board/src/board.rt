@@ -7,9 +7,9 @@ ghost use Rattle.wf_board.specs.Boards.{state_on};
 ghost use Rattle.wf_board.specs.Decisions.{decision_aside, decision_of, needs_verdict};
 ghost use Rattle.wf_board.specs.Kept.{AreNumbered, ArePlanned, IsSoundState, KeepsCompletable};
 ghost use Rattle.wf_board.specs.States.{opening_state};
-ghost use Rattle.wf_board.specs.Steps.{state_after_step, IsStep};
+ghost use Rattle.wf_board.specs.Steps.{room_taken, state_after_step, IsStep};
 ghost use Rattle.wf_board.specs.Taking.{keeps_policy, IsHarmlessChange};
-ghost use Rattle.wf_board.specs.Verdicts.{HasAnswered, HasUsed, IsCertified, IsDecided, IsEditionFor, IsRight, MayLackMemory, snap_of, snap_rows};
+ghost use Rattle.wf_board.specs.Verdicts.{HasAnswered, HasUsed, IsCertified, IsDecided, IsEditionFor, IsRight, MayLackMemory, room_used, snap_of, snap_rows};
 
 use crate::admit::admit;
 use crate::certified::accepts;
@@ -84,7 +84,8 @@ impl Board {
     /// completed is left to decide, a verdict decides, which has to be right. There may have been
     /// fewer than 4,294,967,295 edits.
     ///
-    /// The list of roles of a denied claim takes memory, and an opening without room.
+    /// The list of roles of a denied claim takes memory, and an opening without room. Only a case
+    /// that is opened takes a place of the room.
     pub fn answer(&mut self, alloc: Global, ask: &Ask, verdict: Verdict) -> Answered
         requires right { IsRight (state_on self.old).book ask.now verdict }
         requires few { self.old.edits < 4294967295 }
@@ -97,6 +98,7 @@ impl Board {
             → MayLackMemory self.old ask.now verdict }
         ensures lacking { result ≡ Answered.Done Reply.NoMemory → self.new ≡ self.old }
         ensures room { self.old.cases.spare ≤ self.new.cases.spare + 1 }
+        ensures spare { self.old.cases.spare ≤ self.new.cases.spare + room_used result }
     {
         match verdict {
             Verdict::Edited(edition) => Answered::Done(Reply::Edited {
@@ -130,6 +132,8 @@ impl Board {
             → ¬ IsStep (state_on self.old) ask.now reply.now }
         ensures memory { IsErrOf result AdmitFault.NoMemory
             → MayLackMemoryFor self.old.cases.spare (decision_of (state_on self.old).book ask.now) }
+        ensures spare { OnOk result
+            (self.old.cases.spare ≤ self.new.cases.spare + room_taken reply.now) }
         ensures unchanged { OnErr result (self.new ≡ self.old) }
     {
         match verdict {
@@ -249,6 +253,7 @@ impl Board {
         ensures next { state_on self.new ≡ state_after_step (state_on self.old) ask.now result }
         ensures lacking { result ≡ Reply.NoMemory → self.new ≡ self.old }
         ensures room { self.old.cases.spare ≤ self.new.cases.spare + 1 }
+        ensures spare { self.old.cases.spare ≤ self.new.cases.spare + room_taken result }
     {
         match self.answer(alloc, ask, verdict) {
             Answered::Done(reply) => reply,
@@ -265,6 +270,7 @@ impl Board {
         ensures next { state_on self.new ≡ state_after_step (state_on self.old) ask.now result }
         ensures lacking { result ≡ Reply.NoMemory → self.new ≡ self.old }
         ensures room { self.old.cases.spare ≤ self.new.cases.spare + 1 }
+        ensures spare { self.old.cases.spare ≤ self.new.cases.spare + room_taken result }
     {
         match self.harmless(ask) {
             Some(change) => self.change(alloc, ask, change),
@@ -281,6 +287,7 @@ impl Board {
         ensures next { state_on self.new ≡ state_after_step (state_on self.old) ask.now result }
         ensures lacking { result ≡ Reply.NoMemory → self.new ≡ self.old }
         ensures room { self.old.cases.spare ≤ self.new.cases.spare + 1 }
+        ensures spare { self.old.cases.spare ≤ self.new.cases.spare + room_taken result }
     {
         let found = self.verdict(alloc, decider, ask);
         match self.answer(alloc, ask, found) {

@@ -40,21 +40,7 @@ impl Edition {
         Edition { policy, plans }
     }
 
-    /// The policy.
-    pub fn policy(&self) -> &Policy
-        ensures { result.now ≡ self.now.policy }
-    {
-        &self.policy
-    }
-
-    /// The plans.
-    pub fn plans(&self) -> &Plans
-        ensures { result.now ≡ self.now.plans }
-    {
-        &self.plans
-    }
-
-    /// Both.
+    /// The policy and the plans.
     pub(crate) fn into_parts(self) -> (Arc<Policy, Global>, Plans)
         ensures policy { arc_value result.0 ≡ self.policy }
         ensures plans { result.1 ≡ self.plans }

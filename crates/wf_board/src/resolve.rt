@@ -155,10 +155,8 @@ fn on_step(
 {
     let case = open_case(p, cases, n)?;
     let s = step_named(p, &case, step)?;
-    match p.roster().users().find(user) {
-        Some(u) => Ok((case, s, UserId(u))),
-        None => Err(Denial::NoUser),
-    }
+    let u = user_named(p, user)?;
+    Ok((case, s, u))
 }
 
 /// The user with a name.

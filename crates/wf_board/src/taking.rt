@@ -62,7 +62,7 @@ pub(crate) fn answer(
 }
 
 /// Answers what needs no verdict.
-pub(crate) fn without_verdict(alloc: Global, p: &Policy, cases: &mut Cases, ask: &Ask) -> Answered
+fn without_verdict(alloc: Global, p: &Policy, cases: &mut Cases, ask: &Ask) -> Answered
     requires { IsKept p.now cases.old }
     ensures { HasAnsweredAlone p.now cases.old cases.new
         (decision_of (book_of p.now cases.old) ask.now) result }
@@ -76,7 +76,7 @@ pub(crate) fn without_verdict(alloc: Global, p: &Policy, cases: &mut Cases, ask:
 }
 
 /// Answers by a plan that shows that a case can be completed.
-pub(crate) fn by_plan(p: &Policy, cases: &mut Cases, ask: &Ask, plan: Plan) -> Reply
+fn by_plan(p: &Policy, cases: &mut Cases, ask: &Ask, plan: Plan) -> Reply
     requires kept { IsKept p.now cases.old }
     requires plan { IsPlanFor (book_of p.now cases.old)
         (decision_aside (book_of p.now cases.old) ask.now) plan }
@@ -124,7 +124,7 @@ fn plan_for(p: &Policy, cases: &mut Cases, deed: Deed, plan: Plan) -> Reply
 }
 
 /// Answers by a tree that shows that a case cannot be completed.
-pub(crate) fn by_tree(p: &Policy, cases: &Cases, ask: &Ask, tree: Tree) -> Reply
+fn by_tree(p: &Policy, cases: &Cases, ask: &Ask, tree: Tree) -> Reply
     requires kept { IsKept p.now cases.now }
     requires tree { IsTreeFor (book_of p.now cases.now)
         (decision_aside (book_of p.now cases.now) ask.now) tree }
@@ -177,13 +177,7 @@ fn unsatisfiable(p: &Policy, cases: &Cases, flow: FlowId, tree: Tree) -> Reply
 }
 
 /// Denies an edit by a tree that shows that an open case could not be completed any more.
-pub(crate) fn by_stranding(
-    p: &Policy,
-    cases: &Cases,
-    ask: &Ask,
-    number: CaseId,
-    tree: Tree,
-) -> Reply
+fn by_stranding(p: &Policy, cases: &Cases, ask: &Ask, number: CaseId, tree: Tree) -> Reply
     requires kept { IsKept p.now cases.now }
     requires tree { IsStrandingFor (book_of p.now cases.now)
         (decision_aside (book_of p.now cases.now) ask.now) number tree }
