@@ -27,15 +27,17 @@ steps = ["a", "b"]
 permit = { a = ["clerk"], b = ["clerk"] }
 "#;
 
-const UNKNOWN_USER: Option<EditFault> = Some(EditFault::Unknown(Missing::User));
+const UNKNOWN_USER: Option<Option<EditFault>> = Some(Some(EditFault::Unknown(Missing::User)));
 
-const UNKNOWN_ROLE: Option<EditFault> = Some(EditFault::Unknown(Missing::Role));
+const UNKNOWN_ROLE: Option<Option<EditFault>> = Some(Some(EditFault::Unknown(Missing::Role)));
 
-const UNKNOWN_RELATION: Option<EditFault> = Some(EditFault::Unknown(Missing::Relation));
+const UNKNOWN_RELATION: Option<Option<EditFault>> = Some(Some(EditFault::Unknown(
+    Missing::Relation,
+)));
 
-const UNKNOWN_FLOW: Option<EditFault> = Some(EditFault::Unknown(Missing::Flow));
+const UNKNOWN_FLOW: Option<Option<EditFault>> = Some(Some(EditFault::Unknown(Missing::Flow)));
 
-const UNKNOWN_STEP: Option<EditFault> = Some(EditFault::Unknown(Missing::Step));
+const UNKNOWN_STEP: Option<Option<EditFault>> = Some(Some(EditFault::Unknown(Missing::Step)));
 
 #[test]
 fn each_edit_has_its_first_fault(rt: HostRuntime) -> Result<(), Fail> {
@@ -56,74 +58,74 @@ fn edits_are_checked(p: &Policy) -> bool {
 }
 
 fn askers_are_checked(p: &Policy) -> bool {
-    by(p, "lee", "leave", "pat") == Some(EditFault::NotAdmin)
-        && by(p, "pat", "leave", "kim") == Some(EditFault::NotAdmin)
-        && by(p, "lee", "add_user", "kim") == Some(EditFault::NotAdmin)
-        && by(p, "lee", "retire", "duo") == Some(EditFault::NotAdmin)
+    by(p, "lee", "leave", "pat") == Some(Some(EditFault::NotAdmin))
+        && by(p, "pat", "leave", "kim") == Some(Some(EditFault::NotAdmin))
+        && by(p, "lee", "add_user", "kim") == Some(Some(EditFault::NotAdmin))
+        && by(p, "lee", "retire", "duo") == Some(Some(EditFault::NotAdmin))
 }
 
 fn users_are_checked(p: &Policy) -> bool {
-    one(p, "add_user", "pat") == None
-        && one(p, "add_user", "kim") == Some(EditFault::Already)
+    one(p, "add_user", "pat") == Some(None)
+        && one(p, "add_user", "kim") == Some(Some(EditFault::Already))
         && one(p, "leave", "pat") == UNKNOWN_USER
-        && one(p, "leave", "kim") == None
-        && one(p, "leave", "zoe") == Some(EditFault::LastAdmin)
+        && one(p, "leave", "kim") == Some(None)
+        && one(p, "leave", "zoe") == Some(Some(EditFault::LastAdmin))
 }
 
 fn roles_are_checked(p: &Policy) -> bool {
     two(p, "enrol", "auditor", "pat") == UNKNOWN_USER
         && two(p, "enrol", "auditor", "kim") == UNKNOWN_ROLE
-        && two(p, "enrol", "clerk", "kim") == Some(EditFault::Already)
-        && two(p, "enrol", "boss", "kim") == None
+        && two(p, "enrol", "clerk", "kim") == Some(Some(EditFault::Already))
+        && two(p, "enrol", "boss", "kim") == Some(None)
         && two(p, "dismiss", "auditor", "pat") == UNKNOWN_USER
         && two(p, "dismiss", "auditor", "kim") == UNKNOWN_ROLE
-        && two(p, "dismiss", "boss", "kim") == Some(EditFault::Absent)
-        && two(p, "dismiss", "chief", "kim") == Some(EditFault::Absent)
-        && two(p, "dismiss", "chief", "zoe") == Some(EditFault::LastAdmin)
-        && two(p, "dismiss", "boss", "max") == None
+        && two(p, "dismiss", "boss", "kim") == Some(Some(EditFault::Absent))
+        && two(p, "dismiss", "chief", "kim") == Some(Some(EditFault::Absent))
+        && two(p, "dismiss", "chief", "zoe") == Some(Some(EditFault::LastAdmin))
+        && two(p, "dismiss", "boss", "max") == Some(None)
 }
 
 fn pairs_are_put(p: &Policy) -> bool {
     three(p, "relate", "pat", "friend", "kim") == UNKNOWN_RELATION
         && three(p, "relate", "pat", "same", "kim") == UNKNOWN_USER
         && three(p, "relate", "kim", "same", "pat") == UNKNOWN_USER
-        && three(p, "relate", "kim", "same", "kim") == Some(EditFault::Fixed)
-        && three(p, "relate", "kim", "other", "lee") == Some(EditFault::Fixed)
-        && three(p, "relate", "kim", "clear", "lee") == Some(EditFault::Fixed)
-        && three(p, "relate", "lee", "clear", "kim") == Some(EditFault::Fixed)
-        && three(p, "relate", "kim", "mentor", "lee") == Some(EditFault::Already)
-        && three(p, "relate", "lee", "mentor", "kim") == None
+        && three(p, "relate", "kim", "same", "kim") == Some(Some(EditFault::Fixed))
+        && three(p, "relate", "kim", "other", "lee") == Some(Some(EditFault::Fixed))
+        && three(p, "relate", "kim", "clear", "lee") == Some(Some(EditFault::Fixed))
+        && three(p, "relate", "lee", "clear", "kim") == Some(Some(EditFault::Fixed))
+        && three(p, "relate", "kim", "mentor", "lee") == Some(Some(EditFault::Already))
+        && three(p, "relate", "lee", "mentor", "kim") == Some(None)
 }
 
 fn pairs_are_taken(p: &Policy) -> bool {
     three(p, "unrelate", "pat", "friend", "kim") == UNKNOWN_RELATION
         && three(p, "unrelate", "pat", "same", "kim") == UNKNOWN_USER
         && three(p, "unrelate", "kim", "same", "pat") == UNKNOWN_USER
-        && three(p, "unrelate", "kim", "other", "lee") == Some(EditFault::Fixed)
-        && three(p, "unrelate", "lee", "clear", "kim") == Some(EditFault::Fixed)
-        && three(p, "unrelate", "lee", "mentor", "kim") == Some(EditFault::Absent)
-        && three(p, "unrelate", "kim", "mentor", "lee") == None
+        && three(p, "unrelate", "kim", "other", "lee") == Some(Some(EditFault::Fixed))
+        && three(p, "unrelate", "lee", "clear", "kim") == Some(Some(EditFault::Fixed))
+        && three(p, "unrelate", "lee", "mentor", "kim") == Some(Some(EditFault::Absent))
+        && three(p, "unrelate", "kim", "mentor", "lee") == Some(None)
 }
 
 fn permits_are_checked(p: &Policy) -> bool {
     three(p, "permit", "duo", "auditor", "c") == UNKNOWN_FLOW
         && three(p, "permit", "trio", "auditor", "c") == UNKNOWN_STEP
         && three(p, "permit", "trio", "auditor", "a") == UNKNOWN_ROLE
-        && three(p, "permit", "trio", "clerk", "a") == Some(EditFault::Already)
-        && three(p, "permit", "trio", "boss", "a") == None
+        && three(p, "permit", "trio", "clerk", "a") == Some(Some(EditFault::Already))
+        && three(p, "permit", "trio", "boss", "a") == Some(None)
 }
 
 fn forbids_are_checked(p: &Policy) -> bool {
     three(p, "forbid", "duo", "auditor", "c") == UNKNOWN_FLOW
         && three(p, "forbid", "trio", "auditor", "c") == UNKNOWN_STEP
         && three(p, "forbid", "trio", "auditor", "a") == UNKNOWN_ROLE
-        && three(p, "forbid", "trio", "boss", "a") == Some(EditFault::Absent)
-        && three(p, "forbid", "trio", "clerk", "a") == None
+        && three(p, "forbid", "trio", "boss", "a") == Some(Some(EditFault::Absent))
+        && three(p, "forbid", "trio", "clerk", "a") == Some(None)
 }
 
 fn retires_once(p: &Policy) -> bool {
     one(p, "retire", "duo") == UNKNOWN_FLOW
-        && one(p, "retire", "trio") == None
+        && one(p, "retire", "trio") == Some(None)
         && retired_again(p) == Some(EditFault::Already)
 }
 
@@ -137,22 +139,23 @@ fn retired_again(p: &Policy) -> Option<EditFault> {
     }
 }
 
-// The first fault of an edit with one name that the one administrator asks for.
-fn one(p: &Policy, word: &str, name: &str) -> Option<EditFault> {
+// The first fault of an edit with one name that the one administrator asks for; no answer where
+// the word is of no such edit, or a name is none.
+fn one(p: &Policy, word: &str, name: &str) -> Option<Option<EditFault>> {
     by(p, "zoe", word, name)
 }
 
 // Of one with one name that somebody asks for.
-fn by(p: &Policy, asker: &str, word: &str, name: &str) -> Option<EditFault> {
-    edit_cause(
+fn by(p: &Policy, asker: &str, word: &str, name: &str) -> Option<Option<EditFault>> {
+    Some(edit_cause(
         p,
         &Name::read(asker)?,
         &edit_of_one(word, Name::read(name)?)?,
-    )
+    ))
 }
 
 // Of one with two names.
-fn two(p: &Policy, word: &str, first: &str, second: &str) -> Option<EditFault> {
+fn two(p: &Policy, word: &str, first: &str, second: &str) -> Option<Option<EditFault>> {
     asked(
         p,
         edit_of_two(word, Name::read(first)?, Name::read(second)?),
@@ -160,13 +163,19 @@ fn two(p: &Policy, word: &str, first: &str, second: &str) -> Option<EditFault> {
 }
 
 // Of one with three names.
-fn three(p: &Policy, word: &str, first: &str, second: &str, third: &str) -> Option<EditFault> {
+fn three(
+    p: &Policy,
+    word: &str,
+    first: &str,
+    second: &str,
+    third: &str,
+) -> Option<Option<EditFault>> {
     let (first, second, third) = (Name::read(first)?, Name::read(second)?, Name::read(third)?);
     asked(p, edit_of_three(word, first, second, third))
 }
 
-fn asked(p: &Policy, e: Option<Edit>) -> Option<EditFault> {
-    edit_cause(p, &Name::read("zoe")?, &e?)
+fn asked(p: &Policy, e: Option<Edit>) -> Option<Option<EditFault>> {
+    Some(edit_cause(p, &Name::read("zoe")?, &e?))
 }
 
 fn edit_of_one(word: &str, name: Name) -> Option<Edit> {
@@ -285,9 +294,9 @@ fn relate_two(p: &mut Policy, rho: RelId, u: UserId, v: UserId) {
 }
 
 fn limits_are_checked(p: &Policy) -> bool {
-    one(p, "add_user", "kim") == Some(EditFault::Already)
-        && one(p, "add_user", "pat") == Some(EditFault::Full)
-        && three(p, "relate", "u63", "mentor", "u1023") == Some(EditFault::Already)
-        && three(p, "relate", "u64", "mentor", "kim") == Some(EditFault::Full)
-        && three(p, "unrelate", "u63", "mentor", "u1023") == None
+    one(p, "add_user", "kim") == Some(Some(EditFault::Already))
+        && one(p, "add_user", "pat") == Some(Some(EditFault::Full))
+        && three(p, "relate", "u63", "mentor", "u1023") == Some(Some(EditFault::Already))
+        && three(p, "relate", "u64", "mentor", "kim") == Some(Some(EditFault::Full))
+        && three(p, "unrelate", "u63", "mentor", "u1023") == Some(None)
 }

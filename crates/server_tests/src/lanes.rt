@@ -3,7 +3,6 @@
 
 use crate::outsides::{ample, shelf_of, sink_of, source_of, words_of};
 use crate::policies::{PAY, STAFFED};
-use crate::trials::counts_of;
 use std::alloc::{AllocError, Global};
 use std::sync::Wait;
 use std::sync::atomic::{AtomicU64, Ordering};
@@ -11,7 +10,7 @@ use std::test::Fail;
 use std::thread::{Threads, yield_now};
 use wf_outside::{MemShelf, MemSink};
 use wf_server::{Gate, OpenGate, Report, run};
-use wf_talk::Entry;
+use wf_talk::{Entry, Reply};
 
 // How often a gate looks whether what it waits for has come.
 const LOOKS: u32 = 1_000_000_000;
@@ -247,6 +246,25 @@ fn answers_each<R: Threads + Wait + Sync>(
     let report = report_of(rt, alloc, PAY, &words, input, gate, &mut sink)?;
     let entries = report.entries.as_slice();
     Ok(report.status == 0 && are_in_order(entries) && counts_of(entries) == [8, 16, 8, 0, 0, 0])
+}
+
+// How often a case was opened, a step granted, one finished, the policy edited, a request denied,
+// and one answered with want of memory.
+fn counts_of(entries: &[Entry]) -> [u32; 6] {
+    let mut counts = [0u32; 6];
+    for entry in entries {
+        let k = match &entry.reply {
+            Reply::Opened { .. } => 0,
+            Reply::Granted(_) => 1,
+            Reply::Finished { .. } => 2,
+            Reply::Edited { .. } => 3,
+            Reply::Denied(_) => 4,
+            Reply::NoMemory => 5,
+            _ => continue,
+        };
+        counts[k] = counts[k].saturating_add(1);
+    }
+    counts
 }
 
 // Whether entries stand at their places, each lane's in the order of its lines, and each line once.

@@ -6,17 +6,17 @@ use wf_talk::{Entry, Reply};
 
 /// How often each kind of reply was given.
 #[derive(Clone, Copy, Debug, PartialEq, Eq)]
-pub struct Counts {
-    pub opened: u64,
-    pub granted: u64,
-    pub finished: u64,
-    pub edited: u64,
-    pub denied: u64,
-    pub no_memory: u64,
+pub(crate) struct Counts {
+    pub(crate) opened: u64,
+    pub(crate) granted: u64,
+    pub(crate) finished: u64,
+    pub(crate) edited: u64,
+    pub(crate) denied: u64,
+    pub(crate) no_memory: u64,
 }
 
 /// The counts of the replies in entries.
-pub fn count_replies(entries: &[Entry]) -> Counts
+pub(crate) fn count_replies(entries: &[Entry]) -> Counts
     ensures { result ≡ counts_of entries.now }
 {
     let mut counts = Counts {

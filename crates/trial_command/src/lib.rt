@@ -6,6 +6,4 @@ mod run;
 mod session;
 mod summary;
 
-pub use counts::{Counts, count_replies};
 pub use run::run_trial;
-pub use summary::summary_line;

@@ -17,7 +17,7 @@ pub(crate) fn summary_of(alloc: Global, seed: u64, served: &Served) -> Result<St
 }
 
 /// The line for a seed, so many jobs and such counts of replies.
-pub fn summary_line(
+pub(crate) fn summary_line(
     alloc: Global,
     seed: u64,
     lines: u64,

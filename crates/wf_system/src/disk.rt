@@ -1,4 +1,5 @@
 //! The disk as a shelf that does not tell what it holds.
+ghost use Rattle.std.specs.Prelude.{◌≡◌};
 ghost use Rattle.wf_outside.specs.Outside.{untold};
 
 use crate::streams::StdinSource;
@@ -19,7 +20,9 @@ pub struct DiskShelf<'a, R: Files> {
 
 impl<'a, R: Files> DiskShelf<'a, R> {
     /// The files that `rt` reaches, with no fault so far.
-    pub fn new(rt: &'a R) -> Self {
+    pub fn new(rt: &'a R) -> Self
+        ensures none { result.faults ≡ 0 }
+    {
         DiskShelf { rt, faults: 0 }
     }
 }

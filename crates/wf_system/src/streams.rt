@@ -18,7 +18,8 @@ pub struct StdinSource<R: Read + Drop> {
 impl<R: Read + Drop> StdinSource<R> {
     /// A source of what the reader gives, with no fault so far.
     pub fn new(reader: R) -> Self
-        ensures { reader_left R.remaining result ≡ R.remaining reader }
+        ensures left { reader_left R.remaining result ≡ R.remaining reader }
+        ensures none { result.faults ≡ 0 }
     {
         StdinSource { reader, faults: 0 }
     }
@@ -62,7 +63,8 @@ pub struct StdoutSink<W: Write + Drop> {
 impl<W: Write + Drop> StdoutSink<W> {
     /// A sink into the writer, with no fault so far.
     pub fn new(writer: W) -> Self
-        ensures { writer_held W.contents result ≡ W.contents writer }
+        ensures held { writer_held W.contents result ≡ W.contents writer }
+        ensures none { result.faults ≡ 0 }
     {
         StdoutSink { writer, faults: 0 }
     }
