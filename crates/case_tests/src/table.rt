@@ -151,10 +151,12 @@ fn copies_open(alloc: Global, table: &Cases) -> Result<bool, AllocError> {
     Ok(has_the_open_cases(&table.copy_open(alloc)?))
 }
 
-// Whether the plan of the openings is remembered for their workflow, and none for another.
+// Whether the plan of the openings is remembered for their workflow, and for no other, also none in
+// its place.
 fn remembers_the_plan(copy: &Cases) -> bool {
     copy.recent_plan(FlowId(0)) == Some(Plan::of(&[ANN, BOB]))
         && copy.recent_plan(FlowId(1)).is_none()
+        && copy.recent_plan(FlowId(8)).is_none()
 }
 
 fn has_the_open_cases(copy: &Cases) -> bool {
