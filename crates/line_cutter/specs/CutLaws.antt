@@ -112,17 +112,20 @@ pub plain_cut : (c d : Cut) (piece : List ℕ) (n : ℕ) → 0 < n → n ≤ len
 plain_cut c d piece n some within going lines short others e =
     let m : ℕ = n - 1 in
     let next : m + 1 ≡ n = omega arith in
+    let before : cut_all c (take m piece) ≡ record c { line = c.line ++ take m piece } =
+    plain_front c piece m (omega arith) going lines (omega arith) (λ k h. others k (omega arith)) in
     record {
       cut = e ∙ sym (plain_front c piece n within going lines short others);
       front = take m piece;
       last = slice_index piece m;
       whole = ap (λ k. take k piece) (sym next) ∙ take_more piece m 0 (omega arith);
-      none = ap (λ (x : Cut). x.ends) (plain_front c piece m (omega arith) going lines (omega arith) (λ k h. others k (omega arith)));
+      none = ap (λ (x : Cut). x.ends) before;
+      going = ap (λ (x : Cut). x.stop) before ∙ going;
     }
 
 -- one byte alone
-pub one_cut : (c d : Cut) (piece : List ℕ) → 0 < length piece → d ≡ step c (slice_index piece 0) → Cuts c d (take 1 piece)
-one_cut c d piece some e =
+pub one_cut : (c d : Cut) (piece : List ℕ) → 0 < length piece → c.stop ≡ None → d ≡ step c (slice_index piece 0) → Cuts c d (take 1 piece)
+one_cut c d piece some going e =
     let one : take 1 piece ≡ slice_index piece 0 ∷ [] = take_more piece 0 0 some in
     record {
       cut = e ∙ ap (cut_all c) (sym one);
@@ -130,6 +133,7 @@ one_cut c d piece some e =
       last = slice_index piece 0;
       whole = one;
       none = refl;
+      going = going;
     }
 
 -- more of the line, within the limit

@@ -1,5 +1,5 @@
 -- The cutter: it keeps of a cutting what is not handed over yet, and cuts on from there.
-use Rattle.std.specs.Prelude.{◌≡◌, ℕ, ◌+◌, ◌*◌, ◌<◌, ◌≤◌, nat_lt, if◌then◌else◌, List, [], ◌∷◌, ◌++◌, length, map}
+use Rattle.std.specs.Prelude.{◌≡◌, ℕ, ◌+◌, ◌*◌, ◌<◌, ◌≤◌, nat_lt, if◌then◌else◌, List, [], ◌∷◌, ◌++◌, length, map, None}
 use Rattle.wf_names.specs.declared.limits.TheConstants.{LINE_LIMIT, SESSION_LINE_LIMIT, BATCH_LINE_LIMIT}
 use Rattle.wf_talk.specs.declared.job.Job.{Job}
 use Rattle.line_cutter.specs.Jobs.{Cut, last_or, cut_all}
@@ -43,10 +43,11 @@ pub record IsEnded (c : Cut) : Type 0 where
   pub closed : c.from ≡ length c.jobs
   pub ends : c.ends ≡ ends_after [] 0 c.jobs
 
--- these bytes were cut, and no batch ended before the last of them
+-- these bytes were cut, and before the last of them no batch ended and the cutting did not stop
 pub record Cuts (c d : Cut) (bytes : List ℕ) : Type 0 where
   pub cut : d ≡ cut_all c bytes
   pub front : List ℕ
   pub last : ℕ
   pub whole : bytes ≡ front ++ last ∷ []
   pub none : (cut_all c front).ends ≡ c.ends
+  pub going : (cut_all c front).stop ≡ None

@@ -72,7 +72,7 @@ impl Cutter {
         self.ends.len() != 0
     }
     /// Cuts the next bytes of a piece: a run of a line without its end, or one byte. Answers how many
-    /// bytes were cut. No end of a batch is passed over, and no byte after it is cut.
+    /// bytes were cut. No byte is cut after one that ends a batch, or at which the cutting stops.
     #[tactic(auto, using(crate::specs::CutLaws::one_cut, crate::specs::CutLaws::plain_cut, crate::specs::CutLaws::plain_sound))]
     pub fn feed(&mut self, piece: &[u8]) -> Result<usize, AllocError>
         requires some { 0 < length piece.now }

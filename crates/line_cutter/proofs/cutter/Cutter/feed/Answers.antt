@@ -4,7 +4,7 @@ use Rattle.line_cutter.specs.CutLaws.{one_cut, plain_cut, ended_byte, stops_byte
 use Rattle.line_cutter.proofs.cutter.Cutter.feed.Goals as goal
 
 pub returns-then-run-eq0-clause-cuts : goal.returns-then-run-eq0-clause-cuts
-returns-then-run-eq0-clause-cuts c = one_cut c.args.self.now c.feed_byte.new.self c.args.piece.now c.requires.some (grind (arith, common_steps))
+returns-then-run-eq0-clause-cuts c = one_cut c.args.self.now c.feed_byte.new.self c.args.piece.now c.requires.some c.requires.going (grind (arith, common_steps))
 
 pub returns-clause-cuts : goal.returns-clause-cuts
 returns-clause-cuts c =
