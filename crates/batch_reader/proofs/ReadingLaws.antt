@@ -27,6 +27,8 @@ cut_more before after h r s more cuts none pending read =
     let behind : more ≡ cuts.front ++ cuts.last ∷ [] = cuts.whole in
     let all : bytes ++ more ≡ (bytes ++ cuts.front) ++ cuts.last ∷ [] =
     ap (λ xs. bytes ++ xs) behind ∙ sym (append_assoc bytes cuts.front (cuts.last ∷ [])) in
+    let before_last : cut_all (start h.lanes) (bytes ++ cuts.front) ≡ after_handing h.jobs h.batch_ends (cut_all r.cut cuts.front) =
+    cut_all-append (start h.lanes) bytes cuts.front ∙ ap (λ c. cut_all c cuts.front) (sym read.cut) ∙ handed_all h.jobs h.batch_ends r.cut cuts.front in
     record {
       front = bytes ++ cuts.front;
       last = cuts.last;
@@ -34,8 +36,8 @@ cut_more before after h r s more cuts none pending read =
       cut = ap (after_handing h.jobs h.batch_ends) cuts.cut ∙ sym (handed_all h.jobs h.batch_ends r.cut more) ∙ ap (λ c. cut_all c more) read.cut
           ∙ sym (cut_all-append (start h.lanes) bytes more) ∙ ap (cut_all (start h.lanes)) all;
       closed = read.closed;
-      none = ap (λ (c : Cut). c.ends) (cut_all-append (start h.lanes) bytes cuts.front ∙ ap (λ c. cut_all c cuts.front) (sym read.cut) ∙ handed_all h.jobs h.batch_ends r.cut cuts.front)
-          ∙ ap (λ es. h.batch_ends ++ map (λ n. length h.jobs + n) es) (cuts.none ∙ none) ∙ append-nil h.batch_ends;
+      none = ap (λ (c : Cut). c.ends) before_last ∙ ap (λ es. h.batch_ends ++ map (λ n. length h.jobs + n) es) (cuts.none ∙ none) ∙ append-nil h.batch_ends;
+      going = ap (λ (c : Cut). c.stop) before_last ∙ cuts.going;
     }
 
 -- the next piece is taken, where the last one is cut
@@ -91,7 +93,7 @@ pub read_by : (before after : Option (List ℕ)) (h : Handed) (r : ReaderShape) 
 read_by before after h r Batch read = read_behind before after h r read
 read_by before after h r End read = read
 read_by before after h r Failed read = read
-read_by before after h r (Stopped stop) read = read
+read_by before after h r (Stopped stop) read = read_behind before after h r read
 read_by before after h r NoMemory read = read
 
 -- a batch that has ended is handed over
@@ -149,16 +151,19 @@ all_read before after ended h r d read is closed none going at_end =
       going = ap (λ (c : Cut). c.stop) over ∙ ap (λ (c : Cut). c.stop) is ∙ finished_stop r.cut ended ∙ going;
     }
 
-stop_read : (before after : Option (List ℕ)) (h : Handed) (r : ReaderShape) (d : Cut) (stop : Stop) → HasRead before after h r → d ≡ end_batch (flush false r.cut) → IsEnded d
+stop_read : (before after : Option (List ℕ)) (h : Handed) (r : ReaderShape) (d : Cut) (stop : Stop) → HasCut before after h r → d ≡ end_batch (flush false r.cut) → IsEnded d
     → r.cut.stop ≡ Some stop → length r.pending < r.room → HasStopped before after r.room stop (handed_more h d.jobs)
-stop_read before after h r d stop read is closed stops ahead =
-    let over = finish_over before after false h r d read is closed in
+unfolding read_behind
+stop_read before after h r d stop cut is closed stops ahead =
+    let over = finish_over before after false h r d (read_behind before after h r cut) is closed in
     record {
-      bytes = read.bytes;
+      front = cut.front;
+      last = cut.last;
       rest = r.pending;
-      taken = read.taken;
+      taken = cut.taken;
       jobs = sym (ap (λ (c : Cut). c.jobs) over ∙ append-nil (h.jobs ++ d.jobs));
       ends = sym (ap (λ (c : Cut). c.ends) over ∙ append-nil (ends_after h.batch_ends (length h.jobs) d.jobs));
+      before_last = cut.going;
       stopped = ap (λ (c : Cut). c.stop) over ∙ ap (λ (c : Cut). c.stop) is ∙ finished_stop r.cut false ∙ stops;
       ahead = ahead;
     }
@@ -212,7 +217,7 @@ closed_reads before after h r d Failed result read pauses closes memory =
     finished before after false h r d Failed result read closes memory (ap (cut_all r.cut) pauses.1) (λ e. cc)
     (λ is closed. all_read before after false h r d read is closed pauses.1 pauses.0.going (λ e. cc))
 closed_reads before after h r d (Stopped stop) result read pauses closes memory =
-    finished before after false h r d (Stopped stop) result read closes memory (stopped r.cut r.pending (ap is_some pauses.0)) (λ e. cc)
+    finished before after false h r d (Stopped stop) result (read_behind before after h r read) closes memory (stopped r.cut r.pending (ap is_some pauses.0)) (λ e. cc)
     (λ is closed. stop_read before after h r d stop read is closed pauses.0 pauses.2)
 
 -- the same with these jobs

@@ -8,7 +8,7 @@ use Rattle.batch_reader.specs.declared.reader.Paused.{Paused}
 use Rattle.batch_reader.specs.declared.reader.Paused.TheVariants.{Batch, End, Failed, Stopped, NoMemory}
 use Rattle.batch_reader.specs.Reading.{ReaderShape, Handed, HasRead, IsReady, CountsAs, left_to_read}
 
--- some bytes were cut, and no batch had ended before the last of them
+-- some bytes were cut, and before the last of them no batch had ended and the cutting had not stopped
 pub record HasCut (before after : Option (List ℕ)) (h : Handed) (r : ReaderShape) : Type 0 where
   pub front : List ℕ
   pub last : ℕ
@@ -16,13 +16,14 @@ pub record HasCut (before after : Option (List ℕ)) (h : Handed) (r : ReaderSha
   pub cut : after_handing h.jobs h.batch_ends r.cut ≡ cut_all (start h.lanes) (front ++ last ∷ [])
   pub closed : last_or 0 h.batch_ends ≡ length h.jobs
   pub none : (cut_all (start h.lanes) front).ends ≡ h.batch_ends
+  pub going : (cut_all (start h.lanes) front).stop ≡ None
 
 -- what was read where reading paused so, before the jobs are handed over
 abbrev pub PausesBy : Option (List ℕ) → Option (List ℕ) → Handed → ReaderShape → Paused → Type 0
 PausesBy before after h r Batch = HasCut before after h r
 PausesBy before after h r End = HasRead before after h r
 PausesBy before after h r Failed = HasRead before after h r
-PausesBy before after h r (Stopped stop) = HasRead before after h r
+PausesBy before after h r (Stopped stop) = HasCut before after h r
 PausesBy before after h r NoMemory = HasRead before after h r
 
 -- what was read by one step, after which reading pauses or goes on

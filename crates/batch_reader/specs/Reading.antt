@@ -54,14 +54,17 @@ pub record HasReadAll (before after : Option (List ℕ)) (ended : Bool) (h : Han
   pub ends : h.batch_ends ≡ (jobs_of_input bytes ended h.lanes).ends
   pub going : (jobs_of_input bytes ended h.lanes).stop ≡ None
 
--- all is handed over up to where the cutting stopped; less than one piece was taken past that
+-- all is handed over up to where the cutting stopped, which it did at the last byte that was cut; less than one piece
+-- was taken past that
 pub record HasStopped (before after : Option (List ℕ)) (room : ℕ) (stop : Stop) (h : Handed) : Type 0 where
-  pub bytes : List ℕ
+  pub front : List ℕ
+  pub last : ℕ
   pub rest : List ℕ
-  pub taken : HasTaken before after (bytes ++ rest)
-  pub jobs : h.jobs ≡ (jobs_of_input bytes false h.lanes).jobs
-  pub ends : h.batch_ends ≡ (jobs_of_input bytes false h.lanes).ends
-  pub stopped : (jobs_of_input bytes false h.lanes).stop ≡ Some stop
+  pub taken : HasTaken before after ((front ++ last ∷ []) ++ rest)
+  pub jobs : h.jobs ≡ (jobs_of_input (front ++ last ∷ []) false h.lanes).jobs
+  pub ends : h.batch_ends ≡ (jobs_of_input (front ++ last ∷ []) false h.lanes).ends
+  pub before_last : (cut_all (start h.lanes) front).stop ≡ None
+  pub stopped : (jobs_of_input (front ++ last ∷ []) false h.lanes).stop ≡ Some stop
   pub ahead : length rest < room
 
 -- jobs and ends that are those of what was taken, up to an end of a batch
