@@ -60,8 +60,8 @@ pub record IsOrderly (r : Run) : Type 0 where
   pub writes : CountsWrites r.fault r.before.write_faults r.after.write_faults
 
 -- what the shelf tells of a file that the run loads decides how it ends: a missing one is a
--- load fault
+-- load fault, and one of which nothing is told ends it as a file with some content does
 abbrev pub OverFile : Filed → RunFault → (List ℕ → Type 0) → Type 0
-OverFile untold fault Ends = Unit {0}
+OverFile untold fault Ends = (content : List ℕ) × Ends content
 OverFile missing fault Ends = fault ≡ Load
 OverFile (told content) fault Ends = Ends content

@@ -1,7 +1,7 @@
 -- How the steps of a command that answers once compose.
-use Rattle.std.proofs.Common.{◌≡◌, ℕ, true, List, [], Option, Result, Ok, Err, refl, sym, ◌∙◌, arith}
-use Rattle.std.specs.Prelude.{IsErrAnd}
-use Rattle.wf_outside.specs.Outside.{Filed, told, missing, untold}
+use Rattle.std.proofs.Common.{◌≡◌, ℕ, Bool, true, false, List, [], Option, Result, Ok, Err, refl, sym, subst, ◌∙◌, arith}
+use Rattle.std.specs.Prelude.{IsErrAnd, string_bytes}
+use Rattle.wf_outside.specs.Outside.{Filed, told, missing, untold, HasPart, Rose, with_bytes}
 use Rattle.wf_outside.proofs.OutsideLaws.{nothing_put, nothing_at_most}
 use Rattle.policy_book.specs.Shapes.{PolicyShape}
 use Rattle.run_record.specs.declared.fault.RunFault.{RunFault}
@@ -15,7 +15,7 @@ use Rattle.wf_commands.specs.declared.question.Question.{Question}
 use Rattle.wf_commands.specs.declared.question.Question.TheVariants.{Plan, Show, Solve}
 use Rattle.wf_commands.specs.Once.{AnswersOnce, Ends, IsQuiet, OverPolicy}
 use Rattle.wf_commands.specs.Questions.{answers, AnswersQuestion, ReadsAs}
-use Rattle.wf_commands.specs.Answer.{AnswersAs, AnswersFile, IsCommandEnding}
+use Rattle.wf_commands.specs.Answer.{ending_with, AnswersAs, AnswersFile, IsCommandEnding}
 use Rattle.wf_commands.specs.Load.{IsLoadEnding}
 
 -- where no policy was loaded nothing is read
@@ -100,7 +100,7 @@ ends_refused A before after (BadInput e) ending h same = ([], h, same ∙ sym (n
 
 over_refused : (A : PolicyShape → RunFault → List ℕ → Type 0) (f : Filed) (before after : Option (List ℕ)) (fault : RunFault)
     → IsCommandEnding fault → AnswersFile A f (Err fault) → after ≡ before → OverFile f fault (λ file. Ends (OverPolicy A file) before after fault)
-over_refused A untold before after fault ending h same = tt
+over_refused A untold before after fault ending h same = (h.0, ends_refused (OverPolicy A h.0) before after fault ending h.1 same)
 over_refused A missing before after fault ending h same = cc
 over_refused A (told file) before after fault ending h same = ends_refused (OverPolicy A file) before after fault ending h same
 
@@ -157,3 +157,91 @@ without_answer q policy r answer ending loads reads input nothing =
       reads = reads;
     })
     input
+
+-- ---- a run with an answer
+
+ends_answered : (A : RunFault → List ℕ → Type 0) (before after : Option (List ℕ)) (found : Bool) (text : List ℕ) → A (ending_with found) text
+    → after ≡ with_bytes before text → Ends A before after (ending_with found)
+ends_answered A before after true text h wrote = (text, h, wrote)
+ends_answered A before after false text h wrote = (text, h, wrote)
+
+over_answered : (A : PolicyShape → RunFault → List ℕ → Type 0) (f : Filed) (before after : Option (List ℕ)) (answer : Answer) → AnswersFile A f (Ok answer)
+    → after ≡ with_bytes before (string_bytes answer.text) → OverFile f (ending_with answer.found) (λ file. Ends (OverPolicy A file) before after (ending_with answer.found))
+over_answered A untold before after answer h wrote = (h.0, ends_answered (OverPolicy A h.0) before after answer.found (string_bytes answer.text) h.1 wrote)
+over_answered A missing before after answer h wrote = cc
+over_answered A (told file) before after answer h wrote = ends_answered (OverPolicy A file) before after answer.found (string_bytes answer.text) h wrote
+
+over_part : (A : PolicyShape → RunFault → List ℕ → Type 0) (f : Filed) (before after : Option (List ℕ)) (answer : Answer) → AnswersFile A f (Ok answer)
+    → HasPart before after (string_bytes answer.text) → OverFile f Write (λ file. Ends (OverPolicy A file) before after Write)
+over_part A untold before after answer h part = (h.0, (ending_with answer.found, string_bytes answer.text, h.1, part))
+over_part A missing before after answer h part = cc
+over_part A (told file) before after answer h part = (ending_with answer.found, string_bytes answer.text, h, part)
+
+-- how a run ends that wrote its answer
+answered_late : (found : Bool) → is_before_input (ending_with found) ≡ true → ⊥
+answered_late true h = cc
+answered_late false h = cc
+
+answered_counts : (found : Bool) (before after : ℕ) → after ≡ before
+    → CountsLoads (ending_with found) before after × CountsReadsAlone (ending_with found) before after × CountsWrites (ending_with found) before after
+answered_counts true before after same = (same, same, same)
+answered_counts false before after same = (same, same, same)
+
+answered_quiet : (found : Bool) (before after : Option (List ℕ)) → IsQuiet (ending_with found) before after
+answered_quiet true before after = tt
+answered_quiet false before after = tt
+
+answered_reads : (q : Question) (found : Bool) (before after : Option (List ℕ)) → ReadsAs q Nothing before after → ReadsAs q (ending_with found) before after
+answered_reads (Plan flow) true before after reads = reads
+answered_reads (Plan flow) false before after reads = reads
+answered_reads Show found before after reads = reads
+answered_reads Solve found before after reads = reads
+
+part_reads : (q : Question) (before after : Option (List ℕ)) → ReadsAs q Nothing before after → ReadsAs q Write before after
+part_reads (Plan flow) before after reads = reads
+part_reads Show before after reads = reads
+part_reads Solve before after reads = reads
+
+-- what is known of a run that has an answer, before it is written
+pub record HasAnswer (q : Question) (policy : List ℕ) (answer : Answer) (r : Run) : Type 0 where
+  pub given : AnswersFile (answers q r.before.input) (r.files policy) (Ok answer)
+  pub loads : r.load_faults_after ≡ r.load_faults
+  pub reads : r.after.read_faults ≡ r.before.read_faults
+  pub input : ReadsAs q Nothing r.before.input r.after.input
+  pub untold : r.told ≡ nothing_told
+
+pub with_answer : (q : Question) (policy : List ℕ) (answer : Answer) (r : Run) → HasAnswer q policy answer r → r.fault ≡ ending_with answer.found
+    → r.after.output ≡ with_bytes r.before.output (string_bytes answer.text) → r.after.write_faults ≡ r.before.write_faults → AnswersQuestion q policy r
+with_answer q policy answer r has is wrote writes =
+    asks q policy r
+    (record {
+      early = λ early. absurd (answered_late answer.found (subst (λ (x : RunFault). is_before_input x ≡ true) is early));
+      loads = rw is (answered_counts answer.found r.load_faults r.load_faults_after has.loads).0;
+      reads = rw is (own_reads (ending_with answer.found) r.before.read_faults r.after.read_faults (answered_counts answer.found r.before.read_faults r.after.read_faults has.reads).1);
+      writes = rw is (answered_counts answer.found r.before.write_faults r.after.write_faults writes).2;
+    })
+    (record {
+      answer = rw is (over_answered (answers q r.before.input) (r.files policy) r.before.output r.after.output answer has.given wrote);
+      quiet = rw is (answered_quiet answer.found r.before.output r.after.output);
+      untold = has.untold;
+      reads = rw is (answered_counts answer.found r.before.read_faults r.after.read_faults has.reads).1;
+    })
+    (rw is (answered_reads q answer.found r.before.input r.after.input has.input))
+
+pub with_part : (q : Question) (policy : List ℕ) (answer : Answer) (r : Run) → HasAnswer q policy answer r → r.fault ≡ Write
+    → HasPart r.before.output r.after.output (string_bytes answer.text) → Rose r.before.write_faults r.after.write_faults → AnswersQuestion q policy r
+with_part q policy answer r has is part rose =
+    asks q policy r
+    (record {
+      early = λ early. cc;
+      loads = rw is has.loads;
+      reads = rw is (let reads = has.reads in omega (arith, reads));
+      writes = rw is rose;
+    })
+    (record {
+      answer = rw is (over_part (answers q r.before.input) (r.files policy) r.before.output r.after.output answer has.given part);
+      quiet = rw is tt;
+      untold = has.untold;
+      reads = rw is has.reads;
+    })
+    (rw is (part_reads q r.before.input r.after.input has.input))

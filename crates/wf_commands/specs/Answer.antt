@@ -23,7 +23,7 @@ AnswersAs Answers (Err fault) = Answers fault []
 -- the same about the policy in a file, by what is told of the file
 abbrev pub AnswersFile : (PolicyShape → RunFault → List ℕ → Type 0) → Filed
     → Result Answer RunFault → Type 0
-AnswersFile Answers untold result = Unit {0}
+AnswersFile Answers untold result = (file : List ℕ) × AnswersAs (OverPolicy Answers file) result
 AnswersFile Answers missing result = result ≡ Err Load
 AnswersFile Answers (told file) result = AnswersAs (OverPolicy Answers file) result
 

@@ -13,9 +13,10 @@ BytesOf file (Ok bytes) = (length file ≤ POLICY_FILE_LIMIT) × (bytes ≡ file
 BytesOf file (Err FileTooLong) = POLICY_FILE_LIMIT < length file
 BytesOf file (Err fault) = Unit {0}
 
--- the same by what is told; a missing file is a load fault
+-- the same by what is told; a missing file is a load fault, and one of which nothing is told has
+-- some content
 abbrev pub GivesBytes : Filed → Result (List ℕ) RunFault → Type 0
-GivesBytes untold result = Unit {0}
+GivesBytes untold result = (file : List ℕ) × BytesOf file result
 GivesBytes missing result = result ≡ Err Load
 GivesBytes (told file) result = BytesOf file result
 
@@ -34,9 +35,10 @@ PolicyOf file (Err (Policy fault)) =
     (length file ≤ POLICY_FILE_LIMIT) × (policy_of_file file ≡ Err fault)
 PolicyOf file (Err fault) = Unit {0}
 
--- the same by what is told; a missing file is a load fault
+-- the same by what is told; a missing file is a load fault, and one of which nothing is told has
+-- some content
 abbrev pub GivesPolicy : Filed → Result PolicyShape RunFault → Type 0
-GivesPolicy untold result = Unit {0}
+GivesPolicy untold result = (file : List ℕ) × PolicyOf file result
 GivesPolicy missing result = result ≡ Err Load
 GivesPolicy (told file) result = PolicyOf file result
 

@@ -30,14 +30,15 @@ ends_before file (BadInput e) gives ending = absurd ending
 -- no policy was there
 pub not_served : (f : Filed) (options : Options) (r : Run) → GivesPolicy f (Err r.fault) → IsLoadEnding r.fault → IsUntouched r
     → OverFile f r.fault (λ file. ServesFile file options r)
-not_served untold options r gives ending nothing = tt
+not_served untold options r gives ending nothing = (gives.0, inl (ends_before gives.0 r.fault gives.1 ending, nothing))
 not_served missing options r gives ending nothing = cc
 not_served (told file) options r gives ending nothing = inl (ends_before file r.fault gives ending, nothing)
 
 -- the policy was there, and was served
 pub is_served : (f : Filed) (p : PolicyShape) (options : Options) (r : Run) → GivesPolicy f (Ok p)
     → Served (setting p options) PIECE r.before r.after r.told r.fault → AreWantsRightful r.told.entries → OverFile f r.fault (λ file. ServesFile file options r)
-is_served untold p options r gives served wants = tt
+is_served untold p options r gives served wants =
+    (gives.0, inr (record { policy = p; within = gives.1.0; read = gives.1.1; served = served; wants = wants }))
 is_served missing p options r gives served wants = cc
 is_served (told file) p options r gives served wants =
     inr (record { policy = p; within = gives.0; read = gives.1; served = served; wants = wants })
