@@ -1,9 +1,27 @@
--- The jobs that were loaded.
-use Rattle.std.proofs.Common.{ℕ, ◌≤◌, List, [], ◌∷◌, arith}
-use Rattle.wf_names.specs.declared.limits.TheConstants.{LANE_LIMIT}
+-- What was loaded, and what is found with it.
+use Rattle.std.proofs.Common.{◌≡◌, ℕ, ◌≤◌, List, [], ◌∷◌, length, Result, Ok, Err, refl, subst, arith}
+use Rattle.std.specs.Prelude.{IfOk, IfErr, IsErrAnd}
+use Rattle.std.proofs.lemmas.Bool.{le-ltb, lt-ltb}
+use Rattle.wf_names.specs.declared.limits.TheConstants.{LANE_LIMIT, POLICY_FILE_LIMIT, REQUESTS_FILE_LIMIT}
+use Rattle.wf_outside.specs.declared.loaded.LoadFault.{LoadFault}
+use Rattle.wf_outside.specs.declared.loaded.LoadFault.TheVariants.{TooLong}
+use Rattle.wf_outside.specs.Outside.{Filed, told, missing, untold, LoadsAs, LoadsFile}
+use Rattle.policy_book.specs.Shapes.{PolicyShape}
 use Rattle.wf_talk.specs.declared.job.Job.{Job}
 use Rattle.wf_talk.specs.Jobs.{AreOfLanes}
 use Rattle.line_cutter.specs.Laws.{AreInOrder}
+use Rattle.line_cutter.specs.declared.whole.Batch.{Batch}
+use Rattle.transcript_audit.specs.Audits.{AuditShape, audit_of}
+use Rattle.run_record.specs.declared.fault.RunFault.{RunFault}
+use Rattle.run_record.specs.declared.fault.RunFault.TheVariants.{Nothing, Found, Usage, Policy, Read, Write, Load, NoMemory, FileTooLong, LineTooLong, TooManyLines, BadInput}
+use Rattle.wf_commands.specs.Once.{OverPolicy}
+use Rattle.wf_commands.specs.Load.{GivesPolicy, PolicyOf, IsFileEnding, IsLoadEnding}
+use Rattle.wf_commands.proofs.Loading.{answers_file, some_longer}
+use Rattle.audit_command.specs.declared.finding.Finding.{Finding}
+use Rattle.audit_command.specs.Auditing.{HasFound, ending_of, text_of}
+use Rattle.audit_command.specs.Loading.{GivesJobs, GivesRequests, JobsOf}
+use Rattle.audit_command.specs.Running.{AuditOf, AuditsFile, AuditsPolicy, AuditsRequests, Input, audit_for}
+use Rattle.audit_command.specs.Steps.{FindsAs, FindsFile, IsReadEnding}
 
 of_more_lanes : (lanes more : ℕ) (jobs : List Job) → lanes ≤ more → AreOfLanes lanes jobs → AreOfLanes more jobs
 of_more_lanes lanes more [] within all = tt
@@ -11,3 +29,103 @@ of_more_lanes lanes more (j ∷ js) within all = (let h = all.0 in omega (arith,
 
 pub order_within : (lanes : ℕ) (jobs : List Job) (batch_ends : List ℕ) → lanes ≤ LANE_LIMIT → AreInOrder lanes jobs batch_ends → AreInOrder LANE_LIMIT jobs batch_ends
 order_within lanes jobs batch_ends within h = record { few = h.few; lines = h.lines; of_lanes = of_more_lanes lanes LANE_LIMIT jobs within h.of_lanes; ends = h.ends }
+
+-- a requests file is too long
+pub too_long_given : (f : Filed) (e : LoadFault) → e ≡ TooLong → LoadsAs f REQUESTS_FILE_LIMIT (Err e) → GivesRequests f (Err FileTooLong)
+too_long_given untold e is loads = some_longer REQUESTS_FILE_LIMIT
+too_long_given missing e is loads = cc
+too_long_given (told file) e is loads = subst (λ (x : LoadFault). LoadsFile file REQUESTS_FILE_LIMIT (Err x)) is loads
+
+-- ---- what is found with them
+
+audits_requests : (p : PolicyShape) (o : AuditOf) (i : Input) (requests : List ℕ) (batch : Batch) (f : Finding) → JobsOf requests o.lanes (Ok batch)
+    → HasFound (audit_of p o.rounds batch.jobs batch.ends) f i.before i.after → AuditsRequests p o i requests (ending_of f) (text_of f)
+audits_requests p o i requests batch f gives found =
+    let same : audit_of p o.rounds batch.jobs batch.ends ≡ audit_for p o requests = rw (gives.1.0, gives.1.1) refl in
+    rw (le-ltb REQUESTS_FILE_LIMIT (length requests) gives.0)
+    (record { finding = f; found = subst (λ (a : AuditShape). HasFound a f i.before i.after) same found; ends = refl; writes = refl })
+
+audits_file : (p : PolicyShape) (o : AuditOf) (i : Input) (filed : Filed) (batch : Batch) (f : Finding) → GivesJobs filed o.lanes (Ok batch)
+    → HasFound (audit_of p o.rounds batch.jobs batch.ends) f i.before i.after → AuditsFile p o i filed (ending_of f) (text_of f)
+audits_file p o i untold batch f gives found = (gives.0, audits_requests p o i gives.0 batch f gives.1 found)
+audits_file p o i missing batch f gives found = cc
+audits_file p o i (told file) batch f gives found = audits_requests p o i file batch f gives found
+
+pub finds_under : (p : PolicyShape) (o : AuditOf) (i : Input) (batch : Batch) (result : Result Finding RunFault) → GivesJobs o.requests o.lanes (Ok batch)
+    → IfOk result (λ f. HasFound (audit_of p o.rounds batch.jobs batch.ends) f i.before i.after) → IfErr result IsReadEnding → FindsAs (AuditsPolicy o i p) result
+finds_under p o i batch (Ok f) gives found ending = audits_file p o i o.requests batch f gives found
+finds_under p o i batch (Err Read) gives found ending = tt
+finds_under p o i batch (Err NoMemory) gives found ending = tt
+finds_under p o i batch (Err Load) gives found ending = tt
+finds_under p o i batch (Err FileTooLong) gives found ending = absurd ending
+finds_under p o i batch (Err (Policy e)) gives found ending = absurd ending
+finds_under p o i batch (Err Nothing) gives found ending = absurd ending
+finds_under p o i batch (Err Found) gives found ending = absurd ending
+finds_under p o i batch (Err Usage) gives found ending = absurd ending
+finds_under p o i batch (Err Write) gives found ending = absurd ending
+finds_under p o i batch (Err (LineTooLong line)) gives found ending = absurd ending
+finds_under p o i batch (Err TooManyLines) gives found ending = absurd ending
+finds_under p o i batch (Err (BadInput e)) gives found ending = absurd ending
+
+requests_too_long : (p : PolicyShape) (o : AuditOf) (i : Input) (filed : Filed) → GivesJobs filed o.lanes (Err FileTooLong) → AuditsFile p o i filed FileTooLong []
+requests_too_long p o i untold gives = (gives.0, rw (lt-ltb REQUESTS_FILE_LIMIT (length gives.0) gives.1) (refl, refl))
+requests_too_long p o i missing gives = cc
+requests_too_long p o i (told file) gives = rw (lt-ltb REQUESTS_FILE_LIMIT (length file) gives) (refl, refl)
+
+finds_no_jobs : (p : PolicyShape) (o : AuditOf) (i : Input) (fault : RunFault) → GivesJobs o.requests o.lanes (Err fault) → IsFileEnding fault
+    → FindsAs (AuditsPolicy o i p) (Err fault)
+finds_no_jobs p o i FileTooLong gives ending = requests_too_long p o i o.requests gives
+finds_no_jobs p o i Load gives ending = tt
+finds_no_jobs p o i NoMemory gives ending = tt
+finds_no_jobs p o i (Policy e) gives ending = absurd ending
+finds_no_jobs p o i Nothing gives ending = absurd ending
+finds_no_jobs p o i Found gives ending = absurd ending
+finds_no_jobs p o i Usage gives ending = absurd ending
+finds_no_jobs p o i Read gives ending = absurd ending
+finds_no_jobs p o i Write gives ending = absurd ending
+finds_no_jobs p o i (LineTooLong line) gives ending = absurd ending
+finds_no_jobs p o i TooManyLines gives ending = absurd ending
+finds_no_jobs p o i (BadInput e) gives ending = absurd ending
+
+pub no_jobs : (p : PolicyShape) (o : AuditOf) (i : Input) (result : Result Finding RunFault) (fault : RunFault) → IsErrAnd result (λ e. e ≡ fault)
+    → GivesJobs o.requests o.lanes (Err fault) → IsFileEnding fault → FindsAs (AuditsPolicy o i p) result
+no_jobs p o i (Ok f) fault is gives ending = absurd is
+no_jobs p o i (Err e) fault is gives ending = rw is (finds_no_jobs p o i fault gives ending)
+
+-- ---- what is found over the policy file
+
+finds_over : (A : PolicyShape → RunFault → List ℕ → Type 0) (file : List ℕ) (p : PolicyShape) (f : Finding) → PolicyOf file (Ok p) → A p (ending_of f) (text_of f)
+    → OverPolicy A file (ending_of f) (text_of f)
+finds_over A file p f gives h = rw (le-ltb POLICY_FILE_LIMIT (length file) gives.0, gives.1) h
+
+pub finds_file : (A : PolicyShape → RunFault → List ℕ → Type 0) (f : Filed) (p : PolicyShape) (result : Result Finding RunFault)
+    → GivesPolicy f (Ok p) → FindsAs (A p) result → FindsFile A f result
+finds_file A missing p result gives h = cc
+finds_file A untold p (Ok f) gives h = (gives.0, finds_over A gives.0 p f gives.1 h)
+finds_file A untold p (Err fault) gives h = answers_file A untold p (Err fault) gives (λ file read. h)
+finds_file A (told file) p (Ok f) gives h = finds_over A file p f gives h
+finds_file A (told file) p (Err fault) gives h = answers_file A (told file) p (Err fault) gives (λ file read. h)
+
+finds_none : (A : PolicyShape → RunFault → List ℕ → Type 0) (file : List ℕ) (fault : RunFault) → PolicyOf file (Err fault) → IsLoadEnding fault → FindsAs (OverPolicy A file) (Err fault)
+finds_none A file FileTooLong gives ending = rw (lt-ltb POLICY_FILE_LIMIT (length file) gives) (refl, refl)
+finds_none A file (Policy e) gives ending = rw (le-ltb POLICY_FILE_LIMIT (length file) gives.0, gives.1) (refl, refl)
+finds_none A file Load gives ending = tt
+finds_none A file NoMemory gives ending = tt
+finds_none A file Nothing gives ending = absurd ending
+finds_none A file Found gives ending = absurd ending
+finds_none A file Usage gives ending = absurd ending
+finds_none A file Read gives ending = absurd ending
+finds_none A file Write gives ending = absurd ending
+finds_none A file (LineTooLong line) gives ending = absurd ending
+finds_none A file TooManyLines gives ending = absurd ending
+finds_none A file (BadInput e) gives ending = absurd ending
+
+finds_no_policy : (A : PolicyShape → RunFault → List ℕ → Type 0) (f : Filed) (fault : RunFault) → GivesPolicy f (Err fault) → IsLoadEnding fault → FindsFile A f (Err fault)
+finds_no_policy A untold fault gives ending = (gives.0, finds_none A gives.0 fault gives.1 ending)
+finds_no_policy A missing fault gives ending = cc
+finds_no_policy A (told file) fault gives ending = finds_none A file fault gives ending
+
+pub no_policy : (A : PolicyShape → RunFault → List ℕ → Type 0) (f : Filed) (result : Result Finding RunFault) (fault : RunFault) → IsErrAnd result (λ e. e ≡ fault)
+    → GivesPolicy f (Err fault) → IsLoadEnding fault → FindsFile A f result
+no_policy A f (Ok x) fault is gives ending = absurd is
+no_policy A f (Err e) fault is gives ending = rw is (finds_no_policy A f fault gives ending)

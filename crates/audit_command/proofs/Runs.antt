@@ -1,11 +1,12 @@
 -- How the steps of a run compose.
-use Rattle.std.proofs.Common.{◌≡◌, ℕ, true, List, [], Option, Ok, Err, refl, subst, ◌∙◌}
-use Rattle.wf_outside.specs.Outside.{Filed, told, missing, untold, with_bytes}
+use Rattle.std.proofs.Common.{◌≡◌, ℕ, true, List, [], Option, Result, Ok, Err, refl, subst, ◌∙◌, arith}
+use Rattle.std.specs.Prelude.{IsErrAnd}
+use Rattle.wf_outside.specs.Outside.{Filed, told, missing, untold, HasPart, with_bytes}
 use Rattle.wf_outside.proofs.OutsideLaws.{nothing_put, nothing_taken}
 use Rattle.policy_book.specs.Shapes.{PolicyShape}
 use Rattle.run_record.specs.declared.fault.RunFault.{RunFault}
 use Rattle.run_record.specs.declared.fault.RunFault.TheVariants.{Nothing, Found, Usage, Policy, Read, Write, Load, NoMemory, FileTooLong, LineTooLong, TooManyLines, BadInput}
-use Rattle.run_record.specs.Fault.{is_before_input, CountsLoads, CountsReadsAlone, CountsWrites}
+use Rattle.run_record.specs.Fault.{fault_in, is_before_input, CountsLoads, CountsReadsAlone, CountsWrites}
 use Rattle.run_record.specs.Report.{nothing_told}
 use Rattle.run_record.specs.Run.{Run, OverFile}
 use Rattle.wf_commands.specs.Once.{Ends, IsQuiet, OverPolicy}
@@ -16,7 +17,7 @@ use Rattle.audit_command.specs.declared.finding.Finding.{Finding}
 use Rattle.audit_command.specs.declared.finding.Finding.TheVariants.{Legal, Fault, TooLong}
 use Rattle.audit_command.specs.Auditing.{ending_of, text_of}
 use Rattle.audit_command.specs.Running.{AuditsPolicy, AuditsRun, EndsWithout, ReadsAsAudit}
-use Rattle.audit_command.specs.Steps.{FindsFile, HasTakenSome, IsAuditEnding}
+use Rattle.audit_command.specs.Steps.{FailsAs, FindsFile, HasTakenSome, IsAuditEnding}
 
 -- ---- by the ending
 
@@ -34,6 +35,11 @@ unread Write left ending = absurd ending
 unread (LineTooLong line) left ending = absurd ending
 unread TooManyLines left ending = absurd ending
 unread (BadInput e) left ending = absurd ending
+
+pub unread_after : (result : Result Finding RunFault) (fault : RunFault) (left : Option (List ℕ)) → IsErrAnd result (λ e. e ≡ fault) → IsLoadEnding fault
+    → ReadsAsAudit (fault_in result) left left
+unread_after (Ok f) fault left is ending = absurd is
+unread_after (Err e) fault left is ending = rw is (unread fault left ending)
 
 pub file_ending : (fault : RunFault) → IsFileEnding fault → IsLoadEnding fault
 file_ending Load ending = tt
@@ -89,14 +95,14 @@ finding_ends A (TooLong n) before after h wrote = (text_of (TooLong n), h, wrote
 
 finding_over : (A : PolicyShape → RunFault → List ℕ → Type 0) (f : Finding) (filed : Filed) (before after : Option (List ℕ)) → FindsFile A filed (Ok f)
     → after ≡ with_bytes before (text_of f) → OverFile filed (ending_of f) (λ file. Ends (OverPolicy A file) before after (ending_of f))
-finding_over A f untold before after h wrote = tt
+finding_over A f untold before after h is = (h.0, finding_ends (OverPolicy A h.0) f before after h.1 is)
 finding_over A f missing before after h wrote = cc
 finding_over A f (told file) before after h is = finding_ends (OverPolicy A file) f before after h is
 
-finding_without : (f : Finding) (filed : Filed) → EndsWithout filed Nothing → EndsWithout filed (ending_of f)
-finding_without f untold h = tt
-finding_without f missing h = absurd h
-finding_without f (told file) h = tt
+late_without : (filed : Filed) (fault : RunFault) → EndsWithout filed Nothing → EndsWithout filed fault
+late_without untold fault h = tt
+late_without missing fault h = absurd h
+late_without (told file) fault h = tt
 
 -- what is found is told
 pub told_run : (policy requests : List ℕ) (lanes rounds : ℕ) (r : Run) (f : Finding) → r.fault ≡ ending_of f
@@ -116,9 +122,59 @@ told_run policy requests lanes rounds r f is finds without loads reads writes in
     untold = nothing;
     reads = rw is (finding_reads f r.before.read_faults r.after.read_faults reads);
   };
-  without = rw is (finding_without f (r.files requests) without);
+  without = rw is (late_without (r.files requests) (ending_of f) without);
   reads = rw is (finding_input f r.before.input r.after.input input);
 }
+
+-- what is found could not be told
+part_over : (A : PolicyShape → RunFault → List ℕ → Type 0) (f : Finding) (filed : Filed) (before after : Option (List ℕ)) → FindsFile A filed (Ok f)
+    → HasPart before after (text_of f) → OverFile filed Write (λ file. Ends (OverPolicy A file) before after Write)
+part_over A f untold before after h part = (h.0, (ending_of f, text_of f, h.1, part))
+part_over A f missing before after h part = cc
+part_over A f (told file) before after h part = (ending_of f, text_of f, h, part)
+
+none_over : (A : PolicyShape → RunFault → List ℕ → Type 0) (f : Finding) (filed : Filed) (before after : Option (List ℕ)) → FindsFile A filed (Ok f)
+    → after ≡ before → OverFile filed NoMemory (λ file. Ends (OverPolicy A file) before after NoMemory)
+none_over A f untold before after h same = (h.0, same)
+none_over A f missing before after h same = cc
+none_over A f (told file) before after h same = same
+
+pub untold_run : (policy requests : List ℕ) (lanes rounds : ℕ) (r : Run) (f : Finding) (fault : RunFault) → r.fault ≡ fault → FailsAs f r.before.output r.after.output fault
+    → FindsFile (AuditsPolicy (record { requests = r.files requests; lanes = lanes; rounds = rounds }) (record { before = r.before.input; after = r.after.input })) (r.files policy) (Ok f)
+    → EndsWithout (r.files requests) Nothing → r.load_faults_after ≡ r.load_faults → r.after.read_faults ≡ r.before.read_faults
+    → CountsWrites fault r.before.write_faults r.after.write_faults → HasTakenSome r.before.input r.after.input → r.told ≡ nothing_told → AuditsRun policy requests lanes rounds r
+untold_run policy requests lanes rounds r f Write is fails finds without loads reads writes input nothing = record {
+  orderly = record { early = λ early. cc; loads = rw is loads; reads = rw is (omega (arith, reads)); writes = rw is writes };
+  once = record {
+    answer = rw is (part_over (AuditsPolicy (record { requests = r.files requests; lanes = lanes; rounds = rounds }) (record { before = r.before.input; after = r.after.input })) f (r.files policy) r.before.output r.after.output finds fails);
+    quiet = rw is tt;
+    untold = nothing;
+    reads = rw is reads;
+  };
+  without = rw is (late_without (r.files requests) Write without);
+  reads = rw is input;
+}
+untold_run policy requests lanes rounds r f NoMemory is fails finds without loads reads writes input nothing = record {
+  orderly = record { early = λ early. cc; loads = rw is loads; reads = rw is (omega (arith, reads)); writes = rw is writes };
+  once = record {
+    answer = rw is (none_over (AuditsPolicy (record { requests = r.files requests; lanes = lanes; rounds = rounds }) (record { before = r.before.input; after = r.after.input })) f (r.files policy) r.before.output r.after.output finds fails);
+    quiet = rw is fails;
+    untold = nothing;
+    reads = rw is reads;
+  };
+  without = rw is (late_without (r.files requests) NoMemory without);
+  reads = rw is input;
+}
+untold_run policy requests lanes rounds r f Nothing is fails finds without loads reads writes input nothing = absurd fails
+untold_run policy requests lanes rounds r f Found is fails finds without loads reads writes input nothing = absurd fails
+untold_run policy requests lanes rounds r f Usage is fails finds without loads reads writes input nothing = absurd fails
+untold_run policy requests lanes rounds r f (Policy e) is fails finds without loads reads writes input nothing = absurd fails
+untold_run policy requests lanes rounds r f Read is fails finds without loads reads writes input nothing = absurd fails
+untold_run policy requests lanes rounds r f Load is fails finds without loads reads writes input nothing = absurd fails
+untold_run policy requests lanes rounds r f FileTooLong is fails finds without loads reads writes input nothing = absurd fails
+untold_run policy requests lanes rounds r f (LineTooLong line) is fails finds without loads reads writes input nothing = absurd fails
+untold_run policy requests lanes rounds r f TooManyLines is fails finds without loads reads writes input nothing = absurd fails
+untold_run policy requests lanes rounds r f (BadInput e) is fails finds without loads reads writes input nothing = absurd fails
 
 -- nothing was found: so may every command end
 is_refusal : (fault : RunFault) → IsAuditEnding fault → answer.IsCommandEnding fault
@@ -151,7 +207,7 @@ refused_early (BadInput e) before after ending early reads = absurd ending
 
 refused_file : (A : PolicyShape → RunFault → List ℕ → Type 0) (filed : Filed) (fault : RunFault) (before after : Option (List ℕ)) → IsAuditEnding fault → FindsFile A filed (Err fault)
     → after ≡ before → OverFile filed fault (λ file. Ends (OverPolicy A file) before after fault)
-refused_file A untold fault before after ending h same = tt
+refused_file A untold fault before after ending h same = (h.0, ends_refused (OverPolicy A h.0) before after fault (is_refusal fault ending) h.1 same)
 refused_file A missing fault before after ending h same = cc
 refused_file A (told file) fault before after ending h same = ends_refused (OverPolicy A file) before after fault (is_refusal fault ending) h same
 

@@ -13,9 +13,9 @@ RequestsOf file (Ok bytes) = (length file ≤ REQUESTS_FILE_LIMIT) × (bytes ≡
 RequestsOf file (Err FileTooLong) = REQUESTS_FILE_LIMIT < length file
 RequestsOf file (Err fault) = Unit {0}
 
--- the same by what is told; a missing file is a load fault
+-- the same by what is told; a missing file is a load fault, and one of which nothing is told has some content
 abbrev pub GivesRequests : Filed → Result (List ℕ) RunFault → Type 0
-GivesRequests untold result = Unit {0}
+GivesRequests untold result = (file : List ℕ) × RequestsOf file result
 GivesRequests missing result = result ≡ Err Load
 GivesRequests (told file) result = RequestsOf file result
 
@@ -27,6 +27,6 @@ JobsOf file lanes (Err FileTooLong) = REQUESTS_FILE_LIMIT < length file
 JobsOf file lanes (Err fault) = Unit {0}
 
 abbrev pub GivesJobs : Filed → ℕ → Result Batch RunFault → Type 0
-GivesJobs untold lanes result = Unit {0}
+GivesJobs untold lanes result = (file : List ℕ) × JobsOf file lanes result
 GivesJobs missing lanes result = result ≡ Err Load
 GivesJobs (told file) lanes result = JobsOf file lanes result

@@ -43,9 +43,9 @@ AuditsRequests p o i requests ending text =
     MatchBool (nat_lt REQUESTS_FILE_LIMIT (length requests)) (Refuses FileTooLong ending text)
     (Audits (audit_for p o requests) i ending text)
 
--- by what is told of the file; where it is missing nothing is answered
+-- by what is told of the file; where it is missing nothing is answered, and one of which nothing is told has some content
 abbrev pub AuditsFile : PolicyShape → AuditOf → Input → Filed → RunFault → List ℕ → Type 0
-AuditsFile p o i untold ending text = Unit {0}
+AuditsFile p o i untold ending text = (requests : List ℕ) × AuditsRequests p o i requests ending text
 AuditsFile p o i missing ending text = ⊥
 AuditsFile p o i (told requests) ending text = AuditsRequests p o i requests ending text
 

@@ -68,7 +68,7 @@ FindsAs Answers (Err fault) = AnswersAs Answers (Err fault)
 
 -- the same about the policy in a file, by what is told of the file
 abbrev pub FindsFile : (PolicyShape → RunFault → List ℕ → Type 0) → Filed → Result Finding RunFault → Type 0
-FindsFile Answers untold result = Unit {0}
+FindsFile Answers untold result = (file : List ℕ) × FindsAs (OverPolicy Answers file) result
 FindsFile Answers missing result = result ≡ Err Load
 FindsFile Answers (told file) result = FindsAs (OverPolicy Answers file) result
 

@@ -36,9 +36,7 @@ pub(crate) fn audit_input<V: Decider, S: Source>(
     ensures counts { CountsReadsAlone (fault_in result) (S.faults source.old)
         (S.faults source.new) }
 {
-    let Ok(mut reader) = LineReader::new(alloc, PIECE, TRANSCRIPT_LINE_LIMIT) else {
-        return Err(RunFault::NoMemory);
-    };
+    let mut reader = LineReader::new(alloc, PIECE, TRANSCRIPT_LINE_LIMIT)?;
     audit_lines(alloc, decider, auditor, &mut reader, source)
 }
 
@@ -65,10 +63,9 @@ fn audit_lines<V: Decider, S: Source>(
 {
     let mut number = 0;
     'auditing: loop {
-        match audit_line(alloc, decider, &mut auditor, number, reader, source) {
-            Ok(None) => number += 1,
-            Ok(Some(finding)) => return Ok(finding),
-            Err(fault) => return Err(fault),
+        match audit_line(alloc, decider, &mut auditor, number, reader, source)? {
+            None => number += 1,
+            Some(finding) => return Ok(finding),
         }
     }
 }

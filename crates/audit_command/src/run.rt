@@ -77,10 +77,8 @@ fn find<V: Decider, F: Shelf, S: Source>(
     ensures reads { CountsReadsAlone (fault_in result) (S.faults source.old) (S.faults source.new) }
     ensures input { ReadsAsAudit (fault_in result) (S.left source.old) (S.left source.new) }
 {
-    match load_policy(alloc, shelf, policy) {
-        Ok(p) => find_under(alloc, decider, p, requests, lanes, rounds, shelf, source),
-        Err(fault) => Err(fault),
-    }
+    let p = load_policy(alloc, shelf, policy)?;
+    find_under(alloc, decider, p, requests, lanes, rounds, shelf, source)
 }
 
 // The same under a policy.
@@ -106,13 +104,9 @@ fn find_under<V: Decider, F: Shelf, S: Source>(
     ensures reads { CountsReadsAlone (fault_in result) (S.faults source.old) (S.faults source.new) }
     ensures input { ReadsAsAudit (fault_in result) (S.left source.old) (S.left source.new) }
 {
-    match load_jobs(alloc, shelf, requests, lanes) {
-        Ok(batch) => match Auditor::new(alloc, policy, batch.jobs, batch.ends, rounds) {
-            Ok(auditor) => audit_input(alloc, decider, auditor, source),
-            Err(_) => Err(RunFault::NoMemory),
-        },
-        Err(fault) => Err(fault),
-    }
+    let batch = load_jobs(alloc, shelf, requests, lanes)?;
+    let auditor = Auditor::new(alloc, policy, batch.jobs, batch.ends, rounds)?;
+    audit_input(alloc, decider, auditor, source)
 }
 
 // Writes what is found, if it is something to write.
@@ -124,9 +118,7 @@ fn tell<K: Sink>(alloc: Global, finding: Finding, sink: &mut K) -> Result<(), Ru
     if let Finding::TooLong(_) = finding {
         return Ok(());
     }
-    let Ok(text) = finding.text(alloc) else {
-        return Err(RunFault::NoMemory);
-    };
+    let text = finding.text(alloc)?;
     match put_all(sink, text.as_bytes()) {
         Ok(()) => Ok(()),
         Err(_) => Err(RunFault::Write),

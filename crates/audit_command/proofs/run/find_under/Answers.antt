@@ -1,10 +1,30 @@
-use Rattle.std.proofs.Common.{[]}
-use Rattle.wf_outside.proofs.OutsideLaws.{nothing_taken}
-use Rattle.audit_command.proofs.Runs.{file_ending, unread}
+use Rattle.std.proofs.Common.{subst}
+use Rattle.std.specs.Prelude.{IfOk}
+use Rattle.run_record.specs.declared.fault.RunFault.TheVariants.{NoMemory}
+use Rattle.transcript_audit.specs.Audits.{AuditShape}
+use Rattle.audit_command.specs.Auditing.{HasFound}
+use Rattle.audit_command.proofs.Loaded.{finds_under, no_jobs}
+use Rattle.audit_command.proofs.Runs.{file_ending, unread_after}
 use Rattle.audit_command.proofs.run.find_under.Goals as goal
 
-pub returns-in-Err-new-clause-input : goal.returns-in-Err-new-clause-input
-returns-in-Err-new-clause-input g c = ([], nothing_taken (g.S.Source.left c.args.source.now))
+pub returns-in_err-batch-clause-finds : goal.returns-in_err-batch-clause-finds
+returns-in_err-batch-clause-finds g c =
+    no_jobs c.args.policy (record { requests = g.F.Shelf.file c.args.shelf.now c.args.requests.now; lanes = c.args.lanes; rounds = c.args.rounds })
+    (record { before = g.S.Source.left c.args.source.now; after = g.S.Source.left c.args.source.now })
+    c.from_residual.result c.in_err-batch.field-0.0 c.from_residual.ensures.1 c.in_err-batch.ensures.jobs c.in_err-batch.ensures.ending
 
-pub returns-in-Err-clause-input : goal.returns-in-Err-clause-input
-returns-in-Err-clause-input g c = unread c.in-Err.fault (g.S.Source.left c.args.source.now) (file_ending c.in-Err.fault c.in-Err.ensures.ending)
+pub returns-in_err-batch-clause-input : goal.returns-in_err-batch-clause-input
+returns-in_err-batch-clause-input g c =
+    unread_after c.from_residual.result c.in_err-batch.field-0.0 (g.S.Source.left c.args.source.now) c.from_residual.ensures.1 (file_ending c.in_err-batch.field-0.0 c.in_err-batch.ensures.ending)
+
+pub returns-in_err-auditor-clause-input : goal.returns-in_err-auditor-clause-input
+returns-in_err-auditor-clause-input g c =
+    unread_after c.from_residual-in_err-auditor.result NoMemory (g.S.Source.left c.args.source.now) c.from_residual-in_err-auditor.ensures.1 tt
+
+pub returns-clause-finds : goal.returns-clause-finds
+returns-clause-finds g c =
+    finds_under c.args.policy (record { requests = g.F.Shelf.file c.args.shelf.now c.args.requests.now; lanes = c.args.lanes; rounds = c.args.rounds })
+    (record { before = g.S.Source.left c.args.source.now; after = g.S.Source.left c.audit_input.new.source }) c.in_ok-batch.batch c.audit_input.result c.in_ok-batch.ensures.jobs
+    (subst (λ (a : AuditShape). IfOk c.audit_input.result (λ f. HasFound a f (g.S.Source.left c.args.source.now) (g.S.Source.left c.audit_input.new.source)))
+    c.in_ok-auditor.ensures c.audit_input.ensures.found)
+    c.audit_input.ensures.ending
