@@ -1,0 +1,21 @@
+use Rattle.std.proofs.Common.{rules}
+use Rattle.policy_book.specs.Facts.{IsSoundPolicy}
+use Rattle.wf_board.specs.States.{opening_state}
+use Rattle.wf_board.specs.Histories.{IsLegal}
+use Rattle.trial_maker.specs.TrialPolicy.{trial_policy}
+use Rattle.trial_command.proofs.session.serve_trial.Goals as goal
+
+pub returns : goal.returns
+returns g c =
+    let sound : IsSoundPolicy (trial_policy c.args.seed) = search rules in
+    let legal : IsLegal (opening_state (trial_policy c.args.seed)) 0 c.into_parts-entries.result.1.entries = search rules in
+    record {
+      jobs = search rules;
+      ends = search rules;
+      legal = legal;
+      fills = search rules;
+      turns = search rules;
+      once = search rules;
+      wants = search rules;
+      kept = c.histories_keep_completable.ensures (trial_policy c.args.seed) 0 c.into_parts-entries.result.1.entries sound legal;
+    }
