@@ -1,5 +1,5 @@
 -- How a session stands over the file of its policy.
-use Rattle.std.proofs.Common.{◌≡◌, ℕ, List, false, Ok, Err, inl, inr, refl, arith}
+use Rattle.std.proofs.Common.{◌≡◌, ℕ, List, false, Ok, Err, inl, inr, refl, sym, subst, arith}
 use Rattle.wf_outside.specs.Outside.{Filed, told, missing, untold}
 use Rattle.policy_book.specs.Shapes.{PolicyShape}
 use Rattle.run_record.specs.declared.fault.RunFault.{RunFault}
@@ -11,7 +11,7 @@ use Rattle.wf_server.specs.declared.serve.TheConstants.{PIECE}
 use Rattle.wf_server.specs.Sessions.{Served}
 use Rattle.wf_board.specs.Histories.{AreWantsRightful}
 use Rattle.command_words.specs.Words.{Options}
-use Rattle.wf_server.specs.Serving.{setting, EndsBefore, ServesFile}
+use Rattle.wf_server.specs.Serving.{setting, EndsBefore, ServesFile, ServesRun}
 
 ends_before : (file : List ℕ) (fault : RunFault) → PolicyOf file (Err fault) → IsLoadEnding fault → EndsBefore file fault
 ends_before file FileTooLong gives ending = gives
@@ -33,6 +33,50 @@ pub not_served : (f : Filed) (options : Options) (r : Run) → GivesPolicy f (Er
 not_served untold options r gives ending nothing = (gives.0, inl (ends_before gives.0 r.fault gives.1 ending, nothing))
 not_served missing options r gives ending nothing = cc
 not_served (told file) options r gives ending nothing = inl (ends_before file r.fault gives ending, nothing)
+
+no_reads : (fault : RunFault) (n : ℕ) → IsLoadEnding fault → CountsReads fault n n
+no_reads FileTooLong n ending = refl
+no_reads (Policy e) n ending = refl
+no_reads Load n ending = refl
+no_reads NoMemory n ending = omega arith
+no_reads Nothing n ending = absurd ending
+no_reads Found n ending = absurd ending
+no_reads Usage n ending = absurd ending
+no_reads Read n ending = absurd ending
+no_reads Write n ending = absurd ending
+no_reads (LineTooLong line) n ending = absurd ending
+no_reads TooManyLines n ending = absurd ending
+no_reads (BadInput e) n ending = absurd ending
+
+no_writes : (fault : RunFault) (n : ℕ) → IsLoadEnding fault → CountsWrites fault n n
+no_writes FileTooLong n ending = refl
+no_writes (Policy e) n ending = refl
+no_writes Load n ending = refl
+no_writes NoMemory n ending = refl
+no_writes Nothing n ending = absurd ending
+no_writes Found n ending = absurd ending
+no_writes Usage n ending = absurd ending
+no_writes Read n ending = absurd ending
+no_writes Write n ending = absurd ending
+no_writes (LineTooLong line) n ending = absurd ending
+no_writes TooManyLines n ending = absurd ending
+no_writes (BadInput e) n ending = absurd ending
+
+-- and so the run ended
+pub refused_run : (policy : List ℕ) (options : Options) (r : Run) (fault : RunFault) → r.fault ≡ fault → GivesPolicy (r.files policy) (Err fault) → IsLoadEnding fault → IsUntouched r
+    → CountsLoads fault r.load_faults r.load_faults_after → r.after.read_faults ≡ r.before.read_faults → r.after.write_faults ≡ r.before.write_faults → ServesRun policy options r
+refused_run policy options r fault is gives ending nothing loads reads writes =
+    let given : GivesPolicy (r.files policy) (Err r.fault) = subst (λ (x : RunFault). GivesPolicy (r.files policy) (Err x)) (sym is) gives in
+    let ends : IsLoadEnding r.fault = subst IsLoadEnding (sym is) ending in
+    record {
+      serves = not_served (r.files policy) options r given ends nothing;
+      orderly = record {
+        early = λ early. nothing;
+        loads = subst (λ (x : RunFault). CountsLoads x r.load_faults r.load_faults_after) (sym is) loads;
+        reads = subst (λ (n : ℕ). CountsReads r.fault r.before.read_faults n) (sym reads) (no_reads r.fault r.before.read_faults ends);
+        writes = subst (λ (n : ℕ). CountsWrites r.fault r.before.write_faults n) (sym writes) (no_writes r.fault r.before.write_faults ends);
+      };
+    }
 
 -- the policy was there, and was served
 pub is_served : (f : Filed) (p : PolicyShape) (options : Options) (r : Run) → GivesPolicy f (Ok p)

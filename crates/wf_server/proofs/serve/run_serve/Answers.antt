@@ -1,9 +1,9 @@
-use Rattle.std.proofs.Common.{sym, subst}
+use Rattle.std.proofs.Common.{refl, sym, subst}
 use Rattle.run_record.specs.Report.{Told}
 use Rattle.wf_board.specs.Histories.{AreAnsweredOnce}
 use Rattle.wf_board.specs.States.{opening_state}
 use Rattle.wf_server.proofs.WayLaws.{once_legal}
-use Rattle.wf_server.proofs.ServeLaws.{is_served, loads_late}
+use Rattle.wf_server.proofs.ServeLaws.{is_served, loads_late, refused_run}
 use Rattle.command_words.specs.Asked.{options_in}
 use Rattle.wf_server.proofs.serve.run_serve.Goals as goal
 
@@ -17,6 +17,11 @@ returns-in-Ok-clause-serves g c = record {
     writes = c.serve_policy.ensures.served.write_faults;
   };
 }
+
+pub returns-in-Err-clause-serves : goal.returns-in-Err-clause-serves
+returns-in-Err-clause-serves g c =
+    refused_run c.args.policy.now (options_in c.args.options) _ c.in-Err.fault c.bare_report.ensures.fault c.in-Err.ensures.policy c.in-Err.ensures.ending
+    (record { unread = refl; unwritten = refl; untold = c.bare_report.ensures.told }) c.in-Err.ensures.loads refl refl
 
 pub returns-in-Err-clause-once : goal.returns-in-Err-clause-once
 returns-in-Err-clause-once g c serves = subst (λ (t : Told). AreAnsweredOnce t.entries) (sym c.bare_report.ensures.told) tt
