@@ -7,7 +7,7 @@ use Rattle.wf_outside.specs.Outside.{HasTaken, IsAtEnd, bytes_before}
 use Rattle.wf_outside.proofs.OutsideLaws.{more_taken}
 use Rattle.wf_talk.specs.declared.job.Job.{Job}
 use Rattle.line_cutter.specs.declared.stop.Stop.{Stop}
-use Rattle.line_cutter.specs.Jobs.{Cut, start, cut_all, flush, end_batch, jobs_of_input, UpToAnEnd}
+use Rattle.line_cutter.specs.Jobs.{Cut, cut_all, flush, end_batch, jobs_from, UpToAnEnd}
 use Rattle.line_cutter.specs.Cutter.{Cuts, IsEnded, after_handing, ends_after, emptied}
 use Rattle.line_cutter.specs.CutLaws.{cut_all-append, handed_all, handed_finish, handed_over, closed_after, up_to_end, stopped, finished_stop}
 use Rattle.batch_reader.specs.declared.reader.Paused.{Paused}
@@ -27,14 +27,14 @@ cut_more before after h r s more cuts none pending read =
     let behind : more ≡ cuts.front ++ cuts.last ∷ [] = cuts.whole in
     let all : bytes ++ more ≡ (bytes ++ cuts.front) ++ cuts.last ∷ [] =
     ap (λ xs. bytes ++ xs) behind ∙ sym (append_assoc bytes cuts.front (cuts.last ∷ [])) in
-    let before_last : cut_all (start h.lanes) (bytes ++ cuts.front) ≡ after_handing h.jobs h.batch_ends (cut_all r.cut cuts.front) =
-    cut_all-append (start h.lanes) bytes cuts.front ∙ ap (λ c. cut_all c cuts.front) (sym read.cut) ∙ handed_all h.jobs h.batch_ends r.cut cuts.front in
+    let before_last : cut_all h.first (bytes ++ cuts.front) ≡ after_handing h.jobs h.batch_ends (cut_all r.cut cuts.front) =
+    cut_all-append h.first bytes cuts.front ∙ ap (λ c. cut_all c cuts.front) (sym read.cut) ∙ handed_all h.jobs h.batch_ends r.cut cuts.front in
     record {
       front = bytes ++ cuts.front;
       last = cuts.last;
       taken = read.taken ∙ ap (λ xs. bytes_before xs after) (ap (λ xs. bytes ++ xs) pending ∙ sym (append_assoc bytes more s.pending) ∙ ap (λ xs. xs ++ s.pending) all);
       cut = ap (after_handing h.jobs h.batch_ends) cuts.cut ∙ sym (handed_all h.jobs h.batch_ends r.cut more) ∙ ap (λ c. cut_all c more) read.cut
-          ∙ sym (cut_all-append (start h.lanes) bytes more) ∙ ap (cut_all (start h.lanes)) all;
+          ∙ sym (cut_all-append h.first bytes more) ∙ ap (cut_all h.first) all;
       closed = read.closed;
       none = ap (λ (c : Cut). c.ends) before_last ∙ ap (λ es. h.batch_ends ++ map (λ n. length h.jobs + n) es) (cuts.none ∙ none) ∙ append-nil h.batch_ends;
       going = ap (λ (c : Cut). c.stop) before_last ∙ cuts.going;
@@ -67,12 +67,12 @@ split_between bytes at filled n begun =
 
 -- what was read is up to an end
 pub up_read : (before after : Option (List ℕ)) (h : Handed) (r : ReaderShape) → HasRead before after h r → IsReadUp before after h
-unfolding jobs_of_input
+unfolding jobs_from
 up_read before after h r read =
     let rest : Cut = cut_all r.cut r.pending in
-    let whole : cut_all (start h.lanes) (read.bytes ++ r.pending) ≡ after_handing h.jobs h.batch_ends rest =
-    cut_all-append (start h.lanes) read.bytes r.pending ∙ ap (λ c. cut_all c r.pending) (sym read.cut) ∙ handed_all h.jobs h.batch_ends r.cut r.pending in
-    let all : end_batch (flush false (cut_all (start h.lanes) (read.bytes ++ r.pending))) ≡ after_handing h.jobs h.batch_ends (end_batch (flush false rest)) =
+    let whole : cut_all h.first (read.bytes ++ r.pending) ≡ after_handing h.jobs h.batch_ends rest =
+    cut_all-append h.first read.bytes r.pending ∙ ap (λ c. cut_all c r.pending) (sym read.cut) ∙ handed_all h.jobs h.batch_ends r.cut r.pending in
+    let all : end_batch (flush false (cut_all h.first (read.bytes ++ r.pending))) ≡ after_handing h.jobs h.batch_ends (end_batch (flush false rest)) =
     ap (λ c. end_batch (flush false c)) whole ∙ handed_finish h.jobs h.batch_ends rest false in
     record {
       bytes = read.bytes ++ r.pending;
@@ -98,7 +98,7 @@ read_by before after h r NoMemory read = read
 
 -- a batch that has ended is handed over
 batch_over : (before after : Option (List ℕ)) (h : Handed) (r : ReaderShape) (cut : HasCut before after h r) → IsEnded r.cut
-    → after_handing (h.jobs ++ r.cut.jobs) (ends_after h.batch_ends (length h.jobs) r.cut.jobs) (emptied r.cut) ≡ cut_all (start h.lanes) (cut.front ++ cut.last ∷ [])
+    → after_handing (h.jobs ++ r.cut.jobs) (ends_after h.batch_ends (length h.jobs) r.cut.jobs) (emptied r.cut) ≡ cut_all h.first (cut.front ++ cut.last ∷ [])
 batch_over before after h r cut ended = sym (handed_over h.jobs h.batch_ends r.cut ended) ∙ cut.cut
 
 batch_read : (before after : Option (List ℕ)) (h : Handed) (r : ReaderShape) → HasCut before after h r → IsEnded r.cut
@@ -128,8 +128,8 @@ batch_paused before after h r cut ended some ahead =
 
 -- the input was ended, and the last batch is handed over
 finish_over : (before after : Option (List ℕ)) (ended : Bool) (h : Handed) (r : ReaderShape) (d : Cut) (read : HasRead before after h r) → d ≡ end_batch (flush ended r.cut) → IsEnded d
-    → jobs_of_input read.bytes ended h.lanes ≡ after_handing (h.jobs ++ d.jobs) (ends_after h.batch_ends (length h.jobs) d.jobs) (emptied d)
-unfolding jobs_of_input
+    → jobs_from h.first read.bytes ended ≡ after_handing (h.jobs ++ d.jobs) (ends_after h.batch_ends (length h.jobs) d.jobs) (emptied d)
+unfolding jobs_from
 finish_over before after ended h r d read is closed =
     ap (λ c. end_batch (flush ended c)) (sym read.cut) ∙ handed_finish h.jobs h.batch_ends r.cut ended ∙ ap (after_handing h.jobs h.batch_ends) (sym is)
     ∙ handed_over h.jobs h.batch_ends d closed
@@ -171,12 +171,12 @@ stop_read before after h r d stop cut is closed stops ahead =
 -- its jobs are up to an end, where nothing is pending or the cutting has stopped
 all_up : (before after : Option (List ℕ)) (ended : Bool) (h : Handed) (r : ReaderShape) (d : Cut) → HasRead before after h r → d ≡ end_batch (flush ended r.cut) → IsEnded d
     → cut_all r.cut r.pending ≡ r.cut → (ended ≡ true → IsAtEnd after) → IsReadUp before after (handed_more h d.jobs)
-unfolding jobs_of_input
+unfolding jobs_from
 all_up before after ended h r d read is closed rest at_end =
-    let cut : cut_all (start h.lanes) (read.bytes ++ r.pending) ≡ after_handing h.jobs h.batch_ends r.cut =
-    cut_all-append (start h.lanes) read.bytes r.pending ∙ ap (λ c. cut_all c r.pending) (sym read.cut) ∙ handed_all h.jobs h.batch_ends r.cut r.pending
+    let cut : cut_all h.first (read.bytes ++ r.pending) ≡ after_handing h.jobs h.batch_ends r.cut =
+    cut_all-append h.first read.bytes r.pending ∙ ap (λ c. cut_all c r.pending) (sym read.cut) ∙ handed_all h.jobs h.batch_ends r.cut r.pending
     ∙ ap (after_handing h.jobs h.batch_ends) rest in
-    let over : end_batch (flush ended (cut_all (start h.lanes) (read.bytes ++ r.pending))) ≡ after_handing (h.jobs ++ d.jobs) (ends_after h.batch_ends (length h.jobs) d.jobs) (emptied d) =
+    let over : end_batch (flush ended (cut_all h.first (read.bytes ++ r.pending))) ≡ after_handing (h.jobs ++ d.jobs) (ends_after h.batch_ends (length h.jobs) d.jobs) (emptied d) =
     ap (λ c. end_batch (flush ended c)) cut ∙ handed_finish h.jobs h.batch_ends r.cut ended ∙ ap (after_handing h.jobs h.batch_ends) (sym is) ∙ handed_over h.jobs h.batch_ends d closed in
     record {
       bytes = read.bytes ++ r.pending;

@@ -2,7 +2,7 @@
 use Rattle.std.specs.Prelude.{◌≡◌, ℕ, ◌+◌, ◌-◌, ◌*◌, ◌<◌, Bool, true, false, List, [], ◌∷◌, ◌++◌, length, Option, None, Some}
 use Rattle.std.proofs.Common.{◌⊎◌}
 use Rattle.wf_outside.specs.Outside.{HasTaken, IsAtEnd}
-use Rattle.line_cutter.specs.Jobs.{Cut, start, cut_all, flush, end_batch, last_or}
+use Rattle.line_cutter.specs.Jobs.{Cut, cut_all, flush, end_batch, last_or}
 use Rattle.line_cutter.specs.Cutter.{after_handing, IsEnded}
 use Rattle.batch_reader.specs.declared.reader.Paused.{Paused}
 use Rattle.batch_reader.specs.declared.reader.Paused.TheVariants.{Batch, End, Failed, Stopped, NoMemory}
@@ -13,10 +13,10 @@ pub record HasCut (before after : Option (List ℕ)) (h : Handed) (r : ReaderSha
   pub front : List ℕ
   pub last : ℕ
   pub taken : HasTaken before after ((front ++ last ∷ []) ++ r.pending)
-  pub cut : after_handing h.jobs h.batch_ends r.cut ≡ cut_all (start h.lanes) (front ++ last ∷ [])
+  pub cut : after_handing h.jobs h.batch_ends r.cut ≡ cut_all h.first (front ++ last ∷ [])
   pub closed : last_or 0 h.batch_ends ≡ length h.jobs
-  pub none : (cut_all (start h.lanes) front).ends ≡ h.batch_ends
-  pub going : (cut_all (start h.lanes) front).stop ≡ None
+  pub none : (cut_all h.first front).ends ≡ h.batch_ends
+  pub going : (cut_all h.first front).stop ≡ None
 
 -- what was read where reading paused so, before the jobs are handed over
 abbrev pub PausesBy : Option (List ℕ) → Option (List ℕ) → Handed → ReaderShape → Paused → Type 0

@@ -3,7 +3,7 @@ use Rattle.std.specs.Prelude.{◌≡◌, ℕ, ◌-◌, ◌<◌, ◌≤◌, Bool,
 use Rattle.wf_outside.specs.Outside.{Rose, HasTaken, IsAtEnd}
 use Rattle.wf_talk.specs.declared.job.Job.{Job}
 use Rattle.line_cutter.specs.declared.stop.Stop.{Stop}
-use Rattle.line_cutter.specs.Jobs.{Cut, start, cut_all, jobs_of_input, last_or, UpToAnEnd}
+use Rattle.line_cutter.specs.Jobs.{Cut, cut_all, jobs_from, last_or, UpToAnEnd}
 use Rattle.line_cutter.specs.Cutter.{after_handing, ends_after, place, last_place}
 use Rattle.batch_reader.specs.declared.reader.Paused.{Paused}
 use Rattle.batch_reader.specs.declared.reader.Paused.TheVariants.{Batch, End, Failed, Stopped, NoMemory}
@@ -14,23 +14,23 @@ pub record ReaderShape : Type 0 where
   pub pending : List ℕ
   pub room : ℕ
 
--- jobs for so many lanes with the ends of their batches, as they were handed over
+-- jobs with the ends of their batches, as they were handed over, and how far the cutting was before
 pub record Handed : Type 0 where
-  pub lanes : ℕ
+  pub first : Cut
   pub jobs : List Job
   pub batch_ends : List ℕ
 
 -- what is handed over, with one more batch
 abbrev pub handed_more : Handed → List Job → Handed
 handed_more h more =
-    record { lanes = h.lanes; jobs = h.jobs ++ more; batch_ends = ends_after h.batch_ends (length h.jobs) more }
+    record { first = h.first; jobs = h.jobs ++ more; batch_ends = ends_after h.batch_ends (length h.jobs) more }
 
 -- of what a source gave that had `before` left and has `after` left, all is cut but what is pending, and the rest is
 -- not handed over yet
 pub record HasRead (before after : Option (List ℕ)) (h : Handed) (r : ReaderShape) : Type 0 where
   pub bytes : List ℕ
   pub taken : HasTaken before after (bytes ++ r.pending)
-  pub cut : after_handing h.jobs h.batch_ends r.cut ≡ cut_all (start h.lanes) bytes
+  pub cut : after_handing h.jobs h.batch_ends r.cut ≡ cut_all h.first bytes
   pub closed : last_or 0 h.batch_ends ≡ length h.jobs
 
 -- all is handed over up to the end of a batch, which the last byte that was cut has ended; less than one piece was
@@ -40,9 +40,9 @@ pub record HasPaused (before after : Option (List ℕ)) (room : ℕ) (h : Handed
   pub last : ℕ
   pub rest : List ℕ
   pub taken : HasTaken before after ((front ++ last ∷ []) ++ rest)
-  pub jobs : h.jobs ≡ (cut_all (start h.lanes) (front ++ last ∷ [])).jobs
-  pub ends : h.batch_ends ≡ (cut_all (start h.lanes) (front ++ last ∷ [])).ends
-  pub before_last : length (cut_all (start h.lanes) front).ends < length h.batch_ends
+  pub jobs : h.jobs ≡ (cut_all h.first (front ++ last ∷ [])).jobs
+  pub ends : h.batch_ends ≡ (cut_all h.first (front ++ last ∷ [])).ends
+  pub before_last : length (cut_all h.first front).ends < length h.batch_ends
   pub ahead : length rest < room
 
 -- all that the source gave is handed over, to its end where the input has ended, and no limit was met
@@ -50,9 +50,9 @@ pub record HasReadAll (before after : Option (List ℕ)) (ended : Bool) (h : Han
   pub bytes : List ℕ
   pub taken : HasTaken before after bytes
   pub at_end : ended ≡ true → IsAtEnd after
-  pub jobs : h.jobs ≡ (jobs_of_input bytes ended h.lanes).jobs
-  pub ends : h.batch_ends ≡ (jobs_of_input bytes ended h.lanes).ends
-  pub going : (jobs_of_input bytes ended h.lanes).stop ≡ None
+  pub jobs : h.jobs ≡ (jobs_from h.first bytes ended).jobs
+  pub ends : h.batch_ends ≡ (jobs_from h.first bytes ended).ends
+  pub going : (jobs_from h.first bytes ended).stop ≡ None
 
 -- all is handed over up to where the cutting stopped, which it did at the last byte that was cut; less than one piece
 -- was taken past that
@@ -61,10 +61,10 @@ pub record HasStopped (before after : Option (List ℕ)) (room : ℕ) (stop : St
   pub last : ℕ
   pub rest : List ℕ
   pub taken : HasTaken before after ((front ++ last ∷ []) ++ rest)
-  pub jobs : h.jobs ≡ (jobs_of_input (front ++ last ∷ []) false h.lanes).jobs
-  pub ends : h.batch_ends ≡ (jobs_of_input (front ++ last ∷ []) false h.lanes).ends
-  pub before_last : (cut_all (start h.lanes) front).stop ≡ None
-  pub stopped : (jobs_of_input (front ++ last ∷ []) false h.lanes).stop ≡ Some stop
+  pub jobs : h.jobs ≡ (jobs_from h.first (front ++ last ∷ []) false).jobs
+  pub ends : h.batch_ends ≡ (jobs_from h.first (front ++ last ∷ []) false).ends
+  pub before_last : (cut_all h.first front).stop ≡ None
+  pub stopped : (jobs_from h.first (front ++ last ∷ []) false).stop ≡ Some stop
   pub ahead : length rest < room
 
 -- jobs and ends that are those of what was taken, up to an end of a batch
@@ -73,7 +73,7 @@ pub record IsReadUp (before after : Option (List ℕ)) (h : Handed) : Type 0 whe
   pub ended : Bool
   pub taken : HasTaken before after bytes
   pub at_end : ended ≡ true → IsAtEnd after
-  pub up : UpToAnEnd h.jobs h.batch_ends (jobs_of_input bytes ended h.lanes)
+  pub up : UpToAnEnd h.jobs h.batch_ends (jobs_from h.first bytes ended)
 
 -- what was read where reading paused so, at most so many bytes at once
 abbrev pub ReadsTo : Option (List ℕ) → Option (List ℕ) → ℕ → Handed → Paused → Type 0

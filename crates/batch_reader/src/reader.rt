@@ -1,7 +1,8 @@
 //! Reading an input up to the end of each batch, and no further than the piece in which it ends.
 ghost use Rattle.std.specs.Prelude.{◌≡◌, ◌≢◌, ◌≤◌, ◌<◌, ◌+◌, ◌-◌, ◌*◌, ℕ, List, [], length, take, Option, None, Some, true, false, IfOk, OnOk, OnErr, Ok, MatchResult};
 ghost use Rattle.wf_outside.specs.Outside.{Rose, HasTaken, IsAtEnd};
-ghost use Rattle.line_cutter.specs.Jobs.{start};
+ghost use Rattle.wf_names.specs.declared.limits.TheConstants.{SESSION_LINE_LIMIT};
+ghost use Rattle.line_cutter.specs.Jobs.{start_at};
 ghost use Rattle.line_cutter.specs.Cutter.{IsEnded};
 ghost use Rattle.batch_reader.specs.Reading.{ReaderShape, Handed, handed_more, HasRead, IsReadUp, ReadsTo, IsReady, CountsAs, left_to_read};
 ghost use Rattle.batch_reader.specs.Pausing.{HasCut, PausesBy, AdvancesTo, PausesAs, StepsAs, ClosesAs, FinishesAs, CountsStep};
@@ -60,14 +61,22 @@ impl Model for Reader {
 }
 
 impl Reader {
-    /// A reader before the first byte, that takes at most so many bytes at once.
-    pub fn new(alloc: Global, lanes: u8, room: usize) -> Result<Reader, AllocError>
-        requires { 0 < room }
-        ensures { IfOk result (λ r. r ≡ record { cut = start lanes; pending = []; room = room }) }
+    /// A reader before the first byte, that counts lines from a number on, and takes at most so many
+    /// bytes at once.
+    pub fn new(
+        alloc: Global,
+        lanes: u8,
+        number: u32,
+        room: usize,
+    ) -> Result<Reader, AllocError>
+        requires room { 0 < room }
+        requires number { number ≤ SESSION_LINE_LIMIT }
+        ensures { IfOk result (λ r. r
+            ≡ record { cut = start_at lanes number; pending = []; room = room }) }
     {
         Ok(Reader {
             alloc,
-            cutter: Cutter::new(alloc, lanes),
+            cutter: Cutter::new(alloc, lanes, number),
             piece: vec![in alloc; 0u8; room]?,
             at: 0,
             filled: 0,

@@ -45,6 +45,14 @@ place_found n (r ∷ rs) (suc i) d e h is =
     let next = next_prefix i _ _ e in
     (eq_below _ _ (lt_back _ _ next.0), place_found n rs i d next.1 (omega arith) is)
 
+-- a row that has a number stands at its place
+pub stands_place : (low n : ℕ) (rows : List Row) (i : ℕ) (d : Row) → AscendFrom low rows → i < length rows → (slice_index_or rows i d).number ≡ n → IsRowPlace n rows i
+stands_place low n [] i d order h is = absurd (omega (arith, h))
+stands_place low n (r ∷ rs) zero d order h is = eq_is _ _ is
+stands_place low n (r ∷ rs) (suc i) d order h is =
+    let above = low_bound (r.number + 1) rs i d order.1 (omega (arith, h)) in
+    (eq_below _ _ (omega (arith, above, is)), stands_place (r.number + 1) n rs i d order.1 (omega (arith, h)) is)
+
 pub none_below : (low n : ℕ) (rows : List Row) → AscendFrom low rows → n < low → row_at n rows ≡ None
 none_below low n [] order h = refl
 none_below low n (r ∷ rs) order h = rw (eq_above r.number n (omega (arith, order.0, h))) (none_below (r.number + 1) n rs order.1 (omega (arith, order.0, h)))

@@ -51,8 +51,20 @@ fn place_from(rows: &[Row], n: u32) -> usize
     rows.partition_point(|row| (row.number as u32) < n)
 }
 
-/// Where the row with a number stands.
+/// Where the row with a number stands: where none is left out, at its number.
 fn find(rows: &[Row], n: u16) -> Option<usize>
+    requires { AscendFrom 0 rows.now }
+    ensures { MatchOption result (row_at n rows.now ≡ None) (λ i. IsRowFound n rows.now i) }
+{
+    let at = n as usize;
+    if at < rows.len() && rows[at].number == n {
+        return Some(at);
+    }
+    search(rows, n)
+}
+
+/// The same by halving.
+fn search(rows: &[Row], n: u16) -> Option<usize>
     requires { AscendFrom 0 rows.now }
     ensures { MatchOption result (row_at n rows.now ≡ None) (λ i. IsRowFound n rows.now i) }
 {

@@ -6,7 +6,7 @@ use Rattle.std.proofs.lemmas.List.{length-append, append-nil, take-append-drop, 
 use Rattle.std.proofs.Math.Seq.{take-add}
 use Rattle.wf_names.specs.declared.limits.TheConstants.{SESSION_LINE_LIMIT}
 use Rattle.wf_talk.specs.declared.job.Job.{Job}
-use Rattle.line_cutter.specs.Jobs.{Cut, start, end_batch, end_full_batch, end_line, step, cut_all, flush, jobs_of_input}
+use Rattle.line_cutter.specs.Jobs.{Cut, start, end_batch, end_full_batch, end_line, step, cut_all, flush, jobs_from, jobs_of_input}
 use Rattle.line_cutter.specs.Cutter.{IsSound, IsEnded, Cuts, emptied, ends_after, after_handing}
 use Rattle.line_cutter.specs.CutLaws.{cut_all-append, handed_all, handed_finish, handed_over, stopped}
 use Rattle.line_cutter.specs.Laws.{AreInOrder, AreNamedJobs}
@@ -133,13 +133,13 @@ few_cut lanes bytes jobs batch batch_ends c e is =
 
 pub whole_cut : (lanes : ℕ) (bytes : List ℕ) (jobs : List Job) (batch_ends : List ℕ) (c d : Cut) → HasCutUp lanes jobs batch_ends c bytes
     → d ≡ end_batch (flush true c) → after_handing jobs batch_ends d ≡ jobs_of_input bytes true lanes
-unfolding jobs_of_input
+unfolding jobs_from
 whole_cut lanes bytes jobs batch_ends c d before is =
     ap (after_handing jobs batch_ends) is ∙ sym (handed_finish jobs batch_ends c true) ∙ ap (λ x. end_batch (flush true x)) before.cut
 
 pub few_whole : (lanes : ℕ) (bytes : List ℕ) (jobs batch : List Job) (batch_ends : List ℕ) (c d : Cut) → HasCutUp lanes jobs batch_ends c bytes
     → d ≡ end_batch (flush true c) → batch ≡ d.jobs → length jobs + length batch ≤ SESSION_LINE_LIMIT
-unfolding jobs_of_input
+unfolding jobs_from
 few_whole lanes bytes jobs batch batch_ends c d before is batch_is =
     let few : length (jobs_of_input bytes true lanes).jobs ≤ SESSION_LINE_LIMIT = few_finish (cut_all (start lanes) bytes) (few_all (start lanes) bytes (few_start lanes)) in
     let same : length (jobs ++ d.jobs) ≡ length (jobs_of_input bytes true lanes).jobs = ap (λ (x : Cut). length x.jobs) (whole_cut lanes bytes jobs batch_ends c d before is) in

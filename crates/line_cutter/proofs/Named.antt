@@ -19,7 +19,7 @@ use Rattle.wf_talk.specs.declared.request.Bad.TheVariants.{Syntax, Object, Do, L
 use Rattle.wire_json.specs.declared.request.Asked.{Asked}
 use Rattle.wire_json.specs.Values.{value_of}
 use Rattle.wire_json.specs.Requests.{Row, Reading, rows, edits, row_of, by, the_name, text_at, lane_at, has_form, has_only, request_by, asked_by, change_by, what_if_by, what_if_in, reading_of, request_in, asked, asked_of}
-use Rattle.line_cutter.specs.Jobs.{Cut, start, without_cr, job_of, end_batch, end_full_batch, next_line, with_job, end_line, step, cut_all, flush, jobs_of_input}
+use Rattle.line_cutter.specs.Jobs.{Cut, start, without_cr, job_of, end_batch, end_full_batch, next_line, with_job, end_line, step, cut_all, flush, jobs_from, jobs_of_input}
 use Rattle.wf_talk.specs.Jobs.{IsNamedAsk, IsNamedBad}
 use Rattle.line_cutter.specs.Laws.{AreNamedJobs, JobsAreNamed}
 
@@ -229,6 +229,6 @@ named_flush c ended h =
     named_if ended _ c (named_if (is_some c.stop) c _ h (named_if (length c.line == 0) c _ h (named_job c c.line h))) h
 
 pub jobs_are_named : (lanes : ℕ) → JobsAreNamed lanes
-unfolding jobs_of_input
+unfolding jobs_from
 jobs_are_named lanes bytes ended =
     named_end (flush ended (cut_all (start lanes) bytes)) (named_flush (cut_all (start lanes) bytes) ended (named_all (start lanes) bytes tt))

@@ -1,5 +1,5 @@
 -- The jobs of every input are in order.
-use Rattle.std.proofs.Common.{refl, subst, ◌∙◌, arith}
+use Rattle.std.proofs.Common.{◌⊎◌, inl, inr, nat_eq, None, refl, sym, subst, ◌∙◌, arith}
 use Rattle.std.specs.Prelude.{◌≡◌, ℕ, ◌+◌, ◌==◌, ◌<◌, ◌≤◌, nat_lt, nat_le, Bool, true, false, List, [], ◌∷◌, ◌++◌, length, is_some, if◌then◌else◌}
 use Rattle.std.proofs.lemmas.Grind.{common_steps}
 use Rattle.std.proofs.lemmas.List.{length-append}
@@ -7,7 +7,7 @@ use Rattle.wf_names.specs.declared.limits.TheConstants.{LINE_LIMIT, SESSION_LINE
 use Rattle.wf_talk.specs.declared.job.Job.{Job}
 use Rattle.wf_talk.specs.Jobs.{AreOfLanes}
 use Rattle.wire_json.specs.RequestLaws.{lane_below}
-use Rattle.line_cutter.specs.Jobs.{Cut, start, without_cr, job_of, end_batch, end_full_batch, next_line, with_job, end_line, step, cut_all, flush, jobs_of_input}
+use Rattle.line_cutter.specs.Jobs.{Cut, start, without_cr, job_of, end_batch, end_full_batch, next_line, with_job, end_line, step, cut_all, flush, jobs_from, jobs_of_input, next_input}
 use Rattle.line_cutter.specs.Laws.{AscendFrom, LeadTo, AreInOrder, JobsAreInOrder}
 
 -- the line after the last of the jobs
@@ -32,7 +32,7 @@ lead_push before total end [] lead above within = (omega (arith, lead), omega (a
 lead_push before total end (e ∷ es) lead above within = (lead.0, lead.1, lead_push e total end es lead.2 above within)
 
 -- what the cutting keeps; within a step a batch may have one line more
-record Keeps (lanes spare : ℕ) (c : Cut) : Type 0 where
+pub record Keeps (lanes spare : ℕ) (c : Cut) : Type 0 where
   pub same : c.lanes ≡ lanes
   pub number : c.number ≤ SESSION_LINE_LIMIT
   pub within : 0 < length c.line → c.number < SESSION_LINE_LIMIT
@@ -259,8 +259,57 @@ in_order_end lanes c h =
       ends = subst (LeadTo 0 c.ends) same h.ends;
     })
 
+-- ---- another input
+
+bool_cases : (b : Bool) → (b ≡ true) ⊎ (b ≡ false)
+bool_cases true = inl refl
+bool_cases false = inr refl
+
+keeps_one : (lanes : ℕ) (c : Cut) → Keeps lanes 0 c → Keeps lanes 1 c
+keeps_one lanes c k = record {
+  same = k.same;
+  number = k.number;
+  within = k.within;
+  few = k.few;
+  lines = k.lines;
+  next = k.next;
+  of_lanes = k.of_lanes;
+  ends = k.ends;
+  begins = k.begins;
+  batch = let h = k.batch in omega arith;
+}
+
+ends_kept : (c : Cut) → ((end_batch c).lanes ≡ c.lanes) × ((end_batch c).number ≡ c.number) × ((end_batch c).line ≡ c.line) × ((end_batch c).jobs ≡ c.jobs)
+unfolding end_batch
+ends_kept c = grind (arith, common_steps)
+
+next_empty : (c : Cut) → c.stop ≡ None → length c.line ≡ 0 → next_input (end_batch (flush true c)) ≡ record (end_batch c) { line = [] }
+unfolding flush end_batch
+next_empty c going empty = grind (arith, common_steps)
+
+next_full : (c : Cut) → c.stop ≡ None → 0 < length c.line → next_input (end_batch (flush true c)) ≡ end_batch (with_job c (job_of c.lanes c.number c.line))
+unfolding flush end_batch
+next_full c going full = grind (arith, common_steps)
+
+-- where one input has ended, another can be cut behind it
+pub next_keeps : (lanes : ℕ) (c : Cut) → 0 < lanes → Keeps lanes 0 c → c.stop ≡ None → Keeps lanes 0 (next_input (end_batch (flush true c)))
+next_keeps lanes c some k going = elim (bool_cases (nat_eq (length c.line) 0)) [
+  | inl empty ↦
+      let same = next_empty c going (grind (arith, common_steps)) in
+      let kept = keeps_end lanes c (keeps_one lanes c k) in
+      subst (Keeps lanes 0) (sym same) (keeps_still lanes (end_batch c) (record (end_batch c) { line = [] }) kept refl refl refl refl refl (λ line. absurd (omega (arith, line))))
+  | inr other ↦
+      let full : 0 < length c.line = grind (arith, common_steps) in
+      let same = next_full c going full in
+      let job = job_of c.lanes c.number c.line in
+      subst (Keeps lanes 0) (sym same) (keeps_end lanes (with_job c job) (keeps_job lanes c job k (k.within full) (job_below lanes c c.line k.same some) refl))
+]
+
+-- so are the jobs behind what was cut before, if that keeps what every cutting does
+pub in_order_from : (lanes : ℕ) (c : Cut) (bytes : List ℕ) (ended : Bool) → 0 < lanes → Keeps lanes 0 c → AreInOrder lanes (jobs_from c bytes ended).jobs (jobs_from c bytes ended).ends
+unfolding jobs_from
+in_order_from lanes c bytes ended some k =
+    in_order_end lanes (flush ended (cut_all c bytes)) (done_flush lanes (cut_all c bytes) ended some (keeps_all lanes c bytes some k))
+
 pub jobs_are_in_order : (lanes : ℕ) → 0 < lanes → JobsAreInOrder lanes
-unfolding jobs_of_input
-jobs_are_in_order lanes some bytes ended =
-    in_order_end lanes (flush ended (cut_all (start lanes) bytes)) (done_flush lanes (cut_all (start lanes) bytes) ended some
-    (keeps_all lanes (start lanes) bytes some (keeps_start lanes)))
+jobs_are_in_order lanes some bytes ended = in_order_from lanes (start lanes) bytes ended some (keeps_start lanes)

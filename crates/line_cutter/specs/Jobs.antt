@@ -17,9 +17,13 @@ pub record Cut : Type 0 where
   pub ends : List ℕ
   pub stop : Option Stop
 
--- before the first byte
+-- before the first byte, where lines are counted from a number on
+abbrev pub start_at : ℕ → ℕ → Cut
+start_at lanes number = record { lanes = lanes; line = []; number = number; jobs = []; from = 0; ends = []; stop = None }
+
+-- and where nothing was read before
 abbrev pub start : ℕ → Cut
-start lanes = record { lanes = lanes; line = []; number = 0; jobs = []; from = 0; ends = []; stop = None }
+start lanes = start_at lanes 0
 
 -- a line without one CR at its end
 unfoldable pub without_cr : List ℕ → List ℕ
@@ -77,9 +81,17 @@ flush ended c =
     record c { jobs = c.jobs ++ job_of c.lanes c.number c.line ∷ [] })
     else c
 
--- the jobs of bytes that were read, with the ends of their batches and where the cutting stopped
-unfoldable pub jobs_of_input : List ℕ → Bool → ℕ → Cut
-jobs_of_input bytes ended lanes = end_batch (flush ended (cut_all (start lanes) bytes))
+-- the jobs of bytes that were read, with the ends of their batches and where the cutting stopped, behind what was cut before
+unfoldable pub jobs_from : Cut → List ℕ → Bool → Cut
+jobs_from c bytes ended = end_batch (flush ended (cut_all c bytes))
+
+-- and where nothing was
+abbrev pub jobs_of_input : List ℕ → Bool → ℕ → Cut
+jobs_of_input bytes ended lanes = jobs_from (start lanes) bytes ended
+
+-- where the cutting goes on with another input: its lines are counted on from those of the one that has ended
+abbrev pub next_input : Cut → Cut
+next_input c = record c { line = []; number = c.number + (if length c.line == 0 then 0 else 1) }
 
 -- the last of a list, if it has one
 abbrev pub last_or : ℕ → List ℕ → ℕ

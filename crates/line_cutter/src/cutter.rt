@@ -41,16 +41,17 @@ impl Model for Cutter {
 }
 
 impl Cutter {
-    /// A cutter before the first byte.
-    pub fn new(alloc: Global, lanes: u8) -> Cutter
-        ensures start { result ≡ jobs.start lanes }
+    /// A cutter before the first byte, which counts lines from a number on.
+    pub fn new(alloc: Global, lanes: u8, number: u32) -> Cutter
+        requires { number ≤ SESSION_LINE_LIMIT }
+        ensures start { result ≡ jobs.start_at lanes number }
         ensures sound { IsSound result }
     {
         Cutter {
             alloc,
             lanes,
             line: Line::new(alloc),
-            number: 0,
+            number,
             jobs: Jobs::new(alloc),
             from: 0,
             ends: Ends::new(alloc),

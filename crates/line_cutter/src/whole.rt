@@ -25,7 +25,7 @@ pub fn jobs_of(alloc: Global, bytes: &[u8], lanes: u8) -> Result<Batch, AllocErr
     ensures order { IfOk result (λ batch. 0 < lanes → AreInOrder lanes batch.jobs batch.ends) }
     ensures named { IfOk result (λ batch. AreNamedJobs batch.jobs) }
 {
-    let mut cutter = Cutter::new(alloc, lanes);
+    let mut cutter = Cutter::new(alloc, lanes, 0);
     let mut whole = Batch {
         jobs: Jobs::new(alloc),
         ends: Ends::new(alloc),

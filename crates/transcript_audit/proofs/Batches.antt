@@ -191,13 +191,13 @@ slice_part from end jobs begins =
 
 -- ---- the first batches among the ends
 
-start_first : (before : ℕ) (ends : List ℕ) (k i : ℕ) → i ≤ k → k ≤ length ends → from_start before (take k ends) i ≡ from_start before ends i
+pub start_first : (before : ℕ) (ends : List ℕ) (k i : ℕ) → i ≤ k → k ≤ length ends → from_start before (take k ends) i ≡ from_start before ends i
 start_first before ends k zero within known = refl
 start_first before [] k (suc i) within known = absurd (omega (arith, within, known))
 start_first before (x ∷ xs) zero (suc i) within known = absurd (omega (arith, within))
 start_first before (x ∷ xs) (suc k) (suc i) within known = start_first x xs k i (omega (arith, within)) (omega (arith, known))
 
-start_rises : (before : ℕ) (ends : List ℕ) (total i k : ℕ) → LeadTo before ends total → i ≤ k → k ≤ length ends → from_start before ends i ≤ from_start before ends k
+pub start_rises : (before : ℕ) (ends : List ℕ) (total i k : ℕ) → LeadTo before ends total → i ≤ k → k ≤ length ends → from_start before ends i ≤ from_start before ends k
 start_rises before ends total zero k lead within known = start_behind before ends total k lead known
 start_rises before ends total (suc i) zero lead within known = absurd (omega (arith, within))
 start_rises before [] total (suc i) (suc k) lead within known = absurd (omega (arith, known))

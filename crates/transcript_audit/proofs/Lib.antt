@@ -7,3 +7,4 @@ pub mod Excludes
 pub mod Entering
 pub mod Looking
 pub mod Taking
+pub mod Parts

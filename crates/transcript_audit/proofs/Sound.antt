@@ -32,6 +32,7 @@ desk_of a k = record {
   spare = 0;
   jobs = jobs_in a.jobs a.batch_ends k;
   start = batch_start a.batch_ends k;
+  restored = 0;
   losses = [];
 }
 

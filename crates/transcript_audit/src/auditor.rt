@@ -2,6 +2,10 @@
 ghost use Rattle.std.specs.Prelude.{◌≡◌, ◌↔◌, ◌≤◌, ◌-◌, true, length, nat_eq, slice_index_or, IfOk, IfSome, IsErrOf, None, OnOk, Some};
 ghost use Rattle.wf_names.specs.declared.limits.TheConstants.{LANE_LIMIT};
 ghost use Rattle.line_cutter.specs.Laws.{AreInOrder};
+ghost use Rattle.wf_board.specs.Boards.{state_on};
+ghost use Rattle.wf_board.specs.Histories.{IsLegal};
+ghost use Rattle.wf_board.specs.States.{opening_state};
+ghost use Rattle.wf_desk.specs.Parts.{FillsPart};
 ghost use Rattle.entry_reader.specs.declared.fault.TextFault.TheVariants.{NotText};
 ghost use Rattle.entry_reader.specs.Lines.{HasNoReply, HasReply};
 ghost use Rattle.entry_reader.specs.Places.{place_of_line};
@@ -22,7 +26,7 @@ use std::alloc::{AllocError, Global};
 use std::marker::Model;
 use std::sync::Arc;
 use wf_board::{Board, Decider, Verdict, is_view};
-use wf_talk::{Ask, Ends, Job, Jobs, Reply};
+use wf_talk::{Ask, Ends, Job, Jobs, Journal, Reply};
 
 /// An audit of a transcript, line by line.
 #[derive(Drop)]
@@ -112,6 +116,20 @@ impl Auditor {
                 }
             }
         }
+    }
+
+    /// The board after the entries so far, the entries, and the jobs with the ends of their batches.
+    pub fn into_parts(self) -> (Board, Journal, Jobs, Ends)
+        ensures state { state_on result.0 ≡ state_now self }
+        ensures entries { result.1.entries ≡ self.entries }
+        ensures jobs { result.2 ≡ self.jobs }
+        ensures ends { result.3 ≡ self.batch_ends }
+        ensures legal { IsLegal (opening_state self.opening) self.rounds self.entries }
+        ensures part { FillsPart self.entries self.jobs self.batch_ends }
+    {
+        let Auditor { record, board } = self;
+        let (journal, jobs, ends) = record.into_parts();
+        (board, journal, jobs, ends)
     }
 
     // Takes one line, where none before was wrong.

@@ -3,6 +3,9 @@ ghost use Rattle.std.specs.Prelude.{◌≡◌, ◌≤◌, nat_eq, true, length, 
 ghost use Rattle.std.specs.Arc.{arc_value};
 ghost use Rattle.wf_names.specs.declared.limits.TheConstants.{LANE_LIMIT, SESSION_LINE_LIMIT};
 ghost use Rattle.line_cutter.specs.Laws.{AreInOrder};
+ghost use Rattle.wf_board.specs.Histories.{IsLegal};
+ghost use Rattle.wf_board.specs.States.{opening_state};
+ghost use Rattle.wf_desk.specs.Parts.{FillsPart};
 ghost use Rattle.transcript_audit.specs.Audits.{ComesNext, audit_of, next_job, present_jobs, present_start, with_entry};
 ghost use Rattle.transcript_audit.specs.Keeping.{entry_next, rests_on};
 ghost use Rattle.transcript_audit.specs.Outcomes.{IsWhole};
@@ -128,6 +131,18 @@ impl Record {
         ensures within { length self.now.audit.entries ≤ length self.now.audit.jobs }
     {
         self.journal.len() == self.jobs.len()
+    }
+
+    /// The entries so far, and the jobs with the ends of their batches.
+    pub fn into_parts(self) -> (Journal, Jobs, Ends)
+        ensures entries { result.0.entries ≡ self.audit.entries }
+        ensures jobs { result.1 ≡ self.audit.jobs }
+        ensures ends { result.2 ≡ self.audit.batch_ends }
+        ensures legal { IsLegal (opening_state self.audit.opening) self.audit.rounds
+            self.audit.entries }
+        ensures part { FillsPart self.audit.entries self.audit.jobs self.audit.batch_ends }
+    {
+        (self.journal, self.jobs, self.ends)
     }
 
     /// Whether so many entries of the batch behind a lane's last one count for what is asked, and

@@ -30,7 +30,7 @@ batch_served old loaded d batch spare cases is by_turns done sound = at (subst (
         let first : take d.start d.entries ≡ old.entries = ap (λ n. take n d.entries) on.grown.start ∙ ap (take (length old.entries)) on.grown.extends ∙ take-append_seam old.entries new in
         let rest : drop d.start d.entries ≡ new = ap (λ n. drop n d.entries) on.grown.start ∙ ap (drop (length old.entries)) on.grown.extends ∙ drop-append_seam old.entries new in
         record {
-          same = record { opening = on.grown.opening; lanes = on.grown.lanes; rounds = on.grown.rounds };
+          same = record { opening = on.grown.opening; lanes = on.grown.lanes; rounds = on.grown.rounds; restored = on.grown.restored };
           more = new;
           extends = on.grown.extends;
           answers = subst (λ es. AnswersBatch es new batch) first (subst (λ es. AnswersBatch (take d.start d.entries) es batch) rest
@@ -101,6 +101,7 @@ served_more first d e js batch ends so_far next = record {
     opening = next.same.opening ∙ so_far.same.opening;
     lanes = next.same.lanes ∙ so_far.same.lanes;
     rounds = next.same.rounds ∙ so_far.same.rounds;
+    restored = next.same.restored ∙ so_far.same.restored;
   };
   done = next.done;
   fills = subst (λ es. FillsJobs es (js ++ batch) (ends ++ (length js + length batch) ∷ [])) (sym next.extends)

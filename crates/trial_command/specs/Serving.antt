@@ -22,6 +22,7 @@ pub record IsSameSession (before after : DeskShape) : Type 0 where
   pub opening : after.opening ≡ before.opening
   pub lanes : after.lanes ≡ before.lanes
   pub rounds : after.rounds ≡ before.rounds
+  pub restored : after.restored ≡ before.restored
 
 -- the jobs of one more batch were served
 pub record HasServedBatch (before after : DeskShape) (batch : List Job) : Type 0 where

@@ -320,6 +320,7 @@ added_as d e j place P Q as_well added = record {
   rounds = added.rounds;
   jobs = added.jobs;
   start = added.start;
+  restored = added.restored;
   losses = added.losses;
 }
 

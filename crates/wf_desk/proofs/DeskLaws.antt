@@ -1,7 +1,7 @@
 -- A desk keeps what it is with one more entry, with one more loss, and with another batch.
 use Rattle.std.proofs.Common.{◌≡◌, ◌≢◌, ℕ, zero, suc, ◌+◌, ◌<◌, ◌≤◌, inl, inr, max, Bool, true, false, nat_eq, List, [], ◌∷◌, ◌++◌, length, take, drop, get_or, set, replicate, slice_get, slice_set, slice_index_or, Some, refl, sym, ap, subst, ◌∙◌, arith, if◌then◌else◌}
 use Rattle.std.proofs.lemmas.Grind.{common_steps}
-use Rattle.std.proofs.lemmas.List.{length-append, get_or-set_same, get_or-set_other, take_more}
+use Rattle.std.proofs.lemmas.List.{drop-append-le, length-append, get_or-set_same, get_or-set_other, take_more}
 use Rattle.std.proofs.lemmas.Option.{get_or_from_slice_get, slice_get_within}
 use Rattle.basics.proofs.Booleans.{bool_cases, eq_back, eq_is}
 use Rattle.wf_names.specs.declared.limits.TheConstants.{LANE_LIMIT}
@@ -10,7 +10,7 @@ use Rattle.wf_talk.specs.declared.job.Job.{Job}
 use Rattle.wf_talk.specs.declared.request.Ask.{Ask}
 use Rattle.wf_board.specs.Boards.{BoardShape, state_on}
 use Rattle.wf_board.specs.Counting.{counted, counts_for, lane_end}
-use Rattle.wf_board.specs.Histories.{IsRightAfter, IsWantRightful, RestsFrom, job_of_entry, lane_jobs}
+use Rattle.wf_board.specs.Histories.{AreWantsRightful, IsRightAfter, IsWantRightful, RestsFrom, job_of_entry, lane_jobs}
 use Rattle.wf_board.specs.HistoryLaws.{after_more, each_more, edits_within, rests_more, wants_more}
 use Rattle.wf_board.specs.States.{State, opening_state}
 use Rattle.wf_board.specs.Steps.{state_after_step}
@@ -42,7 +42,7 @@ loss_other losses lane other x away = get_or-set_other losses lane other x no_lo
 no_loss_own : (losses : List Loss) (lane : ℕ) → loss_of (slice_set losses lane no_loss) lane ≡ no_loss
 no_loss_own losses lane = set_own (λ l. l ≡ no_loss) losses lane no_loss no_loss refl refl
 
-same_all : {A : Type 0} (x : A) (n i : ℕ) → slice_index_or (replicate n x) i x ≡ x
+pub same_all : {A : Type 0} (x : A) (n i : ℕ) → slice_index_or (replicate n x) i x ≡ x
 same_all x zero i = refl
 same_all x (suc n) zero = refl
 same_all x (suc n) (suc i) = same_all x n i
@@ -59,7 +59,7 @@ floor_within : (d : DeskShape) (lane : ℕ) → d.start ≤ length d.entries →
 floor_within d lane begun ends = let within = lane_end_within lane d in omega (arith, within, begun, ends)
 
 -- where a lane's job was not lost, nothing is to be shown
-fresh_rests : (d : DeskShape) (lane : ℕ) (what : Ask) → loss_of d.losses lane ≡ no_loss → LossRests d lane what
+pub fresh_rests : (d : DeskShape) (lane : ℕ) (what : Ask) → loss_of d.losses lane ≡ no_loss → LossRests d lane what
 fresh_rests d lane what none =
     let count : (loss_of d.losses lane).count ≡ 0 = ap (λ (l : Loss). l.count) none in
     let later = count_later (λ e. counts_for e what) d.entries (own_start d lane) (floor_of d lane) (omega arith) in
@@ -122,7 +122,8 @@ sound_grown d places e b spare place is grows = record {
   begun = let begun = is.sound.begun in omega (arith, begun, length-append d.entries (e ∷ []));
   front = λ lane. front_grown d places e b spare place lane is grows;
   rests = rests_more d.start d.entries e is.sound.begun is.sound.rests grows.rests;
-  wants = wants_more d.entries e is.sound.wants grows.want;
+  kept = let kept = is.sound.kept in omega (arith, kept, length-append d.entries (e ∷ []));
+  wants = subst AreWantsRightful (sym (drop-append-le d.restored d.entries (e ∷ []) is.sound.kept)) (wants_more (drop d.restored d.entries) e is.sound.wants grows.want);
   room = let old = is.sound.room in let cases = grows.cases in omega (arith, old, cases, length-append d.entries (e ∷ []));
 }
 
@@ -244,7 +245,7 @@ lost_losses d places lane what other j is may next = elim (bool_cases (nat_eq la
 -- with one more loss
 pub desk_lost : (d : DeskShape) (places : List ℕ) (lane : ℕ) (what : Ask) → IsDesk d places → MayLose d lane what → IsDesk (with_loss d lane) places
 desk_lost d places lane what is may = record {
-  sound = record { legal = is.sound.legal; state = is.sound.state; begun = is.sound.begun; front = is.sound.front; rests = is.sound.rests; wants = is.sound.wants; room = is.sound.room };
+  sound = record { legal = is.sound.legal; state = is.sound.state; begun = is.sound.begun; front = is.sound.front; rests = is.sound.rests; kept = is.sound.kept; wants = is.sound.wants; room = is.sound.room };
   few = is.few;
   of_lanes = is.of_lanes;
   room = is.room;

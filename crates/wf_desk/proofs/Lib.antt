@@ -3,3 +3,4 @@ pub mod CommitLaws
 pub mod Scheduling
 pub mod Crossing
 pub mod Ends
+pub mod Resuming

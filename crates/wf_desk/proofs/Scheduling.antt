@@ -37,6 +37,7 @@ grown_none d e same = record {
   rounds = ap (λ (x : DeskShape). x.rounds) same;
   jobs = ap (λ (x : DeskShape). x.jobs) same;
   start = ap (λ (x : DeskShape). x.start) same;
+  restored = ap (λ (x : DeskShape). x.restored) same;
 }
 
 grown_lost : (d e : DeskShape) (lane : ℕ) → e ≡ with_loss d lane → HasGrown d e
@@ -48,6 +49,7 @@ grown_lost d e lane same = record {
   rounds = ap (λ (x : DeskShape). x.rounds) same;
   jobs = ap (λ (x : DeskShape). x.jobs) same;
   start = ap (λ (x : DeskShape). x.start) same;
+  restored = ap (λ (x : DeskShape). x.restored) same;
 }
 
 pub grown_added : (d e : DeskShape) (job : Job) (place : ℕ) (Is : Reply → Type 0) → HasAdded d e job place Is → HasGrown d e
@@ -59,6 +61,7 @@ grown_added d e job place Is added = record {
   rounds = added.rounds;
   jobs = added.jobs;
   start = added.start;
+  restored = added.restored;
 }
 
 pub grown_then : (d e f : DeskShape) → HasGrown d e → HasGrown e f → HasGrown d f
@@ -70,6 +73,7 @@ grown_then d e f first later = record {
   rounds = later.rounds ∙ first.rounds;
   jobs = later.jobs ∙ first.jobs;
   start = later.start ∙ first.start;
+  restored = later.restored ∙ first.restored;
 }
 
 pub grown_committed : (d e : DeskShape) (t : Task) (v : Verdict) (result : Outcome) → HasCommitted d e t v result → HasGrown d e

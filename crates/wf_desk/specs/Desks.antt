@@ -14,7 +14,7 @@ use Rattle.wf_desk.specs.declared.loss.Loss.{Loss}
 
 -- the policy at the beginning, how many lanes there are, after how many lost rounds a request is answered again, the
 -- board, the entries so far with the room that is left for more, the jobs of the batch, how many entries there were when
--- they came, and for each lane how its next job was lost
+-- they came, how many it began with, taken up from an earlier session, and for each lane how its next job was lost
 pub record DeskShape : Type 0 where
   pub opening : PolicyShape
   pub lanes : ℕ
@@ -24,6 +24,7 @@ pub record DeskShape : Type 0 where
   pub spare : ℕ
   pub jobs : List Job
   pub start : ℕ
+  pub restored : ℕ
   pub losses : List Loss
 
 -- the state after the first so many entries
@@ -51,8 +52,8 @@ abbrev pub IsDone : DeskShape → Type 0
 IsDone d = (lane : ℕ) → next_job d lane ≡ None
 
 -- what the type of a desk keeps: the entries are a legal history, and the board shows the state after it; each lane's
--- entries of the batch answer its first jobs, in order; what is answered again rests on entries of the batch; only an
--- opening, a claim, an edit or a view over the open cases is answered with want of memory; and there is room for a case for
+-- entries of the batch answer its first jobs, in order; what is answered again rests on entries of the batch; of the
+-- entries that were not taken up, only an opening, a claim, an edit or a view over the open cases is answered with want of memory; and there is room for a case for
 -- each job that is left
 pub record IsSoundDesk (d : DeskShape) : Type 0 where
   pub legal : IsLegal (opening_state d.opening) d.rounds d.entries
@@ -60,7 +61,8 @@ pub record IsSoundDesk (d : DeskShape) : Type 0 where
   pub begun : d.start ≤ length d.entries
   pub front : (lane : ℕ) → served d lane ≡ take (length (served d lane)) (lane_jobs lane d.jobs)
   pub rests : EachAfter (RestsFrom d.start) (take d.start d.entries) (drop d.start d.entries)
-  pub wants : AreWantsRightful d.entries
+  pub kept : d.restored ≤ length d.entries
+  pub wants : AreWantsRightful (drop d.restored d.entries)
   pub room : d.start + length d.jobs ≤ length d.entries + d.board.cases.spare
 
 -- a lane's next job was not lost so far
@@ -79,6 +81,31 @@ with_room d spare cases = record d { spare = spare; board = record d.board { cas
 abbrev pub with_batch : DeskShape → List Job → DeskShape
 with_batch d jobs = record d { jobs = jobs; start = length d.entries; losses = replicate LANE_LIMIT no_loss }
 
+-- the first n entries aside, those of a batch answer its first jobs lane by lane, and what is answered again rests on them
+pub record AnswersPart (entries : List Entry) (n : ℕ) (jobs : List Job) : Type 0 where
+  pub begun : n ≤ length entries
+  pub front : (lane : ℕ) → served_jobs n entries lane ≡ take (length (served_jobs n entries lane)) (lane_jobs lane jobs)
+  pub rests : EachAfter (RestsFrom n) (take n entries) (drop n entries)
+
+-- with the jobs of a batch, whose entries begin at a place
+abbrev pub with_batch_from : DeskShape → List Job → ℕ → DeskShape
+with_batch_from d jobs n = record d { jobs = jobs; start = n; losses = replicate LANE_LIMIT no_loss }
+
+-- a desk before its first job, with these entries, the board after them, and room for so many more
+abbrev pub desk_with : PolicyShape → ℕ → ℕ → BoardShape → List Entry → ℕ → DeskShape
+desk_with p lanes rounds board entries spare = record {
+  opening = p;
+  lanes = lanes;
+  rounds = rounds;
+  board = board;
+  entries = entries;
+  spare = spare;
+  jobs = [];
+  start = length entries;
+  restored = length entries;
+  losses = replicate LANE_LIMIT no_loss;
+}
+
 -- there is one more entry, at this place: it answers a job with such a reply, and the job's lane goes on to its next;
 -- want of memory leaves the board as it was
 pub record HasAdded (before after : DeskShape) (job : Job) (place : ℕ) (Is : Reply → Type 0) : Type 0 where
@@ -94,4 +121,5 @@ pub record HasAdded (before after : DeskShape) (job : Job) (place : ℕ) (Is : R
   pub rounds : after.rounds ≡ before.rounds
   pub jobs : after.jobs ≡ before.jobs
   pub start : after.start ≡ before.start
+  pub restored : after.restored ≡ before.restored
   pub losses : after.losses ≡ slice_set before.losses job.lane no_loss

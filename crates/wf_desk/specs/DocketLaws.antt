@@ -73,16 +73,21 @@ head_own : (lane : ℕ) (jobs : List Job) → IfSome (slice_get jobs 0) (λ j. j
 head_own lane [] here = refl
 head_own lane (j ∷ js) here = rw (eq_is j.lane lane here) refl
 
+-- behind those of its jobs that are done, a lane's next job stands at its place
+pub next_there : (jobs done : List Job) (lane place : ℕ) → done ≡ lane_jobs lane (take place jobs) → IfSome (slice_get jobs place) (λ j. j.lane ≡ lane) →
+    slice_get (lane_jobs lane jobs) (length done) ≡ slice_get jobs place
+next_there jobs done lane place before here =
+    let front = lane_jobs lane (take place jobs) in
+    let behind = drop place jobs in
+    ap (λ js. slice_get js (length done)) (lane_split lane place jobs)
+    ∙ ap (λ js. slice_get (front ++ lane_jobs lane behind) (length js)) before
+    ∙ get_behind front (lane_jobs lane behind)
+    ∙ head_own lane behind (subst (λ o. IfSome o (λ (j : Job). j.lane ≡ lane)) (sym (get_first jobs place)) here)
+    ∙ get_first jobs place
+
 -- a lane's next job stands at its place
 pub next_at : (d : DeskShape) (lane place : ℕ) → IsLanePlace d lane place → next_job d lane ≡ slice_get d.jobs place
-next_at d lane place is =
-    let front = lane_jobs lane (take place d.jobs) in
-    let behind = drop place d.jobs in
-    ap (λ js. slice_get js (length (served d lane))) (lane_split lane place d.jobs)
-    ∙ ap (λ js. slice_get (front ++ lane_jobs lane behind) (length js)) is.before
-    ∙ get_behind front (lane_jobs lane behind)
-    ∙ head_own lane behind (subst (λ o. IfSome o (λ (j : Job). j.lane ≡ lane)) (sym (get_first d.jobs place)) is.here)
-    ∙ get_first d.jobs place
+next_at d lane place is = next_there d.jobs (served d lane) lane place is.before is.here
 
 -- how many jobs a lane has left from its place on
 pub left_at : (d : DeskShape) (lane place : ℕ) → IsLanePlace d lane place → left_of d lane ≡ length (lane_jobs lane (drop place d.jobs))

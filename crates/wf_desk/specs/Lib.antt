@@ -8,3 +8,4 @@ pub mod DocketLaws
 pub mod Schedules
 pub mod Holding
 pub mod Tabling
+pub mod Parts

@@ -90,6 +90,7 @@ pub record HasGrown (before after : DeskShape) : Type 0 where
   pub rounds : after.rounds ≡ before.rounds
   pub jobs : after.jobs ≡ before.jobs
   pub start : after.start ≡ before.start
+  pub restored : after.restored ≡ before.restored
 
 -- a lane's jobs among these entries
 abbrev pub lane_answers : List Entry → ℕ → List Job

@@ -4,11 +4,13 @@ ghost use Rattle.wf_names.specs.declared.limits.TheConstants.{BATCH_LINE_LIMIT, 
 ghost use Rattle.wf_board.specs.Boards.{book_on, state_on};
 ghost use Rattle.wf_board.specs.States.{opening_state};
 ghost use Rattle.wf_board.specs.Verdicts.{Decides, IsDecided, IsRight};
-ghost use Rattle.wf_desk.specs.Desks.{AreOfLanes, HasAdded, IsDone, IsSoundDesk, left_of, next_job, no_loss, with_batch, with_room};
+ghost use Rattle.std.specs.Arc.{arc_value};
+ghost use Rattle.wf_board.specs.Histories.{IsLegal, state_after};
+ghost use Rattle.wf_desk.specs.Desks.{AnswersPart, AreOfLanes, HasAdded, IsDone, IsSoundDesk, desk_with, left_of, next_job, no_loss, with_batch, with_batch_from, with_room};
 ghost use Rattle.wf_desk.specs.Commits.{HasCommitted, HasCommittedChecked, HasServed, IsAgain, IsNext, IsRightFor, IsTask, floor_of, is_change, is_fresh, is_fresh_or_change, is_last_round, is_lost, job_of_task, with_loss};
 ghost use Rattle.wf_desk.specs.Keeping.{HasCommittedNone, HasMissed};
 
-use crate::docket::{count_of_lane, first_places, go_on, job_at};
+use crate::docket::{count_of_lane, first_places, go_on, job_at, places_after};
 use crate::journal::{add_entry, any_counts, any_of_lane, entries_from, last_counting};
 use crate::{Loss, Outcome, Task};
 use policy_book::Policy;
@@ -29,6 +31,8 @@ pub struct Desk {
     journal: Journal,
     jobs: Jobs,
     start: u32,
+    /// How many entries were taken up from an earlier session.
+    restored: u32,
     losses: [Loss; LANE_LIMIT as usize],
     /// For each lane the place of its next job among the jobs.
     places: [u32; LANE_LIMIT as usize],
@@ -46,9 +50,9 @@ impl Model for Desk {
 
     ghost coded = { Prim.hlevel (codes, policy_code, kids_code) };
 
-    ghost view = { λ d. record { opening = arc_value d.opening; lanes = d.lanes; rounds = d.rounds; board = d.board; entries = d.journal.entries; spare = d.journal.spare; jobs = d.jobs; start = d.start; losses = d.losses } };
+    ghost view = { λ d. record { opening = arc_value d.opening; lanes = d.lanes; rounds = d.rounds; board = d.board; entries = d.journal.entries; spare = d.journal.spare; jobs = d.jobs; start = d.start; restored = d.restored; losses = d.losses } };
 
-    ghost invariant = { λ d. IsDesk (record { opening = arc_value d.opening; lanes = d.lanes; rounds = d.rounds; board = d.board; entries = d.journal.entries; spare = d.journal.spare; jobs = d.jobs; start = d.start; losses = d.losses }) d.places };
+    ghost invariant = { λ d. IsDesk (record { opening = arc_value d.opening; lanes = d.lanes; rounds = d.rounds; board = d.board; entries = d.journal.entries; spare = d.journal.spare; jobs = d.jobs; start = d.start; restored = d.restored; losses = d.losses }) d.places };
 }
 
 impl Desk {
@@ -64,20 +68,67 @@ impl Desk {
         ensures entries { IfOk result (λ d. d.entries ≡ []) }
         ensures jobs { IfOk result (λ d. d.jobs ≡ []) }
         ensures start { IfOk result (λ d. d.start ≡ 0) }
+        ensures restored { IfOk result (λ d. d.restored ≡ 0) }
         ensures state { IfOk result (λ d. state_on d.board ≡ opening_state policy) }
     {
         let opening = Arc::new(alloc, policy)?;
-        Ok(Desk {
-            board: Board::of(alloc, Arc::try_clone(&opening)?)?,
+        let board = Board::of(alloc, Arc::try_clone(&opening)?)?;
+        Ok(Desk::with_journal(alloc, opening, board, Journal::new(alloc), lanes, rounds))
+    }
+
+    /// A desk that goes on from the entries of an earlier session, after which the board stands so;
+    /// no job is left at it. There may be fewer than 4,294,967,296 entries.
+    pub fn restore(
+        alloc: Global,
+        policy: Policy,
+        board: Board,
+        journal: Journal,
+        lanes: u8,
+        rounds: u8,
+    ) -> Result<Desk, AllocError>
+        requires some { 0 < lanes }
+        requires lanes { lanes ≤ LANE_LIMIT }
+        requires rounds { rounds ≤ ROUND_LIMIT }
+        requires few { length journal.entries < 4294967296 }
+        requires legal { IsLegal (opening_state policy) rounds journal.entries }
+        requires state { state_on board ≡ state_after (opening_state policy) journal.entries }
+        ensures { IfOk result (λ d. d
+            ≡ desk_with policy lanes rounds board journal.entries journal.spare) }
+    {
+        let opening = Arc::new(alloc, policy)?;
+        Ok(Desk::with_journal(alloc, opening, board, journal, lanes, rounds))
+    }
+
+    // A desk at which these entries stand already, with the board after them.
+    fn with_journal(
+        alloc: Global,
+        opening: Arc<Policy, Global>,
+        board: Board,
+        journal: Journal,
+        lanes: u8,
+        rounds: u8,
+    ) -> Desk
+        requires lanes { lanes ≤ LANE_LIMIT }
+        requires few { length journal.entries < 4294967296 }
+        requires legal { IsLegal (opening_state (arc_value opening)) rounds journal.entries }
+        requires state { state_on board
+            ≡ state_after (opening_state (arc_value opening)) journal.entries }
+        ensures { result
+            ≡ desk_with (arc_value opening) lanes rounds board journal.entries journal.spare }
+    {
+        let count = journal.len() as u32;
+        Desk {
             opening,
             lanes,
             rounds,
-            journal: Journal::new(alloc),
+            board,
+            journal,
             jobs: Jobs::new(alloc),
-            start: 0,
+            start: count,
+            restored: count,
             losses: no_losses(),
             places: first_places(&[]),
-        })
+        }
     }
 
     /// Takes the jobs of the next batch, and makes room for their entries and for the cases that
@@ -95,12 +146,37 @@ impl Desk {
         ensures room { self.old.board.cases.spare ≤ self.new.board.cases.spare }
     {
         let start = self.number();
+        self.resume_batch(alloc, jobs, start)
+    }
+
+    /// Takes the jobs of a batch of which the entries from a place on answer some already, and makes
+    /// room as for a whole batch. Without memory the desk stays as it was.
+    pub fn resume_batch(
+        &mut self,
+        alloc: Global,
+        jobs: &[Job],
+        from: u32,
+    ) -> Result<(), AllocError>
+        requires done { IsDone self.old }
+        requires few { length jobs.now ≤ BATCH_LINE_LIMIT }
+        requires lanes { AreOfLanes self.old.lanes jobs.now }
+        requires small { from + length jobs.now < 4294967296 }
+        requires part { AnswersPart self.old.entries from jobs.now }
+        ensures loaded { OnOk result (self.new
+            ≡ with_room (with_batch_from self.old jobs.now from)
+            self.new.spare self.new.board.cases.spare) }
+        ensures unchanged { OnErr result (self.new
+            ≡ with_room self.old self.new.spare self.new.board.cases.spare) }
+        ensures kept { self.old.spare ≤ self.new.spare }
+        ensures room { self.old.board.cases.spare ≤ self.new.board.cases.spare }
+    {
         self.journal.reserve(jobs.len() as u32)?;
         self.board.reserve(jobs.len() as u16)?;
+        let places = places_after(jobs, entries_from(&self.journal, from));
         self.jobs = Jobs::from_vec(Vec::from_slice(alloc, jobs)?);
-        self.start = start;
+        self.start = from;
         self.losses = no_losses();
-        self.places = first_places(jobs);
+        self.places = places;
         Ok(())
     }
 

@@ -2,10 +2,11 @@
 ghost use Rattle.std.specs.Prelude.{◌≡◌, ◌≤◌, ◌<◌, ◌+◌, ℕ, length, slice_get, slice_index_or, slice_set};
 ghost use Rattle.wf_names.specs.declared.limits.TheConstants.{LANE_LIMIT};
 ghost use Rattle.wf_board.specs.Histories.{lane_jobs};
-ghost use Rattle.wf_desk.specs.Places.{IsNextPlace};
+ghost use Rattle.wf_talk.specs.Jobs.{AreOfLanes};
+ghost use Rattle.wf_desk.specs.Places.{AnswersFirst, IsNextPlace, IsPlaceBehind};
 
 use wf_names::LANE_LIMIT;
-use wf_talk::Job;
+use wf_talk::{Entry, Job};
 
 /// The place of a lane's first job from a place on, or behind all where there is none.
 pub fn next_place(jobs: &[Job], lane: u8, from: usize) -> usize
@@ -69,4 +70,20 @@ pub fn go_on(places: &mut [u32; LANE_LIMIT as usize], jobs: &[Job], lane: u8)
 {
     let from = places[lane as usize] as usize + 1;
     places[lane as usize] = next_place(jobs, lane, from) as u32;
+}
+
+/// For each lane the place of its first job that is not answered by these entries, which answer its
+/// first ones.
+pub fn places_after(jobs: &[Job], entries: &[Entry]) -> [u32; LANE_LIMIT as usize]
+    requires small { length jobs.now < 4294967296 }
+    requires lanes { AreOfLanes LANE_LIMIT jobs.now }
+    requires first { AnswersFirst jobs.now entries.now }
+    ensures { (lane : ℕ) → lane < LANE_LIMIT
+        → IsPlaceBehind jobs.now entries.now lane (slice_index_or result lane 0) }
+{
+    let mut places = first_places(jobs);
+    'answered: for entry in entries {
+        go_on(&mut places, jobs, entry.lane);
+    }
+    places
 }

@@ -17,6 +17,8 @@ pub struct Fixed {
     pub jobs: Jobs,
     /// How many entries there were when they came.
     pub start: u32,
+    /// How many entries were taken up from an earlier session.
+    pub restored: u32,
 }
 
 impl Tabled for Desk {

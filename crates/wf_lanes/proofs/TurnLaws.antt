@@ -16,7 +16,7 @@ use Rattle.wf_lanes.proofs.TurnOrder.{at_first, at_passed, at_served, at_whole}
 -- no job was served
 pub on_none : (d : DeskShape) → HasServedOn d d
 on_none d = record {
-  grown = record { more = []; extends = sym (append-nil d.entries); opening = refl; lanes = refl; rounds = refl; jobs = refl; start = refl };
+  grown = record { more = []; extends = sym (append-nil d.entries); opening = refl; lanes = refl; rounds = refl; jobs = refl; start = refl; restored = refl };
   once = tt;
 }
 
@@ -31,6 +31,7 @@ on_more a b c first second = record {
     rounds = second.grown.rounds ∙ first.grown.rounds;
     jobs = second.grown.jobs ∙ first.grown.jobs;
     start = second.grown.start ∙ first.grown.start;
+    restored = second.grown.restored ∙ first.grown.restored;
   };
   once = once_all first.grown.more second.grown.more first.once second.once;
 }
@@ -38,7 +39,7 @@ on_more a b c first second = record {
 -- a lane's next job was served, if it had one
 pub on_next : (b c : DeskShape) (lane : ℕ) (had : Bool) → HasServed b c lane had → HasServedOn b c
 on_next b c lane true (job, (next, more)) = record {
-  grown = record { more = more.entry ∷ []; extends = more.added; opening = more.opening; lanes = more.lanes; rounds = more.rounds; jobs = more.jobs; start = more.start };
+  grown = record { more = more.entry ∷ []; extends = more.added; opening = more.opening; lanes = more.lanes; rounds = more.rounds; jobs = more.jobs; start = more.start; restored = more.restored };
   once = (λ n place. step_once (state_on b.board) job.ask more.entry.reply more.reply.step n place, tt);
 }
 on_next b c lane false (none, same) = rw same (on_none b)

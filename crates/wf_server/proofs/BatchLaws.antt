@@ -1,7 +1,7 @@
 -- How the entries of a batch follow those before.
-use Rattle.std.proofs.Common.{◌≡◌, ℕ, ◌+◌, ◌-◌, ◌<◌, List, [], ◌∷◌, ◌++◌, length, take, drop, get_or, Option, Result, Ok, Err, OnOk, OnErr, IfErr, inl, inr, refl, sym, ◌∙◌, ap, subst, arith, append_assoc}
+use Rattle.std.proofs.Common.{◌≡◌, ℕ, zero, suc, ◌+◌, ◌-◌, ◌<◌, ◌≤◌, max, List, [], ◌∷◌, ◌++◌, length, take, drop, get_or, Option, Result, Ok, Err, OnOk, OnErr, IfErr, inl, inr, refl, sym, ◌∙◌, ap, subst, arith, append_assoc}
 use Rattle.std.proofs.lemmas.Grind.{common_steps}
-use Rattle.std.proofs.lemmas.List.{take-append-drop, append-nil, drop_more, take_more, length-append, get_or_append_left}
+use Rattle.std.proofs.lemmas.List.{take-append-drop, take-take, append-nil, drop_more, take_more, length-append, get_or_append_left}
 use Rattle.std.proofs.Math.Seq.{drop-append_seam, take-append_seam}
 use Rattle.wf_outside.specs.Outside.{with_bytes, HasPart}
 use Rattle.wf_outside.proofs.OutsideLaws.{more_put, part_first, part_second, part_all}
@@ -10,6 +10,7 @@ use Rattle.wf_talk.specs.declared.entry.Entry.{Entry}
 use Rattle.wf_talk.specs.declared.job.Job.{Job}
 use Rattle.wf_board.specs.States.{State, opening_state}
 use Rattle.wf_board.specs.Histories.{FillsJobs, IsLegal, batch_start, state_after}
+use Rattle.wf_board.specs.HistoryLaws.{after_all}
 use Rattle.wf_desk.specs.Desks.{DeskShape, IsDone, IsSoundDesk}
 use Rattle.wf_desk.specs.BatchLaws.{AnswersBatch, AnswersNext, EndAt, batch_fills}
 use Rattle.wf_desk.specs.DocketLaws.{batch_done}
@@ -20,7 +21,7 @@ use Rattle.line_cutter.specs.Cutter.{ends_after}
 use Rattle.run_record.specs.declared.fault.RunFault.{RunFault}
 use Rattle.run_record.specs.declared.fault.RunFault.TheVariants as fault
 use Rattle.run_record.specs.Report.{Told}
-use Rattle.wf_server.specs.Sessions.{Setting, WritesPart, last_start}
+use Rattle.wf_server.specs.Sessions.{Setting, WritesPart, last_start, text_from}
 use Rattle.entry_laws.specs.Transcripts.{transcript_text}
 use Rattle.wf_server.specs.Names.{KeepsTexts}
 use Rattle.wf_server.specs.Ways.{setting_of}
@@ -61,10 +62,12 @@ pub end_added : (before after : List ℕ) (jobs batch : List Job) → (length ba
 end_added before after jobs batch none some = grind (arith, common_steps)
 
 -- the last of more ends begins at the last of those before
-last_begins : (ends : List ℕ) (x : ℕ) → last_start (ends ++ x ∷ []) ≡ batch_start ends (length ends)
-last_begins ends x =
+last_begins : (m : ℕ) (ends : List ℕ) (x : ℕ) → m ≤ batch_start ends (length ends) → last_start m (ends ++ x ∷ []) ≡ batch_start ends (length ends)
+last_begins m ends x within =
     let one_more : length (ends ++ x ∷ []) - 1 ≡ length ends = omega (arith, length-append ends (x ∷ [])) in
-    ap (batch_start (ends ++ x ∷ [])) one_more ∙ get_or_append_left (0 ∷ ends) (x ∷ []) 0 (length ends) (omega arith)
+    let begins : batch_start (ends ++ x ∷ []) (length (ends ++ x ∷ []) - 1) ≡ batch_start ends (length ends) =
+    ap (batch_start (ends ++ x ∷ [])) one_more ∙ get_or_append_left (0 ∷ ends) (x ∷ []) 0 (length ends) (omega arith) in
+    omega (arith, begins, within)
 
 -- a batch with a job has an end
 pub ends_some : (ends : List ℕ) (n : ℕ) (m : Job) (more : List Job) → ends_after ends n (m ∷ more) ≡ ends ++ (n + length (m ∷ more)) ∷ []
@@ -88,16 +91,36 @@ fills_more es new js (m ∷ more) ends next = rw (ends_some ends (length js) m m
 
 -- ---- the text
 
--- all entries written are all of the batches before the last, and all of the last
-pub writes_whole : (p : PolicyShape) (held after : Option (List ℕ)) (told : Told) → after ≡ with_bytes held (transcript_text (opening_state p) told.entries) →
-    WritesPart p held after (last_start told.batch_ends) told.entries
-writes_whole p held after told written =
-    let n = last_start told.batch_ends in
+-- the items between two places, and those behind
+drop_split : {A : Type 0} (m n : ℕ) (xs : List A) → m ≤ n → drop m xs ≡ drop m (take n xs) ++ drop n xs
+drop_split zero n xs within = sym (take-append-drop n xs)
+drop_split (suc m) zero xs within = absurd (omega (arith, within))
+drop_split (suc m) (suc n) [] within = refl
+drop_split (suc m) (suc n) (x ∷ xs) within = drop_split m n xs (omega (arith, within))
+
+take_split : {A : Type 0} (m n : ℕ) (xs : List A) → m ≤ n → take m xs ++ drop m (take n xs) ≡ take n xs
+take_split m n xs within = ap (λ ys. ys ++ drop m (take n xs)) (sym (take-take m n xs within)) ∙ take-append-drop m (take n xs)
+
+-- what is written from a place on: up to another one, and from there on
+pub text_split : (p : PolicyShape) (m n : ℕ) (es : List Entry) → m ≤ n → text_from p m es ≡ text_from p m (take n es) ++ text_from p n es
+text_split p m n es within =
     let start = opening_state p in
-    let front = transcript_text start (take n told.entries) in
-    let rest = transcript_text (state_after start (take n told.entries)) (drop n told.entries) in
-    let whole : transcript_text start told.entries ≡ front ++ rest =
-    ap (transcript_text start) (sym (take-append-drop n told.entries)) ∙ transcript_more start (take n told.entries) (drop n told.entries) in
+    let mid = drop m (take n es) in
+    let here : state_after (state_after start (take m es)) mid ≡ state_after start (take n es) =
+    sym (after_all start (take m es) mid) ∙ ap (state_after start) (take_split m n es within) in
+    let first : take m (take n es) ≡ take m es = take-take m n es within in
+    ap (transcript_text (state_after start (take m es))) (drop_split m n es within) ∙ transcript_more (state_after start (take m es)) mid (drop n es)
+    ∙ ap (λ s. transcript_text (state_after start (take m es)) mid ++ transcript_text s (drop n es)) here
+    ∙ ap (λ xs. transcript_text (state_after start xs) mid ++ text_from p n es) (sym first)
+
+-- all entries written are all of the batches before the last, and all of the last
+pub writes_whole : (set : Setting) (held after : Option (List ℕ)) (told : Told) → after ≡ with_bytes held (text_from set.policy set.restored told.entries) →
+    WritesPart set held after (last_start set.restored told.batch_ends) told.entries
+writes_whole set held after told written =
+    let n = last_start set.restored told.batch_ends in
+    let front = text_from set.policy set.restored (take n told.entries) in
+    let rest = text_from set.policy n told.entries in
+    let whole : text_from set.policy set.restored told.entries ≡ front ++ rest = text_split set.policy set.restored n told.entries (omega arith) in
     subst (λ a. HasPart (with_bytes held front) a rest) (sym (written ∙ ap (with_bytes held) whole ∙ sym (more_put held front rest))) (part_all (with_bytes held front) rest)
 
 -- a batch was answered at a desk
@@ -134,26 +157,39 @@ batch_text old before new = transcript_text (state_after (opening_state old.open
 
 -- a part of the entries of the batch is a part of the last batch
 part_last : (held mid aft : Option (List ℕ)) (old d : DeskShape) (before : Told) (batch : List Job) (after : Told) → (h : HasAnsweredBatch held mid old d before batch after)
-    → HasPart mid aft (batch_text old before h.new) → 0 < length h.new → WritesPart old.opening held aft (last_start after.batch_ends) after.entries
+    → HasPart mid aft (batch_text old before h.new) → 0 < length h.new → WritesPart (setting_of old) held aft (last_start old.restored after.batch_ends) after.entries
 part_last held mid aft old d before batch after h part some =
-    let start = opening_state old.opening in
+    let p = old.opening in
+    let m = old.restored in
     let size : length h.new ≡ length batch = (the_batch held mid old d before batch after h).whole in
     let more : 0 < length batch = omega (arith, some, size) in
     let ends : after.batch_ends ≡ before.batch_ends ++ (length before.jobs + length batch) ∷ [] = h.added.ends ∙ grind (arith, common_steps) in
-    let begins : last_start after.batch_ends ≡ length before.entries = ap last_start ends ∙ last_begins before.batch_ends (length before.jobs + length batch) ∙ h.answered.ends.closed ∙ sym h.answered.fills.whole in
+    let whole : batch_start before.batch_ends (length before.batch_ends) ≡ length before.entries = h.answered.ends.closed ∙ sym h.answered.fills.whole in
+    let kept = h.answered.kept in
+    let begins : last_start m after.batch_ends ≡ length before.entries =
+    ap (last_start m) ends ∙ last_begins m before.batch_ends (length before.jobs + length batch) (omega (arith, whole, kept)) ∙ whole in
     let front : take (length before.entries) after.entries ≡ before.entries = ap (take (length before.entries)) h.entries ∙ take-append_seam before.entries h.new in
     let rest : drop (length before.entries) after.entries ≡ h.new = ap (drop (length before.entries)) h.entries ∙ drop-append_seam before.entries h.new in
-    subst (λ n. WritesPart old.opening held aft n after.entries) (sym begins)
-    (subst (λ es. HasPart (with_bytes held (transcript_text start es)) aft (transcript_text (state_after start es) (drop (length before.entries) after.entries))) (sym front)
-    (subst (λ es. HasPart (with_bytes held (transcript_text start before.entries)) aft (transcript_text (state_after start before.entries) es)) (sym rest)
-    (subst (λ m. HasPart m aft (batch_text old before h.new)) h.answered.written part)))
+    subst (λ n. WritesPart (setting_of old) held aft n after.entries) (sym begins)
+    (subst (λ es. HasPart (with_bytes held (text_from p m es)) aft (transcript_text (state_after (opening_state p) es) (drop (length before.entries) after.entries))) (sym front)
+    (subst (λ es. HasPart (with_bytes held (text_from p m before.entries)) aft (transcript_text (state_after (opening_state p) before.entries) es)) (sym rest)
+    (subst (λ x. HasPart x aft (batch_text old before h.new)) h.answered.written part)))
 
 part_answered : (held mid aft : Option (List ℕ)) (old d : DeskShape) (before : Told) (batch : List Job) (after : Told) → (h : HasAnsweredBatch held mid old d before batch after)
-    → HasPart mid aft (batch_text old before h.new) → 0 < length h.new → HasAnsweredPart d.opening held aft after
+    → HasPart mid aft (batch_text old before h.new) → 0 < length h.new → HasAnsweredPart (setting_of d) held aft after
 part_answered held mid aft old d before batch after h part some = record {
   fills = batch_filled held mid old d before batch after h;
-  written = subst (λ p. WritesPart p held aft (last_start after.batch_ends) after.entries) (sym (ap (λ (s : Setting). s.policy) h.setting)) (part_last held mid aft old d before batch after h part some);
+  written = subst (λ (s : Setting). WritesPart s held aft (last_start s.restored after.batch_ends) after.entries) (sym h.setting) (part_last held mid aft old d before batch after h part some);
 }
+
+-- the entries of one more batch are written behind those before
+text_more : (p : PolicyShape) (m : ℕ) (es new : List Entry) → m ≤ length es → text_from p m (es ++ new) ≡ text_from p m es ++ transcript_text (state_after (opening_state p) es) new
+text_more p m es new within =
+    let n = length es in
+    let first : take n (es ++ new) ≡ es = take-append_seam es new in
+    let rest : drop n (es ++ new) ≡ new = drop-append_seam es new in
+    text_split p m n (es ++ new) within ∙ ap (λ xs. text_from p m xs ++ transcript_text (state_after (opening_state p) xs) (drop n (es ++ new))) first
+    ∙ ap (λ xs. text_from p m es ++ transcript_text (state_after (opening_state p) es) xs) rest
 
 -- what came of answering a batch, by how its entries were written
 pub answers_to : (held mid aft : Option (List ℕ)) (old d : DeskShape) (before : Told) (batch : List Job) (after : Told) (text : List ℕ) (es : List Entry) (result : Result (Unit {0}) RunFault)
@@ -161,15 +197,19 @@ pub answers_to : (held mid aft : Option (List ℕ)) (old d : DeskShape) (before 
     → OnOk result (aft ≡ with_bytes mid text) → HasPart mid aft text → OnErr result (0 < length es) → IfErr result IsWriteEnding
     → AnswersTo held aft before batch d after result
 answers_to held mid aft old d before batch after text es (Ok done) h is new all part some ending =
-    let start = opening_state old.opening in (
+    let kept = h.answered.kept in
+    let restored : d.restored ≡ old.restored = ap (λ (s : Setting). s.restored) h.setting in (
       h.added,
       record {
         done = h.done;
         fills = batch_filled held mid old d before batch after h;
         ends = rw (h.added.jobs, h.added.ends) (ends_more before.jobs batch before.batch_ends h.answered.ends);
+        kept = let size = ap length h.entries in omega (arith, kept, restored, size, length-append before.entries h.new);
         written =
-            all ∙ ap (with_bytes mid) is ∙ ap (λ m. with_bytes m (batch_text old before h.new)) h.answered.written ∙ more_put held (transcript_text start before.entries) (batch_text old before h.new)
-            ∙ ap (with_bytes held) (sym (ap (transcript_text start) h.entries ∙ transcript_more start before.entries h.new) ∙ ap (λ (s : Setting). transcript_text (opening_state s.policy) after.entries) (sym h.setting));
+            all ∙ ap (with_bytes mid) is ∙ ap (λ m. with_bytes m (batch_text old before h.new)) h.answered.written
+            ∙ more_put held (text_from old.opening old.restored before.entries) (batch_text old before h.new)
+            ∙ ap (with_bytes held) (sym (ap (text_from old.opening old.restored) h.entries ∙ text_more old.opening old.restored before.entries h.new kept)
+            ∙ ap (λ (s : Setting). text_from s.policy s.restored after.entries) (sym h.setting));
       },
     )
 answers_to held mid aft old d before batch after text es (Err fault.NoMemory) h is new all part some ending =
@@ -186,12 +226,11 @@ same_told old d before after entries jobs ends = rw (entries, jobs, ends) refl
 pub answers_none : (held aft : Option (List ℕ)) (old d : DeskShape) (before : Told) (batch : List Job) (after : Told) (result : Result (Unit {0}) RunFault)
     → HasAnswered held aft old before → setting_of d ≡ setting_of old → after ≡ before → result ≡ Err fault.NoMemory → AnswersTo held aft before batch d after result
 answers_none held aft old d before batch after result answered setting same memory =
-    let policy : d.opening ≡ old.opening = ap (λ (s : Setting). s.policy) setting in
     rw (memory, same) (
       inl refl,
       record {
         fills = answered.fills;
-        written = subst (λ p. WritesPart p held aft (last_start before.batch_ends) before.entries) (sym policy) (writes_whole old.opening held aft before answered.written);
+        written = subst (λ (s : Setting). WritesPart s held aft (last_start s.restored before.batch_ends) before.entries) (sym setting) (writes_whole (setting_of old) held aft before answered.written);
       },
     )
 
@@ -207,7 +246,7 @@ text_on old d q new texts sound setting entries found =
     ap (λ x. entries_text x new) after ∙ sym (texts new legal)
 
 setting_grown : (b c : DeskShape) → HasGrown b c → setting_of c ≡ setting_of b
-setting_grown b c grown = rw (grown.opening, grown.lanes, grown.rounds) refl
+setting_grown b c grown = rw (grown.opening, grown.lanes, grown.rounds, grown.restored) refl
 
 -- a batch was taken to a desk, and each of its jobs is answered
 pub record HasServedBatch (old loaded d : DeskShape) (a b : Answered) (batch : List Job) : Type 0 where

@@ -8,6 +8,7 @@ use Rattle.run_record.specs.Fault.{is_before_input, CountsLoads, CountsReads, Co
 use Rattle.run_record.specs.Run.{Run, IsUntouched, OverFile}
 use Rattle.wf_commands.specs.Load.{GivesPolicy, IsLoadEnding, PolicyOf}
 use Rattle.wf_server.specs.declared.serve.TheConstants.{PIECE}
+use Rattle.line_cutter.specs.Jobs.{start}
 use Rattle.wf_server.specs.Sessions.{Served}
 use Rattle.wf_board.specs.Histories.{AreWantsRightful}
 use Rattle.command_words.specs.Words.{Options}
@@ -80,7 +81,7 @@ refused_run policy options r fault is gives ending nothing loads reads writes =
 
 -- the policy was there, and was served
 pub is_served : (f : Filed) (p : PolicyShape) (options : Options) (r : Run) → GivesPolicy f (Ok p)
-    → Served (setting p options) PIECE r.before r.after r.told r.fault → AreWantsRightful r.told.entries → OverFile f r.fault (λ file. ServesFile file options r)
+    → Served (setting p options) (start options.lanes) PIECE r.before r.after r.told r.fault → AreWantsRightful r.told.entries → OverFile f r.fault (λ file. ServesFile file options r)
 is_served untold p options r gives served wants =
     (gives.0, inr (record { policy = p; within = gives.1.0; read = gives.1.1; served = served; wants = wants }))
 is_served missing p options r gives served wants = cc

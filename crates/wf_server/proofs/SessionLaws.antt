@@ -7,7 +7,7 @@ use Rattle.wf_outside.specs.Outside.{HasTaken, with_bytes}
 use Rattle.wf_outside.proofs.OutsideLaws.{nothing_taken, nothing_put}
 use Rattle.wf_talk.specs.declared.job.Job.{Job}
 use Rattle.line_cutter.specs.declared.stop.Stop.TheVariants as stop
-use Rattle.line_cutter.specs.Jobs.{start, jobs_of_input, last_or}
+use Rattle.line_cutter.specs.Jobs.{Cut, start, jobs_from, last_or}
 use Rattle.line_cutter.specs.Cutter.{after_handing, ends_after}
 use Rattle.line_cutter.specs.Laws.{JobsAreInOrder, LeadTo}
 use Rattle.batch_reader.specs.declared.reader.Paused.{Paused}
@@ -24,9 +24,10 @@ use Rattle.run_record.specs.declared.fault.RunFault.TheVariants as fault
 use Rattle.run_record.specs.Fault.{is_before_input, CountsWrites}
 use Rattle.run_record.specs.Report.{Told, nothing_told}
 use Rattle.run_record.specs.Run.{Streams}
-use Rattle.wf_server.specs.Sessions.{ReadsFor, Served, Setting, handed_in}
+use Rattle.wf_server.specs.Sessions.{ReadsFor, Served, Setting, handed_in, text_from}
 use Rattle.wf_server.specs.Ways.{setting_of}
-use Rattle.wf_server.specs.Batches.{Serves, HasAnswered, IsAdded, IsBatch, AnswersTo, IsServing, BatchEnds, IsWriteEnding, ending_after}
+use Rattle.wf_server.specs.declared.batch.Answered.{Answered}
+use Rattle.wf_server.specs.Batches.{Serves, told_of, AreInOrderFrom, HasAnswered, IsAdded, IsBatch, AnswersTo, IsServing, BatchEnds, IsWriteEnding, ending_after}
 use Rattle.wf_server.proofs.BatchLaws.{ends_some, writes_whole}
 
 -- no count of faults falls
@@ -59,10 +60,10 @@ short_batch before k total (j ∷ batch) ends all leads closed is =
     omega (arith, near, closed)
 
 -- what is handed over next is a batch
-pub next_batch : (lanes : ℕ) (before after : Option (List ℕ)) (told : Told) (more : List Job) → JobsAreInOrder lanes → last_or 0 told.batch_ends ≡ length told.jobs
-    → IsReadUp before after (handed_more (handed_in lanes told) more) → IsBatch lanes (length told.jobs) more
-next_batch lanes before after told more order closed up =
-    let all = jobs_of_input up.bytes up.ended lanes in
+pub next_batch : (lanes : ℕ) (first : Cut) (before after : Option (List ℕ)) (told : Told) (more : List Job) → AreInOrderFrom lanes first → last_or 0 told.batch_ends ≡ length told.jobs
+    → IsReadUp before after (handed_more (handed_in first told) more) → IsBatch lanes (length told.jobs) more
+next_batch lanes first before after told more order closed up =
+    let all = jobs_from first up.bytes up.ended in
     let whole = order up.bytes up.ended in
     let few = whole.few in
     let front = ap length up.up.within in
@@ -73,101 +74,97 @@ next_batch lanes before after told more order closed up =
     }
 
 -- what is told with one more batch
-added_handed : (lanes : ℕ) (before : Told) (batch : List Job) (after : Told) → IsAdded before batch after → handed_more (handed_in lanes before) batch ≡ handed_in lanes after
-added_handed lanes before batch after added = rw (added.jobs, added.ends) refl
+added_handed : (first : Cut) (before : Told) (batch : List Job) (after : Told) → IsAdded before batch after → handed_more (handed_in first before) batch ≡ handed_in first after
+added_handed first before batch after added = rw (added.jobs, added.ends) refl
 
 pub lanes_of : (d e : DeskShape) → setting_of e ≡ setting_of d → e.lanes ≡ d.lanes
 lanes_of d e same = ap (λ (s : Setting). s.lanes) same
 
--- how the jobs of another batch are handed over
-handed_next : (d e : DeskShape) (before : Told) (batch : List Job) (after : Told) → setting_of e ≡ setting_of d → IsAdded before batch after
-    → handed_more (handed_in d.lanes before) batch ≡ handed_in e.lanes after
-handed_next d e before batch after same added = added_handed d.lanes before batch after added ∙ ap (λ n. handed_in n after) (sym (lanes_of d e same))
-
 -- memory was refused while a batch was read
-pub memory_serves : (room : ℕ) (before mid aft : Streams) (r : ReaderShape) (d : DeskShape) (told : Told) (how : Paused)
-    → IsServing before mid r d told → IsReadUp before.input aft.input (handed_in d.lanes told) → aft.output ≡ mid.output → CountsAs how mid.read_faults aft.read_faults
-    → aft.write_faults ≡ mid.write_faults → Serves (setting_of d) room before aft told fault.NoMemory
-memory_serves room before mid aft r d told how serving up output reads writes = record {
+pub memory_serves : (first : Cut) (room : ℕ) (before mid aft : Streams) (r : ReaderShape) (d : DeskShape) (told : Told) (how : Paused)
+    → IsServing first before mid r d told → IsReadUp before.input aft.input (handed_in first told) → aft.output ≡ mid.output → CountsAs how mid.read_faults aft.read_faults
+    → aft.write_faults ≡ mid.write_faults → Serves (setting_of d) first room before aft told fault.NoMemory
+memory_serves first room before mid aft r d told how serving up output reads writes = record {
   reads = up;
   fills = serving.answered.fills;
-  writes = writes_whole d.opening before.output aft.output told (output ∙ serving.answered.written);
+  writes = writes_whole (setting_of d) before.output aft.output told (output ∙ serving.answered.written);
   read_faults = let le = counts_le how mid.read_faults aft.read_faults reads in let same = serving.read_faults in omega arith;
   write_faults = writes ∙ serving.write_faults;
 }
 
 -- the session after a batch that is answered
-pub done_ends : (before mid aft : Streams) (r t : ReaderShape) (d e : DeskShape) (told after : Told) (batch : List Job) (how : Paused)
-    → IsServing before mid r d told → setting_of e ≡ setting_of d → ReadsTo before.input aft.input t.room (handed_more (handed_in d.lanes told) batch) how
-    → (how ≡ paused.Batch → HasRead before.input aft.input (handed_more (handed_in d.lanes told) batch) t)
+pub done_ends : (first : Cut) (before mid aft : Streams) (r t : ReaderShape) (d e : DeskShape) (told after : Told) (batch : List Job) (how : Paused)
+    → IsServing first before mid r d told → setting_of e ≡ setting_of d → ReadsTo before.input aft.input t.room (handed_more (handed_in first told) batch) how
+    → (how ≡ paused.Batch → HasRead before.input aft.input (handed_more (handed_in first told) batch) t)
     → IsAdded told batch after → HasAnswered before.output aft.output e after
-    → CountsAs how mid.read_faults aft.read_faults → aft.write_faults ≡ mid.write_faults → BatchEnds before aft t e after (ending_after how)
-done_ends before mid aft r t d e told after batch paused.Batch serving same reads goes_on added answered counts writes = record {
-  read = subst (λ (h : Handed). HasRead before.input aft.input h t) (handed_next d e told batch after same added) (goes_on refl);
+    → CountsAs how mid.read_faults aft.read_faults → aft.write_faults ≡ mid.write_faults → BatchEnds first before aft t e after (ending_after how)
+done_ends first before mid aft r t d e told after batch paused.Batch serving same reads goes_on added answered counts writes = record {
+  order = subst (λ n. AreInOrderFrom n first) (sym (lanes_of d e same)) serving.order;
+  read = subst (λ (h : Handed). HasRead before.input aft.input h t) (added_handed first told batch after added) (goes_on refl);
   answered = answered;
   read_faults = counts ∙ serving.read_faults;
   write_faults = writes ∙ serving.write_faults;
 }
-done_ends before mid aft r t d e told after batch paused.End serving same reads goes_on added answered counts writes = record {
-  reads = subst (λ (h : Handed). ReadsTo before.input aft.input t.room h paused.End) (handed_next d e told batch after same added) reads;
+done_ends first before mid aft r t d e told after batch paused.End serving same reads goes_on added answered counts writes = record {
+  reads = subst (λ (h : Handed). ReadsTo before.input aft.input t.room h paused.End) (added_handed first told batch after added) reads;
   fills = answered.fills;
   writes = answered.written;
   read_faults = counts ∙ serving.read_faults;
   write_faults = writes ∙ serving.write_faults;
 }
-done_ends before mid aft r t d e told after batch paused.Failed serving same reads goes_on added answered counts writes = record {
-  reads = subst (λ (h : Handed). ReadsTo before.input aft.input t.room h paused.Failed) (handed_next d e told batch after same added) reads;
+done_ends first before mid aft r t d e told after batch paused.Failed serving same reads goes_on added answered counts writes = record {
+  reads = subst (λ (h : Handed). ReadsTo before.input aft.input t.room h paused.Failed) (added_handed first told batch after added) reads;
   fills = answered.fills;
   writes = answered.written;
   read_faults = λ small. let rose = counts.1 small in let same_count = serving.read_faults in omega arith;
   write_faults = writes ∙ serving.write_faults;
 }
-done_ends before mid aft r t d e told after batch (paused.Stopped (stop.LineTooLong line)) serving same reads goes_on added answered counts writes = record {
-  reads = subst (λ (h : Handed). ReadsTo before.input aft.input t.room h (paused.Stopped (stop.LineTooLong line))) (handed_next d e told batch after same added) reads;
+done_ends first before mid aft r t d e told after batch (paused.Stopped (stop.LineTooLong line)) serving same reads goes_on added answered counts writes = record {
+  reads = subst (λ (h : Handed). ReadsTo before.input aft.input t.room h (paused.Stopped (stop.LineTooLong line))) (added_handed first told batch after added) reads;
   fills = answered.fills;
   writes = answered.written;
   read_faults = counts ∙ serving.read_faults;
   write_faults = writes ∙ serving.write_faults;
 }
-done_ends before mid aft r t d e told after batch (paused.Stopped stop.TooManyLines) serving same reads goes_on added answered counts writes = record {
-  reads = subst (λ (h : Handed). ReadsTo before.input aft.input t.room h (paused.Stopped stop.TooManyLines)) (handed_next d e told batch after same added) reads;
+done_ends first before mid aft r t d e told after batch (paused.Stopped stop.TooManyLines) serving same reads goes_on added answered counts writes = record {
+  reads = subst (λ (h : Handed). ReadsTo before.input aft.input t.room h (paused.Stopped stop.TooManyLines)) (added_handed first told batch after added) reads;
   fills = answered.fills;
   writes = answered.written;
   read_faults = counts ∙ serving.read_faults;
   write_faults = writes ∙ serving.write_faults;
 }
-done_ends before mid aft r t d e told after batch paused.NoMemory serving same reads goes_on added answered counts writes = record {
-  reads = subst (λ (h : Handed). IsReadUp before.input aft.input h) (handed_next d e told batch after same added) reads;
+done_ends first before mid aft r t d e told after batch paused.NoMemory serving same reads goes_on added answered counts writes = record {
+  reads = subst (λ (h : Handed). IsReadUp before.input aft.input h) (added_handed first told batch after added) reads;
   fills = answered.fills;
-  writes = writes_whole e.opening before.output aft.output after answered.written;
+  writes = writes_whole (setting_of e) before.output aft.output after answered.written;
   read_faults = let le = counts_le paused.NoMemory mid.read_faults aft.read_faults counts in let same_count = serving.read_faults in omega arith;
   write_faults = writes ∙ serving.write_faults;
 }
 
 -- the session after a batch whose answering failed
-pub fault_ends : (room : ℕ) (before mid aft : Streams) (r : ReaderShape) (d e : DeskShape) (told after : Told) (batch : List Job) (how : Paused) (ending : RunFault)
-    → IsServing before mid r d told → setting_of e ≡ setting_of d → ReadsTo before.input aft.input room (handed_more (handed_in d.lanes told) batch) how → how ≢ paused.NoMemory
-    → IsReadUp before.input aft.input (handed_more (handed_in d.lanes told) batch) → IsReadUp before.input aft.input (handed_in d.lanes told)
+pub fault_ends : (first : Cut) (room : ℕ) (before mid aft : Streams) (r : ReaderShape) (d e : DeskShape) (told after : Told) (batch : List Job) (how : Paused) (ending : RunFault)
+    → IsServing first before mid r d told → setting_of e ≡ setting_of d → ReadsTo before.input aft.input room (handed_more (handed_in first told) batch) how → how ≢ paused.NoMemory
+    → IsReadUp before.input aft.input (handed_more (handed_in first told) batch) → IsReadUp before.input aft.input (handed_in first told)
     → AnswersTo before.output aft.output told batch e after (Err ending) → IsWriteEnding ending → CountsAs how mid.read_faults aft.read_faults
-    → CountsWrites ending mid.write_faults aft.write_faults → Serves (setting_of e) room before aft after ending
-fault_ends room before mid aft r d e told after batch how fault.Write serving same reads memory up up_before answers end counts writes = record {
-  reads = (how, memory, subst (λ (h : Handed). ReadsTo before.input aft.input room h how) (handed_next d e told batch after same answers.0) reads);
+    → CountsWrites ending mid.write_faults aft.write_faults → Serves (setting_of e) first room before aft after ending
+fault_ends first room before mid aft r d e told after batch how fault.Write serving same reads memory up up_before answers end counts writes = record {
+  reads = (how, memory, subst (λ (h : Handed). ReadsTo before.input aft.input room h how) (added_handed first told batch after answers.0) reads);
   fills = answers.1.fills;
   writes = answers.1.written;
   read_faults = let le = counts_le how mid.read_faults aft.read_faults counts in let same_count = serving.read_faults in omega arith;
   write_faults = λ small. let rose = writes small in let same_count = serving.write_faults in omega arith;
 }
-fault_ends room before mid aft r d e told after batch how fault.NoMemory serving same reads memory up up_before answers end counts writes = record {
+fault_ends first room before mid aft r d e told after batch how fault.NoMemory serving same reads memory up up_before answers end counts writes = record {
   reads = elim answers.0 [
-    | inl stays ↦ subst (λ n. IsReadUp before.input aft.input (handed_in n after)) (sym (lanes_of d e same)) (subst (λ (t : Told). IsReadUp before.input aft.input (handed_in d.lanes t)) (sym stays) up_before)
-    | inr added ↦ subst (λ (h : Handed). IsReadUp before.input aft.input h) (handed_next d e told batch after same added) up
+    | inl stays ↦ subst (λ (t : Told). IsReadUp before.input aft.input (handed_in first t)) (sym stays) up_before
+    | inr added ↦ subst (λ (h : Handed). IsReadUp before.input aft.input h) (added_handed first told batch after added) up
   ];
   fills = answers.1.fills;
   writes = answers.1.written;
   read_faults = let le = counts_le how mid.read_faults aft.read_faults counts in let same_count = serving.read_faults in omega arith;
   write_faults = writes ∙ serving.write_faults;
 }
-fault_ends room before mid aft r d e told after batch how ending serving same reads memory up up_before answers end counts writes = absurd end
+fault_ends first room before mid aft r d e told after batch how ending serving same reads memory up up_before answers end counts writes = absurd end
 
 none_ends : (k : ℕ) → k < length {A = ℕ} [] → ⊥
 none_ends k lt = omega (arith, lt)
@@ -176,9 +173,10 @@ none_filled : FillsJobs [] [] []
 none_filled = record { whole = refl; batches = λ k lt lane. absurd (none_ends k lt); rests = λ k lt. absurd (none_ends k lt) }
 
 -- before the first batch
-pub opening_serves : (streams : Streams) (r : ReaderShape) (d : DeskShape) (told : Told) → d.jobs ≡ [] → d.entries ≡ [] → told ≡ nothing_told → r.cut ≡ start d.lanes → r.pending ≡ []
-    → IsServing streams streams r d told
-opening_serves streams r d told jobs entries none begun empty = rw none (record {
+pub opening_serves : (streams : Streams) (r : ReaderShape) (d : DeskShape) (told : Told) → JobsAreInOrder d.lanes → d.jobs ≡ [] → d.restored ≡ 0 → told ≡ nothing_told → r.cut ≡ start d.lanes → r.pending ≡ []
+    → IsServing (start d.lanes) streams streams r d told
+opening_serves streams r d told order jobs none_restored none begun empty = rw none (record {
+  order = order;
   read = record {
     bytes = [];
     taken = subst (λ xs. HasTaken streams.input streams.input xs) (sym empty) (nothing_taken streams.input);
@@ -189,15 +187,23 @@ opening_serves streams r d told jobs entries none begun empty = rw none (record 
     done = λ lane. rw jobs refl;
     fills = none_filled;
     ends = record { within = λ k lt. absurd (none_ends k lt); closed = refl };
-    written = sym (nothing_put streams.output);
+    kept = omega (arith, none_restored);
+    written = subst (λ n. streams.output ≡ with_bytes streams.output (text_from d.opening n [])) (sym none_restored) (sym (nothing_put streams.output));
   };
   read_faults = refl;
   write_faults = refl;
 })
 
+-- so begins a session at a new desk
+pub session_begins : (streams : Streams) (r : ReaderShape) (d : DeskShape) (a : Answered) (lanes room : ℕ) → JobsAreInOrder lanes → d.lanes ≡ lanes → d.jobs ≡ [] → d.entries ≡ [] →
+    d.restored ≡ 0 → a.jobs ≡ [] → a.batch_ends ≡ [] → r ≡ record { cut = start lanes; pending = []; room = room } → IsServing (start d.lanes) streams streams r d (told_of d a)
+session_begins streams r d a lanes room order same jobs entries restored none_jobs none_ends is =
+    opening_serves streams r d (told_of d a) (subst JobsAreInOrder (sym same) order) jobs restored (rw (entries, none_jobs, none_ends) refl)
+    (ap (λ (x : ReaderShape). x.cut) is ∙ ap start (sym same)) (ap (λ (x : ReaderShape). x.pending) is)
+
 -- where there was no memory for a session
-pub bare_serves : (set : Setting) (room : ℕ) (streams : Streams) (told : Told) (ending : RunFault) → told ≡ nothing_told → ending ≡ fault.NoMemory → Serves set room streams streams told ending
-bare_serves set room streams told ending nothing memory = rw (nothing, memory) (record {
+pub bare_serves : (set : Setting) (room : ℕ) (streams : Streams) (told : Told) (ending : RunFault) → set.restored ≡ 0 → told ≡ nothing_told → ending ≡ fault.NoMemory → Serves set (start set.lanes) room streams streams told ending
+bare_serves set room streams told ending none_restored nothing memory = rw (nothing, memory) (record {
   reads = record {
     bytes = [];
     ended = false;
@@ -206,15 +212,15 @@ bare_serves set room streams told ending nothing memory = rw (nothing, memory) (
     up = record { ends = (0, refl); within = refl };
   };
   fills = none_filled;
-  writes = record { count = 0; within = omega arith; held = sym (nothing_put (with_bytes streams.output []) ∙ nothing_put streams.output) };
+  writes = writes_whole set streams.output streams.output nothing_told (subst (λ n. streams.output ≡ with_bytes streams.output (text_from set.policy n [])) (sym none_restored) (sym (nothing_put streams.output)));
   read_faults = omega arith;
   write_faults = refl;
 })
 
 -- a session is one as it is promised
-pub serves_kept : (set : Setting) (room : ℕ) (before after : Streams) (told : Told) (ending : RunFault) → IsSoundPolicy set.policy → HistoriesKeepCompletable
-    → IsLegal (opening_state set.policy) set.rounds told.entries → Serves set room before after told ending → Served set room before after told ending
-serves_kept set room before after told ending sound keeps legal h = record {
+pub serves_kept : (set : Setting) (first : Cut) (room : ℕ) (before after : Streams) (told : Told) (ending : RunFault) → IsSoundPolicy set.policy → HistoriesKeepCompletable
+    → IsLegal (opening_state set.policy) set.rounds told.entries → Serves set first room before after told ending → Served set first room before after told ending
+serves_kept set first room before after told ending sound keeps legal h = record {
   reads = h.reads;
   legal = legal;
   fills = h.fills;
@@ -239,5 +245,5 @@ late_reads before after room handed fault.Load h = absurd h
 late_reads before after room handed fault.FileTooLong h = absurd h
 late_reads before after room handed (fault.BadInput e) h = absurd h
 
-pub serves_late : (set : Setting) (room : ℕ) (before after : Streams) (told : Told) (ending : RunFault) → Serves set room before after told ending → is_before_input ending ≡ false
-serves_late set room before after told ending h = late_reads before.input after.input room (handed_in set.lanes told) ending h.reads
+pub serves_late : (set : Setting) (first : Cut) (room : ℕ) (before after : Streams) (told : Told) (ending : RunFault) → Serves set first room before after told ending → is_before_input ending ≡ false
+serves_late set first room before after told ending h = late_reads before.input after.input room (handed_in first told) ending h.reads

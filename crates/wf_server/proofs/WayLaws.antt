@@ -1,15 +1,18 @@
 -- What comes of a way of serving.
-use Rattle.std.proofs.Common.{◌≡◌, ℕ, List, [], ◌∷◌, ◌++◌, inl, inr, sym, subst, arith}
+use Rattle.std.proofs.Common.{◌≡◌, ℕ, List, [], ◌∷◌, ◌++◌, inl, inr, drop, sym, ap, subst, ◌∙◌, arith}
+use Rattle.std.proofs.lemmas.List.{drop-append-le}
 use Rattle.wf_talk.specs.declared.entry.Entry.{Entry}
 use Rattle.wf_board.specs.Histories.{AreAnsweredOnce, EachAfter, IsLegal, IsRightAfter, state_after}
 use Rattle.wf_board.specs.HistoryLaws.{once_all, step_once}
 use Rattle.wf_board.specs.States.{State}
-use Rattle.wf_desk.specs.Desks.{DeskShape}
+use Rattle.wf_desk.specs.Desks.{DeskShape, IsSoundDesk}
 use Rattle.wf_lanes.specs.Turns.{HasServedOn}
 
 -- where no entry so far is a repetition, none is after serving by turns
-pub once_on : (d e : DeskShape) → HasServedOn d e → AreAnsweredOnce d.entries → AreAnsweredOnce e.entries
-once_on d e on once = subst AreAnsweredOnce (sym on.grown.extends) (once_all d.entries on.grown.more once on.once)
+pub once_on : (d e : DeskShape) → IsSoundDesk d → HasServedOn d e → AreAnsweredOnce (drop d.restored d.entries) → AreAnsweredOnce (drop d.restored e.entries)
+once_on d e sound on once =
+    subst AreAnsweredOnce (sym (ap (drop d.restored) on.grown.extends ∙ drop-append-le d.restored d.entries on.grown.more sound.kept))
+    (once_all (drop d.restored d.entries) on.grown.more once on.once)
 
 -- without rounds no entry is answered again
 never_again : (s : State) (earlier entries : List Entry) → EachAfter (IsRightAfter s 0) earlier entries → AreAnsweredOnce entries

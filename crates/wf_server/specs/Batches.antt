@@ -1,18 +1,19 @@
 -- Inside: where a session stands between its batches.
-use Rattle.std.specs.Prelude.{◌≡◌, ℕ, ◌+◌, ◌≤◌, List, [], ◌∷◌, ◌++◌, length, Option, None, Some, Result, Ok, Err}
+use Rattle.std.specs.Prelude.{◌≡◌, ℕ, Bool, ◌+◌, ◌≤◌, List, [], ◌∷◌, ◌++◌, length, Option, None, Some, Result, Ok, Err}
 use Rattle.std.proofs.Common.{◌⊎◌}
 use Rattle.wf_names.specs.declared.limits.TheConstants.{BATCH_LINE_LIMIT, SESSION_LINE_LIMIT}
 use Rattle.wf_outside.specs.Outside.{with_bytes}
 use Rattle.wf_talk.specs.declared.entry.Entry.{Entry}
 use Rattle.wf_talk.specs.declared.job.Job.{Job}
 use Rattle.line_cutter.specs.Cutter.{ends_after}
+use Rattle.line_cutter.specs.Jobs.{Cut, jobs_from}
+use Rattle.line_cutter.specs.Laws.{AreInOrder}
 use Rattle.line_cutter.specs.declared.stop.Stop.TheVariants as stop
 use Rattle.batch_reader.specs.declared.reader.Paused.{Paused}
 use Rattle.batch_reader.specs.declared.reader.Paused.TheVariants as paused
 use Rattle.batch_reader.specs.Reading.{ReaderShape, HasRead}
 use Rattle.wire_json.specs.Replies.{entry_text}
 use Rattle.policy_book.specs.Shapes.{PolicyShape}
-use Rattle.wf_board.specs.States.{opening_state}
 use Rattle.wf_board.specs.Histories.{FillsJobs}
 use Rattle.wf_desk.specs.BatchLaws.{EndAt}
 use Rattle.wf_desk.specs.Desks.{AreOfLanes, DeskShape, IsDone}
@@ -22,8 +23,7 @@ use Rattle.run_record.specs.Fault.{CountsReads, CountsWrites}
 use Rattle.run_record.specs.Report.{Told}
 use Rattle.run_record.specs.Run.{Streams}
 use Rattle.wf_server.specs.declared.batch.Answered.{Answered}
-use Rattle.wf_server.specs.Sessions.{Setting, handed_in, last_start, ReadsFor, WritesFor, WritesPart}
-use Rattle.entry_laws.specs.Transcripts.{transcript_text}
+use Rattle.wf_server.specs.Sessions.{Setting, handed_in, last_start, text_from, ReadsFor, WritesFor, WritesPart}
 use Rattle.wf_server.specs.Ways.{setting_of}
 
 -- the texts of entries, in order, with the names of one policy
@@ -32,10 +32,10 @@ entries_text p [] = []
 entries_text p (e ∷ es) = entry_text p e ++ entries_text p es
 
 -- a session, but that its history is legal and keeps each open case completable
-pub record Serves (set : Setting) (room : ℕ) (before after : Streams) (told : Told) (fault : RunFault) : Type 0 where
-  pub reads : ReadsFor before.input after.input room (handed_in set.lanes told) fault
+pub record Serves (set : Setting) (first : Cut) (room : ℕ) (before after : Streams) (told : Told) (fault : RunFault) : Type 0 where
+  pub reads : ReadsFor before.input after.input room (handed_in first told) fault
   pub fills : FillsJobs told.entries told.jobs told.batch_ends
-  pub writes : WritesFor set.policy before.output after.output told fault
+  pub writes : WritesFor set before.output after.output told fault
   pub read_faults : CountsReads fault before.read_faults after.read_faults
   pub write_faults : CountsWrites fault before.write_faults after.write_faults
 
@@ -54,12 +54,13 @@ pub record HasAnswered (held held-after : Option (List ℕ)) (d : DeskShape) (to
   pub done : IsDone d
   pub fills : FillsJobs told.entries told.jobs told.batch_ends
   pub ends : EndAt told.batch_ends (length told.jobs)
-  pub written : held-after ≡ with_bytes held (transcript_text (opening_state d.opening) told.entries)
+  pub kept : d.restored ≤ length told.entries
+  pub written : held-after ≡ with_bytes held (text_from d.opening d.restored told.entries)
 
 -- the jobs so far are answered, and the entries of the last batch written in part
-pub record HasAnsweredPart (p : PolicyShape) (held held-after : Option (List ℕ)) (told : Told) : Type 0 where
+pub record HasAnsweredPart (set : Setting) (held held-after : Option (List ℕ)) (told : Told) : Type 0 where
   pub fills : FillsJobs told.entries told.jobs told.batch_ends
-  pub written : WritesPart p held held-after (last_start told.batch_ends) told.entries
+  pub written : WritesPart set held held-after (last_start set.restored told.batch_ends) told.entries
 
 -- the jobs of one more batch are told, with its end
 pub record IsAdded (before : Told) (batch : List Job) (after : Told) : Type 0 where
@@ -70,9 +71,9 @@ pub record IsAdded (before : Told) (batch : List Job) (after : Told) : Type 0 wh
 abbrev pub AnswersTo : Option (List ℕ) → Option (List ℕ) → Told → List Job → DeskShape → Told → Result (Unit {0}) RunFault → Type 0
 AnswersTo held held-after before batch d after (Ok done) = IsAdded before batch after × HasAnswered held held-after d after
 AnswersTo held held-after before batch d after (Err NoMemory) =
-    ((after ≡ before) ⊎ IsAdded before batch after) × HasAnsweredPart d.opening held held-after after
+    ((after ≡ before) ⊎ IsAdded before batch after) × HasAnsweredPart (setting_of d) held held-after after
 AnswersTo held held-after before batch d after (Err fault) =
-    IsAdded before batch after × HasAnsweredPart d.opening held held-after after
+    IsAdded before batch after × HasAnsweredPart (setting_of d) held held-after after
 
 -- the endings of answering a batch
 abbrev pub IsWriteEnding : RunFault → Type 0
@@ -89,14 +90,20 @@ ending_after (paused.Stopped (stop.LineTooLong line)) = Some (LineTooLong line)
 ending_after (paused.Stopped stop.TooManyLines) = Some TooManyLines
 ending_after paused.NoMemory = Some NoMemory
 
+-- whatever is read behind what was cut before, all jobs are in order
+abbrev pub AreInOrderFrom : ℕ → Cut → Type 0
+AreInOrderFrom lanes first =
+    (bytes : List ℕ) (ended : Bool) → AreInOrder lanes (jobs_from first bytes ended).jobs (jobs_from first bytes ended).ends
+
 -- between two batches: all that was handed over is answered and written, and no call has failed
-pub record IsServing (before after : Streams) (r : ReaderShape) (d : DeskShape) (told : Told) : Type 0 where
-  pub read : HasRead before.input after.input (handed_in d.lanes told) r
+pub record IsServing (first : Cut) (before after : Streams) (r : ReaderShape) (d : DeskShape) (told : Told) : Type 0 where
+  pub order : AreInOrderFrom d.lanes first
+  pub read : HasRead before.input after.input (handed_in first told) r
   pub answered : HasAnswered before.output after.output d told
   pub read_faults : after.read_faults ≡ before.read_faults
   pub write_faults : after.write_faults ≡ before.write_faults
 
 -- after a batch the session goes on, or ends
-abbrev pub BatchEnds : Streams → Streams → ReaderShape → DeskShape → Told → Option RunFault → Type 0
-BatchEnds before after r d told None = IsServing before after r d told
-BatchEnds before after r d told (Some fault) = Serves (setting_of d) r.room before after told fault
+abbrev pub BatchEnds : Cut → Streams → Streams → ReaderShape → DeskShape → Told → Option RunFault → Type 0
+BatchEnds first before after r d told None = IsServing first before after r d told
+BatchEnds first before after r d told (Some fault) = Serves (setting_of d) first r.room before after told fault

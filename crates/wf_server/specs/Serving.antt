@@ -7,6 +7,7 @@ use Rattle.policy_reader.specs.Files.{policy_of_file}
 use Rattle.run_record.specs.declared.fault.RunFault.{RunFault}
 use Rattle.run_record.specs.declared.fault.RunFault.TheVariants.{Policy, Load, NoMemory, FileTooLong}
 use Rattle.run_record.specs.Run.{Run, IsUntouched, IsOrderly, OverFile}
+use Rattle.line_cutter.specs.Jobs.{start}
 use Rattle.wf_server.specs.declared.serve.TheConstants.{PIECE}
 use Rattle.wf_board.specs.Histories.{AreWantsRightful}
 use Rattle.wf_server.specs.Sessions.{Served, Setting}
@@ -22,7 +23,7 @@ EndsBefore file fault = ⊥
 
 -- a policy is served as the options ask
 abbrev pub setting : PolicyShape → Options → Setting
-setting p options = record { policy = p; lanes = options.lanes; rounds = options.rounds }
+setting p options = record { policy = p; lanes = options.lanes; rounds = options.rounds; restored = 0 }
 
 -- the policy of a file is served; only an opening, a claim, an edit or a view over the open cases is answered with want of
 -- memory
@@ -30,7 +31,7 @@ pub record ServesPolicy (file : List ℕ) (options : Options) (r : Run) : Type 0
   pub policy : PolicyShape
   pub within : length file ≤ POLICY_FILE_LIMIT
   pub read : policy_of_file file ≡ Ok policy
-  pub served : Served (setting policy options) PIECE r.before r.after r.told r.fault
+  pub served : Served (setting policy options) (start options.lanes) PIECE r.before r.after r.told r.fault
   pub wants : AreWantsRightful r.told.entries
 
 -- a run over a policy file ends before its session, or serves the policy

@@ -1,8 +1,9 @@
 -- A session: the lines of the input are answered, and the entries written.
-use Rattle.std.specs.Prelude.{◌≡◌, ◌≢◌, ℕ, ◌-◌, true, false, List, length, take, drop, Option}
+use Rattle.std.specs.Prelude.{◌≡◌, ◌≢◌, ℕ, ◌-◌, true, false, List, length, take, drop, max, Option}
 use Rattle.wf_outside.specs.Outside.{HasPart, with_bytes}
 use Rattle.wf_talk.specs.declared.entry.Entry.{Entry}
 use Rattle.line_cutter.specs.declared.stop.Stop.TheVariants as stop
+use Rattle.line_cutter.specs.Jobs.{Cut}
 use Rattle.batch_reader.specs.declared.reader.Paused.{Paused}
 use Rattle.batch_reader.specs.declared.reader.Paused.TheVariants as paused
 use Rattle.batch_reader.specs.Reading.{Handed, HasReadAll, HasStopped, IsReadUp, ReadsTo}
@@ -17,16 +18,17 @@ use Rattle.run_record.specs.Report.{Told}
 use Rattle.run_record.specs.Run.{Streams}
 use Rattle.entry_laws.specs.Transcripts.{transcript_text}
 
--- how a session is served: the policy at its beginning, how many lanes there are, and after how many rounds a request
--- that could not be decided is answered again
+-- how a session is served: the policy at its beginning, how many lanes there are, after how many rounds a request
+-- that could not be decided is answered again, and how many entries were taken up from an earlier session
 pub record Setting : Type 0 where
   pub policy : PolicyShape
   pub lanes : ℕ
   pub rounds : ℕ
+  pub restored : ℕ
 
--- the jobs that a report tells, as they were read
-abbrev pub handed_in : ℕ → Told → Handed
-handed_in lanes told = record { lanes = lanes; jobs = told.jobs; batch_ends = told.batch_ends }
+-- the jobs that a report tells, as they were read behind what was cut before
+abbrev pub handed_in : Cut → Told → Handed
+handed_in first told = record { first = first; jobs = told.jobs; batch_ends = told.batch_ends }
 
 -- what was read where a session ended so, with pieces of at most so many bytes; a write fault ends it wherever reading
 -- had paused
@@ -40,21 +42,25 @@ ReadsFor before after room handed Write =
 ReadsFor before after room handed NoMemory = IsReadUp before after handed
 ReadsFor before after room handed fault = ⊥
 
--- where the last batch begins
-abbrev pub last_start : List ℕ → ℕ
-last_start batch_ends = batch_start batch_ends (length batch_ends - 1)
+-- the text of the entries from a place on
+abbrev pub text_from : PolicyShape → ℕ → List Entry → List ℕ
+text_from p n entries = transcript_text (state_after (opening_state p) (take n entries)) (drop n entries)
 
--- the first n entries are written, and of the others a part
-abbrev pub WritesPart : PolicyShape → Option (List ℕ) → Option (List ℕ) → ℕ → List Entry → Type 0
-WritesPart p before after n entries =
-    HasPart (with_bytes before (transcript_text (opening_state p) (take n entries))) after
-    (transcript_text (state_after (opening_state p) (take n entries)) (drop n entries))
+-- where the last batch begins, or behind the entries that were taken up, if that is later
+abbrev pub last_start : ℕ → List ℕ → ℕ
+last_start restored batch_ends = max restored (batch_start batch_ends (length batch_ends - 1))
+
+-- of the entries behind those that were taken up, those before a place are written, and of the others a part
+abbrev pub WritesPart : Setting → Option (List ℕ) → Option (List ℕ) → ℕ → List Entry → Type 0
+WritesPart set before after n entries =
+    HasPart (with_bytes before (text_from set.policy set.restored (take n entries))) after (text_from set.policy n entries)
 
 -- what is written where a session ended so: after a write fault or want of memory the last batch in part, else all entries
-abbrev pub WritesFor : PolicyShape → Option (List ℕ) → Option (List ℕ) → Told → RunFault → Type 0
-WritesFor p before after told Write = WritesPart p before after (last_start told.batch_ends) told.entries
-WritesFor p before after told NoMemory = WritesPart p before after (last_start told.batch_ends) told.entries
-WritesFor p before after told fault = after ≡ with_bytes before (transcript_text (opening_state p) told.entries)
+-- that were not taken up
+abbrev pub WritesFor : Setting → Option (List ℕ) → Option (List ℕ) → Told → RunFault → Type 0
+WritesFor set before after told Write = WritesPart set before after (last_start set.restored told.batch_ends) told.entries
+WritesFor set before after told NoMemory = WritesPart set before after (last_start set.restored told.batch_ends) told.entries
+WritesFor set before after told fault = after ≡ with_bytes before (text_from set.policy set.restored told.entries)
 
 -- after each of the entries every open case can be completed
 abbrev pub AlwaysKeepsCompletable : PolicyShape → List Entry → Type 0
@@ -63,11 +69,11 @@ AlwaysKeepsCompletable p entries = (n : ℕ) → KeepsCompletable (state_after (
 -- a session: what was written are the replies of one legal history, which holds each of the jobs that were read once,
 -- in the order of their batches and lanes; after each entry every open case can be completed; and each fault of the
 -- outside is counted
-pub record Served (set : Setting) (room : ℕ) (before after : Streams) (told : Told) (fault : RunFault) : Type 0 where
-  pub reads : ReadsFor before.input after.input room (handed_in set.lanes told) fault
+pub record Served (set : Setting) (first : Cut) (room : ℕ) (before after : Streams) (told : Told) (fault : RunFault) : Type 0 where
+  pub reads : ReadsFor before.input after.input room (handed_in first told) fault
   pub legal : IsLegal (opening_state set.policy) set.rounds told.entries
   pub fills : FillsJobs told.entries told.jobs told.batch_ends
-  pub writes : WritesFor set.policy before.output after.output told fault
+  pub writes : WritesFor set before.output after.output told fault
   pub kept : AlwaysKeepsCompletable set.policy told.entries
   pub read_faults : CountsReads fault before.read_faults after.read_faults
   pub write_faults : CountsWrites fault before.write_faults after.write_faults

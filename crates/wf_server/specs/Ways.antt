@@ -7,7 +7,7 @@ use Rattle.wf_server.specs.Sessions.{Setting}
 
 -- how a desk serves
 abbrev pub setting_of : DeskShape → Setting
-setting_of d = record { policy = d.opening; lanes = d.lanes; rounds = d.rounds }
+setting_of d = record { policy = d.opening; lanes = d.lanes; rounds = d.rounds; restored = d.restored }
 
 -- a way of serving, by what it asks of a desk and what comes of it: it asks no more than that each job is of one of the
 -- lanes, and then none is left without an entry, and nothing is changed but by the entries

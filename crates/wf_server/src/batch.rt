@@ -59,8 +59,8 @@ pub(crate) fn answer_batch<K: Sink, W: Fn(Desk) -> Desk>(
     ensures answers { (held : Option (List ℕ)) →
         HasAnswered held (K.held sink.old) desk (told_of desk told.old) →
         AnswersTo held (K.held sink.new) (told_of desk told.old) batch.now result.0 (told_of result.0 told.new) result.1 }
-    ensures once { ServesOnce (W.post way.now) → AreAnsweredOnce desk.entries
-        → AreAnsweredOnce result.0.entries }
+    ensures once { ServesOnce (W.post way.now) → AreAnsweredOnce (drop desk.restored desk.entries)
+        → AreAnsweredOnce (drop desk.restored result.0.entries) }
     ensures ending { IfErr result.1 IsWriteEnding }
     ensures counts { CountsWrites (fault_in result.1) (K.faults sink.old) (K.faults sink.new) }
 {
@@ -113,11 +113,12 @@ fn serve_jobs<W: Fn(Desk) -> Desk>(way: &W, desk: Desk) -> Desk
     ensures grown { HasGrown desk result }
     ensures done { IsDone result }
     ensures sound { IsSoundDesk result }
-    ensures once { ServesOnce (W.post way.now) → AreAnsweredOnce desk.entries
-        → AreAnsweredOnce result.entries }
+    ensures once { ServesOnce (W.post way.now) → AreAnsweredOnce (drop desk.restored desk.entries)
+        → AreAnsweredOnce (drop desk.restored result.entries) }
 {
+    let _before = desk.journal();
     let served = way(desk);
-    let _kept = served.journal();
+    let _after = served.journal();
     served
 }
 

@@ -4,6 +4,7 @@ ghost use Rattle.run_record.specs.Fault.{status_of, is_before_input};
 ghost use Rattle.run_record.specs.Report.{told_by};
 ghost use Rattle.run_record.specs.Run.{run_of, streams_of};
 ghost use Rattle.wf_board.specs.Histories.{AreAnsweredOnce, AreWantsRightful};
+ghost use Rattle.line_cutter.specs.Jobs.{start};
 ghost use Rattle.wf_server.specs.Sessions.{Served};
 ghost use Rattle.command_words.specs.Words.{AreOptions};
 ghost use Rattle.command_words.specs.Asked.{options_in};
@@ -61,7 +62,7 @@ fn serve_policy<S: Source, K: Sink, W: Fn(Desk) -> Desk>(
 ) -> Report
     requires way { IsWay (W.pre way.now) (W.post way.now) }
     requires options { AreOptions (options_in options) }
-    ensures served { Served (setting policy (options_in options)) PIECE
+    ensures served { Served (setting policy (options_in options)) (start options.lanes) PIECE
         (streams_of S.left S.faults K.held K.faults source.old sink.old)
         (streams_of S.left S.faults K.held K.faults source.new sink.new)
         (told_by result) result.fault }

@@ -1,9 +1,9 @@
 //! The session: batch after batch is read, answered and written.
-ghost use Rattle.std.specs.Prelude.{◌≡◌, ◌<◌, [], None};
+ghost use Rattle.std.specs.Prelude.{◌≡◌, ◌<◌, drop, None};
 ghost use Rattle.wf_board.specs.States.{opening_state};
 ghost use Rattle.wf_board.specs.Histories.{AreAnsweredOnce, AreWantsRightful, IsLegal};
 ghost use Rattle.wf_desk.specs.Desks.{IsSoundDesk};
-ghost use Rattle.line_cutter.specs.Jobs.{start};
+ghost use Rattle.line_cutter.specs.Jobs.{Cut, start};
 ghost use Rattle.batch_reader.specs.Reading.{IsReady, left_to_read};
 ghost use Rattle.run_record.specs.Fault.{status_of};
 ghost use Rattle.run_record.specs.Report.{told_by};
@@ -38,7 +38,7 @@ pub(crate) fn run_session<S: Source, K: Sink, W: Fn(Desk) -> Desk>(
     requires way { IsWay (W.pre way.now) (W.post way.now) }
     requires room { 0 < room }
     requires options { AreOptions (options_in options) }
-    ensures serves { Serves (setting policy (options_in options)) room
+    ensures serves { Serves (setting policy (options_in options)) (start options.lanes) room
         (streams_of S.left S.faults K.held K.faults source.old sink.old)
         (streams_of S.left S.faults K.held K.faults source.new sink.new)
         (told_by result) result.fault }
@@ -50,37 +50,44 @@ pub(crate) fn run_session<S: Source, K: Sink, W: Fn(Desk) -> Desk>(
     let Ok(desk) = Desk::new(alloc, policy, options.lanes, options.rounds) else {
         return bare_report(alloc, RunFault::NoMemory);
     };
-    let Ok(mut reader) = Reader::new(alloc, options.lanes, room) else {
+    let Ok(mut reader) = Reader::new(alloc, options.lanes, 0, room) else {
         return bare_report(alloc, RunFault::NoMemory);
     };
-    serve_batches(alloc, way, &mut reader, desk, source, sink)
+    jobs_are_in_order(options.lanes);
+    serve_batches(alloc, way, &mut reader, desk, Answered::new(alloc), source, sink)
 }
 
-// Serves batch after batch.
+// Serves batch after batch of what is read, behind those that were answered before.
 fn serve_batches<S: Source, K: Sink, W: Fn(Desk) -> Desk>(
     alloc: Global,
     way: &W,
     reader: &mut Reader,
     mut desk: Desk,
+    mut told: Answered,
     source: &mut S,
     sink: &mut K,
 ) -> Report
     requires way { IsWay (W.pre way.now) (W.post way.now) }
-    requires start { reader.old.cut ≡ start desk.lanes }
-    requires nothing { reader.old.pending ≡ [] }
+    requires ready { IsReady reader.old }
     requires lanes { 0 < desk.lanes }
-    requires entries { desk.entries ≡ [] }
-    requires jobs { desk.jobs ≡ [] }
-    ensures serves { Serves (setting_of desk) reader.old.room
+    requires serving { (first : Cut) × IsServing first
+        (streams_of S.left S.faults K.held K.faults source.old sink.old)
+        (streams_of S.left S.faults K.held K.faults source.old sink.old)
+        reader.old desk (told_of desk told) }
+    ensures serves { (first : Cut) → IsServing first
+        (streams_of S.left S.faults K.held K.faults source.old sink.old)
+        (streams_of S.left S.faults K.held K.faults source.old sink.old)
+        reader.old desk (told_of desk told) →
+        Serves (setting_of desk) first reader.old.room
         (streams_of S.left S.faults K.held K.faults source.old sink.old)
         (streams_of S.left S.faults K.held K.faults source.new sink.new)
         (told_by result) result.fault }
     ensures legal { IsLegal (opening_state desk.opening) desk.rounds (told_by result).entries }
-    ensures once { ServesOnce (W.post way.now) → AreAnsweredOnce (told_by result).entries }
-    ensures wants { AreWantsRightful (told_by result).entries }
+    ensures once { ServesOnce (W.post way.now) → AreAnsweredOnce (drop desk.restored desk.entries)
+        → AreAnsweredOnce (drop desk.restored (told_by result).entries) }
+    ensures wants { AreWantsRightful (drop desk.restored (told_by result).entries) }
     ensures status { result.status ≡ status_of result.fault }
 {
-    let mut told = Answered::new(alloc);
     'serving: loop {
         let (next, ending) = serve_batch(alloc, way, reader, desk, &mut told, source, sink);
         match ending {
@@ -103,23 +110,22 @@ fn serve_batch<S: Source, K: Sink, W: Fn(Desk) -> Desk>(
     requires way { IsWay (W.pre way.now) (W.post way.now) }
     requires ready { IsReady reader.old }
     requires lanes { 0 < desk.lanes }
-    requires serving { (before : Streams) × IsServing before
+    requires serving { (first : Cut) × ((before : Streams) × IsServing first before
         (streams_of S.left S.faults K.held K.faults source.old sink.old)
-        reader.old desk (told_of desk told.old) }
-    ensures batch { (before : Streams) → IsServing before
+        reader.old desk (told_of desk told.old)) }
+    ensures batch { (first : Cut) (before : Streams) → IsServing first before
         (streams_of S.left S.faults K.held K.faults source.old sink.old)
         reader.old desk (told_of desk told.old) →
-        BatchEnds before
+        BatchEnds first before
         (streams_of S.left S.faults K.held K.faults source.new sink.new)
         reader.new result.0 (told_of result.0 told.new) result.1 }
-    ensures once { ServesOnce (W.post way.now) → AreAnsweredOnce desk.entries
-        → AreAnsweredOnce result.0.entries }
+    ensures once { ServesOnce (W.post way.now) → AreAnsweredOnce (drop desk.restored desk.entries)
+        → AreAnsweredOnce (drop desk.restored result.0.entries) }
     ensures setting { setting_of result.0 ≡ setting_of desk }
     ensures ready { result.1 ≡ None → IsReady reader.new }
     ensures less { result.1 ≡ None → left_to_read reader.new < left_to_read reader.old }
     ensures room { reader.new.room ≡ reader.old.room }
 {
-    jobs_are_in_order(desk.lanes());
     let Reading { jobs, paused } = reader.next_batch(source);
     if let Paused::NoMemory = paused {
         return (desk, Some(RunFault::NoMemory));

@@ -4,6 +4,7 @@ use Rattle.serde_json.specs.Data.{Data, number, unsigned, array, object, no_memb
 use Rattle.serde_json.specs.View.{items_of}
 use Rattle.refutation_tree.specs.Shapes.{Shape, Kids, holder, rule, node, no_kids, tree_kid, twin_kid}
 use Rattle.refutation_tree.specs.Views.{shape_of}
+use Rattle.refutation_tree.specs.declared.tree.Branch.{Branch}
 use Rattle.refutation_tree.specs.declared.tree.Kid.{Kid}
 use Rattle.refutation_tree.specs.declared.tree.Kid.TheVariants as kid
 use Rattle.policy_book.specs.Shapes.{PolicyShape}
@@ -33,3 +34,7 @@ abbrev mutual
 abbrev pub kid_data : PolicyShape → ℕ → Kid → Data
 kid_data p f (kid.Tree t) = tree_data p f (shape_of t)
 kid_data p f (kid.Twin v) = single (codes "twin") (user_data p v)
+
+-- inside: a user with the tree, or with the leaf that names a twin
+abbrev pub branch_data : PolicyShape → ℕ → Branch → Data
+branch_data p f b = array (items_of (user_data p b.user ∷ kid_data p f b.kid ∷ []))

@@ -8,17 +8,16 @@ ghost use Rattle.wire_json.specs.Trees.{tree_data};
 ghost use Rattle.wire_json.specs.Replies.{denial_data, missing_data, strands_data};
 
 use crate::text::{push, push_case, push_name, push_name_in, push_number, push_roles};
-use crate::tree::tree_value;
+use crate::tree_text::push_tree;
 use policy_book::Policy;
 use refutation_tree::Tree;
-use std::alloc::{AllocError, Global};
+use std::alloc::AllocError;
 use wf_names::{CaseId, FlowId, RoleId, StepId, StepState};
 use wf_talk::{Denial, Missing};
 
 /// Adds why a request was denied.
 #[tactic(auto, unfolding(json::specs::Print::escape_byte))]
 pub(crate) fn push_denial(
-    alloc: Global,
     out: &mut Vec<u8>,
     p: &Policy,
     denial: &Denial,
@@ -31,7 +30,7 @@ pub(crate) fn push_denial(
         Denial::Retired => push(out, b"\"retired\""),
         Denial::Full => push(out, b"\"full\""),
         Denial::Unsatisfiable { flow, tree } => {
-            push_tree_in(alloc, out, b"{\"unsatisfiable\":", p, *flow, tree)
+            push_tree_in(out, b"{\"unsatisfiable\":", p, *flow, tree)
         }
         Denial::NoCase => push(out, b"\"no_case\""),
         Denial::Closed => push(out, b"\"closed\""),
@@ -42,7 +41,7 @@ pub(crate) fn push_denial(
         Denial::Role(roles) => push_roles_in(out, b"{\"role\":", p, roles.as_slice()),
         Denial::Rule(rule) => push_rule(out, *rule),
         Denial::Stranded { flow, tree } => {
-            push_tree_in(alloc, out, b"{\"stranded\":", p, *flow, tree)
+            push_tree_in(out, b"{\"stranded\":", p, *flow, tree)
         }
         Denial::NotHeld(state) => push_not_held(out, p, *state),
         Denial::NotAdmin => push(out, b"\"not_admin\""),
@@ -51,11 +50,11 @@ pub(crate) fn push_denial(
         Denial::Already => push(out, b"\"already\""),
         Denial::Absent => push(out, b"\"absent\""),
         Denial::LastAdmin => push(out, b"\"last_admin\""),
-        Denial::Strands { case, flow, tree } => push_strands(alloc, out, p, *case, *flow, tree),
+        Denial::Strands { case, flow, tree } => push_strands(out, p, *case, *flow, tree),
     }
 }
 
-fn push_rule(out: &mut Vec<u8>, rule: u8) -> Result<(), AllocError>
+pub(crate) fn push_rule(out: &mut Vec<u8>, rule: u8) -> Result<(), AllocError>
     ensures { OnOk result (out.new.items ≡ out.old.items ++ compact_text
         (single (codes "rule") (number (unsigned rule)))) }
 {
@@ -89,7 +88,6 @@ fn push_unknown(out: &mut Vec<u8>, missing: Missing) -> Result<(), AllocError>
 }
 
 fn push_strands(
-    alloc: Global,
     out: &mut Vec<u8>,
     p: &Policy,
     case: CaseId,
@@ -101,7 +99,7 @@ fn push_strands(
 {
     push_case(out, b"{\"strands\":{\"case\":", case)?;
     push(out, b",\"tree\":")?;
-    push_tree(alloc, out, p, f, tree)?;
+    push_tree(out, p, f, tree)?;
     push(out, b"}}")?;
     Ok(())
 }
@@ -119,7 +117,7 @@ fn push_state(out: &mut Vec<u8>, p: &Policy, state: StepState) -> Result<(), All
 }
 
 // Adds bytes, the name of a step and a closing brace.
-fn push_step_in(
+pub(crate) fn push_step_in(
     out: &mut Vec<u8>,
     before: &[u8],
     p: &Policy,
@@ -169,7 +167,6 @@ fn push_roles_in(
 
 // Adds bytes, a tree and a closing brace.
 fn push_tree_in(
-    alloc: Global,
     out: &mut Vec<u8>,
     before: &[u8],
     p: &Policy,
@@ -180,23 +177,7 @@ fn push_tree_in(
         (before.now ++ (compact_text (tree_data p.now f (shape_of tree.now)) ++ 125 ∷ []))) }
 {
     push(out, before)?;
-    push_tree(alloc, out, p, f, tree)?;
+    push_tree(out, p, f, tree)?;
     push(out, b"}")?;
-    Ok(())
-}
-
-#[tactic(auto, using(crate::proofs::Floats::shape_without_float))]
-fn push_tree(
-    alloc: Global,
-    out: &mut Vec<u8>,
-    p: &Policy,
-    f: FlowId,
-    tree: &Tree,
-) -> Result<(), AllocError>
-    ensures { OnOk result (out.new.items ≡ out.old.items ++ compact_text
-        (tree_data p.now f (shape_of tree.now))) }
-{
-    let text = tree_value(alloc, p, f, tree)?.to_string(alloc)?;
-    push(out, text.as_bytes())?;
     Ok(())
 }

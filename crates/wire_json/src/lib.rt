@@ -10,6 +10,7 @@ mod reply;
 mod request;
 mod text;
 mod tree;
+mod tree_text;
 mod value;
 mod views;
 mod word;

@@ -26,25 +26,25 @@ pub fn write_entry(alloc: Global, p: &Policy, e: &Entry) -> Result<Line, AllocEr
     ensures { IfOk result (λ line. line ≡ entry_text p.now e.now) }
 {
     let mut out = Vec::with_capacity(alloc, LINE_ROOM)?;
-    push_entry(alloc, &mut out, p, e)?;
+    push_entry(&mut out, p, e)?;
     push(&mut out, b"\n")?;
     Ok(Line::from_vec(out))
 }
 
-fn push_entry(alloc: Global, out: &mut Vec<u8>, p: &Policy, e: &Entry) -> Result<(), AllocError>
+fn push_entry(out: &mut Vec<u8>, p: &Policy, e: &Entry) -> Result<(), AllocError>
     ensures { OnOk result (out.new.items ≡ out.old.items ++ compact_text (entry_data p.now e.now)) }
 {
     push_number(out, b"{\"at\":", e.at)?;
     push_number(out, b",\"lane\":", e.lane as u32)?;
     push_number(out, b",\"line\":", e.line)?;
     push(out, b",\"reply\":")?;
-    push_reply(alloc, out, p, &e.reply)?;
+    push_reply(out, p, &e.reply)?;
     push(out, b"}")?;
     Ok(())
 }
 
 #[tactic(auto, unfolding(json::specs::Print::escape_byte))]
-fn push_reply(alloc: Global, out: &mut Vec<u8>, p: &Policy, reply: &Reply) -> Result<(), AllocError>
+fn push_reply(out: &mut Vec<u8>, p: &Policy, reply: &Reply) -> Result<(), AllocError>
     ensures { OnOk result (out.new.items ≡ out.old.items ++ compact_text
         (reply_data p.now reply.now)) }
 {
@@ -59,7 +59,7 @@ fn push_reply(alloc: Global, out: &mut Vec<u8>, p: &Policy, reply: &Reply) -> Re
         Reply::Shown(face) => push_shown(out, p, face),
         Reply::Work(items) => push_work(out, p, items.as_slice()),
         Reply::WhatIf(cases) => push_what_if(out, cases.as_slice()),
-        Reply::Denied(denial) => push_denied(alloc, out, p, denial),
+        Reply::Denied(denial) => push_denied(out, p, denial),
         Reply::Again { rounds, at } => push_again(out, *rounds, *at),
         Reply::NoMemory => push(out, b"\"no_memory\""),
         Reply::Bad(bad) => push_bad(out, *bad),
@@ -243,7 +243,6 @@ fn push_seen(out: &mut Vec<u8>, p: &Policy, state: StepState) -> Result<(), Allo
 }
 
 fn push_denied(
-    alloc: Global,
     out: &mut Vec<u8>,
     p: &Policy,
     denial: &Denial,
@@ -252,7 +251,7 @@ fn push_denied(
         (single (codes "denied") (denial_data p.now denial.now))) }
 {
     push(out, b"{\"denied\":")?;
-    push_denial(alloc, out, p, denial)?;
+    push_denial(out, p, denial)?;
     push(out, b"}")?;
     Ok(())
 }
