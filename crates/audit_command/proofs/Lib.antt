@@ -1,3 +1,4 @@
 pub mod Passing
 pub mod Loaded
 pub mod Runs
+pub mod Legal

@@ -1,26 +1,32 @@
 -- What was loaded, and what is found with it.
 use Rattle.std.proofs.Common.{◌≡◌, ℕ, ◌≤◌, List, [], ◌∷◌, length, Result, Ok, Err, refl, subst, arith}
-use Rattle.std.specs.Prelude.{IfOk, IfErr, IsErrAnd}
+use Rattle.std.specs.Prelude.{◌↔◌, IfOk, IfErr, IfSome, IsErrAnd}
 use Rattle.std.proofs.lemmas.Bool.{le-ltb, lt-ltb}
 use Rattle.wf_names.specs.declared.limits.TheConstants.{LANE_LIMIT, POLICY_FILE_LIMIT, REQUESTS_FILE_LIMIT}
 use Rattle.wf_outside.specs.declared.loaded.LoadFault.{LoadFault}
-use Rattle.wf_outside.specs.declared.loaded.LoadFault.TheVariants.{TooLong}
+use Rattle.wf_outside.specs.declared.loaded.LoadFault.TheVariants.{Failed, TooLong}
+use Rattle.wf_outside.specs.declared.loaded.LoadFault.TheVariants as load
 use Rattle.wf_outside.specs.Outside.{Filed, told, missing, untold, LoadsAs, LoadsFile}
 use Rattle.policy_book.specs.Shapes.{PolicyShape}
 use Rattle.wf_talk.specs.declared.job.Job.{Job}
 use Rattle.wf_talk.specs.Jobs.{AreOfLanes}
 use Rattle.line_cutter.specs.Laws.{AreInOrder}
 use Rattle.line_cutter.specs.declared.whole.Batch.{Batch}
-use Rattle.transcript_audit.specs.Audits.{AuditShape, audit_of}
+use Rattle.line_reader.specs.Lines.{lines_of}
+use Rattle.transcript_audit.specs.Audits.{AuditShape, IsTranscript, audit_of}
+use Rattle.transcript_audit.specs.Laws.{AreOfSession}
 use Rattle.run_record.specs.declared.fault.RunFault.{RunFault}
 use Rattle.run_record.specs.declared.fault.RunFault.TheVariants.{Nothing, Found, Usage, Policy, Read, Write, Load, NoMemory, FileTooLong, LineTooLong, TooManyLines, BadInput}
 use Rattle.wf_commands.specs.Once.{OverPolicy}
 use Rattle.wf_commands.specs.Load.{GivesPolicy, PolicyOf, IsFileEnding, IsLoadEnding}
 use Rattle.wf_commands.proofs.Loading.{answers_file, some_longer}
 use Rattle.audit_command.specs.declared.finding.Finding.{Finding}
-use Rattle.audit_command.specs.Auditing.{HasFound, ending_of, text_of}
+use Rattle.audit_command.specs.declared.finding.Finding.TheVariants.{Legal}
+use Rattle.audit_command.proofs.Legal.{legal_input}
+use Rattle.audit_command.specs.Auditing.{AreShort, HasFound, ending_of, text_of}
+use Rattle.audit_command.specs.Laws.{LegalIsExact}
 use Rattle.audit_command.specs.Loading.{GivesJobs, GivesRequests, JobsOf}
-use Rattle.audit_command.specs.Running.{AuditOf, AuditsFile, AuditsPolicy, AuditsRequests, Input, audit_for}
+use Rattle.audit_command.specs.Running.{AuditOf, AuditsFile, AuditsPolicy, AuditsRequests, EndsWithout, Input, audit_for}
 use Rattle.audit_command.specs.Steps.{FindsAs, FindsFile, IsReadEnding}
 
 of_more_lanes : (lanes more : ℕ) (jobs : List Job) → lanes ≤ more → AreOfLanes lanes jobs → AreOfLanes more jobs
@@ -28,7 +34,7 @@ of_more_lanes lanes more [] within all = tt
 of_more_lanes lanes more (j ∷ js) within all = (let h = all.0 in omega (arith, h, within), of_more_lanes lanes more js within all.1)
 
 pub order_within : (lanes : ℕ) (jobs : List Job) (batch_ends : List ℕ) → lanes ≤ LANE_LIMIT → AreInOrder lanes jobs batch_ends → AreInOrder LANE_LIMIT jobs batch_ends
-order_within lanes jobs batch_ends within h = record { few = h.few; lines = h.lines; of_lanes = of_more_lanes lanes LANE_LIMIT jobs within h.of_lanes; ends = h.ends }
+order_within lanes jobs batch_ends within h = record { few = h.few; lines = h.lines; below = h.below; of_lanes = of_more_lanes lanes LANE_LIMIT jobs within h.of_lanes; ends = h.ends }
 
 -- a requests file is too long
 pub too_long_given : (f : Filed) (e : LoadFault) → e ≡ TooLong → LoadsAs f REQUESTS_FILE_LIMIT (Err e) → GivesRequests f (Err FileTooLong)
@@ -36,36 +42,60 @@ too_long_given untold e is loads = some_longer REQUESTS_FILE_LIMIT
 too_long_given missing e is loads = cc
 too_long_given (told file) e is loads = subst (λ (x : LoadFault). LoadsFile file REQUESTS_FILE_LIMIT (Err x)) is loads
 
+-- it was not loaded, or there was no memory for it: it is not too long
+pub failed_given : (f : Filed) (e : LoadFault) → e ≡ Failed → LoadsAs f REQUESTS_FILE_LIMIT (Err e) → GivesRequests f (Err Load)
+failed_given untold e is loads = ([], omega arith)
+failed_given missing e is loads = refl
+failed_given (told file) e is loads = subst (λ (x : LoadFault). LoadsFile file REQUESTS_FILE_LIMIT (Err x)) is loads
+
+pub lacking_given : (f : Filed) (e : LoadFault) → e ≡ load.NoMemory → LoadsAs f REQUESTS_FILE_LIMIT (Err e) → GivesRequests f (Err NoMemory)
+lacking_given untold e is loads = ([], omega arith)
+lacking_given missing e is loads = cc
+lacking_given (told file) e is loads = subst (λ (x : LoadFault). LoadsFile file REQUESTS_FILE_LIMIT (Err x)) is loads
+
 -- ---- what is found with them
 
-audits_requests : (p : PolicyShape) (o : AuditOf) (i : Input) (requests : List ℕ) (batch : Batch) (f : Finding) → JobsOf requests o.lanes (Ok batch)
+audits_requests : LegalIsExact → (p : PolicyShape) (o : AuditOf) (i : Input) (requests : List ℕ) (batch : Batch) (f : Finding) → JobsOf requests o.lanes (Ok batch) → AreOfSession p o.rounds batch.jobs batch.ends
     → HasFound (audit_of p o.rounds batch.jobs batch.ends) f i.before i.after → AuditsRequests p o i requests (ending_of f) (text_of f)
-audits_requests p o i requests batch f gives found =
+audits_requests exact p o i requests batch f gives order found =
     let same : audit_of p o.rounds batch.jobs batch.ends ≡ audit_for p o requests = rw (gives.1.0, gives.1.1) refl in
     rw (le-ltb REQUESTS_FILE_LIMIT (length requests) gives.0)
-    (record { finding = f; found = subst (λ (a : AuditShape). HasFound a f i.before i.after) same found; ends = refl; writes = refl })
+    (record {
+      finding = f;
+      legal = subst (λ (a : AuditShape). IfSome i.before (λ input. AreShort (lines_of input) → (f ≡ Legal) ↔ IsTranscript a.opening a.rounds a.jobs a.batch_ends (lines_of input))) same
+          (legal_input exact p o.rounds batch.jobs batch.ends f i.before order found.whole);
+      found = subst (λ (a : AuditShape). HasFound a f i.before i.after) same found;
+      ends = refl;
+      writes = refl;
+    })
 
-audits_file : (p : PolicyShape) (o : AuditOf) (i : Input) (filed : Filed) (batch : Batch) (f : Finding) → GivesJobs filed o.lanes (Ok batch)
+audits_file : LegalIsExact → (p : PolicyShape) (o : AuditOf) (i : Input) (filed : Filed) (batch : Batch) (f : Finding) → GivesJobs filed o.lanes (Ok batch) → AreOfSession p o.rounds batch.jobs batch.ends
     → HasFound (audit_of p o.rounds batch.jobs batch.ends) f i.before i.after → AuditsFile p o i filed (ending_of f) (text_of f)
-audits_file p o i untold batch f gives found = (gives.0, audits_requests p o i gives.0 batch f gives.1 found)
-audits_file p o i missing batch f gives found = cc
-audits_file p o i (told file) batch f gives found = audits_requests p o i file batch f gives found
+audits_file exact p o i untold batch f gives order found = (gives.0, audits_requests exact p o i gives.0 batch f gives.1 order found)
+audits_file exact p o i missing batch f gives order found = cc
+audits_file exact p o i (told file) batch f gives order found = audits_requests exact p o i file batch f gives order found
 
-pub finds_under : (p : PolicyShape) (o : AuditOf) (i : Input) (batch : Batch) (result : Result Finding RunFault) → GivesJobs o.requests o.lanes (Ok batch)
+pub finds_under : LegalIsExact → (p : PolicyShape) (o : AuditOf) (i : Input) (batch : Batch) (result : Result Finding RunFault) → GivesJobs o.requests o.lanes (Ok batch) → AreOfSession p o.rounds batch.jobs batch.ends
     → IfOk result (λ f. HasFound (audit_of p o.rounds batch.jobs batch.ends) f i.before i.after) → IfErr result IsReadEnding → FindsAs (AuditsPolicy o i p) result
-finds_under p o i batch (Ok f) gives found ending = audits_file p o i o.requests batch f gives found
-finds_under p o i batch (Err Read) gives found ending = tt
-finds_under p o i batch (Err NoMemory) gives found ending = tt
-finds_under p o i batch (Err Load) gives found ending = tt
-finds_under p o i batch (Err FileTooLong) gives found ending = absurd ending
-finds_under p o i batch (Err (Policy e)) gives found ending = absurd ending
-finds_under p o i batch (Err Nothing) gives found ending = absurd ending
-finds_under p o i batch (Err Found) gives found ending = absurd ending
-finds_under p o i batch (Err Usage) gives found ending = absurd ending
-finds_under p o i batch (Err Write) gives found ending = absurd ending
-finds_under p o i batch (Err (LineTooLong line)) gives found ending = absurd ending
-finds_under p o i batch (Err TooManyLines) gives found ending = absurd ending
-finds_under p o i batch (Err (BadInput e)) gives found ending = absurd ending
+finds_under exact p o i batch (Ok f) gives order found ending = audits_file exact p o i o.requests batch f gives order found
+finds_under exact p o i batch (Err Read) gives order found ending = tt
+finds_under exact p o i batch (Err NoMemory) gives order found ending = tt
+finds_under exact p o i batch (Err Load) gives order found ending = tt
+finds_under exact p o i batch (Err FileTooLong) gives order found ending = absurd ending
+finds_under exact p o i batch (Err (Policy e)) gives order found ending = absurd ending
+finds_under exact p o i batch (Err Nothing) gives order found ending = absurd ending
+finds_under exact p o i batch (Err Found) gives order found ending = absurd ending
+finds_under exact p o i batch (Err Usage) gives order found ending = absurd ending
+finds_under exact p o i batch (Err Write) gives order found ending = absurd ending
+finds_under exact p o i batch (Err (LineTooLong line)) gives order found ending = absurd ending
+finds_under exact p o i batch (Err TooManyLines) gives order found ending = absurd ending
+finds_under exact p o i batch (Err (BadInput e)) gives order found ending = absurd ending
+
+-- where there are jobs the file is not missing
+pub jobs_there : (filed : Filed) (lanes : ℕ) (batch : Batch) (fault : RunFault) → GivesJobs filed lanes (Ok batch) → EndsWithout filed fault
+jobs_there untold lanes batch fault gives = tt
+jobs_there missing lanes batch fault gives = cc
+jobs_there (told file) lanes batch fault gives = tt
 
 requests_too_long : (p : PolicyShape) (o : AuditOf) (i : Input) (filed : Filed) → GivesJobs filed o.lanes (Err FileTooLong) → AuditsFile p o i filed FileTooLong []
 requests_too_long p o i untold gives = (gives.0, rw (lt-ltb REQUESTS_FILE_LIMIT (length gives.0) gives.1) (refl, refl))

@@ -9,7 +9,7 @@ use Rattle.run_record.specs.declared.fault.RunFault.TheVariants.{Nothing, Found,
 use Rattle.run_record.specs.Fault.{fault_in, is_before_input, CountsLoads, CountsReadsAlone, CountsWrites}
 use Rattle.run_record.specs.Report.{nothing_told}
 use Rattle.run_record.specs.Run.{Run, OverFile}
-use Rattle.wf_commands.specs.Once.{Ends, IsQuiet, OverPolicy}
+use Rattle.wf_commands.specs.Once.{Ends, HasText, IsQuiet, OverPolicy}
 use Rattle.wf_commands.specs.Load.{IsLoadEnding, IsFileEnding}
 use Rattle.wf_commands.specs.Answer as answer
 use Rattle.wf_commands.proofs.Runs.{ends_refused, no_writes, own_reads, quiet_refused}
@@ -17,7 +17,7 @@ use Rattle.audit_command.specs.declared.finding.Finding.{Finding}
 use Rattle.audit_command.specs.declared.finding.Finding.TheVariants.{Legal, Fault, TooLong}
 use Rattle.audit_command.specs.Auditing.{ending_of, text_of}
 use Rattle.audit_command.specs.Running.{AuditsPolicy, AuditsRun, EndsWithout, ReadsAsAudit}
-use Rattle.audit_command.specs.Steps.{FailsAs, FindsFile, HasTakenSome, IsAuditEnding}
+use Rattle.audit_command.specs.Steps.{FailsAs, FindsFile, HasTakenSome, HasToldPart, IsAuditEnding}
 
 -- ---- by the ending
 
@@ -127,11 +127,16 @@ told_run policy requests lanes rounds r f is finds without loads reads writes in
 }
 
 -- what is found could not be told
+part_told : (f : Finding) (before after : Option (List ℕ)) → HasToldPart f before after → HasText (ending_of f) × HasPart before after (text_of f)
+part_told Legal before after h = (tt, h)
+part_told (Fault n kind) before after h = (tt, h)
+part_told (TooLong n) before after h = absurd h
+
 part_over : (A : PolicyShape → RunFault → List ℕ → Type 0) (f : Finding) (filed : Filed) (before after : Option (List ℕ)) → FindsFile A filed (Ok f)
-    → HasPart before after (text_of f) → OverFile filed Write (λ file. Ends (OverPolicy A file) before after Write)
-part_over A f untold before after h part = (h.0, (ending_of f, text_of f, h.1, part))
+    → HasToldPart f before after → OverFile filed Write (λ file. Ends (OverPolicy A file) before after Write)
+part_over A f untold before after h part = let told_part = part_told f before after part in (h.0, (ending_of f, text_of f, told_part.0, h.1, told_part.1))
 part_over A f missing before after h part = cc
-part_over A f (told file) before after h part = (ending_of f, text_of f, h, part)
+part_over A f (told file) before after h part = let told_part = part_told f before after part in (ending_of f, text_of f, told_part.0, h, told_part.1)
 
 none_over : (A : PolicyShape → RunFault → List ℕ → Type 0) (f : Finding) (filed : Filed) (before after : Option (List ℕ)) → FindsFile A filed (Ok f)
     → after ≡ before → OverFile filed NoMemory (λ file. Ends (OverPolicy A file) before after NoMemory)

@@ -5,13 +5,15 @@ use Rattle.wf_outside.specs.Outside.{Filed, told, missing, untold}
 use Rattle.line_cutter.specs.declared.whole.Batch.{Batch}
 use Rattle.line_cutter.specs.Jobs.{jobs_of_input}
 use Rattle.run_record.specs.declared.fault.RunFault.{RunFault}
-use Rattle.run_record.specs.declared.fault.RunFault.TheVariants.{Load, FileTooLong}
+use Rattle.run_record.specs.declared.fault.RunFault.TheVariants.{Load, NoMemory, FileTooLong}
 
--- a file gives its bytes, or is too long; else loading or memory failed
+-- a file gives its bytes, or is too long; one that is not may fail to load, or lack memory
 abbrev pub RequestsOf : List ℕ → Result (List ℕ) RunFault → Type 0
 RequestsOf file (Ok bytes) = (length file ≤ REQUESTS_FILE_LIMIT) × (bytes ≡ file)
 RequestsOf file (Err FileTooLong) = REQUESTS_FILE_LIMIT < length file
-RequestsOf file (Err fault) = Unit {0}
+RequestsOf file (Err Load) = length file ≤ REQUESTS_FILE_LIMIT
+RequestsOf file (Err NoMemory) = length file ≤ REQUESTS_FILE_LIMIT
+RequestsOf file (Err fault) = ⊥
 
 -- the same by what is told; a missing file is a load fault, and one of which nothing is told has some content
 abbrev pub GivesRequests : Filed → Result (List ℕ) RunFault → Type 0
@@ -24,7 +26,9 @@ abbrev pub JobsOf : List ℕ → ℕ → Result Batch RunFault → Type 0
 JobsOf file lanes (Ok batch) =
     (length file ≤ REQUESTS_FILE_LIMIT) × ((batch.jobs ≡ (jobs_of_input file true lanes).jobs) × (batch.ends ≡ (jobs_of_input file true lanes).ends))
 JobsOf file lanes (Err FileTooLong) = REQUESTS_FILE_LIMIT < length file
-JobsOf file lanes (Err fault) = Unit {0}
+JobsOf file lanes (Err Load) = length file ≤ REQUESTS_FILE_LIMIT
+JobsOf file lanes (Err NoMemory) = length file ≤ REQUESTS_FILE_LIMIT
+JobsOf file lanes (Err fault) = ⊥
 
 abbrev pub GivesJobs : Filed → ℕ → Result Batch RunFault → Type 0
 GivesJobs untold lanes result = (file : List ℕ) × JobsOf file lanes result

@@ -1,17 +1,19 @@
 -- The command `audit`: the transcript in the input is audited for a policy file and a requests file.
-use Rattle.std.specs.Prelude.{◌≡◌, ℕ, List, [], length, Option, MatchBool, nat_lt, true}
+use Rattle.std.specs.Prelude.{◌≡◌, ◌↔◌, ℕ, List, [], length, Option, IfSome, MatchBool, nat_lt, true}
 use Rattle.wf_names.specs.declared.limits.TheConstants.{REQUESTS_FILE_LIMIT}
 use Rattle.wf_outside.specs.Outside.{Filed, told, missing, untold, HasTaken}
 use Rattle.policy_book.specs.Shapes.{PolicyShape}
 use Rattle.line_cutter.specs.Jobs.{jobs_of_input}
-use Rattle.transcript_audit.specs.Audits.{AuditShape, audit_of}
+use Rattle.transcript_audit.specs.Audits.{AuditShape, IsTranscript, audit_of}
 use Rattle.run_record.specs.declared.fault.RunFault.{RunFault}
 use Rattle.run_record.specs.declared.fault.RunFault.TheVariants.{Policy, Load, FileTooLong}
 use Rattle.run_record.specs.Run.{Run, IsOrderly}
 use Rattle.wf_commands.specs.Once.{AnswersOnce, Refuses}
 use Rattle.wf_commands.specs.Load.{IsLoadEnding}
+use Rattle.line_reader.specs.Lines.{lines_of}
 use Rattle.audit_command.specs.declared.finding.Finding.{Finding}
-use Rattle.audit_command.specs.Auditing.{HasFound, ending_of, text_of}
+use Rattle.audit_command.specs.declared.finding.Finding.TheVariants.{Legal}
+use Rattle.audit_command.specs.Auditing.{AreShort, HasFound, ending_of, text_of}
 
 -- what is told of the requests file, and how the session was served
 pub record AuditOf : Type 0 where
@@ -30,9 +32,12 @@ abbrev pub audit_for : PolicyShape → AuditOf → List ℕ → AuditShape
 audit_for p o requests =
     audit_of p o.rounds (jobs_of_input requests true o.lanes).jobs (jobs_of_input requests true o.lanes).ends
 
--- the input is audited so
+-- the input is audited so; where no line is too long it is legal exactly where it is the text of a legal history that fills
+-- the jobs
 pub record Audits (a : AuditShape) (i : Input) (ending : RunFault) (text : List ℕ) : Type 0 where
   pub finding : Finding
+  pub legal : IfSome i.before (λ input. AreShort (lines_of input) →
+      (finding ≡ Legal) ↔ IsTranscript a.opening a.rounds a.jobs a.batch_ends (lines_of input))
   pub found : HasFound a finding i.before i.after
   pub ends : ending ≡ ending_of finding
   pub writes : text ≡ text_of finding

@@ -72,8 +72,14 @@ FindsFile Answers untold result = (file : List ℕ) × FindsAs (OverPolicy Answe
 FindsFile Answers missing result = result ≡ Err Load
 FindsFile Answers (told file) result = FindsAs (OverPolicy Answers file) result
 
+-- a finding was told in part; that a line is too long is not told
+abbrev pub HasToldPart : Finding → Option (List ℕ) → Option (List ℕ) → Type 0
+HasToldPart Legal before after = HasPart before after (text_of Legal)
+HasToldPart (Fault n kind) before after = HasPart before after (text_of (Fault n kind))
+HasToldPart (TooLong n) before after = ⊥
+
 -- what the sink holds where a finding could not be told
 abbrev pub FailsAs : Finding → Option (List ℕ) → Option (List ℕ) → RunFault → Type 0
 FailsAs f before after NoMemory = after ≡ before
-FailsAs f before after Write = HasPart before after (text_of f)
+FailsAs f before after Write = HasToldPart f before after
 FailsAs f before after fault = ⊥

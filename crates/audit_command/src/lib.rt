@@ -7,5 +7,5 @@ mod lines;
 mod load;
 mod run;
 
-pub use laws::legal_is_next;
+pub use laws::{legal_is_exact, legal_is_next};
 pub use run::run_audit;

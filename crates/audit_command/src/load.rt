@@ -1,7 +1,7 @@
 //! Loading the requests.
 ghost use Rattle.std.specs.Prelude.{◌<◌, ◌≤◌, IfErr, IfOk};
 ghost use Rattle.wf_names.specs.declared.limits.TheConstants.{LANE_LIMIT};
-ghost use Rattle.line_cutter.specs.Laws.{AreInOrder};
+ghost use Rattle.line_cutter.specs.Laws.{AreInOrder, AreNamedJobs};
 ghost use Rattle.run_record.specs.Fault.{fault_in, CountsLoads};
 ghost use Rattle.wf_commands.specs.Load.{IsFileEnding};
 ghost use Rattle.audit_command.specs.Loading.{GivesRequests, GivesJobs};
@@ -23,6 +23,7 @@ pub(crate) fn load_jobs<F: Shelf>(
     requires lanes { lanes ≤ LANE_LIMIT }
     ensures jobs { GivesJobs (F.file shelf.old name.now) lanes result }
     ensures order { IfOk result (λ batch. AreInOrder LANE_LIMIT batch.jobs batch.ends) }
+    ensures named { IfOk result (λ batch. AreNamedJobs batch.jobs) }
     ensures ending { IfErr result IsFileEnding }
     ensures loads { CountsLoads (fault_in result) (F.faults shelf.old) (F.faults shelf.new) }
 {

@@ -9,12 +9,13 @@ ghost use Rattle.audit_command.specs.Running.{AuditsPolicy, AuditsRun, EndsWitho
 ghost use Rattle.audit_command.specs.Steps.{FailsAs, FindsAs, FindsFile, IsAuditEnding};
 
 use crate::finding::Finding;
+use crate::laws::legal_is_exact;
 use crate::lines::audit_input;
 use crate::load::load_jobs;
 use policy_book::Policy;
 use run_record::{Report, RunFault, bare_report};
 use std::alloc::Global;
-use transcript_audit::Auditor;
+use transcript_audit::{Auditor, know_session};
 use wf_board::Decider;
 use wf_commands::load_policy;
 use wf_outside::{Shelf, Sink, Source, put_all};
@@ -105,6 +106,8 @@ fn find_under<V: Decider, F: Shelf, S: Source>(
     ensures input { ReadsAsAudit (fault_in result) (S.left source.old) (S.left source.new) }
 {
     let batch = load_jobs(alloc, shelf, requests, lanes)?;
+    know_session(&policy, rounds, &batch.jobs, &batch.ends);
+    legal_is_exact();
     let auditor = Auditor::new(alloc, policy, batch.jobs, batch.ends, rounds)?;
     audit_input(alloc, decider, auditor, source)
 }

@@ -13,6 +13,7 @@ mod reply;
 mod tree;
 
 pub use fault::TextFault;
+pub use names::know_names;
 pub use place::{Place, read_place};
 pub use plain::{guess_place, read_plain};
 pub use reply::read_reply;

@@ -8,7 +8,7 @@ use policy_book::Policy;
 use wf_names::{FlowId, NameTable};
 
 /// Each table of names has distinct names, each of a name's form. Changes nothing.
-pub(crate) fn know_names(p: &Policy)
+pub fn know_names(p: &Policy)
     ensures { HasNames p.now }
 {
     know(p.roster().users());

@@ -1,3 +1,4 @@
+pub mod Adding
 mod Order
 mod Named
 mod CutUp

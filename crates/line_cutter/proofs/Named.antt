@@ -21,7 +21,8 @@ use Rattle.wire_json.specs.Values.{value_of}
 use Rattle.wire_json.specs.Requests.{Row, Reading, rows, edits, row_of, by, the_name, text_at, lane_at, has_form, has_only, request_by, asked_by, change_by, what_if_by, what_if_in, reading_of, request_in, asked, asked_of}
 use Rattle.line_cutter.specs.Jobs.{Cut, start, without_cr, job_of, end_batch, end_full_batch, next_line, with_job, end_line, step, cut_all, flush, jobs_from, jobs_of_input}
 use Rattle.wf_talk.specs.Jobs.{IsNamedAsk, IsNamedBad}
-use Rattle.line_cutter.specs.Laws.{AreNamedJobs, JobsAreNamed}
+use Rattle.line_cutter.specs.Laws.{AddsNamed, AreNamedJobs, JobsAreNamed}
+use Rattle.line_cutter.proofs.Adding.{line_adding}
 
 -- ---- requests
 
@@ -185,7 +186,7 @@ line_named lanes line =
 
 -- ---- jobs
 
-named_push : (jobs : List Job) (job : Job) → AreNamedJobs jobs → IsNamedAsk job.ask → AreNamedJobs (jobs ++ job ∷ [])
+named_push : (jobs : List Job) (job : Job) → AreNamedJobs jobs → IsNamedAsk job.ask × AddsNamed job.ask → AreNamedJobs (jobs ++ job ∷ [])
 named_push [] job all h = (h, tt)
 named_push (j ∷ js) job all h = (all.0, named_push js job all.1 h)
 
@@ -202,7 +203,7 @@ unfolding end_full_batch
 named_full c h = named_if (nat_le (c.from + BATCH_LINE_LIMIT) (length c.jobs)) (end_batch c) c (named_end c h) h
 
 named_job : (c : Cut) (line : List ℕ) → AreNamedJobs c.jobs → AreNamedJobs (c.jobs ++ job_of c.lanes c.number line ∷ [])
-named_job c line h = named_push c.jobs (job_of c.lanes c.number line) h (line_named c.lanes line)
+named_job c line h = named_push c.jobs (job_of c.lanes c.number line) h (line_named c.lanes line, line_adding c.lanes line)
 
 named_line : (c : Cut) → AreNamedJobs c.jobs → AreNamedJobs (end_line c).jobs
 unfolding end_line

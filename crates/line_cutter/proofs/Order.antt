@@ -8,7 +8,7 @@ use Rattle.wf_talk.specs.declared.job.Job.{Job}
 use Rattle.wf_talk.specs.Jobs.{AreOfLanes}
 use Rattle.wire_json.specs.RequestLaws.{lane_below}
 use Rattle.line_cutter.specs.Jobs.{Cut, start, without_cr, job_of, end_batch, end_full_batch, next_line, with_job, end_line, step, cut_all, flush, jobs_from, jobs_of_input, next_input}
-use Rattle.line_cutter.specs.Laws.{AscendFrom, LeadTo, AreInOrder, JobsAreInOrder}
+use Rattle.line_cutter.specs.Laws.{AreLinesBelow, AscendFrom, LeadTo, AreInOrder, JobsAreInOrder}
 
 -- the line after the last of the jobs
 abbrev after_lines : ℕ → List Job → ℕ
@@ -22,6 +22,17 @@ ascend_push number (j ∷ js) job ascend below = (ascend.0, ascend_push (j.line 
 after_push : (number : ℕ) (jobs : List Job) (job : Job) → after_lines number (jobs ++ job ∷ []) ≡ job.line + 1
 after_push number [] job = refl
 after_push number (j ∷ js) job = after_push (j.line + 1) js job
+
+after_above : (number : ℕ) (jobs : List Job) → AscendFrom number jobs → number ≤ after_lines number jobs
+after_above number [] ascend = omega arith
+after_above number (j ∷ js) ascend = let later = after_above (j.line + 1) js ascend.1 in omega (arith, later, ascend.0)
+
+-- no line is at or behind the one after the last
+lines_below : (limit number : ℕ) (jobs : List Job) → AscendFrom number jobs → after_lines number jobs ≤ limit → AreLinesBelow limit jobs
+lines_below limit number [] ascend within = tt
+lines_below limit number (j ∷ js) ascend within =
+    let later = after_above (j.line + 1) js ascend.1 in
+    (omega (arith, later, within), lines_below limit (j.line + 1) js ascend.1 within)
 
 lanes_push : (lanes : ℕ) (jobs : List Job) (job : Job) → AreOfLanes lanes jobs → job.lane < lanes → AreOfLanes lanes (jobs ++ job ∷ [])
 lanes_push lanes [] job all below = (below, tt)
@@ -195,6 +206,7 @@ keeps_start lanes = record {
 record IsDone (lanes : ℕ) (c : Cut) : Type 0 where
   pub few : length c.jobs ≤ SESSION_LINE_LIMIT
   pub lines : AscendFrom 0 c.jobs
+  pub below : AreLinesBelow SESSION_LINE_LIMIT c.jobs
   pub of_lanes : AreOfLanes lanes c.jobs
   pub ends : LeadTo 0 c.ends c.from
   pub begins : c.from ≤ length c.jobs
@@ -204,6 +216,7 @@ done_kept : (lanes : ℕ) (c : Cut) → Keeps lanes 0 c → IsDone lanes c
 done_kept lanes c k = record {
   few = let h = k.few in let i = k.number in omega arith;
   lines = k.lines;
+  below = lines_below SESSION_LINE_LIMIT 0 c.jobs k.lines (let h = k.next in let i = k.number in omega arith);
   of_lanes = k.of_lanes;
   ends = k.ends;
   begins = k.begins;
@@ -220,6 +233,7 @@ done_job lanes c job k some lane line =
     record {
       few = let h = more.few in let i = more.number in omega arith;
       lines = more.lines;
+      below = lines_below SESSION_LINE_LIMIT 0 (c.jobs ++ job ∷ []) more.lines (let h = more.next in let i = more.number in omega arith);
       of_lanes = more.of_lanes;
       ends = more.ends;
       begins = more.begins;
@@ -247,6 +261,7 @@ in_order_end lanes c h =
     (λ more. record {
       few = h.few;
       lines = h.lines;
+      below = h.below;
       of_lanes = h.of_lanes;
       ends = lead_push 0 c.from (length c.jobs) c.ends h.ends (grind (arith, common_steps)) h.batch;
     })
@@ -255,6 +270,7 @@ in_order_end lanes c h =
     record {
       few = h.few;
       lines = h.lines;
+      below = h.below;
       of_lanes = h.of_lanes;
       ends = subst (LeadTo 0 c.ends) same h.ends;
     })

@@ -1,6 +1,12 @@
 -- What the jobs of every input meet.
-use Rattle.std.specs.Prelude.{◌≡◌, ℕ, ◌+◌, ◌<◌, ◌≤◌, Bool, List, [], ◌∷◌, length}
+use Rattle.std.specs.Prelude.{◌≡◌, ℕ, ◌+◌, ◌<◌, ◌≤◌, Bool, List, [], ◌∷◌, length, IsTrue}
 use Rattle.wf_names.specs.declared.limits.TheConstants.{SESSION_LINE_LIMIT, BATCH_LINE_LIMIT}
+use Rattle.wf_names.specs.Names.{is_name}
+use Rattle.wf_talk.specs.declared.edit.Edit.{Edit}
+use Rattle.wf_talk.specs.declared.edit.Edit.TheVariants as edit
+use Rattle.wf_talk.specs.declared.request.Request.TheVariants as request
+use Rattle.wf_talk.specs.declared.request.Ask.{Ask}
+use Rattle.wf_talk.specs.declared.request.Ask.TheVariants as ask
 use Rattle.wf_talk.specs.declared.job.Job.{Job}
 use Rattle.wf_talk.specs.Jobs.{AreOfLanes, IsNamedAsk}
 use Rattle.line_cutter.specs.Jobs.{jobs_of_input}
@@ -9,6 +15,11 @@ use Rattle.line_cutter.specs.Jobs.{jobs_of_input}
 abbrev pub AscendFrom : ℕ → List Job → Type 0
 AscendFrom number [] = Unit {0}
 AscendFrom number (job ∷ jobs) = (number ≤ job.line) × AscendFrom (job.line + 1) jobs
+
+-- the line of each of these jobs has a number below this
+abbrev pub AreLinesBelow : ℕ → List Job → Type 0
+AreLinesBelow limit [] = Unit {0}
+AreLinesBelow limit (job ∷ jobs) = (job.line < limit) × AreLinesBelow limit jobs
 
 -- the ends of batches lead from a count of jobs to a total: each batch has a job, and at most so many as it may have lines
 abbrev pub LeadTo : ℕ → List ℕ → ℕ → Type 0
@@ -19,6 +30,7 @@ LeadTo before (end ∷ ends) total = (before < end) × (end ≤ before + BATCH_L
 pub record AreInOrder (lanes : ℕ) (jobs : List Job) (batch_ends : List ℕ) : Type 0 where
   pub few : length jobs ≤ SESSION_LINE_LIMIT
   pub lines : AscendFrom 0 jobs
+  pub below : AreLinesBelow SESSION_LINE_LIMIT jobs
   pub of_lanes : AreOfLanes lanes jobs
   pub ends : LeadTo 0 batch_ends (length jobs)
 
@@ -27,10 +39,19 @@ abbrev pub JobsAreInOrder : ℕ → Type 0
 JobsAreInOrder lanes =
     (bytes : List ℕ) (ended : Bool) → AreInOrder lanes (jobs_of_input bytes ended lanes).jobs (jobs_of_input bytes ended lanes).ends
 
--- the key that a bad line lacks has the form of a name, in each of these jobs
+-- the user whom an edit adds has a name of a name's form
+abbrev pub IsNamedEdit : Edit → Type 0
+IsNamedEdit (edit.AddUser user) = IsTrue (is_name user)
+IsNamedEdit e = Unit {0}
+
+abbrev pub AddsNamed : Ask → Type 0
+AddsNamed (ask.Request (request.Change by e)) = IsNamedEdit e
+AddsNamed what = Unit {0}
+
+-- so has the user whom an edit adds, and the key that a bad line lacks, in each of these jobs
 abbrev pub AreNamedJobs : List Job → Type 0
 AreNamedJobs [] = Unit {0}
-AreNamedJobs (j ∷ js) = IsNamedAsk j.ask × AreNamedJobs js
+AreNamedJobs (j ∷ js) = (IsNamedAsk j.ask × AddsNamed j.ask) × AreNamedJobs js
 
 -- so it has in the jobs of every input
 abbrev pub JobsAreNamed : ℕ → Type 0

@@ -7,7 +7,7 @@ ghost use Rattle.policy_reader.specs.Faults.{fault_of};
 ghost use Rattle.policy_reader.specs.Files as spec;
 ghost use Rattle.policy_reader.specs.Kept.{IsBare};
 ghost use Rattle.policy_reader.specs.Printable.{Ascend, IsPrintable};
-ghost use Rattle.policy_book.specs.Facts.{AreOfUsers};
+ghost use Rattle.policy_book.specs.Facts.{AreOfUsers, IsSoundPolicy};
 ghost use Rattle.policy_reader.specs.Relations.{names_of};
 ghost use Rattle.policy_reader.specs.Rosters.{some_user_has};
 ghost use Rattle.wf_names.specs.declared.limits.TheConstants.{ROLE_LIMIT};
@@ -31,9 +31,12 @@ use wf_names::{Name, RoleId, UserId};
 pub fn read(alloc: Global, bytes: &[u8]) -> Result<Policy, ReadFault>
     ensures policy { Gives fault_of (λ p. p) result (spec.policy_of_file bytes.now) }
     ensures printable { IfOk result IsPrintable }
+    ensures sound { IfOk result IsSoundPolicy }
 {
     let file = document_of(alloc, bytes)?;
-    policy_in(alloc, &file)
+    let policy = policy_in(alloc, &file)?;
+    let _ = policy.admin();
+    Ok(policy)
 }
 
 /// Reads the TOML document that bytes are.

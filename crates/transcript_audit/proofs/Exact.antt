@@ -33,7 +33,7 @@ all_sound a k [] (e ∷ es) sound next = absurd next
 all_sound a k (line ∷ lines) [] sound next = absurd next
 
 -- the state after one more entry
-state_more : (a : AuditShape) (e : Entry) → state_now (with_entry a e) ≡ state_after (state_now a) (e ∷ [])
+pub state_more : (a : AuditShape) (e : Entry) → state_now (with_entry a e) ≡ state_after (state_now a) (e ∷ [])
 state_more a e = after_all (opening_state a.opening) a.entries (e ∷ [])
 
 all_written : (a : AuditShape) (lines : List (List ℕ)) (es : List Entry) → AreNext a lines es → lines ≡ texts_of (state_now a) es
@@ -187,4 +187,4 @@ entries_of p rounds jobs ends lines order is = (
 )
 
 pub audit_is_exact : AuditIsExact
-audit_is_exact p rounds jobs ends lines session = (transcript_of p rounds jobs ends lines session.order, entries_of p rounds jobs ends lines session.order)
+audit_is_exact p rounds jobs ends lines order = (transcript_of p rounds jobs ends lines order, entries_of p rounds jobs ends lines order)

@@ -1,32 +1,36 @@
 -- A line that has a fault is the text of no entry that comes next.
-use Rattle.std.proofs.Common.{◌≡◌, ℕ, zero, suc, ◌-◌, ◌<◌, ◌^◌, inl, inr, Bool, true, false, nat_eq, nat_lt, List, [], ◌∷◌, ◌++◌, length, take, drop, slice_get, slice_index_or, Option, None, Some, if◌then◌else◌, sym, ap, subst, ◌∙◌, arith}
+use Rattle.std.proofs.Common.{◌≡◌, ℕ, zero, suc, ◌-◌, ◌<◌, ◌^◌, inl, inr, Bool, true, false, nat_eq, nat_lt, List, [], ◌∷◌, ◌++◌, length, take, drop, slice_get, slice_index_or, Option, None, Some, if◌then◌else◌, refl, sym, ap, subst, ◌∙◌, arith}
 use Rattle.std.proofs.lemmas.Grind.{common_steps}
-use Rattle.std.proofs.lemmas.List.{length-append}
-use Rattle.std.proofs.Math.Seq.{get_or-append_seam}
+use Rattle.std.proofs.lemmas.List.{append-nil, append_assoc, length-append}
+use Rattle.std.proofs.Math.Seq.{get_or-append_seam, take-length}
 use Rattle.basics.proofs.Booleans.{bool_cases, eq_is}
-use Rattle.wf_names.specs.declared.limits.TheConstants.{LANE_LIMIT}
+use Rattle.wf_names.specs.declared.limits.TheConstants.{LANE_LIMIT, SESSION_LINE_LIMIT}
 use Rattle.wf_talk.specs.declared.entry.Entry.{Entry}
 use Rattle.wf_talk.specs.declared.job.Job.{Job}
 use Rattle.wf_talk.specs.Jobs.{IsNamedAsk}
-use Rattle.wf_board.specs.Histories.{IsRightAfter, job_of_entry, lane_jobs}
+use Rattle.policy_book.specs.Shapes.{PolicyShape}
+use Rattle.policy_book.specs.Facts.{IsSoundPolicy}
+use Rattle.wf_board.proofs.Keeping.{histories_stay_sound}
+use Rattle.wf_board.specs.Histories.{IsRightAfter, job_of_entry, lane_jobs, state_after}
 use Rattle.wf_board.specs.HistoryLaws.{each_more}
-use Rattle.wf_board.specs.States.{opening_state}
-use Rattle.line_cutter.specs.Laws.{AreNamedJobs}
+use Rattle.wf_board.specs.States.{State, opening_state}
+use Rattle.line_cutter.specs.Laws.{AddsNamed, AreLinesBelow, AreNamedJobs}
 use Rattle.wf_desk.specs.Desks.{served_jobs}
 use Rattle.entry_reader.specs.declared.place.Place.{Place}
 use Rattle.entry_reader.specs.Named.{HasNames}
 use Rattle.entry_reader.specs.Places.{place_of_line}
 use Rattle.entry_reader.specs.Lines.{IsLineOf, entry_at}
-use Rattle.entry_reader.proofs.LinesBack.{line_placed}
+use Rattle.entry_reader.proofs.LinesBack.{line_placed, line_reply}
 use Rattle.entry_laws.specs.Laws.{EntriesAreLines, IsLastOf, IsOneLine, TextsAreLines}
 use Rattle.transcript_audit.specs.declared.fault.AuditKind.{AuditKind}
 use Rattle.transcript_audit.specs.declared.fault.AuditKind.TheVariants.{Text, At, Job as WrongJob, Reply as WrongReply, Missing}
-use Rattle.transcript_audit.specs.Audits.{AuditShape, ComesNext, HasFault, IsDue, IsNextLine, audit_of, end_at, flows_now, next_job, place_told, present_jobs, present_start, state_now}
-use Rattle.transcript_audit.specs.Laws.{AreOfSession, FaultsExclude, HaveSmallLines}
+use Rattle.transcript_audit.specs.Audits.{AreNext, AuditShape, ComesNext, HasFault, IsDue, IsNextLine, audit_of, end_at, flows_now, next_job, place_told, present_jobs, present_start, state_now, with_entry}
+use Rattle.transcript_audit.specs.Laws.{AreOfSession, FaultsExclude, NextIsOne}
 use Rattle.transcript_audit.specs.Keeping.{IsSoundAudit}
 use Rattle.transcript_audit.proofs.Batches.{part_none}
-use Rattle.transcript_audit.proofs.Sound.{entries_few, sound_start}
-use Rattle.transcript_audit.proofs.Exact.{all_sound}
+use Rattle.transcript_audit.proofs.Sound.{entries_few, sound_more, sound_start}
+use Rattle.transcript_audit.proofs.Exact.{all_sound, state_more}
+use Rattle.transcript_audit.proofs.Names.{step_names}
 
 -- ---- jobs of a session
 
@@ -66,11 +70,15 @@ each_next P a lane j each next =
 
 named_each : (jobs : List Job) → AreNamedJobs jobs → EachJob (λ j. IsNamedAsk j.ask) jobs
 named_each [] named = tt
-named_each (j ∷ js) named = (named.0, named_each js named.1)
+named_each (j ∷ js) named = (named.0.0, named_each js named.1)
 
-small_each : (jobs : List Job) → HaveSmallLines jobs → EachJob (λ j. j.line < 2 ^ 32) jobs
-small_each [] small = tt
-small_each (j ∷ js) small = (small.0, small_each js small.1)
+adds_each : (jobs : List Job) → AreNamedJobs jobs → EachJob (λ j. AddsNamed j.ask) jobs
+adds_each [] adds = tt
+adds_each (j ∷ js) adds = (adds.0.1, adds_each js adds.1)
+
+small_each : (jobs : List Job) → AreLinesBelow SESSION_LINE_LIMIT jobs → EachJob (λ j. j.line < 2 ^ 32) jobs
+small_each [] below = tt
+small_each (j ∷ js) below = (let h = below.0 in omega (arith, h), small_each js below.1)
 
 -- a lane that has a job is one of the lanes
 lane_known : (a : AuditShape) (k lane : ℕ) (j : Job) → IsSoundAudit a k → next_job a lane ≡ Some j → lane < LANE_LIMIT
@@ -90,6 +98,26 @@ record IsOfSession (a : AuditShape) (k : ℕ) : Type 0 where
   pub sound : IsSoundAudit a k
   pub names : HasNames (state_now a).book.policy
 
+-- the policy after the entries of a session is sound
+policy_sound : (a : AuditShape) (k : ℕ) → IsSoundPolicy a.opening → IsSoundAudit a k → IsSoundPolicy (state_now a).book.policy
+policy_sound a k opening sound =
+    subst (λ es. IsSoundPolicy (state_after (opening_state a.opening) es).book.policy) (take-length a.entries)
+    (histories_stay_sound a.opening a.rounds a.entries opening sound.legal (length a.entries)).policy
+
+-- and its names are names
+names_all : (a : AuditShape) (k : ℕ) (lines : List (List ℕ)) (es : List Entry) → AreOfSession a.opening a.rounds a.jobs a.batch_ends → IsSoundAudit a k →
+    HasNames (state_now a).book.policy → AreNext a lines es → HasNames (state_now (record a { entries = a.entries ++ es })).book.policy
+names_all a k [] [] session sound names next = subst (λ es. HasNames (state_now (record a { entries = es })).book.policy) (sym (append-nil a.entries)) names
+names_all a k (line ∷ lines) (e ∷ es) session sound names next =
+    let more = sound_more a k e sound next.0.next in
+    let adds = each_next (λ j. AddsNamed j.ask) a e.lane (job_of_entry e) (adds_each a.jobs session.named) next.0.next.answers in
+    let after : HasNames (state_now (with_entry a e)).book.policy = subst (λ (s : State). HasNames s.book.policy) (sym (state_more a e))
+        (step_names (state_now a) e.ask e.reply (policy_sound a k session.policy sound) adds names) in
+    subst (λ xs. HasNames (state_now (record a { entries = xs })).book.policy) (append_assoc a.entries (e ∷ []) es)
+    (names_all (with_entry a e) more.0 lines es session more.1 after next.1)
+names_all a k [] (e ∷ es) session sound names next = absurd next
+names_all a k (line ∷ lines) [] session sound names next = absurd next
+
 last_of : (a : AuditShape) (k : ℕ) (e : Entry) → IsOfSession a k → ComesNext a e → IsLastOf a.opening a.rounds a.entries e
 last_of a k e is next =
     let few = entries_few a k is.sound in
@@ -102,7 +130,7 @@ last_of a k e is next =
       few_rounds = omega (arith, rounds);
       few_entries = omega (arith, few);
       lane = omega (arith, lane);
-      line = each_next (λ j. j.line < 2 ^ 32) a e.lane (job_of_entry e) (small_each a.jobs is.session.small) next.answers;
+      line = each_next (λ j. j.line < 2 ^ 32) a e.lane (job_of_entry e) (small_each a.jobs is.session.order.below) next.answers;
       named = each_next (λ j. IsNamedAsk j.ask) a e.lane (job_of_entry e) (named_each a.jobs is.session.named) next.answers;
     }
 
@@ -193,7 +221,32 @@ excluded law texts a k line WrongReply e is fault next =
     fault.1.1.1.1.1.1 (subst (ComesNext a) (alone ∙ ap (λ p. entry_at p j.ask r) named) next.next)
 excluded law texts a k line Missing e is fault next = fault
 
+-- a session is one behind such lines
+session_at : (p : PolicyShape) (rounds : ℕ) (jobs : List Job) (ends : List ℕ) (lines : List (List ℕ)) (es : List Entry) → AreOfSession p rounds jobs ends →
+    AreNext (audit_of p rounds jobs ends) lines es → (k : ℕ) × IsOfSession (record (audit_of p rounds jobs ends) { entries = es }) k
+session_at p rounds jobs ends lines es session next =
+    let begun = sound_start p rounds jobs ends session.order in
+    let sound = all_sound (audit_of p rounds jobs ends) 0 lines es begun next in
+    (sound.0, record { session = session; sound = sound.1; names = names_all (audit_of p rounds jobs ends) 0 lines es session begun session.names next })
+
 pub faults_exclude : EntriesAreLines → TextsAreLines → FaultsExclude
-faults_exclude law texts p rounds jobs ends lines es session next names line kind e fault is =
-    let sound = all_sound (audit_of p rounds jobs ends) 0 lines es (sound_start p rounds jobs ends session.order) next in
-    excluded law texts (record (audit_of p rounds jobs ends) { entries = es }) sound.0 line kind e (record { session = session; sound = sound.1; names = names }) fault is
+faults_exclude law texts p rounds jobs ends lines es session next line kind e fault is =
+    let at = session_at p rounds jobs ends lines es session next in
+    excluded law texts (record (audit_of p rounds jobs ends) { entries = es }) at.0 line kind e at.1 fault is
+
+-- ---- one entry
+
+one_next : EntriesAreLines → TextsAreLines → (a : AuditShape) (k : ℕ) (line : List ℕ) (e other : Entry) → IsOfSession a k → IsNextLine a line e → IsNextLine a line other → e ≡ other
+one_next law texts a k line e other is first second =
+    let p = (state_now a).book.policy in
+    let place : own_place e ≡ own_place other = one_place (own_place e) (own_place other) (sym (told_own law texts a k line e is first) ∙ told_own law texts a k line other is second) in
+    let job : job_of_entry e ≡ job_of_entry other =
+    one_job (job_of_entry e) (job_of_entry other) (sym first.next.answers ∙ ap (λ (x : Place). next_job a x.lane) place ∙ second.next.answers) in
+    let tells = line_reply p (flows_now a) e.ask line (own_place e) e.reply is.names (line_of law a k line e is first) in
+    tells.alone e refl (line_of law a k line e is first)
+    ∙ sym (tells.alone other (sym (ap (λ (j : Job). j.ask) job)) (line_of law a k line other is second))
+
+pub next_is_one : EntriesAreLines → TextsAreLines → NextIsOne
+next_is_one law texts p rounds jobs ends lines es session next line e other first second =
+    let at = session_at p rounds jobs ends lines es session next in
+    one_next law texts (record (audit_of p rounds jobs ends) { entries = es }) at.0 line e other at.1 first second

@@ -8,3 +8,4 @@ pub mod Entering
 pub mod Looking
 pub mod Taking
 pub mod Parts
+pub mod Names

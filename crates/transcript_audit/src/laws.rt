@@ -1,12 +1,20 @@
 //! Laws of audits. Each function changes nothing; its contract is the law.
-ghost use Rattle.transcript_audit.specs.Laws.{AuditIsExact, FaultsExclude};
+ghost use Rattle.transcript_audit.specs.Laws.{AuditIsExact, FaultsExclude, NextIsOne};
 
 use entry_laws::{entries_are_lines, texts_are_lines};
 
 /// A line that has a fault is the text of no entry that comes next, where all lines before it are such
-/// texts, and the names of the policy after them have a name's form.
+/// texts.
 pub fn faults_exclude()
     ensures { FaultsExclude }
+{
+    entries_are_lines();
+    texts_are_lines();
+}
+
+/// A line is the text of one entry at most that comes next, where all lines before it are such texts.
+pub fn next_is_one()
+    ensures { NextIsOne }
 {
     entries_are_lines();
     texts_are_lines();

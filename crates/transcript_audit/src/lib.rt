@@ -15,7 +15,9 @@ mod flaw;
 mod flows;
 pub mod laws;
 mod record;
+mod session;
 mod verdict;
 
 pub use auditor::Auditor;
 pub use fault::{AuditFault, AuditKind};
+pub use session::know_session;

@@ -1,6 +1,7 @@
 -- The command `trial`: the jobs of a seed's trial are served, and the replies are counted.
 use Rattle.std.specs.Prelude.{◌≡◌, ℕ, ◌<◌, List, ◌++◌, length, drop, take, Option, codes, decimal}
 use Rattle.wf_outside.specs.Outside.{HasPart, with_bytes}
+use Rattle.wf_board.specs.Decided.{AreExact}
 use Rattle.wf_board.specs.Kept.{KeepsCompletable}
 use Rattle.wf_board.specs.States.{opening_state}
 use Rattle.wf_talk.specs.declared.entry.Entry.{Entry}
@@ -29,7 +30,7 @@ AreBatchesByTurns batch_ends entries =
 -- a session of the trial of a seed: its entries are a legal history that holds each of the trial's
 -- jobs once, batch after batch, and in each batch by turns, one of each lane after the other; none
 -- is answered again, and only an opening, a claim, an edit or a view over the open cases with want of
--- memory; after each entry every open case can be completed
+-- memory; each entry decides exactly what was asked, and leaves every open case one that can be completed
 pub record IsServedTrial (seed : ℕ) (told : Told) : Type 0 where
   pub jobs : told.jobs ≡ trial_jobs seed CASES
   pub ends : told.batch_ends ≡ trial_ends CASES
@@ -38,6 +39,7 @@ pub record IsServedTrial (seed : ℕ) (told : Told) : Type 0 where
   pub turns : AreBatchesByTurns told.batch_ends told.entries
   pub once : AreAnsweredOnce told.entries
   pub wants : AreWantsRightful told.entries
+  pub exact : AreExact (trial_policy seed) told.entries
   pub kept : (n : ℕ) → KeepsCompletable (state_after (opening_state (trial_policy seed)) (take n told.entries))
 
 -- the line for a seed, so many jobs and such counts of replies

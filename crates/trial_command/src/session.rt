@@ -9,7 +9,7 @@ use std::alloc::{AllocError, Global};
 use trial_maker::laws::trials_come_in_batches;
 use trial_maker::{Trial, make};
 use wf_board::Decider;
-use wf_board::laws::histories_keep_completable;
+use wf_board::laws::{histories_are_exact, histories_keep_completable};
 use wf_desk::Desk;
 use wf_lanes::serve_by_turns;
 use wf_talk::{Ends, Job, Jobs, Journal};
@@ -41,6 +41,7 @@ pub(crate) fn serve_trial<V: Decider>(
     let Trial { policy, jobs, ends } = make(alloc, seed, CASES)?;
     trials_come_in_batches();
     histories_keep_completable();
+    histories_are_exact();
     let _ = policy.admin();
     let mut desk = Desk::new(alloc, policy, LANES, ROUNDS)?;
     serve_batches(alloc, decider, &mut desk, jobs.as_slice(), ends.as_slice())?;

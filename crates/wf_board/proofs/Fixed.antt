@@ -39,7 +39,7 @@ HasSame s r one other = (bare one ≡ bare other) × (state_after_decision s r o
 
 -- ---- openings
 
-none_assigned : AreAssigned no_steps no_users
+pub none_assigned : AreAssigned no_steps no_users
 none_assigned s is = let apart : true ≡ false = sym is ∙ none_member s in cc
 
 refuted_opening : (s : State) (f n g : ℕ) (plan : List ℕ) (t : Tree) → IsSoundState s → IsReplyTo s (deed.Open f) (reply.Opened n plan) →

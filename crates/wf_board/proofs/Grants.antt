@@ -30,7 +30,8 @@ use Rattle.wf_board.specs.declared.deed.Deed.TheVariants as deed
 use Rattle.wf_board.specs.States.{Book, State}
 use Rattle.wf_board.specs.Decisions.{cause_full, decision_of, unless_denied}
 use Rattle.wf_board.specs.Steps.{Answers}
-use Rattle.wf_board.specs.Laws.{AreNamed, GrantsAreExact, MayBeGranted}
+use Rattle.wf_board.specs.Grants.{AreNamed, MayBeGranted}
+use Rattle.wf_board.specs.Laws.{GrantsAreExact}
 use Rattle.wf_board.proofs.Told.{place_within, unless_tells}
 use Rattle.wf_board.proofs.Exact.{claimed_assigned, claims_are_exact, well_formed}
 

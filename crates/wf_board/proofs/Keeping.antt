@@ -28,7 +28,7 @@ use Rattle.wf_board.specs.Steps.{Answers, IsReplyTo, IsStep, state_after_decisio
 use Rattle.wf_board.specs.Histories.{EachAfter, IsRetry, IsRightAfter, state_after}
 use Rattle.wf_board.specs.HistoryLaws.{after_more, again_stays}
 use Rattle.wf_board.specs.Kept.{IsOfPolicy, IsSoundState, KeepsCompletable}
-use Rattle.wf_board.specs.Laws.{HistoriesKeepCompletable, PlansStayValid, StepsKeepCompletable}
+use Rattle.wf_board.specs.Laws.{HistoriesKeepCompletable, HistoriesStaySound, PlansStayValid, StepsKeepCompletable}
 use Rattle.wf_board.proofs.Told.{HasStep, IsTold, claim_free, held_by, told}
 use Rattle.wf_board.proofs.Valid.{valid_claimed, valid_finished, valid_freed, valid_fresh}
 use Rattle.wf_board.proofs.Known.{of_policy_claimed, of_policy_finished, of_policy_freed, of_policy_fresh, of_policy_in_phase}
@@ -105,7 +105,7 @@ abbrev IsKept : PolicyShape → CaseShape → Type 0
 IsKept p c = IsOfPolicy p c × MayEnd p c
 
 -- what is kept of a state
-abbrev Keeps : State → Type 0
+abbrev pub Keeps : State → Type 0
 Keeps s = IsSoundState s × KeepsCompletable s
 
 changed_keeps : (s : State) (n : ℕ) (change : CaseShape → CaseShape) → Keeps s → ((c : CaseShape) → numbered_case s.book.cases n ≡ Some c → IsKept s.book.policy c → IsKept s.book.policy (change c)) →
@@ -198,7 +198,7 @@ entry_keeps start rounds earlier e keeps right = subst Keeps (sym (after_more st
     by_reply (inr retry) =
         subst Keeps (sym (again_stays (state_after start earlier) e.ask e.reply retry.0 retry.1.0 retry.1.1.0)) keeps
 
-history_keeps : (start : State) (rounds : ℕ) (earlier entries : List Entry) → Keeps (state_after start earlier) → EachAfter (IsRightAfter start rounds) earlier entries → (n : ℕ) →
+pub history_keeps : (start : State) (rounds : ℕ) (earlier entries : List Entry) → Keeps (state_after start earlier) → EachAfter (IsRightAfter start rounds) earlier entries → (n : ℕ) →
     Keeps (state_after (state_after start earlier) (take n entries))
 history_keeps start rounds earlier entries keeps legal zero = keeps
 history_keeps start rounds earlier [] keeps legal (suc n) = keeps
@@ -206,11 +206,14 @@ history_keeps start rounds earlier (e ∷ es) keeps legal (suc n) =
     subst (λ s. Keeps (state_after s (take n es))) (after_more start earlier e)
     (history_keeps start rounds (earlier ++ e ∷ []) es (entry_keeps start rounds earlier e keeps legal.0) legal.1 n)
 
-opening_keeps : (p : PolicyShape) → IsSoundPolicy p → Keeps (opening_state p)
+pub opening_keeps : (p : PolicyShape) → IsSoundPolicy p → Keeps (opening_state p)
 opening_keeps p sound = (record { policy = sound; cases = λ n c found. cc }, λ n c found live. cc)
 
 pub histories_keep_completable : HistoriesKeepCompletable
 histories_keep_completable p rounds entries sound legal n = (history_keeps (opening_state p) rounds [] entries (opening_keeps p sound) legal n).1
+
+pub histories_stay_sound : HistoriesStaySound
+histories_stay_sound p rounds entries sound legal n = (history_keeps (opening_state p) rounds [] entries (opening_keeps p sound) legal n).0
 
 -- ---- plans
 

@@ -20,3 +20,5 @@ pub mod Fixed
 pub mod Admission
 pub mod Below
 pub mod Faring
+pub mod Numbers
+pub mod Deciding

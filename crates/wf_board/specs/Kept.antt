@@ -1,5 +1,5 @@
 -- What is kept in every state of a session.
-use Rattle.std.specs.Prelude.{◌≡◌, ℕ, ◌<◌, true, false, List, [], ◌∷◌, length, Option, None, Some, is_some}
+use Rattle.std.specs.Prelude.{◌≡◌, ℕ, ◌+◌, ◌<◌, true, false, List, [], ◌∷◌, length, Option, None, Some, is_some}
 use Rattle.policy_book.specs.Shapes.{PolicyShape}
 use Rattle.policy_book.specs.Facts.{IsSoundPolicy}
 use Rattle.policy_book.specs.Policies.{flow_at, problem_of}
@@ -7,7 +7,7 @@ use Rattle.policy_book.specs.Plans.{IsCompletable, IsValidPlan, IsWithin}
 use Rattle.case_record.specs.Cases.{CaseShape, assigned_of, finished_of, is_open}
 use Rattle.grant_table.specs.declared.rows.Row.{Row}
 use Rattle.grant_table.specs.Tables.{case_in}
-use Rattle.wf_board.specs.States.{State, numbered_case}
+use Rattle.wf_board.specs.States.{Numbered, State, numbered_case}
 
 -- a case is of a workflow of the policy, has its steps, and gives them to users of the policy
 pub record IsOfPolicy (p : PolicyShape) (c : CaseShape) : Type 0 where
@@ -25,6 +25,16 @@ abbrev pub KeepsCompletable : State → Type 0
 KeepsCompletable s =
     (n : ℕ) (c : CaseShape) → numbered_case s.book.cases n ≡ Some c → is_open c ≡ true →
     IsCompletable (problem_of s.book.policy c.flow) (assigned_of c) (finished_of c)
+
+-- cases are numbered in order, from a number on
+abbrev pub AreNumberedFrom : ℕ → List Numbered → Type 0
+AreNumberedFrom n [] = Unit {0}
+AreNumberedFrom n (e ∷ es) = (e.number ≡ n) × AreNumberedFrom (n + 1) es
+
+-- the cases of a state are numbered 0, 1, 2 .. in order, and the next one gets the count of them
+pub record AreCasesNumbered (s : State) : Type 0 where
+  pub order : AreNumberedFrom 0 s.book.cases
+  pub next : s.book.ever ≡ length s.book.cases
 
 -- P holds of each of these rows
 abbrev pub EachRow : (Row → Type 0) → List Row → Type 0

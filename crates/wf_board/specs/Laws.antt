@@ -28,13 +28,30 @@ use Rattle.wf_board.specs.Histories.{IsLegal, state_after}
 use Rattle.wf_board.specs.declared.verdict.Verdict.{Verdict}
 use Rattle.wf_board.specs.Boards.{BoardShape, book_on, state_on}
 use Rattle.wf_board.specs.Verdicts.{IsRight, snap_of}
-use Rattle.wf_board.specs.Kept.{IsSoundState, KeepsCompletable}
+use Rattle.wf_board.specs.Kept.{AreCasesNumbered, IsSoundState, KeepsCompletable}
+use Rattle.wf_board.specs.Decided.{AreExact}
+use Rattle.wf_board.specs.Grants.{AreNamed, MayBeGranted}
 
 -- every step keeps each open case completable
 abbrev pub StepsKeepCompletable : Type 0
 StepsKeepCompletable =
     (s : State) (what : Ask) (given : Reply) → IsSoundState s → KeepsCompletable s → IsStep s what given →
     IsSoundState (state_after_step s what given) × KeepsCompletable (state_after_step s what given)
+
+-- after any number of entries of a legal history each case is of one of the workflows of the policy, as it then is
+abbrev pub HistoriesStaySound : Type 0
+HistoriesStaySound =
+    (p : PolicyShape) (rounds : ℕ) (entries : List Entry) → IsSoundPolicy p → IsLegal (opening_state p) rounds entries →
+    (n : ℕ) → IsSoundState (state_after (opening_state p) (take n entries))
+
+-- after any entries the cases are numbered 0, 1, 2 .. in order
+abbrev pub HistoriesNumberCases : Type 0
+HistoriesNumberCases = (p : PolicyShape) (entries : List Entry) → AreCasesNumbered (state_after (opening_state p) entries)
+
+-- each entry of a legal history decides exactly what was asked, in the state that those before it leave
+abbrev pub HistoriesAreExact : Type 0
+HistoriesAreExact =
+    (p : PolicyShape) (rounds : ℕ) (entries : List Entry) → IsSoundPolicy p → IsLegal (opening_state p) rounds entries → AreExact p entries
 
 -- after any number of entries of a legal history each open case can be completed
 abbrev pub HistoriesKeepCompletable : Type 0
@@ -57,19 +74,6 @@ EditsAreExact =
     (s : State) (what : Ask) (given : Reply) (a : Amendment) → IsSoundState s → decision_of s.book what ≡ Ok (deed.Change a) →
     IsStep s what given → ¬ (given ≡ reply.NoMemory) →
     ((number : ℕ) × (given ≡ reply.Edited number)) ↔ CanAllBeCompleted (amended s.book.policy a) (open_cases s.book.cases)
-
--- the case of a claim is open, and its step and its user are there
-pub record AreNamed (b : Book) (n : ℕ) (step user : List ℕ) (c : CaseShape) (t u : ℕ) : Type 0 where
-  pub its_case : numbered_case b.cases n ≡ Some c
-  pub live : is_open c ≡ true
-  pub its_step : step_named b c.flow step ≡ Some t
-  pub its_user : user_named b user ≡ Some u
-
--- a user is authorised for a step of a case, the step is ready, and the case can be completed with the step given to the user
-pub record MayBeGranted (p : PolicyShape) (c : CaseShape) (t u : ℕ) : Type 0 where
-  pub authorised : IsTrue (is_authorised p c.flow t u)
-  pub ready : IsTrue (is_ready c (flow_at p c.flow).flow.order t)
-  pub completable : IsCompletable (problem_of p c.flow) (assigned_with c t u) (finished_of c)
 
 -- in a state of one policy, a claim for which there is memory is granted exactly where its user is authorised, its step is
 -- ready, and its case can then be completed

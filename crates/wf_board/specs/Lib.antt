@@ -12,6 +12,8 @@ pub mod Found
 pub mod Boards
 pub mod Verdicts
 pub mod Admitting
+pub mod Grants
+pub mod Decided
 pub mod Laws
 pub mod Taking
 pub mod Admission

@@ -1,5 +1,5 @@
 //! Laws of sessions. Each function changes nothing; its contract is the law.
-ghost use Rattle.wf_board.specs.Laws.{ClaimsAreExact, EditsAreExact, GrantsAreExact, HistoriesKeepCompletable, OutcomeIsFixed, PlansStayValid, SnapsSuffice, StepsKeepCompletable};
+ghost use Rattle.wf_board.specs.Laws.{ClaimsAreExact, EditsAreExact, GrantsAreExact, HistoriesAreExact, HistoriesKeepCompletable, HistoriesNumberCases, HistoriesStaySound, OutcomeIsFixed, PlansStayValid, SnapsSuffice, StepsKeepCompletable};
 
 /// Whatever is asked and answered, each open case can still be completed.
 pub fn steps_keep_completable()
@@ -9,6 +9,24 @@ pub fn steps_keep_completable()
 /// After any number of entries of a legal history each open case can be completed.
 pub fn histories_keep_completable()
     ensures { HistoriesKeepCompletable }
+{}
+
+/// After any number of entries of a legal history each case is of one of the workflows of the policy,
+/// as it then is.
+pub fn histories_stay_sound()
+    ensures { HistoriesStaySound }
+{}
+
+/// After any entries the cases are numbered 0, 1, 2 .. in order.
+pub fn histories_number_cases()
+    ensures { HistoriesNumberCases }
+{}
+
+/// Each entry of a legal history decides exactly what was asked, in the state that those before it
+/// leave: a claim is granted exactly where it may be, an edit accepted exactly where each open case
+/// can then be completed, and a denial is the first cause or has a tree that refutes.
+pub fn histories_are_exact()
+    ensures { HistoriesAreExact }
 {}
 
 /// In a state of one policy, a claim against which there is no cause and for which there is memory is

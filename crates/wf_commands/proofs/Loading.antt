@@ -1,10 +1,11 @@
 -- What loading gives, and how an answer stands over the file of its policy.
-use Rattle.std.proofs.Common.{◌≡◌, ℕ, ◌+◌, ◌<◌, ◌≤◌, List, length, replicate, Result, Ok, Err, subst, arith}
+use Rattle.std.proofs.Common.{◌≡◌, ℕ, ◌+◌, ◌<◌, ◌≤◌, List, [], length, replicate, Result, Ok, Err, refl, subst, arith}
 use Rattle.std.proofs.lemmas.Bool.{le-ltb}
 use Rattle.std.proofs.lemmas.List.{length-replicate}
 use Rattle.wf_names.specs.declared.limits.TheConstants.{POLICY_FILE_LIMIT}
 use Rattle.wf_outside.specs.declared.loaded.LoadFault.{LoadFault}
-use Rattle.wf_outside.specs.declared.loaded.LoadFault.TheVariants.{TooLong}
+use Rattle.wf_outside.specs.declared.loaded.LoadFault.TheVariants.{Failed, TooLong}
+use Rattle.wf_outside.specs.declared.loaded.LoadFault.TheVariants as load
 use Rattle.wf_outside.specs.Outside.{Filed, told, missing, untold, LoadsAs, LoadsFile}
 use Rattle.policy_book.specs.Shapes.{PolicyShape}
 use Rattle.policy_reader.specs.Files.{policy_of_file}
@@ -24,6 +25,17 @@ pub too_long_given : (f : Filed) (e : LoadFault) → e ≡ TooLong → LoadsAs f
 too_long_given untold e is loads = some_longer POLICY_FILE_LIMIT
 too_long_given missing e is loads = cc
 too_long_given (told file) e is loads = subst (λ (x : LoadFault). LoadsFile file POLICY_FILE_LIMIT (Err x)) is loads
+
+-- a file was not loaded, or there was no memory for it: it is not too long
+pub failed_given : (f : Filed) (e : LoadFault) → e ≡ Failed → LoadsAs f POLICY_FILE_LIMIT (Err e) → GivesBytes f (Err Load)
+failed_given untold e is loads = ([], omega arith)
+failed_given missing e is loads = refl
+failed_given (told file) e is loads = subst (λ (x : LoadFault). LoadsFile file POLICY_FILE_LIMIT (Err x)) is loads
+
+pub lacking_given : (f : Filed) (e : LoadFault) → e ≡ load.NoMemory → LoadsAs f POLICY_FILE_LIMIT (Err e) → GivesBytes f (Err NoMemory)
+lacking_given untold e is loads = ([], omega arith)
+lacking_given missing e is loads = cc
+lacking_given (told file) e is loads = subst (λ (x : LoadFault). LoadsFile file POLICY_FILE_LIMIT (Err x)) is loads
 
 over : (A : PolicyShape → RunFault → List ℕ → Type 0) (file : List ℕ) (p : PolicyShape) (fault : RunFault) (text : List ℕ)
     → length file ≤ POLICY_FILE_LIMIT → policy_of_file file ≡ Ok p → A p fault text → OverPolicy A file fault text

@@ -13,7 +13,7 @@ use Rattle.run_record.specs.Run.{Run, IsOrderly, OverFile}
 use Rattle.wf_commands.specs.declared.answer.Answer.{Answer}
 use Rattle.wf_commands.specs.declared.question.Question.{Question}
 use Rattle.wf_commands.specs.declared.question.Question.TheVariants.{Plan, Show, Solve}
-use Rattle.wf_commands.specs.Once.{AnswersOnce, Ends, IsQuiet, OverPolicy}
+use Rattle.wf_commands.specs.Once.{AnswersOnce, Ends, HasText, IsQuiet, OverPolicy}
 use Rattle.wf_commands.specs.Questions.{answers, AnswersQuestion, ReadsAs}
 use Rattle.wf_commands.specs.Answer.{ending_with, AnswersAs, AnswersFile, IsCommandEnding}
 use Rattle.wf_commands.specs.Load.{IsLoadEnding}
@@ -171,11 +171,15 @@ over_answered A untold before after answer h wrote = (h.0, ends_answered (OverPo
 over_answered A missing before after answer h wrote = cc
 over_answered A (told file) before after answer h wrote = ends_answered (OverPolicy A file) before after answer.found (string_bytes answer.text) h wrote
 
+answer_text : (found : Bool) → HasText (ending_with found)
+answer_text true = tt
+answer_text false = tt
+
 over_part : (A : PolicyShape → RunFault → List ℕ → Type 0) (f : Filed) (before after : Option (List ℕ)) (answer : Answer) → AnswersFile A f (Ok answer)
     → HasPart before after (string_bytes answer.text) → OverFile f Write (λ file. Ends (OverPolicy A file) before after Write)
-over_part A untold before after answer h part = (h.0, (ending_with answer.found, string_bytes answer.text, h.1, part))
+over_part A untold before after answer h part = (h.0, (ending_with answer.found, string_bytes answer.text, answer_text answer.found, h.1, part))
 over_part A missing before after answer h part = cc
-over_part A (told file) before after answer h part = (ending_with answer.found, string_bytes answer.text, h, part)
+over_part A (told file) before after answer h part = (ending_with answer.found, string_bytes answer.text, answer_text answer.found, h, part)
 
 -- how a run ends that wrote its answer
 answered_late : (found : Bool) → is_before_input (ending_with found) ≡ true → ⊥

@@ -16,7 +16,9 @@ use Rattle.wf_commands.specs.Plan.{Judges, HasReadPlan}
 abbrev pub GivesInput : List ℕ → Result (List ℕ) RunFault → Type 0
 GivesInput input (Ok bytes) = (length input ≤ LINE_LIMIT) × (bytes ≡ input)
 GivesInput input (Err (LineTooLong line)) = (LINE_LIMIT < length input) × (line ≡ 0)
-GivesInput input (Err fault) = Unit {0}
+GivesInput input (Err Read) = Unit {0}
+GivesInput input (Err NoMemory) = Unit {0}
+GivesInput input (Err fault) = ⊥
 
 -- the endings of taking the input
 abbrev pub IsInputEnding : RunFault → Type 0
@@ -38,7 +40,8 @@ JudgesAs p f input (Ok answer) =
     × Judges p f users (ending_with answer.found) (string_bytes answer.text)
 JudgesAs p f input (Err (BadInput fault)) =
     plan_of_input p (length (flow_at p f).flow.steps) input ≡ Err fault
-JudgesAs p f input (Err fault) = Unit {0}
+JudgesAs p f input (Err NoMemory) = Unit {0}
+JudgesAs p f input (Err fault) = ⊥
 
 -- the endings of judging an input that is there
 abbrev pub IsJudgedEnding : RunFault → Type 0

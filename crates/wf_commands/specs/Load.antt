@@ -7,11 +7,13 @@ use Rattle.policy_reader.specs.Files.{policy_of_file}
 use Rattle.run_record.specs.declared.fault.RunFault.{RunFault}
 use Rattle.run_record.specs.declared.fault.RunFault.TheVariants.{Policy, Load, NoMemory, FileTooLong}
 
--- a file gives its bytes, or is too long; else loading or memory failed
+-- a file gives its bytes, or is too long; one that is not may fail to load, or lack memory
 abbrev pub BytesOf : List ℕ → Result (List ℕ) RunFault → Type 0
 BytesOf file (Ok bytes) = (length file ≤ POLICY_FILE_LIMIT) × (bytes ≡ file)
 BytesOf file (Err FileTooLong) = POLICY_FILE_LIMIT < length file
-BytesOf file (Err fault) = Unit {0}
+BytesOf file (Err Load) = length file ≤ POLICY_FILE_LIMIT
+BytesOf file (Err NoMemory) = length file ≤ POLICY_FILE_LIMIT
+BytesOf file (Err fault) = ⊥
 
 -- the same by what is told; a missing file is a load fault, and one of which nothing is told has
 -- some content
@@ -27,13 +29,16 @@ IsFileEnding Load = Unit {0}
 IsFileEnding NoMemory = Unit {0}
 IsFileEnding fault = ⊥
 
--- a file gives its policy, or is too long, or has its first fault; else loading or memory failed
+-- a file gives its policy, or is too long, or has its first fault; one that is not too long may fail to load, or lack
+-- memory
 abbrev pub PolicyOf : List ℕ → Result PolicyShape RunFault → Type 0
 PolicyOf file (Ok p) = (length file ≤ POLICY_FILE_LIMIT) × (policy_of_file file ≡ Ok p)
 PolicyOf file (Err FileTooLong) = POLICY_FILE_LIMIT < length file
 PolicyOf file (Err (Policy fault)) =
     (length file ≤ POLICY_FILE_LIMIT) × (policy_of_file file ≡ Err fault)
-PolicyOf file (Err fault) = Unit {0}
+PolicyOf file (Err Load) = length file ≤ POLICY_FILE_LIMIT
+PolicyOf file (Err NoMemory) = length file ≤ POLICY_FILE_LIMIT
+PolicyOf file (Err fault) = ⊥
 
 -- the same by what is told; a missing file is a load fault, and one of which nothing is told has
 -- some content

@@ -22,15 +22,21 @@ OverPolicy Answers file fault text =
     (MatchResult (policy_of_file file)
     (λ p. Answers p fault text) (λ e. Refuses (Policy e) fault text))
 
+-- the endings of an answer that has a text to write
+abbrev pub HasText : RunFault → Type 0
+HasText Nothing = Unit {0}
+HasText Found = Unit {0}
+HasText fault = ⊥
+
 -- what the sink holds after a run with these answers: all of one; after a write fault a part of
--- one; and where reading, loading or memory failed, nothing more than before
+-- one that has a text; and where reading, loading or memory failed, nothing more than before
 abbrev pub Ends : (RunFault → List ℕ → Type 0) → Option (List ℕ) → Option (List ℕ) → RunFault
     → Type 0
 Ends Answers before after Read = after ≡ before
 Ends Answers before after Load = after ≡ before
 Ends Answers before after NoMemory = after ≡ before
 Ends Answers before after Write =
-    (fault : RunFault) × (text : List ℕ) × Answers fault text × HasPart before after text
+    (fault : RunFault) × (text : List ℕ) × HasText fault × Answers fault text × HasPart before after text
 Ends Answers before after fault =
     (text : List ℕ) × Answers fault text × (after ≡ with_bytes before text)
 

@@ -1,5 +1,6 @@
 //! Loading the policy.
 ghost use Rattle.std.specs.Prelude.{◌≡◌, ℕ, List, IfErr, IfOk};
+ghost use Rattle.policy_book.specs.Facts.{IsSoundPolicy};
 ghost use Rattle.policy_reader.specs.Printable.{IsPrintable};
 ghost use Rattle.run_record.specs.Fault.{fault_in, CountsLoads};
 ghost use Rattle.wf_commands.specs.Load.{GivesBytes, GivesPolicy, IsFileEnding, IsLoadEnding};
@@ -14,6 +15,7 @@ use wf_outside::{LoadFault, Loaded, Shelf};
 pub fn load_policy<F: Shelf>(alloc: Global, shelf: &mut F, name: &str) -> Result<Policy, RunFault>
     ensures policy { GivesPolicy (F.file shelf.old name.now) result }
     ensures printable { IfOk result IsPrintable }
+    ensures sound { IfOk result IsSoundPolicy }
     ensures ending { IfErr result IsLoadEnding }
     ensures loads { CountsLoads (fault_in result) (F.faults shelf.old) (F.faults shelf.new) }
     ensures kept { (n : List ℕ) → F.file shelf.new n ≡ F.file shelf.old n }

@@ -1,5 +1,5 @@
 -- Inside: what the turns of a lane's thread do.
-use Rattle.std.specs.Prelude.{◌≡◌, ℕ, ◌+◌, ◌<◌, ◌≤◌, true, false, Some, None}
+use Rattle.std.specs.Prelude.{◌≡◌, ℕ, ◌+◌, ◌<◌, ◌≤◌, Bool, true, false, Some, None}
 use Rattle.std.specs.List.{Contains}
 use Rattle.turn_table.specs.Lists.{StartsWith}
 use Rattle.turn_table.specs.Lanes.{LaneShape, TableId}
@@ -31,6 +31,12 @@ pub record HasTurned (before after : LaneShape Fixed Entry) (d e : DeskShape) : 
   pub fixed : Some (fixed_of d) ≡ before.fixed
   pub later : StartsWith (tagged_of d) before.seen
   pub seen : HasSeen after e
+
+-- a task was begun, which waits for its verdict
+abbrev pub is_task : Begun → Bool
+is_task (begun.Task t) = true
+is_task begun.Served = false
+is_task begun.Ended = false
 
 -- what came of beginning a lane's next job at a desk
 abbrev pub HasBegunAt : DeskShape → DeskShape → ℕ → Begun → Type 0

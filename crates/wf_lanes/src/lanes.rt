@@ -1,5 +1,5 @@
 //! Serving the jobs of a batch, each lane's on a thread of its own.
-ghost use Rattle.std.specs.Prelude.{◌≡◌, ◌<◌, ◌≤◌, ◌+◌, ◌-◌};
+ghost use Rattle.std.specs.Prelude.{◌≡◌, ◌<◌, ◌≤◌, ◌+◌, ◌-◌, nat_le};
 ghost use Rattle.std.specs.Thread.{IsSync};
 ghost use Rattle.wf_desk.specs.Desks.{AreOfLanes, IsDone};
 ghost use Rattle.wf_desk.specs.Schedules.{HasGrown};
@@ -50,7 +50,7 @@ fn serve_on_lanes<R: Threads + Wait + Sync, V: Decider + Sync, G: Gate + Sync>(
     ensures on { HasGrown desk result }
 {
     let lanes = desk.lanes();
-    let tells = 1 <= desk.rounds();
+    let tells = tells(desk.rounds());
     match TurnTable::new(alloc, desk, lanes) {
         Ok((table, first)) => {
             let first = run_lanes(rt, alloc, decider, gate, tells, &table, first, 0, lanes);
@@ -58,6 +58,13 @@ fn serve_on_lanes<R: Threads + Wait + Sync, V: Decider + Sync, G: Gate + Sync>(
         }
         Err(Refused { value }) => value,
     }
+}
+
+// Whether searches are told to the gate: where a job may be answered again after a lost round.
+fn tells(rounds: u8) -> bool
+    ensures { result ≡ nat_le 1 rounds }
+{
+    1 <= rounds
 }
 
 // Makes so many lanes, from the next number on, serves each on a thread of its own, and joins them
@@ -154,6 +161,7 @@ fn serve_lane<R: Wait, V: Decider, G: Gate>(
         table,
         lane,
         number,
+        pending: false,
     };
     work(rt, alloc, decider, gate, tells, &mut turns);
     let TableTurns {
@@ -163,6 +171,7 @@ fn serve_lane<R: Wait, V: Decider, G: Gate>(
         table: _,
         lane,
         number: _,
+        pending: _,
     } = turns;
     lane
 }

@@ -23,6 +23,8 @@ pub(crate) struct TableTurns<'a, R, V> {
     pub(crate) table: &'a TurnTable<Desk>,
     pub(crate) lane: Lane<Desk>,
     pub(crate) number: u8,
+    /// Whether a task was begun that is not committed yet.
+    pub(crate) pending: bool,
 }
 
 impl<R: Wait, V: Decider> Turns for TableTurns<'_, R, V> {
@@ -30,12 +32,15 @@ impl<R: Wait, V: Decider> Turns for TableTurns<'_, R, V> {
 
     ghost known = { λ s. s.lane };
 
+    ghost pending = { λ s. s.pending };
+
     ghost fits = { λ s. V.ready s.decider.now × IsIdle s.table.now s.lane s.number };
 
     fn begin(&mut self) -> Begun {
         let mut desk = self.table.take(self.rt, &mut self.lane);
         let begun = begin_at(self.alloc, self.decider, &mut desk, self.number);
         self.table.give(&mut self.lane, desk);
+        self.pending = matches!(begun, Begun::Task(_));
         begun
     }
 
@@ -43,6 +48,7 @@ impl<R: Wait, V: Decider> Turns for TableTurns<'_, R, V> {
         let mut later = self.table.take(self.rt, &mut self.lane);
         let outcome = commit_at(self.alloc, self.decider, &mut later, task, verdict);
         self.table.give(&mut self.lane, later);
+        self.pending = false;
         outcome
     }
 }

@@ -1,11 +1,11 @@
 //! What a lane's thread does: turn after turn, with the searches between them.
-ghost use Rattle.std.specs.Prelude.{◌≡◌, ℕ};
+ghost use Rattle.std.specs.Prelude.{◌≡◌, ℕ, Bool, true, false};
 ghost use Rattle.turn_table.specs.Lanes.{LaneShape};
 ghost use Rattle.wf_board.specs.Boards.{book_on};
 ghost use Rattle.wf_board.specs.Verdicts.{Decides};
 ghost use Rattle.wf_talk.specs.declared.entry.Entry.{Entry};
 ghost use Rattle.wf_desk.specs.declared.tabled.Fixed.{Fixed};
-ghost use Rattle.wf_lanes.specs.Workers.{HasBegun, HasCommittedTask, HasEnded, IsBegun, IsSameLane};
+ghost use Rattle.wf_lanes.specs.Workers.{HasBegun, HasCommittedTask, HasEnded, IsBegun, IsSameLane, is_task};
 
 use crate::gate::{Gate, Gated};
 use std::alloc::Global;
@@ -35,25 +35,33 @@ pub(crate) trait Turns {
     // what the lane's turns rest on
     ghost fits: { Self → Type 0 };
 
+    // whether a task was begun that is not committed yet
+    ghost pending: { Self → Bool };
+
     /// A turn that begins the lane's next job.
     fn begin(&mut self) -> Begun
         requires fits { fits self.old }
+        requires settled { pending self.old ≡ false }
         ensures fits { fits self.new }
         ensures lane { lane self.new ≡ lane self.old }
+        ensures pending { pending self.new ≡ is_task result }
         ensures begun { HasBegun (known self.old) (known self.new) (lane self.old) result };
 
     /// A turn that commits the task which the lane's last turn began.
     fn commit(&mut self, task: &Task, verdict: Verdict) -> Outcome
         requires fits { fits self.old }
+        requires pending { pending self.old ≡ true }
         requires begun { IsBegun (known self.old) (lane self.old) task.now }
         requires right { Decides (book_on task.now.snap) task.now.ask verdict }
         ensures fits { fits self.new }
+        ensures settled { pending self.new ≡ false }
         ensures lane { lane self.new ≡ lane self.old }
         ensures committed { HasCommittedTask (known self.old) (known self.new) task.now
             verdict result };
 }
 
-/// Serves a lane's jobs until none is left. A task that is lost is begun again.
+/// Serves a lane's jobs until none is left. Each task that is begun is committed before the next is;
+/// one that is lost is begun again.
 pub(crate) fn work<R: Wait, V: Decider, G: Gate, T: Turns>(
     rt: &R,
     alloc: Global,
@@ -64,7 +72,9 @@ pub(crate) fn work<R: Wait, V: Decider, G: Gate, T: Turns>(
 )
     requires ready { V.ready decider.now }
     requires fits { T.fits turns.old }
+    requires settled { T.pending turns.old ≡ false }
     ensures fits { T.fits turns.new }
+    ensures settled { T.pending turns.new ≡ false }
     ensures lane { T.lane turns.new ≡ T.lane turns.old }
     ensures same { IsSameLane (T.known turns.old) (T.known turns.new) }
     ensures ended { HasEnded (T.known turns.new) (T.lane turns.new) }

@@ -2,6 +2,7 @@
 use Rattle.std.proofs.Common.{◌≡◌, ℕ, List, false, Ok, Err, inl, inr, refl, sym, subst, arith}
 use Rattle.wf_outside.specs.Outside.{Filed, told, missing, untold}
 use Rattle.policy_book.specs.Shapes.{PolicyShape}
+use Rattle.policy_book.specs.Facts.{IsSoundPolicy}
 use Rattle.run_record.specs.declared.fault.RunFault.{RunFault}
 use Rattle.run_record.specs.declared.fault.RunFault.TheVariants.{Nothing, Found, Usage, Policy, Read, Write, Load, NoMemory, FileTooLong, LineTooLong, TooManyLines, BadInput}
 use Rattle.run_record.specs.Fault.{is_before_input, CountsLoads, CountsReads, CountsWrites}
@@ -17,8 +18,8 @@ use Rattle.wf_server.specs.Serving.{setting, EndsBefore, ServesFile, ServesRun}
 ends_before : (file : List ℕ) (fault : RunFault) → PolicyOf file (Err fault) → IsLoadEnding fault → EndsBefore file fault
 ends_before file FileTooLong gives ending = gives
 ends_before file (Policy e) gives ending = gives
-ends_before file Load gives ending = tt
-ends_before file NoMemory gives ending = tt
+ends_before file Load gives ending = gives
+ends_before file NoMemory gives ending = gives
 ends_before file Nothing gives ending = absurd ending
 ends_before file Found gives ending = absurd ending
 ends_before file Usage gives ending = absurd ending
@@ -80,13 +81,13 @@ refused_run policy options r fault is gives ending nothing loads reads writes =
     }
 
 -- the policy was there, and was served
-pub is_served : (f : Filed) (p : PolicyShape) (options : Options) (r : Run) → GivesPolicy f (Ok p)
+pub is_served : (f : Filed) (p : PolicyShape) (options : Options) (r : Run) → GivesPolicy f (Ok p) → IsSoundPolicy p
     → Served (setting p options) (start options.lanes) PIECE r.before r.after r.told r.fault → AreWantsRightful r.told.entries → OverFile f r.fault (λ file. ServesFile file options r)
-is_served untold p options r gives served wants =
-    (gives.0, inr (record { policy = p; within = gives.1.0; read = gives.1.1; served = served; wants = wants }))
-is_served missing p options r gives served wants = cc
-is_served (told file) p options r gives served wants =
-    inr (record { policy = p; within = gives.0; read = gives.1; served = served; wants = wants })
+is_served untold p options r gives sound served wants =
+    (gives.0, inr (record { policy = p; within = gives.1.0; read = gives.1.1; sound = sound; served = served; wants = wants }))
+is_served missing p options r gives sound served wants = cc
+is_served (told file) p options r gives sound served wants =
+    inr (record { policy = p; within = gives.0; read = gives.1; sound = sound; served = served; wants = wants })
 
 -- a session does not end with a load fault
 pub loads_late : (fault : RunFault) (before after : ℕ) → is_before_input fault ≡ false → after ≡ before → CountsLoads fault before after

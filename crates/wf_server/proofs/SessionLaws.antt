@@ -18,7 +18,7 @@ use Rattle.wf_board.specs.Histories.{FillsJobs, IsLegal}
 use Rattle.wf_desk.specs.Desks.{AreOfLanes, DeskShape}
 use Rattle.wf_desk.specs.DocketLaws.{first_of_lanes}
 use Rattle.policy_book.specs.Facts.{IsSoundPolicy}
-use Rattle.wf_board.specs.Laws.{HistoriesKeepCompletable}
+use Rattle.wf_board.specs.Laws.{HistoriesAreExact, HistoriesKeepCompletable}
 use Rattle.run_record.specs.declared.fault.RunFault.{RunFault}
 use Rattle.run_record.specs.declared.fault.RunFault.TheVariants as fault
 use Rattle.run_record.specs.Fault.{is_before_input, CountsWrites}
@@ -218,13 +218,14 @@ bare_serves set room streams told ending none_restored nothing memory = rw (noth
 })
 
 -- a session is one as it is promised
-pub serves_kept : (set : Setting) (first : Cut) (room : ℕ) (before after : Streams) (told : Told) (ending : RunFault) → IsSoundPolicy set.policy → HistoriesKeepCompletable
+pub serves_kept : (set : Setting) (first : Cut) (room : ℕ) (before after : Streams) (told : Told) (ending : RunFault) → IsSoundPolicy set.policy → HistoriesKeepCompletable → HistoriesAreExact
     → IsLegal (opening_state set.policy) set.rounds told.entries → Serves set first room before after told ending → Served set first room before after told ending
-serves_kept set first room before after told ending sound keeps legal h = record {
+serves_kept set first room before after told ending sound keeps exact legal h = record {
   reads = h.reads;
   legal = legal;
   fills = h.fills;
   writes = h.writes;
+  exact = exact set.policy set.rounds told.entries sound legal;
   kept = keeps set.policy set.rounds told.entries sound legal;
   read_faults = h.read_faults;
   write_faults = h.write_faults;

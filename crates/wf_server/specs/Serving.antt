@@ -3,6 +3,7 @@ use Rattle.std.specs.Prelude.{◌≡◌, ℕ, ◌<◌, ◌≤◌, List, length, 
 use Rattle.std.proofs.Common.{◌⊎◌}
 use Rattle.wf_names.specs.declared.limits.TheConstants.{POLICY_FILE_LIMIT}
 use Rattle.policy_book.specs.Shapes.{PolicyShape}
+use Rattle.policy_book.specs.Facts.{IsSoundPolicy}
 use Rattle.policy_reader.specs.Files.{policy_of_file}
 use Rattle.run_record.specs.declared.fault.RunFault.{RunFault}
 use Rattle.run_record.specs.declared.fault.RunFault.TheVariants.{Policy, Load, NoMemory, FileTooLong}
@@ -13,12 +14,13 @@ use Rattle.wf_board.specs.Histories.{AreWantsRightful}
 use Rattle.wf_server.specs.Sessions.{Served, Setting}
 use Rattle.command_words.specs.Words.{Options}
 
--- how a run may end before its session: the file is too long, or has a fault, or loading or memory failed
+-- how a run may end before its session: the file is too long, or has a fault; one that is not too long may fail to load,
+-- or lack memory
 abbrev pub EndsBefore : List ℕ → RunFault → Type 0
 EndsBefore file FileTooLong = POLICY_FILE_LIMIT < length file
 EndsBefore file (Policy fault) = (length file ≤ POLICY_FILE_LIMIT) × (policy_of_file file ≡ Err fault)
-EndsBefore file Load = Unit {0}
-EndsBefore file NoMemory = Unit {0}
+EndsBefore file Load = length file ≤ POLICY_FILE_LIMIT
+EndsBefore file NoMemory = length file ≤ POLICY_FILE_LIMIT
 EndsBefore file fault = ⊥
 
 -- a policy is served as the options ask
@@ -31,6 +33,7 @@ pub record ServesPolicy (file : List ℕ) (options : Options) (r : Run) : Type 0
   pub policy : PolicyShape
   pub within : length file ≤ POLICY_FILE_LIMIT
   pub read : policy_of_file file ≡ Ok policy
+  pub sound : IsSoundPolicy policy
   pub served : Served (setting policy options) (start options.lanes) PIECE r.before r.after r.told r.fault
   pub wants : AreWantsRightful r.told.entries
 

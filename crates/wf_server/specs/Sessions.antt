@@ -9,6 +9,7 @@ use Rattle.batch_reader.specs.declared.reader.Paused.TheVariants as paused
 use Rattle.batch_reader.specs.Reading.{Handed, HasReadAll, HasStopped, IsReadUp, ReadsTo}
 use Rattle.policy_book.specs.Shapes.{PolicyShape}
 use Rattle.wf_board.specs.States.{opening_state}
+use Rattle.wf_board.specs.Decided.{AreExact}
 use Rattle.wf_board.specs.Kept.{KeepsCompletable}
 use Rattle.wf_board.specs.Histories.{IsLegal, FillsJobs, batch_start, state_after}
 use Rattle.run_record.specs.declared.fault.RunFault.{RunFault}
@@ -67,13 +68,14 @@ abbrev pub AlwaysKeepsCompletable : PolicyShape → List Entry → Type 0
 AlwaysKeepsCompletable p entries = (n : ℕ) → KeepsCompletable (state_after (opening_state p) (take n entries))
 
 -- a session: what was written are the replies of one legal history, which holds each of the jobs that were read once,
--- in the order of their batches and lanes; after each entry every open case can be completed; and each fault of the
--- outside is counted
+-- in the order of their batches and lanes; each of them decides exactly what was asked, in the state that those before it
+-- leave, and leaves every open case one that can be completed; and each fault of the outside is counted
 pub record Served (set : Setting) (first : Cut) (room : ℕ) (before after : Streams) (told : Told) (fault : RunFault) : Type 0 where
   pub reads : ReadsFor before.input after.input room (handed_in first told) fault
   pub legal : IsLegal (opening_state set.policy) set.rounds told.entries
   pub fills : FillsJobs told.entries told.jobs told.batch_ends
   pub writes : WritesFor set before.output after.output told fault
+  pub exact : AreExact set.policy told.entries
   pub kept : AlwaysKeepsCompletable set.policy told.entries
   pub read_faults : CountsReads fault before.read_faults after.read_faults
   pub write_faults : CountsWrites fault before.write_faults after.write_faults

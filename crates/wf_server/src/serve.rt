@@ -16,7 +16,7 @@ use command_words::Options;
 use policy_book::Policy;
 use run_record::{Report, RunFault, bare_report};
 use std::alloc::Global;
-use wf_board::laws::histories_keep_completable;
+use wf_board::laws::{histories_are_exact, histories_keep_completable};
 use wf_commands::load_policy;
 use wf_desk::Desk;
 use wf_outside::{Shelf, Sink, Source};
@@ -73,5 +73,6 @@ fn serve_policy<S: Source, K: Sink, W: Fn(Desk) -> Desk>(
 {
     let _ = policy.admin();
     histories_keep_completable();
+    histories_are_exact();
     run_session(alloc, way, policy, options, PIECE, source, sink)
 }

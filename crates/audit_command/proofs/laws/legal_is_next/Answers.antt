@@ -3,19 +3,9 @@ use Rattle.std.proofs.lemmas.List.{length-append}
 use Rattle.wf_talk.specs.declared.entry.Entry.{Entry}
 use Rattle.transcript_audit.specs.Audits.{AuditShape, AreNext, audit_of, with_entry}
 use Rattle.audit_command.specs.declared.finding.Finding.TheVariants.{Legal}
-use Rattle.audit_command.specs.Auditing.{IsAudited}
-use Rattle.audit_command.specs.Laws.{AreShort}
+use Rattle.audit_command.specs.Auditing.{AreShort, IsAudited}
+use Rattle.audit_command.proofs.Legal.{next_of}
 use Rattle.audit_command.proofs.laws.legal_is_next.Goals as goal
-
-next_of : (a : AuditShape) (lines : List (List ℕ)) → IsAudited a lines Legal → (es : List Entry) × (AreNext a lines es × (length a.entries + length es ≡ length a.jobs))
-next_of a [] h = ([], (tt, omega (arith, h)))
-next_of a (line ∷ lines) h = elim h [
-  | inl stops ↦ absurd stops
-  | inr goes ↦
-      let more = next_of (with_entry a goes.0) lines goes.1.1 in
-      let size = more.1.1 in
-      (goes.0 ∷ more.0, ((goes.1.0.1, more.1.0), omega (arith, size, length-append a.entries (goes.0 ∷ []))))
-]
 
 audited_of : (a : AuditShape) (lines : List (List ℕ)) (es : List Entry) → AreShort lines → AreNext a lines es → length a.entries + length es ≡ length a.jobs → IsAudited a lines Legal
 audited_of a [] [] short next size = omega (arith, size)

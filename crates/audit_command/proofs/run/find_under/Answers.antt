@@ -1,9 +1,10 @@
 use Rattle.std.proofs.Common.{subst}
 use Rattle.std.specs.Prelude.{IfOk}
+use Rattle.run_record.specs.Fault.{fault_in}
 use Rattle.run_record.specs.declared.fault.RunFault.TheVariants.{NoMemory}
 use Rattle.transcript_audit.specs.Audits.{AuditShape}
 use Rattle.audit_command.specs.Auditing.{HasFound}
-use Rattle.audit_command.proofs.Loaded.{finds_under, no_jobs}
+use Rattle.audit_command.proofs.Loaded.{finds_under, jobs_there, no_jobs}
 use Rattle.audit_command.proofs.Runs.{file_ending, unread_after}
 use Rattle.audit_command.proofs.run.find_under.Goals as goal
 
@@ -23,8 +24,12 @@ returns-in_err-auditor-clause-input g c =
 
 pub returns-clause-finds : goal.returns-clause-finds
 returns-clause-finds g c =
-    finds_under c.args.policy (record { requests = g.F.Shelf.file c.args.shelf.now c.args.requests.now; lanes = c.args.lanes; rounds = c.args.rounds })
-    (record { before = g.S.Source.left c.args.source.now; after = g.S.Source.left c.audit_input.new.source }) c.in_ok-batch.batch c.audit_input.result c.in_ok-batch.ensures.jobs
+    finds_under c.legal_is_exact.ensures c.args.policy (record { requests = g.F.Shelf.file c.args.shelf.now c.args.requests.now; lanes = c.args.lanes; rounds = c.args.rounds })
+    (record { before = g.S.Source.left c.args.source.now; after = g.S.Source.left c.audit_input.new.source }) c.in_ok-batch.batch c.audit_input.result c.in_ok-batch.ensures.jobs c.know_session.ensures
     (subst (λ (a : AuditShape). IfOk c.audit_input.result (λ f. HasFound a f (g.S.Source.left c.args.source.now) (g.S.Source.left c.audit_input.new.source)))
     c.in_ok-auditor.ensures c.audit_input.ensures.found)
     c.audit_input.ensures.ending
+
+pub returns-clause-without : goal.returns-clause-without
+returns-clause-without g c =
+    jobs_there (g.F.Shelf.file c.args.shelf.now c.args.requests.now) c.args.lanes c.in_ok-batch.batch (fault_in c.audit_input.result) c.in_ok-batch.ensures.jobs

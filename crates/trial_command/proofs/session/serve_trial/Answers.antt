@@ -21,5 +21,6 @@ returns g c =
       turns = search rules;
       once = search rules;
       wants = wants;
+      exact = c.histories_are_exact.ensures (trial_policy c.args.seed) 0 c.into_parts-entries.result.1.entries sound legal;
       kept = c.histories_keep_completable.ensures (trial_policy c.args.seed) 0 c.into_parts-entries.result.1.entries sound legal;
     }
