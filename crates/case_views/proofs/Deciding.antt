@@ -33,7 +33,8 @@ use Rattle.wf_board.proofs.Rows.{each_at}
 use Rattle.wf_board.proofs.Within.{claimed_within, planned_within}
 use Rattle.wf_board.proofs.Exact.{finished_assigned}
 use Rattle.admin_edits.specs.declared.amendment.Amendment.{Amendment}
-use Rattle.case_views.specs.Deciding.{DecidesChange, DecidesDeed, DecidesFor, DecidesWhatIf, DecidesWork, IsVerdictOf}
+use Rattle.wf_board.specs.Deeds.{DecidesDeed}
+use Rattle.case_views.specs.Deciding.{DecidesChange, DecidesFor, DecidesWhatIf, DecidesWork, IsVerdictOf}
 
 -- a row that is there, with its case
 found_row : (o : Option Row) (c : CaseShape) → option_map (λ (r : Row). r.case) o ≡ Some c → (r : Row) × ((o ≡ Some r) × (r.case ≡ c))

@@ -1,5 +1,5 @@
 -- Inside: what the decider finds on a deed.
-use Rattle.std.specs.Prelude.{◌≡◌, ◌≢◌, ℕ, Bool, true, false, List, [], ◌∷◌, ◌++◌, Option, None, Some, Ok, IsTrue}
+use Rattle.std.specs.Prelude.{◌≡◌, ℕ, Bool, true, List, [], ◌∷◌, ◌++◌, Option, None, Some, Ok, IsTrue}
 use Rattle.refutation_tree.specs.declared.tree.Tree.{Tree}
 use Rattle.refutation_tree.specs.Views.{shape_of}
 use Rattle.policy_book.specs.Shapes.{PolicyShape}
@@ -10,15 +10,13 @@ use Rattle.grant_table.specs.declared.rows.Row.{Row}
 use Rattle.admin_edits.specs.declared.amendment.Amendment.{Amendment}
 use Rattle.wsp_solver.specs.declared.search.Outcome.{Outcome}
 use Rattle.wsp_solver.specs.declared.search.Outcome.TheVariants as outcome
-use Rattle.wf_board.specs.declared.deed.Deed.{Deed}
 use Rattle.wf_board.specs.declared.deed.Deed.TheVariants as deed
 use Rattle.wf_board.specs.declared.verdict.Verdict.{Verdict}
 use Rattle.wf_board.specs.declared.verdict.Verdict.TheVariants as verdict
 use Rattle.wf_board.specs.States.{Book, Numbered, open_cases}
 use Rattle.wf_board.specs.Boards.{numbered}
 use Rattle.wf_board.specs.Edited.{ArePlansOf, IsFirstStranded, IsTreeOf}
-use Rattle.wf_board.specs.Decisions.{needs_plan}
-use Rattle.wf_board.specs.Verdicts.{IsEditionFor, IsPlanFor, IsStrandingFor, IsTreeFor, IsViewFor}
+use Rattle.wf_board.specs.Verdicts.{IsEditionFor, IsStrandingFor, IsViewFor}
 use Rattle.case_views.specs.declared.edit_decider.Left.{Left}
 use Rattle.case_views.specs.declared.edit_decider.Left.TheVariants as left
 
@@ -47,22 +45,6 @@ abbrev pub DecidesWhatIf : Book → Amendment → Verdict → Type 0
 DecidesWhatIf b a verdict.NoMemory = Unit {0}
 DecidesWhatIf b a (verdict.View v) = IsViewFor b (Ok (deed.WhatIf a)) v
 DecidesWhatIf b a v = ⊥
-
--- a verdict fits a deed
-abbrev pub FitsDeed : Book → Deed → Verdict → Type 0
-FitsDeed b given verdict.Nothing = Unit {0}
-FitsDeed b given verdict.NoMemory = Unit {0}
-FitsDeed b given (verdict.Plan plan) = IsPlanFor b (Ok given) plan
-FitsDeed b given (verdict.Refuted tree) = IsTreeFor b (Ok given) tree
-FitsDeed b given (verdict.Edited edition) = IsEditionFor b (Ok given) edition
-FitsDeed b given (verdict.Strands n tree) = IsStrandingFor b (Ok given) n tree
-FitsDeed b given (verdict.View v) = IsViewFor b (Ok given) v
-
--- a verdict decides a deed: there is one exactly where one is needed
-pub record DecidesDeed (b : Book) (deed : Deed) (v : Verdict) : Type 0 where
-  pub fits : FitsDeed b deed v
-  pub nothing : needs_plan deed ≡ false → v ≡ verdict.Nothing
-  pub something : needs_plan deed ≡ true → v ≢ verdict.Nothing
 
 -- what a search found, as a verdict
 abbrev pub IsVerdictOf : Outcome → Verdict → Type 0

@@ -4,17 +4,20 @@ ghost use Rattle.constraint_forms.specs.Assigned.{no_steps, no_users};
 ghost use Rattle.policy_book.specs.Policies.{problem_of};
 ghost use Rattle.case_record.specs.Cases.{finished_of};
 ghost use Rattle.denial_reasons.specs.Causes.{assigned_with};
-ghost use Rattle.wf_board.specs.Boards.{book_on};
+ghost use Rattle.wf_board.specs.Boards.{book_of};
+ghost use Rattle.wf_board.specs.Deeds.{DecidesDeed};
 ghost use Rattle.wf_board.specs.Found.{AreFound, IsAllowed, IsFound};
-ghost use Rattle.case_views.specs.Deciding.{DecidesDeed, DecidesFor, DecidesWhatIf, DecidesWork, IsVerdictOf};
+ghost use Rattle.wf_board.specs.Kept.{ArePlanned};
+ghost use Rattle.case_views.specs.Deciding.{DecidesFor, DecidesWhatIf, DecidesWork, IsVerdictOf};
 
 use crate::edit_decider::edit_verdict;
 use crate::found::{outcome_fresh, outcome_with};
 use crate::stranded::stranded_by;
-use crate::work_lists::worklist;
+use crate::work_lists::work_of;
 use admin_edits::Amendment;
 use case_record::Case;
 use constraint_forms::Plan;
+use grant_table::Cases;
 use policy_book::Policy;
 use std::alloc::{AllocError, Global};
 use wf_board::{Decider, Deed, Refused, Snap, Verdict, View, decision_aside};
@@ -31,9 +34,13 @@ pub struct PlainDecider;
 impl Decider for PlainDecider {
     fn decide(&self, alloc: Global, snap: &Snap, ask: &Ask) -> Verdict {
         match decision_aside(alloc, snap.policy(), snap.cases(), ask) {
-            Ok(deed) => verdict_on(alloc, snap, &deed),
+            Ok(deed) => verdict_on(alloc, snap.policy(), snap.cases(), &deed),
             Err(refused) => no_verdict(refused),
         }
+    }
+
+    fn decide_deed(&self, alloc: Global, p: &Policy, cases: &Cases, deed: &Deed) -> Verdict {
+        verdict_on(alloc, p, cases, deed)
     }
 }
 
@@ -45,23 +52,22 @@ pub(crate) fn no_verdict(_: Refused) -> Verdict
 }
 
 /// The verdict on a deed that no earlier check denies.
-pub(crate) fn verdict_on(alloc: Global, snap: &Snap, deed: &Deed) -> Verdict
-    requires { IsFound snap.now.policy snap.now.cases.rows deed.now }
-    ensures { DecidesDeed (book_on snap.now) deed.now result }
+pub(crate) fn verdict_on(alloc: Global, p: &Policy, cases: &Cases, deed: &Deed) -> Verdict
+    requires kept { ArePlanned p.now cases.now.rows }
+    requires found { IsFound p.now cases.now.rows deed.now }
+    ensures { DecidesDeed (book_of p.now cases.now) deed.now result }
 {
     match deed {
-        Deed::Open { flow } => {
-            open_verdict(alloc, snap.policy(), *flow, snap.cases().recent_plan(*flow))
-        }
+        Deed::Open { flow } => open_verdict(alloc, p, *flow, cases.recent_plan(*flow)),
         Deed::Claim {
             number,
             case,
             step,
             user,
-        } => claim_verdict(alloc, snap, *number, case, *step, *user),
-        Deed::Change { amendment } => edit_verdict(alloc, snap, amendment),
-        Deed::Work { user } => work_verdict(alloc, snap, *user),
-        Deed::WhatIf { amendment } => what_if_verdict(alloc, snap, amendment),
+        } => claim_verdict(alloc, p, cases, *number, case, *step, *user),
+        Deed::Change { amendment } => edit_verdict(alloc, p, cases, amendment),
+        Deed::Work { user } => work_verdict(alloc, p, cases, *user),
+        Deed::WhatIf { amendment } => what_if_verdict(alloc, p, cases, amendment),
         _ => Verdict::Nothing,
     }
 }
@@ -69,21 +75,23 @@ pub(crate) fn verdict_on(alloc: Global, snap: &Snap, deed: &Deed) -> Verdict
 // The verdict on a claim, by the plan that is kept for its case.
 fn claim_verdict(
     alloc: Global,
-    snap: &Snap,
+    p: &Policy,
+    cases: &Cases,
     number: CaseId,
     case: &Case,
     step: StepId,
     user: UserId,
 ) -> Verdict
-    requires { AreFound snap.now.policy snap.now.cases.rows number case.now step user }
-    ensures { DecidesFor (problem_of snap.now.policy case.now.flow)
+    requires kept { ArePlanned p.now cases.now.rows }
+    requires found { AreFound p.now cases.now.rows number case.now step user }
+    ensures { DecidesFor (problem_of p.now case.now.flow)
         (assigned_with case.now step user)
         (finished_of case.now) result }
 {
-    let Some(kept) = snap.cases().plan(number) else {
+    let Some(kept) = cases.plan(number) else {
         unreachable!()
     };
-    match outcome_with(alloc, snap.policy(), case, &kept, step, user) {
+    match outcome_with(alloc, p, case, &kept, step, user) {
         Ok(outcome) => verdict_of(outcome),
         Err(_) => Verdict::NoMemory,
     }
@@ -111,11 +119,12 @@ fn verdict_of(outcome: Outcome) -> Verdict
 }
 
 // The verdict on a user's work.
-fn work_verdict(alloc: Global, snap: &Snap, user: UserId) -> Verdict
-    requires { user < length snap.now.policy.roster.users }
-    ensures { DecidesWork (book_on snap.now) user result }
+fn work_verdict(alloc: Global, p: &Policy, cases: &Cases, user: UserId) -> Verdict
+    requires kept { ArePlanned p.now cases.now.rows }
+    requires user { user < length p.now.roster.users }
+    ensures { DecidesWork (book_of p.now cases.now) user result }
 {
-    work_view(worklist(alloc, snap, user))
+    work_view(work_of(alloc, p, cases, user))
 }
 
 /// A work list as a verdict.
@@ -130,11 +139,12 @@ pub(crate) fn work_view(listed: Result<WorkList, AllocError>) -> Verdict
 }
 
 // The verdict on what a change would strand.
-fn what_if_verdict(alloc: Global, snap: &Snap, a: &Amendment) -> Verdict
-    requires { IsAllowed snap.now.policy a.now }
-    ensures { DecidesWhatIf (book_on snap.now) a.now result }
+fn what_if_verdict(alloc: Global, p: &Policy, cases: &Cases, a: &Amendment) -> Verdict
+    requires kept { ArePlanned p.now cases.now.rows }
+    requires allowed { IsAllowed p.now a.now }
+    ensures { DecidesWhatIf (book_of p.now cases.now) a.now result }
 {
-    what_if_view(stranded_by(alloc, snap, a))
+    what_if_view(stranded_by(alloc, p, cases, a))
 }
 
 /// A list of stranded cases as a verdict.

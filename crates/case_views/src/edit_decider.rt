@@ -5,7 +5,7 @@ ghost use Rattle.policy_book.specs.Plans.{AreAssigned, IsWithin};
 ghost use Rattle.case_record.specs.Cases.{assigned_of, finished_of};
 ghost use Rattle.admin_edits.specs.Edits.{amended};
 ghost use Rattle.wsp_solver.specs.Searches.{HasSolved};
-ghost use Rattle.wf_board.specs.Boards.{book_on};
+ghost use Rattle.wf_board.specs.Boards.{book_of};
 ghost use Rattle.wf_board.specs.Edited.{IsPlanOf};
 ghost use Rattle.wf_board.specs.Found.{IsAllowed};
 ghost use Rattle.wf_board.specs.Kept.{ArePlanned, IsOfPolicy, IsPlanned};
@@ -17,12 +17,12 @@ use admin_edits::{Amendment, amended, may_hurt};
 use basics::List;
 use case_record::Case;
 use constraint_forms::{Assign, Plan, StepSet};
-use grant_table::Row;
+use grant_table::{Cases, Row};
 use policy_book::Policy;
 use refutation_tree::Tree;
 use std::alloc::{AllocError, Global};
 use std::sync::Arc;
-use wf_board::{Edition, Plans, Snap, Verdict};
+use wf_board::{Edition, Plans, Verdict};
 use wf_names::CaseId;
 use wsp_solver::Outcome;
 
@@ -37,23 +37,24 @@ pub(crate) enum Left {
 
 /// The verdict on a change. The plan that a case has is kept where it stays valid, and a search is
 /// made for the others, up to the first case that is left without one.
-pub(crate) fn edit_verdict(alloc: Global, snap: &Snap, a: &Amendment) -> Verdict
-    requires { IsAllowed snap.now.policy a.now }
-    ensures { DecidesChange (book_on snap.now) a.now result }
+pub(crate) fn edit_verdict(alloc: Global, p: &Policy, cases: &Cases, a: &Amendment) -> Verdict
+    requires kept { ArePlanned p.now cases.now.rows }
+    requires allowed { IsAllowed p.now a.now }
+    ensures { DecidesChange (book_of p.now cases.now) a.now result }
 {
-    match edited(alloc, snap, a) {
+    match edited(alloc, p, cases, a) {
         Ok(verdict) => verdict,
         Err(_) => Verdict::NoMemory,
     }
 }
 
-fn edited(alloc: Global, snap: &Snap, a: &Amendment) -> Result<Verdict, AllocError>
-    requires { IsAllowed snap.now.policy a.now }
-    ensures { IfOk result (DecidesChange (book_on snap.now) a.now) }
+fn edited(alloc: Global, p: &Policy, cases: &Cases, a: &Amendment) -> Result<Verdict, AllocError>
+    requires kept { ArePlanned p.now cases.now.rows }
+    requires allowed { IsAllowed p.now a.now }
+    ensures { IfOk result (DecidesChange (book_of p.now cases.now) a.now) }
 {
-    let p = snap.policy();
     let after = amended(p, *a)?;
-    let left = left_open(alloc, p, a, &after, snap.cases().rows())?;
+    let left = left_open(alloc, p, a, &after, cases.rows())?;
     edition_of(alloc, after, left)
 }
 

@@ -3,11 +3,13 @@ ghost use Rattle.std.specs.Prelude.{◌≡◌, ◌<◌, length, IfOk};
 ghost use Rattle.std.specs.List.{AllZip, flat_map};
 ghost use Rattle.admin_edits.specs.Edits.{amended};
 ghost use Rattle.policy_book.specs.Shapes.{PolicyShape};
-ghost use Rattle.wf_board.specs.Boards.{book_on};
+ghost use Rattle.wf_board.specs.Boards.{book_of};
+ghost use Rattle.wf_board.specs.Deeds.{DecidesDeed};
 ghost use Rattle.wf_board.specs.Found.{IsAllowed, IsFound};
+ghost use Rattle.wf_board.specs.Kept.{ArePlanned};
 ghost use Rattle.wf_board.specs.States.{open_cases};
 ghost use Rattle.wf_board.specs.Views.{AreStranded, IsWorkOf};
-ghost use Rattle.case_views.specs.Deciding.{DecidesChange, DecidesDeed, DecidesWhatIf, DecidesWork, IsLeft};
+ghost use Rattle.case_views.specs.Deciding.{DecidesChange, DecidesWhatIf, DecidesWork, IsLeft};
 ghost use Rattle.case_views.specs.Listing.{IsLeftAt, list_of, open_in};
 
 use crate::decider::{no_verdict, verdict_on, what_if_view, work_view};
@@ -16,7 +18,8 @@ use crate::spread_parts::{left_parts, stranded_parts, work_parts};
 use crate::stranded::add_number;
 use admin_edits::{Amendment, amended};
 use basics::List;
-use grant_table::Row;
+use grant_table::{Cases, Row};
+use policy_book::Policy;
 use std::alloc::{AllocError, Global};
 use std::thread::Threads;
 use wf_board::{Decider, Deed, Snap, Verdict, decision_aside};
@@ -50,31 +53,49 @@ impl<R: Threads + Sync> Decider for SpreadDecider<'_, R> {
 
     fn decide(&self, alloc: Global, snap: &Snap, ask: &Ask) -> Verdict {
         match decision_aside(alloc, snap.policy(), snap.cases(), ask) {
-            Ok(deed) => spread_verdict(self.rt, alloc, snap, &deed),
+            Ok(deed) => spread_verdict(self.rt, alloc, snap.policy(), snap.cases(), &deed),
             Err(refused) => no_verdict(refused),
         }
+    }
+
+    fn decide_deed(&self, alloc: Global, p: &Policy, cases: &Cases, deed: &Deed) -> Verdict {
+        spread_verdict(self.rt, alloc, p, cases, deed)
     }
 }
 
 // The verdict on a deed that no earlier check denies.
-fn spread_verdict<R: Threads + Sync>(rt: &R, alloc: Global, snap: &Snap, deed: &Deed) -> Verdict
-    requires { IsFound snap.now.policy snap.now.cases.rows deed.now }
-    ensures { DecidesDeed (book_on snap.now) deed.now result }
+fn spread_verdict<R: Threads + Sync>(
+    rt: &R,
+    alloc: Global,
+    p: &Policy,
+    cases: &Cases,
+    deed: &Deed,
+) -> Verdict
+    requires kept { ArePlanned p.now cases.now.rows }
+    requires found { IsFound p.now cases.now.rows deed.now }
+    ensures { DecidesDeed (book_of p.now cases.now) deed.now result }
 {
     match deed {
-        Deed::Change { amendment } => change_verdict(rt, alloc, snap, amendment),
-        Deed::Work { user } => work_verdict(rt, alloc, snap, *user),
-        Deed::WhatIf { amendment } => what_if_verdict(rt, alloc, snap, amendment),
-        _ => verdict_on(alloc, snap, deed),
+        Deed::Change { amendment } => change_verdict(rt, alloc, p, cases, amendment),
+        Deed::Work { user } => work_verdict(rt, alloc, p, cases, *user),
+        Deed::WhatIf { amendment } => what_if_verdict(rt, alloc, p, cases, amendment),
+        _ => verdict_on(alloc, p, cases, deed),
     }
 }
 
 // The verdict on a change.
-fn change_verdict<R: Threads + Sync>(rt: &R, alloc: Global, snap: &Snap, a: &Amendment) -> Verdict
-    requires { IsAllowed snap.now.policy a.now }
-    ensures { DecidesChange (book_on snap.now) a.now result }
+fn change_verdict<R: Threads + Sync>(
+    rt: &R,
+    alloc: Global,
+    p: &Policy,
+    cases: &Cases,
+    a: &Amendment,
+) -> Verdict
+    requires kept { ArePlanned p.now cases.now.rows }
+    requires allowed { IsAllowed p.now a.now }
+    ensures { DecidesChange (book_of p.now cases.now) a.now result }
 {
-    match edited(rt, alloc, snap, a) {
+    match edited(rt, alloc, p, cases, a) {
         Ok(verdict) => verdict,
         Err(_) => Verdict::NoMemory,
     }
@@ -83,15 +104,16 @@ fn change_verdict<R: Threads + Sync>(rt: &R, alloc: Global, snap: &Snap, a: &Ame
 fn edited<R: Threads + Sync>(
     rt: &R,
     alloc: Global,
-    snap: &Snap,
+    p: &Policy,
+    cases: &Cases,
     a: &Amendment,
 ) -> Result<Verdict, AllocError>
-    requires { IsAllowed snap.now.policy a.now }
-    ensures { IfOk result (DecidesChange (book_on snap.now) a.now) }
+    requires kept { ArePlanned p.now cases.now.rows }
+    requires allowed { IsAllowed p.now a.now }
+    ensures { IfOk result (DecidesChange (book_of p.now cases.now) a.now) }
 {
-    let p = snap.policy();
     let after = amended(p, *a)?;
-    let rows = snap.cases().rows();
+    let rows = cases.rows();
     let parts = left_parts(rt, alloc, p, a, &after, rows)?;
     let left = left_of(alloc, rows, &parts)?;
     edition_of(alloc, after, left)
@@ -114,23 +136,32 @@ fn left_of(alloc: Global, rows: &[Row], parts: &[Option<Outcome>]) -> Result<Lef
 }
 
 // The verdict on a user's work.
-fn work_verdict<R: Threads + Sync>(rt: &R, alloc: Global, snap: &Snap, u: UserId) -> Verdict
-    requires { u < length snap.now.policy.roster.users }
-    ensures { DecidesWork (book_on snap.now) u result }
+fn work_verdict<R: Threads + Sync>(
+    rt: &R,
+    alloc: Global,
+    p: &Policy,
+    cases: &Cases,
+    u: UserId,
+) -> Verdict
+    requires kept { ArePlanned p.now cases.now.rows }
+    requires user { u < length p.now.roster.users }
+    ensures { DecidesWork (book_of p.now cases.now) u result }
 {
-    work_view(spread_work(rt, alloc, snap, u))
+    work_view(spread_work(rt, alloc, p, cases, u))
 }
 
 fn spread_work<R: Threads + Sync>(
     rt: &R,
     alloc: Global,
-    snap: &Snap,
+    p: &Policy,
+    cases: &Cases,
     u: UserId,
 ) -> Result<WorkList, AllocError>
-    requires { u < length snap.now.policy.roster.users }
-    ensures { IfOk result (IsWorkOf (book_on snap.now) u) }
+    requires kept { ArePlanned p.now cases.now.rows }
+    requires user { u < length p.now.roster.users }
+    ensures { IfOk result (IsWorkOf (book_of p.now cases.now) u) }
 {
-    let parts = work_parts(rt, alloc, snap.policy(), u, snap.cases().rows())?;
+    let parts = work_parts(rt, alloc, p, u, cases.rows())?;
     joined_work(alloc, &parts)
 }
 
@@ -146,26 +177,34 @@ fn joined_work(alloc: Global, parts: &[WorkList]) -> Result<WorkList, AllocError
 }
 
 // The verdict on what a change would strand.
-fn what_if_verdict<R: Threads + Sync>(rt: &R, alloc: Global, snap: &Snap, a: &Amendment) -> Verdict
-    requires { IsAllowed snap.now.policy a.now }
-    ensures { DecidesWhatIf (book_on snap.now) a.now result }
+fn what_if_verdict<R: Threads + Sync>(
+    rt: &R,
+    alloc: Global,
+    p: &Policy,
+    cases: &Cases,
+    a: &Amendment,
+) -> Verdict
+    requires kept { ArePlanned p.now cases.now.rows }
+    requires allowed { IsAllowed p.now a.now }
+    ensures { DecidesWhatIf (book_of p.now cases.now) a.now result }
 {
-    what_if_view(spread_stranded(rt, alloc, snap, a))
+    what_if_view(spread_stranded(rt, alloc, p, cases, a))
 }
 
 fn spread_stranded<R: Threads + Sync>(
     rt: &R,
     alloc: Global,
-    snap: &Snap,
+    p: &Policy,
+    cases: &Cases,
     a: &Amendment,
 ) -> Result<CaseList, AllocError>
-    requires { IsAllowed snap.now.policy a.now }
-    ensures { IfOk result (AreStranded (amended snap.now.policy a.now)
-        (open_cases (book_on snap.now).cases)) }
+    requires kept { ArePlanned p.now cases.now.rows }
+    requires allowed { IsAllowed p.now a.now }
+    ensures { IfOk result (AreStranded (amended p.now a.now)
+        (open_cases (book_of p.now cases.now).cases)) }
 {
-    let p = snap.policy();
     let after = amended(p, *a)?;
-    let parts = stranded_parts(rt, alloc, p, a, &after, snap.cases().rows())?;
+    let parts = stranded_parts(rt, alloc, p, a, &after, cases.rows())?;
     joined_cases(alloc, &parts)
 }
 

@@ -1,7 +1,7 @@
 //! Which open cases a change of the policy would strand.
 ghost use Rattle.std.specs.Prelude.{◌≡◌, ◌∷◌, ◌++◌, [], None, IfOk, OnOk};
 ghost use Rattle.admin_edits.specs.Edits.{amended, edit_cause, edited_policy};
-ghost use Rattle.wf_board.specs.Boards.{book_on};
+ghost use Rattle.wf_board.specs.Boards.{book_of, book_on};
 ghost use Rattle.wf_board.specs.Found.{IsAllowed};
 ghost use Rattle.wf_board.specs.Kept.{ArePlanned, IsOfPolicy, IsPlanned};
 ghost use Rattle.wf_board.specs.States.{open_cases};
@@ -10,7 +10,7 @@ ghost use Rattle.case_views.specs.Listing.{AreStrandedIn, list_of};
 
 use crate::edit_decider::left_at;
 use admin_edits::{Amendment, amended, amendment_of};
-use grant_table::Row;
+use grant_table::{Cases, Row};
 use policy_book::Policy;
 use std::alloc::{AllocError, Global};
 use wf_board::Snap;
@@ -27,19 +27,25 @@ pub fn what_if(alloc: Global, snap: &Snap, by: &Name, e: &Edit) -> Result<CaseLi
         (open_cases (book_on snap.now).cases)) }
 {
     match amendment_of(snap.policy(), by, e) {
-        Ok(a) => stranded_by(alloc, snap, &a),
+        Ok(a) => stranded_by(alloc, snap.policy(), snap.cases(), &a),
         Err(_) => unreachable!(),
     }
 }
 
 /// The open cases that a change would strand.
-pub(crate) fn stranded_by(alloc: Global, snap: &Snap, a: &Amendment) -> Result<CaseList, AllocError>
-    requires { IsAllowed snap.now.policy a.now }
-    ensures { IfOk result (AreStranded (amended snap.now.policy a.now)
-        (open_cases (book_on snap.now).cases)) }
+pub(crate) fn stranded_by(
+    alloc: Global,
+    p: &Policy,
+    cases: &Cases,
+    a: &Amendment,
+) -> Result<CaseList, AllocError>
+    requires kept { ArePlanned p.now cases.now.rows }
+    requires allowed { IsAllowed p.now a.now }
+    ensures { IfOk result (AreStranded (amended p.now a.now)
+        (open_cases (book_of p.now cases.now).cases)) }
 {
-    let after = amended(snap.policy(), *a)?;
-    stranded_in(alloc, snap.policy(), a, &after, snap.cases().rows())
+    let after = amended(p, *a)?;
+    stranded_in(alloc, p, a, &after, cases.rows())
 }
 
 // Those among the cases of rows.

@@ -1,6 +1,6 @@
 //! Work lists: the steps of the open cases that a user would be granted.
 ghost use Rattle.std.specs.Prelude.{◌≡◌, ◌<◌, ◌∷◌, [], length, IfOk, MatchBool, OnOk};
-ghost use Rattle.wf_board.specs.Boards.{book_on, numbered};
+ghost use Rattle.wf_board.specs.Boards.{book_of, book_on, numbered};
 ghost use Rattle.wf_board.specs.Edited.{IsPlanOf};
 ghost use Rattle.wf_board.specs.Kept.{ArePlanned, IsOfPolicy, IsPlanned};
 ghost use Rattle.wf_board.specs.Views.{IsGrantable, IsWorkOf, item_of, steps_from};
@@ -10,7 +10,7 @@ use crate::found::outcome_with;
 use case_record::Case;
 use constraint_forms::Plan;
 use denial_reasons::has_cause;
-use grant_table::Row;
+use grant_table::{Cases, Row};
 use policy_book::Policy;
 use std::alloc::{AllocError, Global};
 use wf_board::Snap;
@@ -26,7 +26,21 @@ pub fn worklist(alloc: Global, snap: &Snap, u: UserId) -> Result<WorkList, Alloc
     requires { u < length snap.now.policy.roster.users }
     ensures { IfOk result (IsWorkOf (book_on snap.now) u) }
 {
-    work_in(alloc, snap.policy(), u, snap.cases().rows())
+    work_of(alloc, snap.policy(), snap.cases(), u)
+}
+
+/// The work of a user in the cases of a table.
+pub(crate) fn work_of(
+    alloc: Global,
+    p: &Policy,
+    cases: &Cases,
+    u: UserId,
+) -> Result<WorkList, AllocError>
+    requires kept { ArePlanned p.now cases.now.rows }
+    requires user { u < length p.now.roster.users }
+    ensures { IfOk result (IsWorkOf (book_of p.now cases.now) u) }
+{
+    work_in(alloc, p, u, cases.rows())
 }
 
 // The work of a user in the cases of rows.

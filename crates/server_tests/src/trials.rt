@@ -1,5 +1,7 @@
 //! What no clause shows: that a trial is served while there is memory.
 
+use grant_table::Cases;
+use policy_book::Policy;
 use std::alloc::Global;
 use std::test::Fail;
 use trial_command::run_trial;
@@ -20,6 +22,17 @@ impl Decider for Idle {
                 | Deed::Work { .. }
                 | Deed::WhatIf { .. },
             ) => Verdict::NoMemory,
+            _ => Verdict::Nothing,
+        }
+    }
+
+    fn decide_deed(&self, _alloc: Global, _p: &Policy, _cases: &Cases, deed: &Deed) -> Verdict {
+        match deed {
+            Deed::Open { .. }
+            | Deed::Claim { .. }
+            | Deed::Change { .. }
+            | Deed::Work { .. }
+            | Deed::WhatIf { .. } => Verdict::NoMemory,
             _ => Verdict::Nothing,
         }
     }

@@ -1,7 +1,9 @@
 //! What no clause shows: that transcripts are taken while there is memory.
 
 use crate::fixture::policy;
+use grant_table::Cases;
 use line_cutter::jobs_of;
+use policy_book::Policy;
 use std::alloc::Global;
 use std::process::Abort;
 use std::test::Fail;
@@ -23,6 +25,17 @@ impl Decider for Idle {
                 | Deed::Work { .. }
                 | Deed::WhatIf { .. },
             ) => Verdict::NoMemory,
+            _ => Verdict::Nothing,
+        }
+    }
+
+    fn decide_deed(&self, _alloc: Global, _p: &Policy, _cases: &Cases, deed: &Deed) -> Verdict {
+        match deed {
+            Deed::Open { .. }
+            | Deed::Claim { .. }
+            | Deed::Change { .. }
+            | Deed::Work { .. }
+            | Deed::WhatIf { .. } => Verdict::NoMemory,
             _ => Verdict::Nothing,
         }
     }

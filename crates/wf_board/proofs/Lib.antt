@@ -15,6 +15,7 @@ pub mod Grants
 pub mod Rows
 pub mod Planned
 pub mod Answering
+pub mod Deeds
 pub mod Unhurt
 pub mod Fixed
 pub mod Admission

@@ -183,7 +183,7 @@ planned_only p rows n planned = record {
   plans = each_only (λ r. IsPlanned p r.case r.plan) n rows planned.plans;
 }
 
-planned_live : (p : PolicyShape) (rows : List Row) → ArePlanned p rows → ArePlanned p (open_rows rows)
+pub planned_live : (p : PolicyShape) (rows : List Row) → ArePlanned p rows → ArePlanned p (open_rows rows)
 planned_live p rows planned = record {
   cases = each_open (λ r. IsOfPolicy p r.case) rows planned.cases;
   plans = each_open (λ r. IsPlanned p r.case r.plan) rows planned.plans;

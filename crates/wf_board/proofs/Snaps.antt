@@ -287,19 +287,19 @@ tree_same p xs ys m k r tree is = absurd is
 abbrev pub MayChange : List Numbered → List Numbered → Result Deed Denial → Type 0
 MayChange xs ys r = IsNoChange r ⊎ (open_cases xs ≡ open_cases ys)
 
-edition_same : (p : PolicyShape) (xs ys : List Numbered) (m k : ℕ) (r : Result Deed Denial) (edition : EditionShape) → MayChange xs ys r →
+pub edition_same : (p : PolicyShape) (xs ys : List Numbered) (m k : ℕ) (r : Result Deed Denial) (edition : EditionShape) → MayChange xs ys r →
     IsEditionFor (with_cases p xs m) r edition → IsEditionFor (with_cases p ys k) r edition
 edition_same p xs ys m k (Ok (deed.Change a)) edition (inl kept) is = absurd kept
 edition_same p xs ys m k (Ok (deed.Change a)) edition (inr same) is = (is.0, subst (λ es. ArePlansOf edition.policy es edition.plans) same is.1)
 edition_same p xs ys m k r edition may is = absurd is
 
-stranding_same : (p : PolicyShape) (xs ys : List Numbered) (m k : ℕ) (r : Result Deed Denial) (n : ℕ) (tree : Tree) → MayChange xs ys r →
+pub stranding_same : (p : PolicyShape) (xs ys : List Numbered) (m k : ℕ) (r : Result Deed Denial) (n : ℕ) (tree : Tree) → MayChange xs ys r →
     IsStrandingFor (with_cases p xs m) r n tree → IsStrandingFor (with_cases p ys k) r n tree
 stranding_same p xs ys m k (Ok (deed.Change a)) n tree (inl kept) is = absurd kept
 stranding_same p xs ys m k (Ok (deed.Change a)) n tree (inr same) is = (is.0, subst (λ es. IsFirstStranded (amended p a) es n is.0 tree) same is.1)
 stranding_same p xs ys m k r n tree may is = absurd is
 
-view_same : (p : PolicyShape) (xs ys : List Numbered) (m k : ℕ) (r : Result Deed Denial) (v : View) → MayChange xs ys r →
+pub view_same : (p : PolicyShape) (xs ys : List Numbered) (m k : ℕ) (r : Result Deed Denial) (v : View) → MayChange xs ys r →
     IsViewFor (with_cases p xs m) r v → IsViewFor (with_cases p ys k) r v
 view_same p xs ys m k (Ok (deed.Work u)) v (inl kept) is = absurd kept
 view_same p xs ys m k (Ok (deed.Work u)) (view.Work items) (inr same) is =

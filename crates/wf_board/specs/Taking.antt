@@ -49,6 +49,11 @@ is_harmless (amend.Permit f r s) = true
 is_harmless (amend.Retire f) = true
 is_harmless a = false
 
+-- a deed is such a change
+pub record IsHarmless (d : Deed) (a : Amendment) : Type 0 where
+  pub deed : d ≡ deed.Change a
+  pub harmless : is_harmless a ≡ true
+
 -- what is asked is such a change, and no cause is against it
 pub record IsHarmlessChange (b : Book) (what : Ask) (a : Amendment) : Type 0 where
   pub decided : decision_of b what ≡ Ok (deed.Change a)

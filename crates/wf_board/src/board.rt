@@ -1,10 +1,12 @@
 //! The board: a policy and its cases.
-ghost use Rattle.std.specs.Prelude.{◌≡◌, ◌≢◌, ◌<◌, ◌≤◌, ◌+◌, ◌↔◌, true, IfOk, IfSome, IsErrOf, OnErr, OnOk};
+ghost use Rattle.std.specs.Prelude.{◌≡◌, ◌≢◌, ◌<◌, ◌≤◌, ◌+◌, ◌↔◌, true, IfOk, IsErrOf, OnErr, OnOk};
 ghost use Rattle.std.specs.Arc.{arc_value};
 ghost use Rattle.wf_board.specs.Admission.{HasAdmittedStep};
 ghost use Rattle.wf_board.specs.Admitting.{HasVerdict, MayLackMemoryFor};
-ghost use Rattle.wf_board.specs.Boards.{state_on};
-ghost use Rattle.wf_board.specs.Decisions.{decision_aside, decision_of, needs_verdict};
+ghost use Rattle.wf_board.specs.Boards.{book_of, state_on};
+ghost use Rattle.wf_board.specs.Decisions.{decision_aside, decision_of, needs_plan, needs_verdict};
+ghost use Rattle.wf_board.specs.Deeds.{answered_of, is_over_open, FitsDeed, HasStepped, IsUndecided};
+ghost use Rattle.wf_board.specs.Found.{IsFound};
 ghost use Rattle.wf_board.specs.Kept.{AreNumbered, ArePlanned, IsSoundState, KeepsCompletable};
 ghost use Rattle.wf_board.specs.States.{opening_state};
 ghost use Rattle.wf_board.specs.Steps.{room_taken, state_after_step, IsStep};
@@ -15,8 +17,8 @@ use crate::admit::admit;
 use crate::certified::accepts;
 use crate::decision::needs_verdict;
 use crate::harmless::{changed, harmless_change};
-use crate::taking::answer;
-use crate::{AdmitFault, Answered, Decider, Edition, Snap, Verdict};
+use crate::taking::{answer, step, take};
+use crate::{AdmitFault, Answered, Decider, Deed, Edition, Snap, Stepped, Verdict};
 use admin_edits::Amendment;
 use grant_table::Cases;
 use policy_book::Policy;
@@ -255,16 +257,18 @@ impl Board {
         ensures room { self.old.cases.spare ≤ self.new.cases.spare + 1 }
         ensures spare { self.old.cases.spare ≤ self.new.cases.spare + room_taken result }
     {
-        match self.answer(alloc, ask, verdict) {
-            Answered::Done(reply) => reply,
-            Answered::Needs => self.find(alloc, decider, ask),
+        match verdict {
+            Verdict::Nothing => self.decide_anew(alloc, decider, ask),
+            given => match self.answer(alloc, ask, given) {
+                Answered::Done(reply) => reply,
+                Answered::Needs => unreachable!(),
+            },
         }
     }
 
-    /// Answers what needs a verdict. An edit that hurts no plan needs no search.
-    fn find<V: Decider>(&mut self, alloc: Global, decider: &V, ask: &Ask) -> Reply
+    /// Answers what a line asks, with the verdict of a decider where one is needed.
+    fn decide_anew<V: Decider>(&mut self, alloc: Global, decider: &V, ask: &Ask) -> Reply
         requires ready { V.ready decider.now }
-        requires needed { needs_verdict (decision_of (state_on self.old).book ask.now) ≡ true }
         requires few { self.old.edits < 4294967295 }
         ensures decided { IsDecided self.old ask.now Verdict.Nothing result }
         ensures next { state_on self.new ≡ state_after_step (state_on self.old) ask.now result }
@@ -272,36 +276,67 @@ impl Board {
         ensures room { self.old.cases.spare ≤ self.new.cases.spare + 1 }
         ensures spare { self.old.cases.spare ≤ self.new.cases.spare + room_taken result }
     {
-        match self.harmless(ask) {
-            Some(change) => self.change(alloc, ask, change),
-            None => self.search(alloc, decider, ask),
+        match self.step(alloc, ask) {
+            Stepped::Done(reply) => reply,
+            Stepped::Undecided(deed) => self.settle(alloc, decider, ask, deed),
         }
     }
 
-    /// Answers by the verdict of a decider.
-    fn search<V: Decider>(&mut self, alloc: Global, decider: &V, ask: &Ask) -> Reply
-        requires ready { V.ready decider.now }
-        requires needed { needs_verdict (decision_of (state_on self.old).book ask.now) ≡ true }
-        requires few { self.old.edits < 4294967295 }
-        ensures decided { IsDecided self.old ask.now Verdict.Nothing result }
-        ensures next { state_on self.new ≡ state_after_step (state_on self.old) ask.now result }
-        ensures lacking { result ≡ Reply.NoMemory → self.new ≡ self.old }
+    /// Answers what a line asks where it needs no verdict, and takes the step. Else it gives the
+    /// deed, and nothing changes.
+    pub fn step(&mut self, alloc: Global, ask: &Ask) -> Stepped
+        ensures stepped { HasStepped self.old self.new ask.now result }
+        ensures lacking { result ≡ Stepped.Done Reply.NoMemory → self.new ≡ self.old }
         ensures room { self.old.cases.spare ≤ self.new.cases.spare + 1 }
-        ensures spare { self.old.cases.spare ≤ self.new.cases.spare + room_taken result }
-    {
-        let found = self.verdict(alloc, decider, ask);
-        match self.answer(alloc, ask, found) {
-            Answered::Done(reply) => reply,
-            Answered::Needs => unreachable!(),
-        }
-    }
-
-    /// The change that is asked for, where no cause is against it and it makes no plan invalid.
-    fn harmless(&self, ask: &Ask) -> Option<Amendment>
-        ensures { IfSome result (IsHarmlessChange (state_on self.now).book ask.now) }
+        ensures spare { self.old.cases.spare
+            ≤ self.new.cases.spare + room_used (answered_of result) }
     {
         let policy: &Policy = &self.policy;
-        harmless_change(policy, &self.cases, ask)
+        step(alloc, policy, &mut self.cases, ask)
+    }
+
+    /// Answers a request of which the deed is left to decide. An edit that hurts no plan needs no
+    /// search.
+    pub fn settle<V: Decider>(&mut self, alloc: Global, decider: &V, ask: &Ask, deed: Deed) -> Reply
+        requires ready { V.ready decider.now }
+        requires undecided { IsUndecided self.old.policy self.old.cases ask.now deed }
+        requires few { self.old.edits < 4294967295 }
+        ensures step { IsStep (state_on self.old) ask.now result }
+        ensures next { state_on self.new ≡ state_after_step (state_on self.old) ask.now result }
+        ensures lacking { result ≡ Reply.NoMemory → self.new ≡ self.old }
+        ensures room { self.old.cases.spare ≤ self.new.cases.spare + 1 }
+        ensures spare { self.old.cases.spare ≤ self.new.cases.spare + room_taken result }
+    {
+        match harmless_change(&deed) {
+            Some(change) => self.change(alloc, ask, change),
+            None => {
+                let found = self.verdict(alloc, decider, &deed);
+                self.take(ask, deed, found)
+            }
+        }
+    }
+
+    /// Answers a request of which the deed is left to decide, by a verdict on the deed.
+    pub fn take(&mut self, ask: &Ask, deed: Deed, verdict: Verdict) -> Reply
+        requires undecided { IsUndecided self.old.policy self.old.cases ask.now deed }
+        requires fits { FitsDeed (state_on self.old).book deed verdict }
+        requires given { verdict ≢ Verdict.Nothing }
+        requires few { self.old.edits < 4294967295 }
+        ensures step { IsStep (state_on self.old) ask.now result }
+        ensures next { state_on self.new ≡ state_after_step (state_on self.old) ask.now result }
+        ensures lacking { result ≡ Reply.NoMemory → self.new ≡ self.old }
+        ensures room { self.old.cases.spare ≤ self.new.cases.spare + 1 }
+        ensures spare { self.old.cases.spare ≤ self.new.cases.spare + room_taken result }
+    {
+        match verdict {
+            Verdict::Edited(edition) => Reply::Edited {
+                number: self.edit(ask, edition),
+            },
+            other => {
+                let policy: &Policy = &self.policy;
+                take(policy, &mut self.cases, ask, deed, other)
+            }
+        }
     }
 
     /// Takes a changed policy under which the plans stay.
@@ -326,16 +361,21 @@ impl Board {
         }
     }
 
-    /// The verdict of a decider on what is asked.
-    fn verdict<V: Decider>(&self, alloc: Global, decider: &V, ask: &Ask) -> Verdict
+    /// The verdict of a decider on a deed. An edit or a view over the open cases is decided over
+    /// these alone.
+    fn verdict<V: Decider>(&self, alloc: Global, decider: &V, deed: &Deed) -> Verdict
         requires ready { V.ready decider.now }
-        requires needed { needs_verdict (decision_of (state_on self.now).book ask.now) ≡ true }
-        ensures right { IsRight (state_on self.now).book ask.now result }
+        requires found { IsFound self.now.policy self.now.cases.rows deed.now }
+        requires needed { needs_plan deed.now ≡ true }
+        ensures fits { FitsDeed (state_on self.now).book deed.now result }
         ensures given { result ≢ Verdict.Nothing }
     {
-        match self.snap(alloc, ask) {
-            Ok(snap) => decider.decide(alloc, &snap, ask),
-            Err(_) => Verdict::NoMemory,
+        let policy: &Policy = &self.policy;
+        match deed {
+            Deed::Open { .. } | Deed::Claim { .. } => {
+                decider.decide_deed(alloc, policy, &self.cases, deed)
+            }
+            _ => over_open(alloc, decider, policy, &self.cases, deed),
         }
     }
 
@@ -376,6 +416,27 @@ impl Board {
             cases: self.cases.copy()?,
             edits: self.edits,
         })
+    }
+}
+
+/// The verdict of a decider on an edit or a view, over the open cases.
+fn over_open<V: Decider>(
+    alloc: Global,
+    decider: &V,
+    p: &Policy,
+    cases: &Cases,
+    deed: &Deed,
+) -> Verdict
+    requires ready { V.ready decider.now }
+    requires kept { ArePlanned p.now cases.now.rows }
+    requires found { IsFound p.now cases.now.rows deed.now }
+    requires over { is_over_open deed.now ≡ true }
+    ensures fits { FitsDeed (book_of p.now cases.now) deed.now result }
+    ensures given { result ≢ Verdict.Nothing }
+{
+    match cases.copy_open(alloc) {
+        Ok(open) => decider.decide_deed(alloc, p, &open, deed),
+        Err(_) => Verdict::NoMemory,
     }
 }
 

@@ -1,8 +1,13 @@
 //! Who finds verdicts.
-ghost use Rattle.wf_board.specs.Boards.{book_on};
+ghost use Rattle.wf_board.specs.Boards.{book_of, book_on};
+ghost use Rattle.wf_board.specs.Deeds.{DecidesDeed};
+ghost use Rattle.wf_board.specs.Found.{IsFound};
+ghost use Rattle.wf_board.specs.Kept.{ArePlanned};
 ghost use Rattle.wf_board.specs.Verdicts.{Decides};
 
-use crate::{Snap, Verdict};
+use crate::{Deed, Snap, Verdict};
+use grant_table::Cases;
+use policy_book::Policy;
 use std::alloc::Global;
 use wf_talk::Ask;
 
@@ -15,4 +20,11 @@ pub trait Decider {
     fn decide(&self, alloc: Global, snap: &Snap, ask: &Ask) -> Verdict
         requires { ready self.now }
         ensures { Decides (book_on snap.now) ask.now result };
+
+    /// The right verdict on a deed against which there is no cause, on a policy and its cases.
+    fn decide_deed(&self, alloc: Global, p: &Policy, cases: &Cases, deed: &Deed) -> Verdict
+        requires ready { ready self.now }
+        requires kept { ArePlanned p.now cases.now.rows }
+        requires found { IsFound p.now cases.now.rows deed.now }
+        ensures { DecidesDeed (book_of p.now cases.now) deed.now result };
 }

@@ -2,28 +2,26 @@
 ghost use Rattle.std.specs.Prelude.{◌≡◌, IfOk, IfSome};
 ghost use Rattle.std.specs.Arc.{arc_value};
 ghost use Rattle.admin_edits.specs.Edits.{amended};
-ghost use Rattle.wf_board.specs.Boards.{book_of};
 ghost use Rattle.wf_board.specs.Found.{IsAllowed};
-ghost use Rattle.wf_board.specs.Taking.{is_harmless, IsHarmlessChange};
+ghost use Rattle.wf_board.specs.Taking.{is_harmless, IsHarmless};
 
-use admin_edits::{Amendment, amended, amendment_of};
-use grant_table::Cases;
+use crate::Deed;
+use admin_edits::{Amendment, amended};
 use policy_book::Policy;
 use std::alloc::{AllocError, Global};
 use std::sync::Arc;
-use wf_talk::{Ask, Request};
 
-/// The change that is asked for, where no cause is against it and it makes no plan invalid. Takes
-/// no memory.
-pub(crate) fn harmless_change(p: &Policy, cases: &Cases, ask: &Ask) -> Option<Amendment>
-    ensures { IfSome result (IsHarmlessChange (book_of p.now cases.now) ask.now) }
+/// Whether a deed is a change that makes no valid plan invalid, so that nothing has to be searched.
+pub fn is_harmless_deed(deed: &Deed) -> bool {
+    harmless_change(deed).is_some()
+}
+
+/// The change that a deed is, where it makes no plan invalid.
+pub(crate) fn harmless_change(deed: &Deed) -> Option<Amendment>
+    ensures { IfSome result (IsHarmless deed.now) }
 {
-    let _ = cases;
-    let Ask::Request(Request::Change { by, edit }) = *ask else {
-        return None;
-    };
-    match amendment_of(p, &by, &edit) {
-        Ok(a) if is_harmless(&a) => Some(a),
+    match deed {
+        Deed::Change { amendment } if is_harmless(amendment) => Some(*amendment),
         _ => None,
     }
 }

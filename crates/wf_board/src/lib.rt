@@ -28,5 +28,6 @@ pub use decider::Decider;
 pub use decision::{Refused, decision_aside, is_view};
 pub use deed::Deed;
 pub use edition::{Edition, Plans};
+pub use harmless::is_harmless_deed;
 pub use snap::Snap;
-pub use verdict::{Answered, Verdict, View};
+pub use verdict::{Answered, Stepped, Verdict, View};

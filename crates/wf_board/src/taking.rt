@@ -13,6 +13,7 @@ ghost use Rattle.wf_board.specs.declared.verdict.Verdict.TheVariants as verdicts
 ghost use Rattle.wf_talk.specs.declared.reply.Reply.TheVariants as replies;
 ghost use Rattle.wf_board.specs.Boards.{book_of};
 ghost use Rattle.wf_board.specs.Decisions.{cause_aside, decision_aside, decision_of, needs_plan, needs_verdict};
+ghost use Rattle.wf_board.specs.Deeds.{answered_of, FitsDeed, IsLeftTo, IsUndecided};
 ghost use Rattle.wf_board.specs.Found.{AreFound, IsFound, IsOpenAt};
 ghost use Rattle.wf_board.specs.States.{is_full};
 ghost use Rattle.wf_board.specs.Steps.{face_of};
@@ -22,7 +23,7 @@ ghost use Rattle.wf_board.specs.Verdicts.{is_opening, IsMadeOf, IsPlanFor, IsRig
 use crate::decision::{Refused, decision_of, is_full, needs_plan};
 use crate::resolve::resolve;
 use crate::views::by_view;
-use crate::{Answered, Deed, Verdict};
+use crate::{Answered, Deed, Stepped, Verdict};
 use case_record::Case;
 use constraint_forms::Plan;
 use grant_table::Cases;
@@ -67,11 +68,46 @@ fn without_verdict(alloc: Global, p: &Policy, cases: &mut Cases, ask: &Ask) -> A
     ensures { HasAnsweredAlone p.now cases.old cases.new
         (decision_of (book_of p.now cases.old) ask.now) result }
 {
+    match step(alloc, p, cases, ask) {
+        Stepped::Done(reply) => Answered::Done(reply),
+        Stepped::Undecided(_) => Answered::Needs,
+    }
+}
+
+/// Does what is asked where it needs no verdict, and else gives its deed.
+pub(crate) fn step(alloc: Global, p: &Policy, cases: &mut Cases, ask: &Ask) -> Stepped
+    requires { IsKept p.now cases.old }
+    ensures alone { HasAnsweredAlone p.now cases.old cases.new
+        (decision_of (book_of p.now cases.old) ask.now) (answered_of result) }
+    ensures left { IsLeftTo p.now cases.old ask.now result }
+{
     match decision_of(alloc, p, cases, ask) {
-        Ok(deed) if needs_plan(&deed) => Answered::Needs,
-        Ok(deed) => Answered::Done(perform(p, cases, deed)),
-        Err(Refused::Denied(denial)) => Answered::Done(Reply::Denied(denial)),
-        Err(Refused::NoMemory) => Answered::Done(Reply::NoMemory),
+        Ok(deed) if needs_plan(&deed) => Stepped::Undecided(deed),
+        Ok(deed) => Stepped::Done(perform(p, cases, deed)),
+        Err(Refused::Denied(denial)) => Stepped::Done(Reply::Denied(denial)),
+        Err(Refused::NoMemory) => Stepped::Done(Reply::NoMemory),
+    }
+}
+
+/// Answers a request on whose deed there is a verdict, under the same policy.
+pub(crate) fn take(p: &Policy, cases: &mut Cases, ask: &Ask, deed: Deed, verdict: Verdict) -> Reply
+    requires kept { IsKept p.now cases.old }
+    requires undecided { IsUndecided p.now cases.old ask.now deed }
+    requires fits { FitsDeed (book_of p.now cases.old) deed verdict }
+    requires given { verdict ≢ verdicts.Nothing }
+    requires same { keeps_policy verdict ≡ true }
+    ensures taken { HasTakenStep p.now cases.old cases.new
+        (decision_of (book_of p.now cases.old) ask.now) result }
+    ensures unchanged { result ≡ replies.NoMemory → cases.new ≡ cases.old }
+{
+    match verdict {
+        Verdict::Plan(plan) => plan_for(p, cases, deed, plan),
+        Verdict::Refuted(tree) => tree_for(p, cases, deed, tree),
+        Verdict::Strands(number, tree) => by_stranding(p, cases, ask, number, tree),
+        Verdict::View(view) => by_view(p, cases, ask, view),
+        Verdict::Edited(_) => unreachable!(),
+        Verdict::Nothing => unreachable!(),
+        Verdict::NoMemory => Reply::NoMemory,
     }
 }
 

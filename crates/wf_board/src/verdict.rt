@@ -1,6 +1,6 @@
 //! Verdicts on whether cases can be completed, and what a board answers with one.
 
-use crate::Edition;
+use crate::{Deed, Edition};
 use constraint_forms::Plan;
 use refutation_tree::Tree;
 use wf_names::CaseId;
@@ -42,4 +42,13 @@ pub enum Answered {
     Done(Reply),
     /// Nothing yet: a verdict is needed.
     Needs,
+}
+
+/// What came of a request that was looked at with no verdict.
+#[derive(Drop)]
+pub enum Stepped {
+    /// The reply; the step is taken.
+    Done(Reply),
+    /// Nothing yet: a verdict is needed on this deed.
+    Undecided(Deed),
 }

@@ -14,6 +14,8 @@ use Rattle.wf_board.specs.Counting.{counted, counted_end, lane_end}
 use Rattle.wf_board.specs.Decisions.{decision_of, is_view, needs_verdict}
 use Rattle.wf_board.specs.Verdicts.{IsCertified, IsDecided, IsRight, snap_of}
 use Rattle.wf_desk.specs.declared.task.Task.{Task}
+use Rattle.wf_desk.specs.declared.task.Taken.{Taken}
+use Rattle.wf_desk.specs.declared.task.Taken.TheVariants as taken
 use Rattle.wf_desk.specs.declared.outcome.Outcome.{Outcome}
 use Rattle.wf_desk.specs.declared.outcome.Outcome.TheVariants as outcome
 use Rattle.wf_desk.specs.Desks.{DeskShape, HasAdded, loss_of, next_job, state_after_first}
@@ -110,3 +112,9 @@ HasServed before after lane true =
     (job : Job) × ((next_job before lane ≡ Some job)
     × HasAdded before after job (length before.entries) (IsDecided before.board job.ask verdict.Nothing))
 HasServed before after lane false = (next_job before lane ≡ None) × (after ≡ before)
+
+-- a lane's next job was taken up, if it has one: it was decided inside the turn, or this is its task, and nothing has changed
+abbrev pub HasTakenUp : DeskShape → DeskShape → ℕ → Taken → Type 0
+HasTakenUp before after lane (taken.Task t) = IsTask before lane t × (after ≡ before)
+HasTakenUp before after lane taken.Served = HasServed before after lane true
+HasTakenUp before after lane taken.Ended = HasServed before after lane false

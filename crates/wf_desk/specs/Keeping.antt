@@ -1,10 +1,14 @@
 -- Inside: what a desk keeps beside what is said of it.
-use Rattle.std.specs.Prelude.{◌≡◌, ℕ, ◌+◌, ◌<◌, ◌≤◌, true, false, List, length, take, drop, max, slice_get, slice_index_or, IfSome, Some}
+use Rattle.std.specs.Prelude.{◌≡◌, ℕ, ◌+◌, ◌<◌, ◌≤◌, ◌&&◌, nat_le, not, Bool, true, false, List, length, take, drop, max, slice_get, slice_index_or, IfSome, Option, None, Some}
 use Rattle.wf_names.specs.declared.limits.TheConstants.{LANE_LIMIT}
 use Rattle.wf_talk.specs.declared.job.Job.{Job}
 use Rattle.wf_talk.specs.declared.request.Ask.{Ask}
 use Rattle.wf_board.specs.Counting.{counted, lane_end}
 use Rattle.wf_board.specs.Histories.{lane_jobs}
+use Rattle.wf_board.specs.Boards.{state_on}
+use Rattle.wf_board.specs.Decisions.{decision_of, is_view, needs_verdict}
+use Rattle.wf_board.specs.Verdicts.{IsDecided}
+use Rattle.wf_board.specs.declared.deed.Deed.{Deed}
 use Rattle.wf_board.specs.declared.verdict.Verdict.TheVariants as verdict
 use Rattle.wf_desk.specs.declared.task.Task.{Task}
 use Rattle.wf_desk.specs.declared.outcome.Outcome.{Outcome}
@@ -46,6 +50,17 @@ HasMissed before after t outcome.NotNext = ⊥
 HasMissed before after t outcome.Lost = (is_lost before t ≡ true) × ((is_last_round before t.lane ≡ false) × (after ≡ with_loss before t.lane))
 HasMissed before after t (outcome.Recorded place) =
     HasAdded before after (job_of_task t) place (IsReplyWhere false (is_lost before t) before t verdict.Nothing)
+
+-- a stale task is lost, if it needs a verdict
+abbrev pub may_lose : DeskShape → Task → Bool
+may_lose d t = nat_le 1 d.rounds && (not (is_view t.ask) && nat_le (floor_of d t.lane) t.number)
+
+-- a lane's next job was looked at: it needed no verdict and was answered, or it needs one, and nothing has changed
+abbrev pub HasLookedAt : DeskShape → DeskShape → Job → Option Deed → Type 0
+HasLookedAt before after job None =
+    HasAdded before after job (length before.entries) (IsDecided before.board job.ask verdict.Nothing)
+    × (needs_verdict (decision_of (state_on before.board).book job.ask) ≡ false)
+HasLookedAt before after job (Some d) = (after ≡ before) × (needs_verdict (decision_of (state_on before.board).book job.ask) ≡ true)
 
 -- what became of a task without a verdict
 abbrev pub HasCommittedNone : DeskShape → DeskShape → Task → Outcome → Type 0

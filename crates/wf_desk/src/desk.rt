@@ -7,17 +7,17 @@ ghost use Rattle.wf_board.specs.Verdicts.{Decides, IsDecided, IsRight};
 ghost use Rattle.std.specs.Arc.{arc_value};
 ghost use Rattle.wf_board.specs.Histories.{IsLegal, state_after};
 ghost use Rattle.wf_desk.specs.Desks.{AnswersPart, AreOfLanes, HasAdded, IsDone, IsSoundDesk, desk_with, left_of, next_job, no_loss, with_batch, with_batch_from, with_room};
-ghost use Rattle.wf_desk.specs.Commits.{HasCommitted, HasCommittedChecked, HasServed, IsAgain, IsNext, IsRightFor, IsTask, floor_of, is_change, is_fresh, is_fresh_or_change, is_last_round, is_lost, job_of_task, with_loss};
-ghost use Rattle.wf_desk.specs.Keeping.{HasCommittedNone, HasMissed};
+ghost use Rattle.wf_desk.specs.Commits.{HasCommitted, HasCommittedChecked, HasServed, HasTakenUp, IsAgain, IsNext, IsRightFor, IsTask, floor_of, is_change, is_fresh, is_fresh_or_change, is_last_round, is_lost, job_of_task, with_loss};
+ghost use Rattle.wf_desk.specs.Keeping.{HasCommittedNone, HasLookedAt, HasMissed, may_lose};
 
 use crate::docket::{count_of_lane, first_places, go_on, job_at, places_after};
 use crate::journal::{add_entry, any_counts, any_of_lane, entries_from, last_counting};
-use crate::{Loss, Outcome, Task};
+use crate::{Loss, Outcome, Taken, Task};
 use policy_book::Policy;
 use std::alloc::{AllocError, Global};
 use std::marker::Model;
 use std::sync::Arc;
-use wf_board::{Board, Decider, Verdict, is_view};
+use wf_board::{Board, Decider, Deed, Stepped, Verdict, is_harmless_deed, is_view};
 use wf_names::LANE_LIMIT;
 use wf_talk::{Ask, Job, Jobs, Journal, Reply, Request};
 
@@ -261,6 +261,57 @@ impl Desk {
         true
     }
 
+    /// Takes up a lane's next job, in a turn. Where nothing has to be searched, or there is no
+    /// memory for a task, it is decided at once. Else there is its task, and nothing changes.
+    pub fn take_up<V: Decider>(&mut self, alloc: Global, decider: &V, lane: u8) -> Taken
+        requires ready { V.ready decider.now }
+        requires lane { lane < self.old.lanes }
+        ensures { HasTakenUp self.old self.new lane result }
+    {
+        let Some(job) = self.next_job(lane) else {
+            return Taken::Ended;
+        };
+        match self.look_at(alloc, &job) {
+            None => Taken::Served,
+            Some(deed) if is_harmless_deed(&deed) => self.decided(alloc, decider, lane),
+            Some(_) => match self.begin(alloc, lane) {
+                Ok(Some(task)) => Taken::Task(task),
+                _ => self.decided(alloc, decider, lane),
+            },
+        }
+    }
+
+    // Decides a lane's next job inside the turn, if it has one.
+    fn decided<V: Decider>(&mut self, alloc: Global, decider: &V, lane: u8) -> Taken
+        requires ready { V.ready decider.now }
+        requires lane { lane < self.old.lanes }
+        ensures { HasTakenUp self.old self.new lane result }
+    {
+        if self.serve_next(alloc, decider, lane) {
+            Taken::Served
+        } else {
+            Taken::Ended
+        }
+    }
+
+    // Answers a lane's next job, if it needs no verdict. Else there is its deed, and nothing
+    // changes.
+    fn look_at(&mut self, alloc: Global, job: &Job) -> Option<Deed>
+        requires lane { job.now.lane < self.old.lanes }
+        requires next { next_job self.old job.now.lane ≡ Some job.now }
+        ensures { HasLookedAt self.old self.new job.now result }
+    {
+        match self.board.step(alloc, &job.ask) {
+            Stepped::Undecided(deed) => Some(deed),
+            Stepped::Done(reply) => {
+                add_entry(&mut self.journal, job, reply);
+                go_on(&mut self.places, self.jobs.as_slice(), job.lane);
+                self.losses[job.lane as usize] = no_loss();
+                None
+            }
+        }
+    }
+
     /// How many lanes there are.
     pub fn lanes(&self) -> u8
         ensures count { result ≡ self.now.lanes }
@@ -358,15 +409,12 @@ impl Desk {
         self.is_fresh(task) || is_change(&task.ask)
     }
 
-    // Whether a task that is stale is lost.
-    fn is_lost(&self, task: &Task) -> bool
+    // Whether a task that is stale is lost, if it needs a verdict.
+    fn may_lose(&self, task: &Task) -> bool
         requires { task.now.lane < self.now.lanes }
-        ensures { result ≡ is_lost self.now task.now }
+        ensures { result ≡ may_lose self.now task.now }
     {
-        1 <= self.rounds
-            && !is_view(&task.ask)
-            && self.board.needs(&task.ask)
-            && self.is_past_floor(task)
+        1 <= self.rounds && !is_view(&task.ask) && self.is_past_floor(task)
     }
 
     // Whether all that a task missed may make it lost.
@@ -415,9 +463,26 @@ impl Desk {
         requires stale { is_fresh self.old task.now ≡ false }
         ensures { HasMissed self.old self.new task.now result }
     {
-        if !self.is_lost(task) {
-            Outcome::Recorded(self.serve(alloc, decider, job, Verdict::Nothing))
-        } else if self.is_last_round(task.lane) {
+        if !self.may_lose(task) {
+            return Outcome::Recorded(self.serve(alloc, decider, job, Verdict::Nothing));
+        }
+        let at = self.number();
+        match self.look_at(alloc, job) {
+            None => Outcome::Recorded(at),
+            Some(_) => self.miss_round(task, job),
+        }
+    }
+
+    // What becomes of a task that is lost.
+    fn miss_round(&mut self, task: &Task, job: &Job) -> Outcome
+        requires job { job.now ≡ job_of_task task.now }
+        requires lane { task.now.lane < self.old.lanes }
+        requires next { IsNext self.old task.now }
+        requires stale { is_fresh self.old task.now ≡ false }
+        requires lost { is_lost self.old task.now ≡ true }
+        ensures { HasMissed self.old self.new task.now result }
+    {
+        if self.is_last_round(task.lane) {
             Outcome::Recorded(self.record_again(task, job))
         } else {
             self.lose(task);

@@ -27,4 +27,4 @@ pub use loss::Loss;
 pub use outcome::Outcome;
 pub use schedule::{Event, Mark, Marks, Solved};
 pub use tabled::Fixed;
-pub use task::Task;
+pub use task::{Taken, Task};

@@ -17,3 +17,14 @@ pub struct Task {
     /// The policy and the cases as they were then.
     pub snap: Snap,
 }
+
+/// What came of taking up a lane's next job.
+#[derive(Drop)]
+pub enum Taken {
+    /// A verdict has to be found and committed.
+    Task(Task),
+    /// It was decided inside the turn.
+    Served,
+    /// The lane has no job left.
+    Ended,
+}

@@ -4,8 +4,10 @@ ghost use Rattle.wf_board.specs.Boards.{book_on};
 ghost use Rattle.wf_board.specs.Histories.{may_lack_memory};
 ghost use Rattle.wf_board.specs.Verdicts.{Decides};
 
+use grant_table::Cases;
+use policy_book::Policy;
 use std::alloc::Global;
-use wf_board::{Decider, Snap, Verdict};
+use wf_board::{Decider, Deed, Snap, Verdict};
 use wf_talk::{Ask, Request};
 
 /// Told of each search outside a turn that is about to begin. It promises nothing, and changes
@@ -39,6 +41,10 @@ impl<V: Decider, G: Gate> Decider for Gated<'_, V, G> {
             self.gate.solving(self.lane, self.line);
         }
         self.decider.decide(alloc, snap, ask)
+    }
+
+    fn decide_deed(&self, alloc: Global, p: &Policy, cases: &Cases, deed: &Deed) -> Verdict {
+        self.decider.decide_deed(alloc, p, cases, deed)
     }
 }
 

@@ -1,6 +1,7 @@
 //! Serving the jobs of a batch, each lane's on a thread of its own.
 ghost use Rattle.std.specs.Prelude.{◌≡◌, ◌<◌, ◌≤◌, ◌+◌, ◌-◌, nat_le};
 ghost use Rattle.std.specs.Thread.{IsSync};
+ghost use Rattle.wf_names.specs.declared.limits.TheConstants.{LANE_LIMIT};
 ghost use Rattle.wf_desk.specs.Desks.{AreOfLanes, IsDone};
 ghost use Rattle.wf_desk.specs.Schedules.{HasGrown};
 ghost use Rattle.wf_lanes.specs.Workers.{HasEnded, HasJoined, HasRoom, IsFirst, IsIdle};
@@ -15,10 +16,14 @@ use std::thread::{Threads, join};
 use turn_table::{Lane, Refused, TurnTable};
 use wf_board::Decider;
 use wf_desk::Desk;
+use wf_names::LANE_LIMIT;
+
+/// For each lane whether it has a job left.
+type Busy = [bool; LANE_LIMIT as usize];
 
 /// Serves the jobs of a batch, each lane's on a thread of its own: searches run outside the turns,
 /// on numbered snapshots, while other lanes go on; decisions are taken in turns, one at a time. It
-/// may wait.
+/// may wait. Where one lane alone has jobs, they are served by turns, with no thread.
 pub fn serve_by_lanes<R: Threads + Wait + Sync, V: Decider + Sync, G: Gate + Sync>(
     rt: &R,
     alloc: Global,
@@ -49,11 +54,17 @@ fn serve_on_lanes<R: Threads + Wait + Sync, V: Decider + Sync, G: Gate + Sync>(
     requires some { 0 < desk.lanes }
     ensures on { HasGrown desk result }
 {
+    let busy = busy_lanes(&desk);
+    if !has_two(&busy) {
+        return desk;
+    }
     let lanes = desk.lanes();
     let tells = tells(desk.rounds());
     match TurnTable::new(alloc, desk, lanes) {
         Ok((table, first)) => {
-            let first = run_lanes(rt, alloc, decider, gate, tells, &table, first, 0, lanes);
+            let first = run_lanes(
+                rt, alloc, decider, gate, tells, &busy, &table, first, 0, lanes,
+            );
             table.close(first)
         }
         Err(Refused { value }) => value,
@@ -67,14 +78,53 @@ fn tells(rounds: u8) -> bool
     1 <= rounds
 }
 
-// Makes so many lanes, from the next number on, serves each on a thread of its own, and joins them
-// into the first lane.
+// Which lanes have a job left.
+fn busy_lanes(desk: &Desk) -> Busy {
+    let mut busy = [false; LANE_LIMIT as usize];
+    'lanes: for lane in 0..desk.lanes() {
+        busy[lane as usize] = 0 < desk.left(lane);
+    }
+    busy
+}
+
+// Whether two lanes are busy.
+fn has_two(busy: &Busy) -> bool {
+    let mut one = false;
+    'lanes: for lane in 0..LANE_LIMIT {
+        if busy[lane as usize] {
+            if one {
+                return true;
+            }
+            one = true;
+        }
+    }
+    false
+}
+
+// Whether a lane is busy, and a later one too. The last busy lane needs no thread of its own.
+fn needs_thread(busy: &Busy, lane: u8) -> bool
+    requires { lane < LANE_LIMIT }
+{
+    if !busy[lane as usize] {
+        return false;
+    }
+    'later: for k in lane + 1..LANE_LIMIT {
+        if busy[k as usize] {
+            return true;
+        }
+    }
+    false
+}
+
+// Makes so many lanes, from the next number on, serves them, and joins them into the first lane.
+// A lane with jobs is served on a thread of its own, where a later one has jobs too.
 fn run_lanes<R: Threads + Wait + Sync, V: Decider + Sync, G: Gate + Sync>(
     rt: &R,
     alloc: Global,
     decider: &V,
     gate: &G,
     tells: bool,
+    busy: &Busy,
     table: &TurnTable<Desk>,
     first: Lane<Desk>,
     next: u8,
@@ -92,6 +142,23 @@ fn run_lanes<R: Threads + Wait + Sync, V: Decider + Sync, G: Gate + Sync>(
         return first;
     }
     let lane = make_lane(table, &mut first, next, count);
+    if !needs_thread(busy, next) {
+        let lane = serve_lane(rt, alloc, decider, gate, tells, table, lane, next);
+        let mut all = run_lanes(
+            rt,
+            alloc,
+            decider,
+            gate,
+            tells,
+            busy,
+            table,
+            first,
+            next + 1,
+            count - 1,
+        );
+        table.join(&mut all, lane);
+        return all;
+    }
     let (lane, mut first) = join(
         rt,
         move || -> Lane<Desk>
@@ -114,6 +181,7 @@ fn run_lanes<R: Threads + Wait + Sync, V: Decider + Sync, G: Gate + Sync>(
                 decider,
                 gate,
                 tells,
+                busy,
                 table,
                 first,
                 next + 1,

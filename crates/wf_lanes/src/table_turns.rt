@@ -13,7 +13,7 @@ use std::alloc::Global;
 use std::sync::Wait;
 use turn_table::{Lane, TurnTable};
 use wf_board::{Decider, Verdict};
-use wf_desk::{Desk, Outcome, Task};
+use wf_desk::{Desk, Outcome, Taken, Task};
 
 /// A lane with its table. What is decided inside its turns the decider decides.
 pub(crate) struct TableTurns<'a, R, V> {
@@ -53,20 +53,17 @@ impl<R: Wait, V: Decider> Turns for TableTurns<'_, R, V> {
     }
 }
 
-// Begins a lane's next job at a desk. Without memory for its task the job is decided at once.
+// Takes up a lane's next job at a desk.
 fn begin_at<V: Decider>(alloc: Global, decider: &V, desk: &mut Desk, lane: u8) -> Begun
     requires ready { V.ready decider.now }
     requires lane { lane < desk.old.lanes }
     ensures { HasBegunAt desk.old desk.new lane result }
 {
     let _sound = desk.journal();
-    match desk.begin(alloc, lane) {
-        Ok(Some(task)) => Begun::Task(task),
-        Ok(None) => Begun::Ended,
-        Err(_) => {
-            desk.serve_next(alloc, decider, lane);
-            Begun::Served
-        }
+    match desk.take_up(alloc, decider, lane) {
+        Taken::Task(task) => Begun::Task(task),
+        Taken::Served => Begun::Served,
+        Taken::Ended => Begun::Ended,
     }
 }
 

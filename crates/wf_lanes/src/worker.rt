@@ -18,7 +18,7 @@ use wf_desk::{Outcome, Task, solve_task};
 pub(crate) enum Begun {
     /// The task of the job: a verdict has to be found and committed.
     Task(Task),
-    /// There was no memory for a task, and the job was decided inside the turn.
+    /// The job was decided inside the turn.
     Served,
     /// The lane has no job left.
     Ended,

@@ -1,8 +1,7 @@
-use Rattle.std.proofs.Common.{◌≡◌, sym, ap, subst, ◌∙◌}
+use Rattle.std.proofs.Common.{sym, ap, subst, ◌∙◌}
 use Rattle.std.specs.List.{flat_map}
 use Rattle.rayon.proofs.ListFacts.{IfOk-then}
 use Rattle.policy_book.specs.Shapes.{PolicyShape}
-use Rattle.grant_table.specs.Tables.{CasesShape}
 use Rattle.admin_edits.specs.Edits.{amended}
 use Rattle.case_views.specs.Listing.{AreStrandedIn, list_of}
 use Rattle.case_views.proofs.Spreading.{stranded_joined}
@@ -10,13 +9,10 @@ use Rattle.case_views.proofs.spread.spread_stranded.Goals as goal
 
 pub returns : goal.returns
 returns g c =
-    let s = c.args.snap.now in
-    let q = amended s.policy c.args.a.now in
-    let rows : c.rows.result.now ≡ s.cases.rows = c.rows.ensures ∙ ap (λ (t : CasesShape). t.rows) c.cases.ensures.cases in
-    let same : c.in_ok-after.after ≡ q = c.in_ok-after.ensures ∙ ap (λ (p : PolicyShape). amended p c.args.a.now) c.policy-p.ensures.policy in
+    let q = amended c.args.p.now c.args.a.now in
     let numbers = flat_map list_of c.in_ok-parts.parts.items in
     let all = stranded_joined c.in_ok-after.after c.rows.result.now c.in_ok-parts.parts.items c.in_ok-parts.ensures in
-    let here = subst (λ (p : PolicyShape). AreStrandedIn p s.cases.rows numbers) same
-    (subst (λ xs. AreStrandedIn c.in_ok-after.after xs numbers) rows all) in
+    let here = subst (λ (p : PolicyShape). AreStrandedIn p c.args.cases.now.rows numbers) c.in_ok-after.ensures
+    (subst (λ xs. AreStrandedIn c.in_ok-after.after xs numbers) c.rows.ensures all) in
     IfOk-then c.joined_cases.result _ _ c.joined_cases.ensures (λ v h.
-    subst (AreStrandedIn q s.cases.rows) (sym (h ∙ ap (flat_map list_of) c.deref.ensures.value)) here)
+    subst (AreStrandedIn q c.args.cases.now.rows) (sym (h ∙ ap (flat_map list_of) c.deref.ensures.value)) here)

@@ -1,10 +1,11 @@
 use Rattle.std.proofs.Common.{◌∙◌, IfOk, ap, subst}
 use Rattle.policy_book.specs.Shapes.{PolicyShape}
 use Rattle.grant_table.specs.Tables.{CasesShape}
-use Rattle.case_views.specs.Listing.{IsWorkIn}
+use Rattle.wf_board.specs.Boards.{book_of}
+use Rattle.wf_board.specs.Views.{IsWorkOf}
 use Rattle.case_views.proofs.work_lists.worklist.Goals as goal
 
 pub returns : goal.returns
 returns c =
-    let all = subst (λ xs. IfOk c.work_in.result (IsWorkIn c.policy.result.now c.args.u xs)) (c.rows.ensures ∙ ap (λ (t : CasesShape). t.rows) c.cases.ensures.cases) c.work_in.ensures in
-    subst (λ (q : PolicyShape). IfOk c.work_in.result (IsWorkIn q c.args.u c.args.snap.now.cases.rows)) c.policy.ensures.policy all
+    subst (λ (t : CasesShape). IfOk c.work_of.result (IsWorkOf (book_of c.args.snap.now.policy t) c.args.u)) c.cases.ensures.cases
+    (subst (λ (q : PolicyShape). IfOk c.work_of.result (IsWorkOf (book_of q c.cases.result.now) c.args.u)) c.policy.ensures.policy c.work_of.ensures)

@@ -1,0 +1,66 @@
+-- A deed on which a verdict is still needed, and verdicts on deeds.
+use Rattle.std.specs.Prelude.{◌≡◌, ◌≢◌, Bool, true, false, Ok}
+use Rattle.wf_talk.specs.declared.request.Ask.{Ask}
+use Rattle.wf_board.specs.declared.deed.Deed.{Deed}
+use Rattle.wf_board.specs.declared.deed.Deed.TheVariants as deed
+use Rattle.wf_board.specs.declared.verdict.Verdict.{Verdict}
+use Rattle.wf_board.specs.declared.verdict.Verdict.TheVariants as verdict
+use Rattle.wf_board.specs.declared.verdict.Answered.{Answered}
+use Rattle.wf_board.specs.declared.verdict.Answered.TheVariants as answered
+use Rattle.wf_board.specs.declared.verdict.Stepped.{Stepped}
+use Rattle.wf_board.specs.declared.verdict.Stepped.TheVariants.{Done, Undecided}
+use Rattle.policy_book.specs.Shapes.{PolicyShape}
+use Rattle.grant_table.specs.Tables.{CasesShape}
+use Rattle.wf_board.specs.States.{Book}
+use Rattle.wf_board.specs.Boards.{BoardShape, book_of, state_on}
+use Rattle.wf_board.specs.Decisions.{decision_aside, decision_of, needs_plan, needs_verdict}
+use Rattle.wf_board.specs.Found.{IsFound}
+use Rattle.wf_board.specs.Steps.{state_after_step}
+use Rattle.wf_board.specs.Verdicts.{IsDecided, IsEditionFor, IsPlanFor, IsStrandingFor, IsTreeFor, IsViewFor}
+
+-- a verdict fits a deed
+abbrev pub FitsDeed : Book → Deed → Verdict → Type 0
+FitsDeed b given verdict.Nothing = Unit {0}
+FitsDeed b given verdict.NoMemory = Unit {0}
+FitsDeed b given (verdict.Plan plan) = IsPlanFor b (Ok given) plan
+FitsDeed b given (verdict.Refuted tree) = IsTreeFor b (Ok given) tree
+FitsDeed b given (verdict.Edited edition) = IsEditionFor b (Ok given) edition
+FitsDeed b given (verdict.Strands n tree) = IsStrandingFor b (Ok given) n tree
+FitsDeed b given (verdict.View v) = IsViewFor b (Ok given) v
+
+-- a verdict decides a deed: there is one exactly where one is needed
+pub record DecidesDeed (b : Book) (deed : Deed) (v : Verdict) : Type 0 where
+  pub fits : FitsDeed b deed v
+  pub nothing : needs_plan deed ≡ false → v ≡ verdict.Nothing
+  pub something : needs_plan deed ≡ true → v ≢ verdict.Nothing
+
+-- the deed that is asked for: no cause is against it, and only a verdict is needed
+pub record IsUndecided (p : PolicyShape) (t : CasesShape) (what : Ask) (d : Deed) : Type 0 where
+  pub aside : decision_aside (book_of p t) what ≡ Ok d
+  pub decided : decision_of (book_of p t) what ≡ Ok d
+  pub found : IsFound p t.rows d
+  pub needs : needs_plan d ≡ true
+
+-- a deed that goes over the open cases: an edit or a view
+abbrev pub is_over_open : Deed → Bool
+is_over_open (deed.Change a) = true
+is_over_open (deed.Work u) = true
+is_over_open (deed.WhatIf a) = true
+is_over_open given = false
+
+-- what came of a request, as an answer with no verdict
+abbrev pub answered_of : Stepped → Answered
+answered_of (Done given) = answered.Done given
+answered_of (Undecided d) = answered.Needs
+
+-- a request was looked at: it needs no verdict and was answered, or this is the deed
+abbrev pub IsLeftTo : PolicyShape → CasesShape → Ask → Stepped → Type 0
+IsLeftTo p t what (Done given) = needs_verdict (decision_of (book_of p t) what) ≡ false
+IsLeftTo p t what (Undecided d) = IsUndecided p t what d
+
+-- a board was asked, with no verdict: it has answered what needs none, or there is the deed, and nothing has changed
+abbrev pub HasStepped : BoardShape → BoardShape → Ask → Stepped → Type 0
+HasStepped before after what (Done given) =
+    IsDecided before what verdict.Nothing given × ((state_on after ≡ state_after_step (state_on before) what given)
+    × (needs_verdict (decision_of (state_on before).book what) ≡ false))
+HasStepped before after what (Undecided d) = IsUndecided before.policy before.cases what d × (after ≡ before)
