@@ -1,15 +1,17 @@
 -- The walk of `clap` over words that are written out, but for those that begin with no hyphen.
-use Rattle.std.proofs.Common.{◌≡◌, ◌∙◌, ℕ, Bool, true, false, refl, ap, ap₂, List, [], ◌∷◌, Option, Some, None}
-use Rattle.std.specs.Prelude.{fold, if◌then◌else◌, is_some, option_and_then, slice_index}
+use Rattle.std.proofs.Common.{◌≡◌, ◌∙◌, ℕ, Bool, true, false, refl, ap, ap₂, sym, subst, List, [], ◌∷◌, Option, Some, None}
+use Rattle.std.specs.Prelude.{⊤, fold, if◌then◌else◌, is_some, option_and_then, slice_index}
 use Rattle.std.specs.Option.{option_map_or}
 use Rattle.std.specs.Str.{bytes_eq}
 use Rattle.std.proofs.lemmas.Slice.Eq.{bytes_eq-Decides}
 use Rattle.clap.specs.Lexer.{long_of, long_of_rest, short_of, short_of_rest, strip_byte}
 use Rattle.clap.specs.Words.{App, Kinds, Row, Rule, Text, built, fault_of, matches_of}
-use Rattle.clap.specs.Faults.{bundle_fault, check_fault, defaults_fault, entered_fault, flag_word_fault, other_fault, settle_fault, step_fault, turn_fault, walk_fault, word_fault}
+use Rattle.clap.specs.Faults.{bundle_fault, check_fault, defaults_fault, entered_fault, flag_word_fault, other_fault, settle_fault, step_fault}
+use Rattle.clap.specs.Faults.{turn_fault, walk_fault, word_fault}
 use Rattle.clap.specs.Kinds.{or_else}
 use Rattle.clap.specs.Simple.{Shape, argument_words, entered, names_of}
-use Rattle.clap.specs.Walk.{Held, Names, Step, Waiting, trailing, Walk, after_step, finished, idle, is_empty, long_or_other, nothing_held, option, plain_word, positional, settled, short_or_plain, subcommand_met, subcommand_or_other, walk, walk_from, walked, word_met}
+use Rattle.clap.specs.Walk.{Held, Names, Step, Waiting, trailing, Walk, after_step, finished, idle, is_empty, long_or_other, nothing_held, option}
+use Rattle.clap.specs.Walk.{plain_word, positional, settled, short_or_plain, subcommand_met, subcommand_or_other, walk, walk_from, walked, word_met}
 use Rattle.command_words.specs.Words.{found}
 use Rattle.command_words.specs.Usage.{IsPlain}
 use Rattle.command_words.proofs.Plain.{no_hyphen}
@@ -115,3 +117,59 @@ taken a words end rows no_names over none rows_are =
     ap (λ (names : Names). finished b.top.rules (walk b.top.rules names nothing_held ws).held) no_names
     ∙ ap (λ (w : Walk). finished b.top.rules w.held) over.walk ∙ rows_are in
     ap₂ (λ (k : Kinds) (found_rows : List Row). if is_empty k then Some found_rows else None) fault is
+
+-- ---- words in a form
+
+-- a word of a form: a value, which begins with no hyphen; or the name of an option
+pub data Piece : Type 0 where
+  as_value : Text → Piece
+  as_option : Text → Piece
+
+abbrev pub words_of : List Piece → List Text
+words_of [] = []
+words_of (as_value word ∷ ps) = word ∷ words_of ps
+words_of (as_option word ∷ ps) = word ∷ words_of ps
+
+-- where the walk stands after a word
+abbrev pub after_piece : List Rule → Walk → Piece → Walk
+after_piece c w (as_value word) = after_plain c w.held w.waiting w.position word
+after_piece c w (as_option word) = walked c [] w word
+
+abbrev pub after_pieces : List Rule → Walk → List Piece → Walk
+after_pieces c w [] = w
+after_pieces c w (p ∷ ps) = after_pieces c (after_piece c w p) ps
+
+-- the walk takes a word
+abbrev pub TakesPiece : Shape → Walk → Piece → Type 0
+TakesPiece s w (as_value word) = IsPlain word × (w ≡ at w.held w.waiting w.position)
+    × (step_fault s w.position (plain_word s.rules w.waiting word w.held).0 (plain_word s.rules w.waiting word w.held).1 ≡ [])
+TakesPiece s w (as_option word) = turn_fault s [] w word ≡ []
+
+-- the walk takes each of the words, one after the other
+abbrev pub TakesPieces : Shape → Walk → List Piece → Type 0
+TakesPieces s w [] = ⊤
+TakesPieces s w (p ∷ ps) = TakesPiece s w p × TakesPieces s (after_piece s.rules w p) ps
+
+pub goes_over : (s : Shape) (w : Walk) (ps : List Piece) → TakesPieces s w ps → Goes s w (words_of ps) (after_pieces s.rules w ps)
+goes_over s w [] takes = ends s w
+goes_over s w (as_value word ∷ ps) takes =
+    let next = after_piece s.rules w (as_value word) in
+    let end = after_pieces s.rules next ps in
+    subst (λ (v : Walk). Goes s v (word ∷ words_of ps) end) (sym takes.0.1)
+    (goes_plain s w.held w.waiting w.position next end word (words_of ps) takes.0.0 takes.0.2 refl (goes_over s next ps takes.1))
+goes_over s w (as_option word ∷ ps) takes =
+    let next = after_piece s.rules w (as_option word) in
+    goes s w next (after_pieces s.rules next ps) word (words_of ps) takes.0 refl (goes_over s next ps takes.1)
+
+-- what is found at words in the form of a command, some of which may be left out
+pub found_by : (a : App) (first : Text) (ps : List Piece) (rows : List Row) → names_of (built a) ≡ []
+    → argument_words a (first ∷ words_of ps) ≡ words_of ps
+    → TakesPieces (built a).top (walk_from nothing_held) ps
+    → end_fault (built a) (after_pieces (built a).top.rules (walk_from nothing_held) ps) ≡ []
+    → finished (built a).top.rules (after_pieces (built a).top.rules (walk_from nothing_held) ps).held ≡ rows
+    → found a (first ∷ words_of ps) ≡ Some rows
+found_by a first ps rows no_names arguments takes none rows_are =
+    let end = after_pieces (built a).top.rules (walk_from nothing_held) ps in
+    taken a (first ∷ words_of ps) end rows no_names
+    (subst (λ (ws : List Text). Goes (built a).top (walk_from nothing_held) ws end) (sym arguments)
+    (goes_over (built a).top (walk_from nothing_held) ps takes)) none rows_are
