@@ -18,7 +18,7 @@ use std::alloc::Global;
 use transcript_audit::{Auditor, know_session};
 use wf_board::Decider;
 use wf_commands::load_policy;
-use wf_outside::{Shelf, Sink, Source, put_all};
+use wf_outside::{Shelf, Sink, Source, put_and_flush};
 
 /// Audits the transcript in the input: whether a session with the policy in one file and the
 /// requests in another, served on so many lanes and with so many lost rounds before a request is
@@ -122,7 +122,7 @@ fn tell<K: Sink>(alloc: Global, finding: Finding, sink: &mut K) -> Result<(), Ru
         return Ok(());
     }
     let text = finding.text(alloc)?;
-    match put_all(sink, text.as_bytes()) {
+    match put_and_flush(sink, text.as_bytes()) {
         Ok(()) => Ok(()),
         Err(_) => Err(RunFault::Write),
     }

@@ -10,7 +10,7 @@ use crate::summary::summary_of;
 use run_record::{Report, RunFault, bare_report};
 use std::alloc::Global;
 use wf_board::Decider;
-use wf_outside::{Sink, put_all};
+use wf_outside::{Sink, put_and_flush};
 
 /// Serves the trial of a seed by turns, and writes its summary. The report has the jobs and the
 /// entries, unless memory was refused: then nothing is written.
@@ -33,7 +33,7 @@ pub fn run_trial<V: Decider, K: Sink>(alloc: Global, decider: &V, seed: u64, sin
     let Ok(line) = summary_of(alloc, seed, &served) else {
         return bare_report(alloc, RunFault::NoMemory);
     };
-    match put_all(sink, line.as_bytes()) {
+    match put_and_flush(sink, line.as_bytes()) {
         Ok(()) => report_of(RunFault::Nothing, served),
         Err(_) => report_of(RunFault::Write, served),
     }

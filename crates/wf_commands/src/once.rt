@@ -17,7 +17,7 @@ use policy_book::Policy;
 use policy_printer::print;
 use run_record::{Report, RunFault, bare_report};
 use std::alloc::Global;
-use wf_outside::{Shelf, Sink, Source, put_all};
+use wf_outside::{Shelf, Sink, Source, put_and_flush};
 
 /// Answers a question about the policy in a file, and writes the answer.
 pub fn answer_once<F: Shelf, S: Source, K: Sink>(
@@ -37,7 +37,7 @@ pub fn answer_once<F: Shelf, S: Source, K: Sink>(
     ensures untouched { reads_input question.now ≡ false → source.new ≡ source.old }
 {
     match find_answer(alloc, policy, question, shelf, source) {
-        Ok(answer) => match put_all(sink, answer.text.as_bytes()) {
+        Ok(answer) => match put_and_flush(sink, answer.text.as_bytes()) {
             Ok(()) => bare_report(alloc, answer.ending()),
             Err(_) => bare_report(alloc, RunFault::Write),
         },

@@ -1,12 +1,20 @@
 //! The program: it lends the real input, output and files to the server, and ends with its status.
 #![tactic(auto)]
 
+use run_record::RunFault;
+use std::io::BufWriter;
 use std::process::ExitCode;
 use std::{env, io};
 use wf_server::{OpenGate, run};
 use wf_system::{DiskShelf, StdinSource, StdoutSink, after_name, all_words, end};
 
+/// How many bytes of the output are kept back at most until they are let go.
+const KEPT_BACK: usize = 65_536;
+
 fn main(rt: HostRuntime) -> ExitCode {
+    let Ok(writer) = BufWriter::with_capacity(rt.alloc(), KEPT_BACK, io::writer(&rt)) else {
+        return end(&rt, RunFault::NoMemory);
+    };
     let fault = match all_words(rt.alloc(), env::args(&rt)) {
         Ok(words) => {
             let report = run(
@@ -16,7 +24,7 @@ fn main(rt: HostRuntime) -> ExitCode {
                 &OpenGate,
                 &mut DiskShelf::new(&rt),
                 &mut StdinSource::new(rt.reader()),
-                &mut StdoutSink::new(io::writer(&rt)),
+                &mut StdoutSink::new(writer),
             );
             report.fault
         }

@@ -15,5 +15,5 @@ pub use mem_shelf::{MemFile, MemShelf};
 pub use mem_sink::MemSink;
 pub use mem_source::MemSource;
 pub use shelf::Shelf;
-pub use sink::{Sink, put_all};
+pub use sink::{Sink, put_all, put_and_flush};
 pub use source::{Failed, Source, take_all};

@@ -1,4 +1,4 @@
-ghost use Rattle.std.specs.Prelude.{◌≡◌, ◌≤◌, ◌<◌, ◌++◌, ◌↔◌, ℕ, List, [], length, take, Some, IsTrue, IsErr, IfOk, OnErr};
+ghost use Rattle.std.specs.Prelude.{◌≡◌, ◌≤◌, ◌<◌, ◌++◌, ◌↔◌, ℕ, List, [], length, take, Some, IsTrue, IsErr, IsOk, IfOk, OnErr};
 ghost use Rattle.wf_outside.specs.Memory.{after_call, after_fault, piece_len, is_refusing};
 ghost use Rattle.wf_outside.specs.Outside.{with_bytes};
 
@@ -75,6 +75,8 @@ impl Sink for MemSink {
 
     ghost faults = { λ s. s.counts.faults };
 
+    ghost is_flushed = { λ _. Unit {0} };
+
     #[tactic(auto, unfolding(crate::specs::Outside::with_bytes))]
     fn put(&mut self, bytes: &[u8]) -> Result<usize, Failed>
         // The call fails exactly where its number says so or none can be taken, and then nothing else happens.
@@ -105,5 +107,13 @@ impl Sink for MemSink {
         self.counts.pass();
         self.bytes.extend_from_slice(&bytes[..count]).unwrap();
         Ok(count)
+    }
+
+    // It keeps nothing back, so this is none of the calls that are counted.
+    fn flush(&mut self) -> Result<(), Failed>
+        ensures never { IsOk result }
+        ensures same { self.new ≡ self.old }
+    {
+        Ok(())
     }
 }

@@ -11,6 +11,9 @@ pub trait Sink {
     /// How often a call has failed.
     ghost faults: { Self → ℕ };
 
+    /// Nothing that was put is kept back.
+    ghost is_flushed: { Self → Type 0 };
+
     /// Takes a prefix of `bytes` and answers its length, at least 1 where `bytes` is not empty.
     fn put(&mut self, bytes: &[u8]) -> Result<usize, Failed>
         ensures within { IfOk result (λ n. n ≤ length bytes.now) }
@@ -18,6 +21,14 @@ pub trait Sink {
         ensures taken { IfOk result (λ n. held self.new
             ≡ with_bytes (held self.old) (take n bytes.now)) }
         ensures kept { OnErr result (held self.new ≡ held self.old) }
+        ensures faults { faults self.old ≤ faults self.new }
+        ensures rose { OnErr result (Rose (faults self.old) (faults self.new)) }
+        ensures stays { OnOk result (faults self.new ≡ faults self.old) };
+
+    /// Lets go what was put and is kept back.
+    fn flush(&mut self) -> Result<(), Failed>
+        ensures held { held self.new ≡ held self.old }
+        ensures flushed { OnOk result (is_flushed self.new) }
         ensures faults { faults self.old ≤ faults self.new }
         ensures rose { OnErr result (Rose (faults self.old) (faults self.new)) }
         ensures stays { OnOk result (faults self.new ≡ faults self.old) };
@@ -50,4 +61,17 @@ pub fn put_all<K: Sink>(sink: &mut K, bytes: &[u8]) -> Result<(), Failed>
         done += put_some(sink, &bytes[done..])?;
     }
     Ok(())
+}
+
+/// Puts all of the bytes and lets them go; after a fault the sink holds a prefix of them.
+pub fn put_and_flush<K: Sink>(sink: &mut K, bytes: &[u8]) -> Result<(), Failed>
+    ensures all { OnOk result (K.held sink.new ≡ with_bytes (K.held sink.old) bytes.now) }
+    ensures part { HasPart (K.held sink.old) (K.held sink.new) bytes.now }
+    ensures flushed { OnOk result (K.is_flushed sink.new) }
+    ensures faults { K.faults sink.old ≤ K.faults sink.new }
+    ensures rose { OnErr result (Rose (K.faults sink.old) (K.faults sink.new)) }
+    ensures stays { OnOk result (K.faults sink.new ≡ K.faults sink.old) }
+{
+    put_all(sink, bytes)?;
+    sink.flush()
 }

@@ -1,5 +1,5 @@
 //! Answering the jobs of a batch, and writing the entries.
-ghost use Rattle.std.specs.Prelude.{◌≡◌, ◌≤◌, ◌<◌, ◌+◌, ℕ, List, [], ◌∷◌, ◌++◌, length, drop, Option, IfErr, OnOk, OnErr};
+ghost use Rattle.std.specs.Prelude.{◌≡◌, ◌≢◌, ◌≤◌, ◌<◌, ◌+◌, ℕ, List, [], ◌∷◌, ◌++◌, length, drop, Option, Err, IfErr, OnOk, OnErr};
 ghost use Rattle.wf_outside.specs.Outside.{HasPart, with_bytes};
 ghost use Rattle.wf_names.specs.declared.limits.TheConstants.{SESSION_LINE_LIMIT};
 ghost use Rattle.line_cutter.specs.Cutter.{ends_after};
@@ -63,6 +63,8 @@ pub(crate) fn answer_batch<K: Sink, W: Fn(Desk) -> Desk>(
         → AreAnsweredOnce (drop desk.restored result.0.entries) }
     ensures ending { IfErr result.1 IsWriteEnding }
     ensures counts { CountsWrites (fault_in result.1) (K.faults sink.old) (K.faults sink.new) }
+    ensures flushed { K.is_flushed sink.old → result.1 ≢ Err RunFault.Write
+        → K.is_flushed sink.new }
 {
     let done = desk.journal().len();
     texts_stay(&desk);
@@ -165,7 +167,8 @@ fn entries_after(journal: &Journal, done: usize) -> &[Entry]
     &journal.as_slice()[done..]
 }
 
-// Writes the lines of entries, one after the other.
+// Writes the lines of the entries of a batch, and lets them go; also those before the one for
+// which memory is refused.
 fn write_entries<K: Sink>(
     alloc: Global,
     p: &Policy,
@@ -176,6 +179,34 @@ fn write_entries<K: Sink>(
         ≡ with_bytes (K.held sink.old) (entries_text p.now entries.now)) }
     ensures part { HasPart (K.held sink.old) (K.held sink.new) (entries_text p.now entries.now) }
     ensures some { OnErr result (0 < length entries.now) }
+    ensures ending { IfErr result IsWriteEnding }
+    ensures counts { CountsWrites (fault_in result) (K.faults sink.old) (K.faults sink.new) }
+    ensures flushed { K.is_flushed sink.old → result ≢ Err RunFault.Write
+        → K.is_flushed sink.new }
+{
+    if entries.is_empty() {
+        return Ok(());
+    }
+    let written = write_lines(alloc, p, entries, sink);
+    if let Err(RunFault::Write) = written {
+        return written;
+    }
+    match sink.flush() {
+        Ok(()) => written,
+        Err(_) => Err(RunFault::Write),
+    }
+}
+
+// Writes the lines of entries, one after the other.
+fn write_lines<K: Sink>(
+    alloc: Global,
+    p: &Policy,
+    entries: &[Entry],
+    sink: &mut K,
+) -> Result<(), RunFault>
+    ensures all { OnOk result (K.held sink.new
+        ≡ with_bytes (K.held sink.old) (entries_text p.now entries.now)) }
+    ensures part { HasPart (K.held sink.old) (K.held sink.new) (entries_text p.now entries.now) }
     ensures ending { IfErr result IsWriteEnding }
     ensures counts { CountsWrites (fault_in result) (K.faults sink.old) (K.faults sink.new) }
 {

@@ -1,7 +1,7 @@
 //! Standard input and output, and files, as sources and sinks. They tell no content, since what
 //! the system gives and takes cannot be known; what a reader or a writer tells is kept.
-ghost use Rattle.std.specs.Prelude.{◌≡◌, ◌≤◌, ◌<◌, length, take, None, IfOk, OnOk, OnErr};
-ghost use Rattle.std.specs.Io.KnownBytes.{ReadConsumes, WriteAppends};
+ghost use Rattle.std.specs.Prelude.{◌≡◌, ◌≤◌, ◌<◌, false, length, take, None, IfOk, OnOk, OnErr};
+ghost use Rattle.std.specs.Io.KnownBytes.{Keeps, ReadConsumes, WriteAppends};
 ghost use Rattle.wf_outside.specs.Outside.{HasTaken, Rose, with_bytes};
 ghost use Rattle.wf_system.specs.Streams.{reader_left, writer_held};
 
@@ -53,10 +53,11 @@ impl<R: Read + Drop> Source for StdinSource<R> {
     }
 }
 
-/// A writer as a sink: standard output.
+/// A writer as a sink: standard output. What the writer keeps back it writes when it is flushed.
 #[derive(Drop)]
 pub struct StdoutSink<W: Write + Drop> {
     writer: W,
+    kept: bool,
     faults: u64,
 }
 
@@ -65,8 +66,13 @@ impl<W: Write + Drop> StdoutSink<W> {
     pub fn new(writer: W) -> Self
         ensures held { writer_held W.contents result ≡ W.contents writer }
         ensures none { result.faults ≡ 0 }
+        ensures flushed { result.kept ≡ false }
     {
-        StdoutSink { writer, faults: 0 }
+        StdoutSink {
+            writer,
+            kept: false,
+            faults: 0,
+        }
     }
 }
 
@@ -74,6 +80,8 @@ impl<W: Write + Drop> Sink for StdoutSink<W> {
     ghost held = { λ _. None };
 
     ghost faults = { λ s. s.faults };
+
+    ghost is_flushed = { λ s. s.kept ≡ false };
 
     #[tactic(auto, unfolding(wf_outside::specs::Outside::with_bytes))]
     fn put(&mut self, bytes: &[u8]) -> Result<usize, Failed>
@@ -89,9 +97,33 @@ impl<W: Write + Drop> Sink for StdoutSink<W> {
         ensures rose { OnErr result (Rose self.old.faults self.new.faults) }
         ensures stays { OnOk result (self.new.faults ≡ self.old.faults) }
     {
+        self.kept = true;
         match self.writer.write(bytes) {
             Ok(count) if count > 0 || bytes.is_empty() => Ok(count),
             _ => {
+                self.faults = self.faults.saturating_add(1);
+                Err(Failed)
+            }
+        }
+    }
+
+    fn flush(&mut self) -> Result<(), Failed>
+        // The writer holds what it held.
+        ensures keeps { Keeps (writer_held W.contents self.old)
+            (writer_held W.contents self.new) }
+
+        // The clauses of every sink.
+        ensures flushed { OnOk result (self.new.kept ≡ false) }
+        ensures faults { self.old.faults ≤ self.new.faults }
+        ensures rose { OnErr result (Rose self.old.faults self.new.faults) }
+        ensures stays { OnOk result (self.new.faults ≡ self.old.faults) }
+    {
+        match self.writer.flush() {
+            Ok(()) => {
+                self.kept = false;
+                Ok(())
+            }
+            Err(_) => {
                 self.faults = self.faults.saturating_add(1);
                 Err(Failed)
             }

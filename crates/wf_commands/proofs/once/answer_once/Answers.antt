@@ -3,19 +3,19 @@ use Rattle.wf_outside.specs.Outside.{HasPart}
 use Rattle.wf_commands.proofs.Runs.{with_answer, with_part, without_answer}
 use Rattle.wf_commands.proofs.once.answer_once.Goals as goal
 
-pub returns-in-Ok-put_all-clause-answers : goal.returns-in-Ok-put_all-clause-answers
-returns-in-Ok-put_all-clause-answers g c =
+pub returns-in-Ok-put_and_flush-clause-answers : goal.returns-in-Ok-put_and_flush-clause-answers
+returns-in-Ok-put_and_flush-clause-answers g c =
     with_answer c.args.question.now c.args.policy.now c.in-Ok.answer _
     (record { given = c.in-Ok.ensures.answer; loads = c.in-Ok.ensures.loads; reads = c.in-Ok.ensures.reads; input = c.in-Ok.ensures.input; untold = c.bare_report.ensures.told })
-    (c.bare_report.ensures.fault ∙ c.ending.ensures) (let all = c.in-Ok-put_all.ensures.all in let value = c.as_bytes.ensures.value in cc) c.in-Ok-put_all.ensures.stays
+    (c.bare_report.ensures.fault ∙ c.ending.ensures) (let all = c.in-Ok-put_and_flush.ensures.all in let value = c.as_bytes.ensures.value in cc) c.in-Ok-put_and_flush.ensures.stays
 
 pub returns-in-Ok-clause-answers : goal.returns-in-Ok-clause-answers
 returns-in-Ok-clause-answers g c =
     with_part c.args.question.now c.args.policy.now c.in-Ok.answer _
-    (record { given = c.in-Ok.ensures.answer; loads = c.in-Ok.ensures.loads; reads = c.in-Ok.ensures.reads; input = c.in-Ok.ensures.input; untold = c.bare_report-in-Err-put_all.ensures.told })
-    c.bare_report-in-Err-put_all.ensures.fault
-    (subst (λ (text : List ℕ). HasPart (g.K.Sink.held c.args.sink.now) (g.K.Sink.held c.put_all.new.sink) text) c.as_bytes.ensures.value c.in-Err-put_all.ensures.part)
-    c.in-Err-put_all.ensures.rose
+    (record { given = c.in-Ok.ensures.answer; loads = c.in-Ok.ensures.loads; reads = c.in-Ok.ensures.reads; input = c.in-Ok.ensures.input; untold = c.bare_report-in-Err-put_and_flush.ensures.told })
+    c.bare_report-in-Err-put_and_flush.ensures.fault
+    (subst (λ (text : List ℕ). HasPart (g.K.Sink.held c.args.sink.now) (g.K.Sink.held c.put_and_flush.new.sink) text) c.as_bytes.ensures.value c.in-Err-put_and_flush.ensures.part)
+    c.in-Err-put_and_flush.ensures.rose
 
 pub returns-clause-answers : goal.returns-clause-answers
 returns-clause-answers g c =

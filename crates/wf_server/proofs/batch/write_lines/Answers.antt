@@ -1,7 +1,7 @@
 use Rattle.std.proofs.Common.{refl, sym, ◌∙◌}
 use Rattle.wf_outside.proofs.OutsideLaws.{nothing_put}
 use Rattle.wf_server.proofs.BatchLaws.{written_more, written_part}
-use Rattle.wf_server.proofs.batch.write_entries.Goals as goal
+use Rattle.wf_server.proofs.batch.write_lines.Goals as goal
 
 pub writing-init : goal.writing-init
 writing-init g c = record { written = sym (nothing_put (g.K.Sink.held c.args.sink.now)); faults = refl }
