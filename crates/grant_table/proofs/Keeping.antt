@@ -146,7 +146,7 @@ planned_added : (rows : List Row) (new : Row) → ArePlannedWhileOpen rows → i
 planned_added [] new planned is = (is, tt)
 planned_added (r ∷ rs) new planned is = (planned.0, planned_added rs new planned.1 is)
 
-count_added : (rows : List Row) (new : Row) → open_count (rows ++ new ∷ []) ≡ open_count rows + ones new
+pub count_added : (rows : List Row) (new : Row) → open_count (rows ++ new ∷ []) ≡ open_count rows + ones new
 count_added [] new = omega (arith, counted new [])
 count_added (r ∷ rs) new = omega (arith, count_added rs new, counted r rs, counted r (rs ++ new ∷ []))
 

@@ -1,4 +1,5 @@
 pub mod Counts
+pub mod Passed
 pub mod Keeping
 pub mod NextOpen
 pub mod Parts

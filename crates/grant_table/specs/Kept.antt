@@ -1,5 +1,5 @@
 -- Inside: how a table of cases is kept.
-use Rattle.std.specs.Prelude.{◌≡◌, ℕ, zero, suc, ◌+◌, ◌<◌, ◌≤◌, true, false, nat_eq, List, [], ◌∷◌, length, slice_get, Option, None, Some, is_some}
+use Rattle.std.specs.Prelude.{◌≡◌, ℕ, zero, suc, ◌+◌, ◌<◌, ◌≤◌, true, false, nat_eq, List, [], ◌∷◌, length, take, slice_get, Option, None, Some, is_some}
 use Rattle.wf_names.specs.declared.limits.TheConstants.{OPEN_CASE_LIMIT, CASE_LIMIT}
 use Rattle.case_record.specs.Cases.{is_open}
 use Rattle.grant_table.specs.declared.rows.Row.{Row}
@@ -29,6 +29,16 @@ pub record IsSoundTable (rows : List Row) (ever live : ℕ) : Type 0 where
   pub counted : open_count rows ≡ live
   pub few : live ≤ OPEN_CASE_LIMIT
   pub limit : ever ≤ CASE_LIMIT
+
+-- no case of the first so many rows is open
+pub record ArePassed (rows : List Row) (first : ℕ) : Type 0 where
+  pub ended : open_count (take first rows) ≡ 0
+  pub within : first ≤ length rows
+
+-- what the code keeps: a sound table, and the cases that have ended before all others
+pub record IsKeptTable (rows : List Row) (ever live first : ℕ) : Type 0 where
+  pub sound : IsSoundTable rows ever live
+  pub passed : ArePassed rows first
 
 -- the row with the number n stands at i, and no earlier row has it
 abbrev pub IsRowPlace : ℕ → List Row → ℕ → Type 0

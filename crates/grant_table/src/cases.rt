@@ -9,7 +9,8 @@ ghost use Rattle.grant_table.specs.Tables.{case_at, finished_row, freed_row, hel
 use crate::changes::{finished, freed, held, withdrawn};
 use crate::recent::Recent;
 use crate::rows::{
-    Row, case_of, next_open, one_live, only, open_rows, plan_in, put, replan, row_of, still_open,
+    Row, case_of, next_behind, one_live, only, open_behind, past_ended, plan_in, put, replan,
+    row_of, still_open,
 };
 use case_record::Case;
 use constraint_forms::Plan;
@@ -19,12 +20,15 @@ use wf_names::{CaseId, FlowId, StepId, UserId};
 
 /// Cases at their numbers, and a plan for each open one.
 ///
-/// The table holds no policy. A look-up takes logarithmic time.
+/// The table holds no policy. Where no number is left out a look-up takes the same time in a long
+/// table as in a short one. What goes over the open cases passes over the ended ones in front of
+/// them once in all.
 #[derive(Drop)]
 pub struct Cases {
     rows: Vec<Row>,
     ever: u16,
     live: u16,
+    first: usize,
     recent: Recent,
 }
 
@@ -32,13 +36,13 @@ impl Model for Cases {
     ghost use Rattle.std.specs.Prelude.{◌-◌};
     ghost use Rattle.std.specs.Vec.{vec_capacity, vec_len};
     ghost use Rattle.grant_table.specs.Tables.{CasesShape};
-    ghost use Rattle.grant_table.specs.Kept.{IsSoundTable};
+    ghost use Rattle.grant_table.specs.Kept.{IsKeptTable};
 
     ghost Value = { CasesShape };
 
     ghost view = { λ t. record { rows = t.rows.items; ever = t.ever; spare = vec_capacity t.rows - vec_len t.rows } };
 
-    ghost invariant = { λ t. IsSoundTable t.rows.items t.ever t.live };
+    ghost invariant = { λ t. IsKeptTable t.rows.items t.ever t.live t.first };
 }
 
 impl Cases {
@@ -50,6 +54,7 @@ impl Cases {
             rows: Vec::new(alloc),
             ever: 0,
             live: 0,
+            first: 0,
             recent: Recent::none(),
         })
     }
@@ -130,7 +135,7 @@ impl Cases {
     pub fn replace_plans(&mut self, plans: &[Plan])
         ensures { self.new ≡ record self.old { rows = replanned self.old.rows plans.now } }
     {
-        replan(&mut self.rows, plans);
+        replan(&mut self.rows, self.first, plans);
     }
 
     /// The case with a number.
@@ -185,7 +190,7 @@ impl Cases {
             ((n : ℕ) → from ≤ n → is_open_case (case_at self.now n) ≡ false)
             (λ n. IsNextOpen self.now from n) }
     {
-        match next_open(&self.rows, from) {
+        match next_behind(&self.rows, self.first, from) {
             Some(number) => Some(CaseId(number)),
             None => None,
         }
@@ -199,6 +204,7 @@ impl Cases {
             rows: self.rows.clone()?,
             ever: self.ever,
             live: self.live,
+            first: self.first,
             recent: self.recent,
         })
     }
@@ -212,6 +218,7 @@ impl Cases {
             rows: only(alloc, &self.rows, c.0)?,
             ever: self.ever,
             live: one_live(row_of(&self.rows, c.0)),
+            first: 0,
             recent: self.recent,
         })
     }
@@ -224,6 +231,7 @@ impl Cases {
             rows: Vec::new(alloc),
             ever: self.ever,
             live: 0,
+            first: 0,
             recent: self.recent,
         }
     }
@@ -234,9 +242,10 @@ impl Cases {
             { rows = open_rows self.now.rows; spare = t.spare }) }
     {
         Ok(Cases {
-            rows: open_rows(alloc, &self.rows, self.live)?,
+            rows: open_behind(alloc, &self.rows, self.first, self.live)?,
             ever: self.ever,
             live: self.live,
+            first: 0,
             recent: self.recent,
         })
     }
@@ -269,5 +278,6 @@ impl Cases {
     {
         self.live = still_open(self.live, has_ended);
         put(&mut self.rows, row);
+        self.first = past_ended(&self.rows, self.first);
     }
 }

@@ -1,9 +1,9 @@
 //! The rows of a table of cases, ascending by number.
-ghost use Rattle.std.specs.Prelude.{◌≡◌, ℕ, ◌+◌, ◌<◌, ◌≤◌, Bool, true, cond, nat_lt, length, is_some, None, Some, slice_get, slice_set, IfOk, MatchOption};
+ghost use Rattle.std.specs.Prelude.{◌≡◌, ℕ, ◌+◌, ◌<◌, ◌≤◌, Bool, true, cond, drop, nat_lt, length, is_some, None, Some, slice_get, slice_set, IfOk, MatchOption};
 ghost use Rattle.std.specs.List.{prefix_len};
 ghost use Rattle.std.specs.Vec.{vec_capacity, vec_len};
 ghost use Rattle.grant_table.specs.Tables.{case_in, change_row, next_open, only, open_count, open_rows, plan_of, replanned, row_at};
-ghost use Rattle.grant_table.specs.Kept.{AscendFrom, IsRowFound, rows_of};
+ghost use Rattle.grant_table.specs.Kept.{ArePassed, AscendFrom, IsRowFound, rows_of};
 
 use crate::changes::replanned;
 use case_record::Case;
@@ -115,14 +115,16 @@ pub(crate) fn put(rows: &mut Vec<Row>, row: Row)
     rows[i] = row;
 }
 
-/// Keeps other plans for the open cases, in order, as far as there are plans.
-pub(crate) fn replan(rows: &mut Vec<Row>, plans: &[Plan])
+/// Keeps other plans for the open cases, in order, as far as there are plans. None of the first
+/// so many is open.
+pub(crate) fn replan(rows: &mut Vec<Row>, first: usize, plans: &[Plan])
+    requires { ArePassed rows.old.items first }
     ensures rows { rows.new.items ≡ replanned rows.old.items plans.now }
     ensures len { vec_len rows.new ≡ vec_len rows.old }
     ensures capacity { vec_capacity rows.new ≡ vec_capacity rows.old }
 {
     let mut next = 0;
-    'rows: for i in 0..rows.len() {
+    'rows: for i in first..rows.len() {
         if next < plans.len() && rows[i].case.phase().is_live() {
             rows[i] = replanned(rows[i], plans[next]);
             next += 1;
@@ -131,7 +133,7 @@ pub(crate) fn replan(rows: &mut Vec<Row>, plans: &[Plan])
 }
 
 /// The least open case not below a number.
-pub(crate) fn next_open(rows: &[Row], from: u32) -> Option<u16>
+fn next_open(rows: &[Row], from: u32) -> Option<u16>
     requires { AscendFrom 0 rows.now }
     ensures { result ≡ next_open from rows.now }
 {
@@ -143,6 +145,36 @@ pub(crate) fn next_open(rows: &[Row], from: u32) -> Option<u16>
         }
     }
     None
+}
+
+/// The rows behind the first so many.
+fn behind(rows: &[Row], first: usize) -> &[Row]
+    requires { first ≤ length rows.now }
+    ensures { result.now ≡ drop first rows.now }
+{
+    &rows[first..]
+}
+
+/// The least open case not below a number, where none of the first so many is open.
+pub(crate) fn next_behind(rows: &[Row], first: usize, from: u32) -> Option<u16>
+    requires order { AscendFrom 0 rows.now }
+    requires passed { ArePassed rows.now first }
+    ensures { result ≡ next_open from rows.now }
+{
+    next_open(behind(rows, first), from)
+}
+
+/// How many rows stand before the first open case, where none of the first so many is open.
+pub(crate) fn past_ended(rows: &[Row], first: usize) -> usize
+    requires { ArePassed rows.now first }
+    ensures { ArePassed rows.now result }
+{
+    'passing: for i in first..rows.len() {
+        if rows[i].case.phase().is_live() {
+            return i;
+        }
+    }
+    rows.len()
 }
 
 /// How many cases are open once one of them has ended or not.
@@ -176,8 +208,21 @@ pub(crate) fn one_live(row: Option<Row>) -> u16
     }
 }
 
+/// The rows of the open cases, where none of the first so many is open.
+pub(crate) fn open_behind(
+    alloc: Global,
+    rows: &[Row],
+    first: usize,
+    live: u16,
+) -> Result<Vec<Row>, AllocError>
+    requires { ArePassed rows.now first }
+    ensures { IfOk result (λ some. some.items ≡ open_rows rows.now) }
+{
+    open_rows(alloc, behind(rows, first), live)
+}
+
 /// The rows of the open cases. Room for `live` of them is made at once.
-pub(crate) fn open_rows(alloc: Global, rows: &[Row], live: u16) -> Result<Vec<Row>, AllocError>
+fn open_rows(alloc: Global, rows: &[Row], live: u16) -> Result<Vec<Row>, AllocError>
     ensures { IfOk result (λ some. some.items ≡ open_rows rows.now) }
 {
     let mut some = Vec::with_capacity(alloc, live as usize)?;

@@ -1,11 +1,15 @@
-use Rattle.std.proofs.Common.{◌≡◌, ◌+◌, ◌<◌, drop, length, slice_set, vec_capacity, vec_len, Vec, Global, true, false, ap, sym, ◌∙◌, arith}
+use Rattle.std.proofs.Common.{◌≡◌, ◌+◌, ◌<◌, drop, length, slice_set, vec_capacity, vec_len, Vec, Global, true, false, refl, ap, sym, ◌∙◌, arith}
 use Rattle.std.proofs.lemmas.List.{get_or_default}
 use Rattle.wf_names.specs.States.{is_live}
 use Rattle.grant_table.specs.Tables.{is_open_row, replanned_row}
 use Rattle.grant_table.specs.declared.rows.Row.{Row}
 use Rattle.grant_table.proofs.Replanning.{gets_next, none_left, passes_over, replanned_closed, replanned_so_far}
+use Rattle.grant_table.proofs.Passed.{replanned_passed}
 use Rattle.grant_table.proofs.rows.replan.Goals as goal
 use Rattle.grant_table.proofs.rows.replan.Goals.{then-next-plans+then-is_live, else-next-plans, else-next-plans-via-then-next-plans+else-is_live, else-next-plans-via-else-next-plans}
+
+pub rows-init : goal.rows-init
+rows-init c = record { len = refl; capacity = refl; done = replanned_passed c.args.first c.args.rows.now.items c.args.plans.now c.requires.ended }
 
 pub rows-preserved : goal.rows-preserved
 rows-preserved c = elim c.if-next-plans.branch [
