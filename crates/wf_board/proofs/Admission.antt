@@ -50,7 +50,9 @@ use Rattle.wf_board.specs.Steps.{Answers, IsReplyTo, IsStep, state_after_decisio
 use Rattle.wf_board.specs.Taking.{board_of, full_or, keeps_policy, HasTakenStep, IsKept}
 use Rattle.wf_board.specs.Verdicts.{IsEditionFor, IsMadeOf, IsPlanFor, IsRight, IsStrandingFor, IsTreeFor, IsViewFor}
 use Rattle.wf_board.proofs.Amended.{IsChange, IsFoundCase, change_decided, edition_change, plans_complete, same_case, stranded_case}
+use Rattle.wf_board.specs.KeptPlans.{rows_after}
 use Rattle.wf_board.proofs.Answering.{same_taken}
+use Rattle.wf_board.proofs.PlansKept.{want_rows}
 use Rattle.wf_board.proofs.Exact.{stranded_not}
 use Rattle.wf_board.proofs.Fixed.{one_stranded}
 use Rattle.wf_board.proofs.Listed.{one_list}
@@ -198,7 +200,7 @@ cause_bare b what d is = subst (FaultOf IsBare) is (bare_decision b what)
 
 -- ---- what is taken and changes nothing
 
-want_stays : (s : State) (r : Result Deed Denial) → state_after_decision s r reply.NoMemory ≡ s
+pub want_stays : (s : State) (r : Result Deed Denial) → state_after_decision s r reply.NoMemory ≡ s
 want_stays s (Ok (deed.Open f)) = refl
 want_stays s (Ok (deed.Claim n c t u)) = refl
 want_stays s (Ok (deed.Finish n c t u)) = refl
@@ -212,23 +214,23 @@ want_stays s (Ok (deed.WhatIf a)) = refl
 want_stays s (Ok (deed.TurnAway bad)) = refl
 want_stays s (Err d) = refl
 
-want_answers : (s : State) (r : Result Deed Denial) → Answers s r reply.NoMemory
+pub want_answers : (s : State) (r : Result Deed Denial) → Answers s r reply.NoMemory
 want_answers s (Ok d) = tt
 want_answers s (Err d) = inr refl
 
 -- want of memory is taken whatever is asked
 pub want_taken : (p : PolicyShape) (t : CasesShape) (r : Result Deed Denial) (given : Reply) → IsKept p t → given ≡ reply.NoMemory → HasTakenStep p t t r given
 want_taken p t r given kept is =
-    subst (HasTakenStep p t t r) (sym is) (same_taken p t r reply.NoMemory kept (λ edits. want_answers (state_on (board_of p t edits)) r) (λ s. want_stays s r))
+    subst (HasTakenStep p t t r) (sym is) (same_taken p t r reply.NoMemory kept (λ edits. want_answers (state_on (board_of p t edits)) r) (λ s. want_stays s r) (want_rows p t r))
 
 -- a reply that changes nothing is taken where a test of it passes
 pub test_admitted : (p : PolicyShape) (t : CasesShape) (r : Result Deed Denial) (given : Reply) (b : Bool) (result : Result (Unit {0}) AdmitFault) → IsKept p t → result ≡ when b →
     (b ≡ true → (edits : ℕ) → Answers (state_on (board_of p t edits)) r given) → (b ≡ false → IsNoAnswer p t r given) → ((s : State) → state_after_decision s r given ≡ s) →
-    HasAdmitted p t t r given result
-test_admitted p t r given b result kept is passes fails stays = subst (HasAdmitted p t t r given) (sym is) (at_test b refl)
+    rows_after p t r given ≡ t.rows → HasAdmitted p t t r given result
+test_admitted p t r given b result kept is passes fails stays rows = subst (HasAdmitted p t t r given) (sym is) (at_test b refl)
   where
     at_test : (x : Bool) → b ≡ x → HasAdmitted p t t r given (when x)
-    at_test true passed = same_taken p t r given kept (passes passed) stays
+    at_test true passed = same_taken p t r given kept (passes passed) stays rows
     at_test false failed = (refl, fails failed)
 
 -- the denial by a cause is taken, and no other reply
@@ -236,7 +238,7 @@ pub cause_admitted : (p : PolicyShape) (t : CasesShape) (r : Result Deed Denial)
     b ≡ true ↔ given ≡ reply.Denied d → result ≡ when b → HasAdmitted p t t r given result
 cause_admitted p t r d given b result kept memory decided test is =
     subst (λ x. HasAdmitted p t t x given result) (sym decided)
-    (test_admitted p t (Err d) given b result kept is (λ passed edits. inl (test.0 passed)) (λ failed edits. none failed) (λ s. refl))
+    (test_admitted p t (Err d) given b result kept is (λ passed edits. inl (test.0 passed)) (λ failed edits. none failed) (λ s. refl) refl)
   where
     none : b ≡ false → ¬ ((given ≡ reply.Denied d) ⊎ (given ≡ reply.NoMemory))
     none fails (inl denied) = let apart : true ≡ false = sym (test.1 denied) ∙ fails in cc
@@ -339,7 +341,7 @@ work_admitted p t u items given b result kept memory work test is =
     test_admitted p t (Ok (deed.Work u)) given b result kept is
     (λ passed edits. subst (IsReplyTo (state_on (board_of p t edits)) (deed.Work u)) (sym (test.0 passed)) work)
     (λ failed edits. work_only (state_on (board_of p t edits)) u items given memory work (not_told failed))
-    (λ s. refl)
+    (λ s. refl) refl
   where
     not_told : b ≡ false → given ≢ reply.Work items
     not_told failed told = let apart : true ≡ false = sym (test.1 told) ∙ failed in cc
@@ -358,7 +360,7 @@ what_if_admitted p t a numbers given b result kept memory stranded test is =
     test_admitted p t (Ok (deed.WhatIf a)) given b result kept is
     (λ passed edits. subst (IsReplyTo (state_on (board_of p t edits)) (deed.WhatIf a)) (sym (test.0 passed)) stranded)
     (λ failed edits. what_if_only (state_on (board_of p t edits)) a numbers given memory stranded (not_told failed))
-    (λ s. refl)
+    (λ s. refl) refl
   where
     not_told : b ≡ false → given ≢ reply.WhatIf numbers
     not_told failed told = let apart : true ≡ false = sym (test.1 told) ∙ failed in cc
@@ -466,7 +468,7 @@ strands_admitted p t a n c m f tree b result kept case number flow shows is =
     (subst (λ g. IsReplyTo (state_on (board_of p t edits)) (deed.Change a) (reply.Denied (denial.Strands n g tree))) (sym flow)
     (case.shows edits tree (sym shows ∙ passed))))
     (λ failed edits step. apart failed (shows ∙ (case.only edits m f tree step).1.1))
-    (λ s. refl)
+    (λ s. refl) refl
   where
     apart : {X : Type 0} → b ≡ false → b ≡ true → X
     apart failed passed = let same : true ≡ false = sym passed ∙ failed in cc

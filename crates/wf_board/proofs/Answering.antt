@@ -9,7 +9,8 @@ use Rattle.policy_book.specs.Shapes.{PolicyShape}
 use Rattle.policy_book.specs.Plans.{IsValidPlan}
 use Rattle.policy_book.specs.Policies.{flow_at, problem_of}
 use Rattle.case_record.specs.Cases.{CaseShape}
-use Rattle.grant_table.specs.Tables.{CasesShape, case_in, open_count, with_case}
+use Rattle.grant_table.specs.declared.rows.Row.{Row}
+use Rattle.grant_table.specs.Tables.{CasesShape, case_in, change_row, open_count, with_case}
 use Rattle.wf_names.specs.declared.limits.TheConstants.{CASE_LIMIT, OPEN_CASE_LIMIT}
 use Rattle.denial_reasons.specs.Causes.{unless}
 use Rattle.wf_talk.specs.declared.request.Ask.{Ask}
@@ -32,40 +33,43 @@ use Rattle.wf_board.specs.declared.verdict.Verdict.TheVariants as verdict
 use Rattle.wf_board.specs.declared.verdict.Answered.{Answered}
 use Rattle.wf_board.specs.declared.verdict.Answered.TheVariants.{Done, Needs}
 use Rattle.wf_board.specs.Boards.{EditionShape, book_of, state_on}
-use Rattle.wf_board.specs.Decisions.{cause_aside, decision_aside, decision_of, needs_plan, needs_verdict, takes_memory, unless_denied}
-use Rattle.wf_board.specs.Resolved.{resolve}
+use Rattle.wf_board.specs.KeptPlans.{rows_after}
+use Rattle.wf_board.specs.Decisions.{decision_aside, decision_of, unless_denied}
 use Rattle.wf_board.specs.States.{Book, State, is_full, open_cases}
 use Rattle.wf_board.specs.Steps.{Answers, state_after_decision, with_changed}
-use Rattle.wf_board.specs.Taking.{board_of, full_or, HasAnsweredAlone, HasAnsweredBy, HasChanged, HasTakenStep, IsKept}
-use Rattle.wf_board.specs.Verdicts.{HasAnswered, IsEditionFor, is_opening, IsMadeOf, IsPlanFor, IsStrandingFor, IsTreeFor, room_used}
+use Rattle.wf_board.specs.Taking.{board_of, full_or, HasChanged, HasTakenStep, IsKept}
+use Rattle.wf_board.specs.Verdicts.{HasAnswered, IsEditionFor, IsStrandingFor, room_used}
 use Rattle.wf_board.proofs.Rows.{case_numbered, open_numbered}
 use Rattle.wf_board.proofs.Planned.{known_case, opened_keeps, opened_state, plan_kept}
 use Rattle.policy_book.specs.Facts.{IsSoundPolicy}
 use Rattle.wf_board.specs.Kept.{ArePlanned, IsSoundState, KeepsCompletable}
 
 -- a step that changes one case
-pub changed_taken : (p : PolicyShape) (before after : CasesShape) (n : ℕ) (g : CaseShape → CaseShape) (decision : Result Deed Denial) (given : Reply) → HasChanged p before after n g →
-    ((edits : ℕ) → Answers (state_on (board_of p before edits)) decision given) → ((s : State) → state_after_decision s decision given ≡ with_changed s n g) → HasTakenStep p before after decision given
-changed_taken p before after n g decision given changed step next = record {
+pub changed_taken : (p : PolicyShape) (before after : CasesShape) (n : ℕ) (f : Row → Row) (g : CaseShape → CaseShape) (decision : Result Deed Denial) (given : Reply) → HasChanged p before after n f g →
+    ((edits : ℕ) → Answers (state_on (board_of p before edits)) decision given) → ((s : State) → state_after_decision s decision given ≡ with_changed s n g) →
+    rows_after p before decision given ≡ change_row n f before.rows → HasTakenStep p before after decision given
+changed_taken p before after n f g decision given changed step next rows = record {
   kept = changed.kept;
   step = step;
   next = λ edits. changed.next edits ∙ sym (next (state_on (board_of p before edits)));
+  rows = changed.rows ∙ sym rows;
   room = let same = changed.spare in omega (arith, same);
 }
 
 -- a step that changes nothing
 pub same_taken : (p : PolicyShape) (t : CasesShape) (decision : Result Deed Denial) (given : Reply) → IsKept p t →
-    ((edits : ℕ) → Answers (state_on (board_of p t edits)) decision given) → ((s : State) → state_after_decision s decision given ≡ s) → HasTakenStep p t t decision given
-same_taken p t decision given kept step next = record {
+    ((edits : ℕ) → Answers (state_on (board_of p t edits)) decision given) → ((s : State) → state_after_decision s decision given ≡ s) → rows_after p t decision given ≡ t.rows → HasTakenStep p t t decision given
+same_taken p t decision given kept step next rows = record {
   kept = kept;
   step = step;
   next = λ edits. sym (next (state_on (board_of p t edits)));
+  rows = sym rows;
   room = omega arith;
 }
 
 -- a denial
 pub denied_taken : (p : PolicyShape) (t : CasesShape) (d : Denial) → IsKept p t → HasTakenStep p t t (Err d) (reply.Denied d)
-denied_taken p t d kept = same_taken p t (Err d) (reply.Denied d) kept (λ edits. inl refl) (λ s. refl)
+denied_taken p t d kept = same_taken p t (Err d) (reply.Denied d) kept (λ edits. inl refl) (λ s. refl) refl
 
 -- ---- full
 
@@ -104,48 +108,9 @@ opened_taken p t roomy after f n plan kept known valid left same more number is 
       kept = opened_keeps p grown f plan (kept_with_room p t roomy.spare kept) known valid;
       step = λ edits. (number ∙ ap (λ (x : CasesShape). x.ever) same, valid);
       next = λ edits. opened_state p grown f plan edits;
+      rows = refl;
       room = let one : t.spare ≤ (with_case grown f steps plan).spare + 1 = omega (arith, more) in one;
     })
-
--- ---- decisions
-
-cause_none : (given d : Deed) (o : Option Denial) → unless_denied given o ≡ Ok d → (given ≡ d) × (o ≡ None)
-cause_none given d None h = (cc, refl)
-cause_none given d (Some x) h = cc
-
--- against a deed that is decided on there is no cause
-pub uncaused : (b : Book) (what : Ask) (d : Deed) → decision_aside b what ≡ Ok d → cause_aside b d ≡ None
-uncaused b what d h = from_deed (resolve b what) h
-  where
-    from_deed : (r : Result Deed Denial) → (r >>= (λ given. unless_denied given (cause_aside b given))) ≡ Ok d → cause_aside b d ≡ None
-    from_deed (Ok given) e = let is = cause_none given d (cause_aside b given) e in subst (λ x. cause_aside b x ≡ None) is.0 is.1
-    from_deed (Err x) e = cc
-
--- what is asked is decided as its deed is
-pub decided : (b : Book) (what : Ask) (d : Deed) → resolve b what ≡ Ok d → cause_aside b d ≡ None → decision_of b what ≡ full_or b d
-decided b what d is none = rw (is, none) refl
-
--- a plan is one for the deed, and no cause is against it
-pub plan_deed : (b : Book) (what : Ask) (d : Deed) (plan : List ℕ) → resolve b what ≡ Ok d → IsPlanFor b (decision_aside b what) plan → (cause_aside b d ≡ None) × IsPlanFor b (Ok d) plan
-plan_deed b what d plan is right = by_cause (cause_aside b d) refl (subst (λ r. IsPlanFor b (r >>= (λ given. unless_denied given (cause_aside b given))) plan) is right)
-  where
-    by_cause : (o : Option Denial) → cause_aside b d ≡ o → IsPlanFor b (unless_denied d o) plan → (cause_aside b d ≡ None) × IsPlanFor b (Ok d) plan
-    by_cause None none good = (none, good)
-    by_cause (Some x) some good = absurd good
-
-pub no_plan : {X : Type 0} (b : Book) (what : Ask) (x : Denial) (plan : List ℕ) → resolve b what ≡ Err x → IsPlanFor b (decision_aside b what) plan → X
-no_plan b what x plan is right = absurd (subst (λ r. IsPlanFor b (r >>= (λ given. unless_denied given (cause_aside b given))) plan) is right)
-
--- and so is a tree
-pub tree_deed : (b : Book) (what : Ask) (d : Deed) (tree : Tree) → resolve b what ≡ Ok d → IsTreeFor b (decision_aside b what) tree → (cause_aside b d ≡ None) × IsTreeFor b (Ok d) tree
-tree_deed b what d tree is right = by_cause (cause_aside b d) refl (subst (λ r. IsTreeFor b (r >>= (λ given. unless_denied given (cause_aside b given))) tree) is right)
-  where
-    by_cause : (o : Option Denial) → cause_aside b d ≡ o → IsTreeFor b (unless_denied d o) tree → (cause_aside b d ≡ None) × IsTreeFor b (Ok d) tree
-    by_cause None none good = (none, good)
-    by_cause (Some x) some good = absurd good
-
-pub no_tree : {X : Type 0} (b : Book) (what : Ask) (x : Denial) (tree : Tree) → resolve b what ≡ Err x → IsTreeFor b (decision_aside b what) tree → X
-no_tree b what x tree is right = absurd (subst (λ r. IsTreeFor b (r >>= (λ given. unless_denied given (cause_aside b given))) tree) is right)
 
 -- ---- edits
 
@@ -159,7 +124,7 @@ stranding_taken p t what n f tree kept order is flow =
     let same : change.flow ≡ f = sym found.flow ∙ sym (flow found.case found.there) in
     subst (λ r. HasTakenStep p t t r (reply.Denied (Strands n f tree))) (sym (change_decided (book_of p t) what a change.decided))
     (same_taken p t (Ok (deed.Change a)) (reply.Denied (Strands n f tree)) kept
-    (λ edits. subst (λ g. IsFirstStranded (amended p a) (open_cases (book_of p t).cases) n g tree) same change.stranded) (λ s. refl))
+    (λ edits. subst (λ g. IsFirstStranded (amended p a) (open_cases (book_of p t).cases) n g tree) same change.stranded) (λ s. refl) refl)
 
 -- the case that would be stranded is there
 pub stranding_there : {X : Type 0} (p : PolicyShape) (t : CasesShape) (what : Ask) (n : ℕ) (tree : Tree) → AscendFrom 0 t.rows →
@@ -210,24 +175,6 @@ edition_taken p q before after edits live what edition kept sound rows is policy
     valid : ArePlansOf (amended p a) (open_cases b.cases) edition.plans
     valid = subst (λ x. ArePlansOf x (open_cases b.cases) edition.plans) change.policy change.plans
 
--- ---- answers without a verdict
-
-pub needs_alone : (p : PolicyShape) (t : CasesShape) (decision : Result Deed Denial) (d : Deed) → decision ≡ Ok d → needs_plan d ≡ true → HasAnsweredAlone p t t decision Needs
-needs_alone p t decision d is needs = (ap needs_verdict is ∙ needs, refl)
-
-pub done_alone : (p : PolicyShape) (before after : CasesShape) (decision : Result Deed Denial) (d : Deed) (given : Reply) → decision ≡ Ok d → needs_plan d ≡ false →
-    HasTakenStep p before after (Ok d) given → ¬ (given ≡ reply.NoMemory) → HasAnsweredAlone p before after decision (Done given)
-done_alone p before after decision d given is needs taken memory =
-    (subst (λ x. HasTakenStep p before after x given) (sym is) taken, (ap needs_verdict is ∙ needs, λ short. absurd (memory short)))
-
-pub denied_alone : (p : PolicyShape) (t : CasesShape) (decision : Result Deed Denial) (d : Denial) → decision ≡ Err d → IsKept p t → HasAnsweredAlone p t t decision (Done (reply.Denied d))
-denied_alone p t decision d is kept =
-    (subst (λ x. HasTakenStep p t t x (reply.Denied d)) (sym is) (denied_taken p t d kept), (ap needs_verdict is, λ short. cc))
-
-pub short_alone : (p : PolicyShape) (t : CasesShape) (decision : Result Deed Denial) → takes_memory decision ≡ true → IsKept p t → HasAnsweredAlone p t t decision (Done reply.NoMemory)
-short_alone p t (Ok d) takes kept = cc
-short_alone p t (Err d) takes kept = (same_taken p t (Err d) reply.NoMemory kept (λ edits. inr refl) (λ s. refl), (refl, λ short. (takes, refl)))
-
 -- ---- answers
 
 -- an answer takes one place at most
@@ -235,98 +182,6 @@ pub one_at_most : (before after : ℕ) (given : Answered) → before ≤ after +
 one_at_most before after Needs room = let none : before ≤ after + 0 = room in omega (arith, none)
 one_at_most before after (Done (reply.Opened n plan)) room = room
 one_at_most before after (Done given) room = let none : before ≤ after + 0 = room in omega (arith, none)
-
-pub reply_of : (a b : Reply) → Done a ≡ Done b → a ≡ b
-reply_of a b h = cc
-
--- a step that was taken by a verdict
-pub verdict_answers : (p : PolicyShape) (before after : CasesShape) (what : Ask) (v : Verdict) (given : Reply) → ¬ (v ≡ verdict.Nothing) → HasTakenStep p before after (decision_of (book_of p before) what) given →
-    (needs_verdict (decision_of (book_of p before) what) ≡ true → IsMadeOf v given) →
-    (given ≡ reply.NoMemory → (is_opening (decision_of (book_of p before) what) ≡ true) × (before.spare ≡ 0)) → (given ≡ reply.NoMemory → after ≡ before) →
-    HasAnsweredBy p before after what v (Done given)
-verdict_answers p before after what v given some taken made memory lacking = record {
-  kept = taken.kept;
-  answered = λ edits. (taken.step edits, taken.next edits);
-  needs = λ needed none. absurd (some none);
-  made = made;
-  memory = λ edits short. inr (inr (memory (reply_of given reply.NoMemory short)));
-  lacking = λ short. lacking (reply_of given reply.NoMemory short);
-  room = taken.room;
-}
-
-pub nothing_answers : (p : PolicyShape) (before after : CasesShape) (what : Ask) (given : Answered) → IsKept p before → HasAnsweredAlone p before after (decision_of (book_of p before) what) given →
-    HasAnsweredBy p before after what verdict.Nothing given
-nothing_answers p before after what Needs kept alone = record {
-  kept = subst (IsKept p) (sym alone.1) kept;
-  answered = λ edits. (alone.0, (refl, ap (λ (t : CasesShape). board_of p t edits) alone.1));
-  needs = λ needed none. refl;
-  made = λ needed. refl;
-  memory = λ edits short. cc;
-  lacking = λ short. cc;
-  room = let same = ap (λ (t : CasesShape). t.spare) alone.1 in omega (arith, same);
-}
-nothing_answers p before after what (Done given) kept alone = record {
-  kept = alone.0.kept;
-  answered = λ edits. (alone.0.step edits, alone.0.next edits);
-  needs = λ needed none. apart needed;
-  made = λ needed. apart needed;
-  memory = λ edits short. inr (inl (alone.1.1 (reply_of given reply.NoMemory short)).0);
-  lacking = λ short. (alone.1.1 (reply_of given reply.NoMemory short)).1;
-  room = alone.0.room;
-}
-  where
-    apart : {X : Type 0} → needs_verdict (decision_of (book_of p before) what) ≡ true → X
-    apart needed = let is : true ≡ false = sym needed ∙ alone.1.0 in cc
-
-pub short_answers : (p : PolicyShape) (before after : CasesShape) (what : Ask) (given : Reply) → HasAnsweredAlone p before after (decision_of (book_of p before) what) (Done given) →
-    HasAnsweredBy p before after what verdict.NoMemory (Done given)
-short_answers p before after what given alone = record {
-  kept = alone.0.kept;
-  answered = λ edits. (alone.0.step edits, alone.0.next edits);
-  needs = λ needed none. cc;
-  made = λ needed. apart needed;
-  memory = λ edits short. inr (inl (alone.1.1 (reply_of given reply.NoMemory short)).0);
-  lacking = λ short. (alone.1.1 (reply_of given reply.NoMemory short)).1;
-  room = alone.0.room;
-}
-  where
-    apart : {X : Type 0} → needs_verdict (decision_of (book_of p before) what) ≡ true → X
-    apart needed = let is : true ≡ false = sym needed ∙ alone.1.0 in cc
-
--- want of memory, where a verdict is needed
-pub short_step : (p : PolicyShape) (t : CasesShape) (decision : Result Deed Denial) → needs_verdict decision ≡ true → IsKept p t → HasTakenStep p t t decision reply.NoMemory
-short_step p t (Ok d) needed kept = same_taken p t (Ok d) reply.NoMemory kept (λ edits. no_memory_replies (state_on (board_of p t edits)) d) (λ s. no_memory_stays s d)
-  where
-    no_memory_replies : (s : State) (d : Deed) → Answers s (Ok d) reply.NoMemory
-    no_memory_replies s d = tt
-
-    no_memory_stays : (s : State) (d : Deed) → state_after_decision s (Ok d) reply.NoMemory ≡ s
-    no_memory_stays s (deed.Open f) = refl
-    no_memory_stays s (deed.Claim n c t u) = refl
-    no_memory_stays s (deed.Finish n c t u) = refl
-    no_memory_stays s (deed.GiveBack n c t u) = refl
-    no_memory_stays s (deed.Release n c t) = refl
-    no_memory_stays s (deed.Withdraw n) = refl
-    no_memory_stays s (deed.Change a) = refl
-    no_memory_stays s (deed.Show c) = refl
-    no_memory_stays s (deed.Work u) = refl
-    no_memory_stays s (deed.WhatIf a) = refl
-    no_memory_stays s (deed.TurnAway bad) = refl
-short_step p t (Err d) needed kept = cc
-
-pub memory_answers : (p : PolicyShape) (before after : CasesShape) (what : Ask) → IsKept p before → HasAnsweredAlone p before after (decision_of (book_of p before) what) Needs →
-    HasAnsweredBy p before after what verdict.NoMemory (Done reply.NoMemory)
-memory_answers p before after what kept alone =
-    let taken = short_step p before (decision_of (book_of p before) what) alone.0 kept in
-    subst (λ (t : CasesShape). HasAnsweredBy p before t what verdict.NoMemory (Done reply.NoMemory)) (sym alone.1) record {
-      kept = kept;
-      answered = λ edits. (taken.step edits, taken.next edits);
-      needs = λ needed none. cc;
-      made = λ needed. tt;
-      memory = λ edits short. inl (refl, alone.0);
-      lacking = λ short. refl;
-      room = omega arith;
-    }
 
 -- ---- the state of a board
 

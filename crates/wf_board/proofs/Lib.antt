@@ -15,10 +15,12 @@ pub mod Grants
 pub mod Rows
 pub mod Planned
 pub mod Answering
+pub mod PlansKept
 pub mod Deeds
 pub mod Unhurt
 pub mod Fixed
 pub mod Admission
+pub mod Admitted
 pub mod Below
 pub mod Faring
 pub mod Numbers

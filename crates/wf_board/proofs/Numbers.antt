@@ -8,6 +8,7 @@ use Rattle.policy_book.specs.Policies.{flow_at}
 use Rattle.case_record.specs.Cases.{CaseShape, fresh_case}
 use Rattle.grant_table.specs.Lookup.{look_up}
 use Rattle.wf_talk.specs.declared.entry.Entry.{Entry}
+use Rattle.wf_talk.specs.declared.request.Ask.{Ask}
 use Rattle.wf_talk.specs.declared.reply.Reply.{Reply}
 use Rattle.wf_talk.specs.declared.reply.Reply.TheVariants as reply
 use Rattle.wf_talk.specs.declared.reply.Denial.{Denial}
@@ -73,9 +74,12 @@ decision_numbered : (s : State) (decision : Result Deed Denial) (answer : Reply)
 decision_numbered s (Ok given) answer is = deed_numbered s given answer is
 decision_numbered s (Err d) answer is = is
 
+pub step_numbered : (s : State) (what : Ask) (answer : Reply) → AreCasesNumbered s → AreCasesNumbered (state_after_step s what answer)
+step_numbered s what answer is = decision_numbered s (decision_of s.book what) answer is
+
 history_numbered : (s : State) (entries : List Entry) → AreCasesNumbered s → AreCasesNumbered (state_after s entries)
 history_numbered s [] is = is
-history_numbered s (e ∷ es) is = history_numbered (state_after_step s e.ask e.reply) es (decision_numbered s (decision_of s.book e.ask) e.reply is)
+history_numbered s (e ∷ es) is = history_numbered (state_after_step s e.ask e.reply) es (step_numbered s e.ask e.reply is)
 
 pub histories_number_cases : HistoriesNumberCases
 histories_number_cases p entries = history_numbered (opening_state p) entries (record { order = tt; next = refl })

@@ -72,7 +72,7 @@ changed_state p t n f g same changes edits =
     λ i. record { book = record { policy = p; cases = numbered_changed n f g t.rows same changes i; ever = t.ever }; edits = edits }
 
 pub held_keeps : (p : PolicyShape) (t : CasesShape) (n : ℕ) (c : CaseShape) (s u : ℕ) (plan : List ℕ) → IsKept p t → AreFound p t.rows n c s u → state_at c s ≡ Free →
-    IsValidPlan (problem_of p c.flow) (assigned_with c s u) (finished_of c) plan → HasChanged p t (with_row t n (held_row s u plan)) n (λ d. with_state d s (Held u))
+    IsValidPlan (problem_of p c.flow) (assigned_with c s u) (finished_of c) plan → HasChanged p t (with_row t n (held_row s u plan)) n (held_row s u plan) (λ d. with_state d s (Held u))
 held_keeps p t n c s u plan kept found free valid = record {
   kept = changed_keeps p t n c (held_row s u plan) kept found.case.found (λ r. refl)
       (λ r is known before. subst (λ d. IsKeptRow p (with_state d s (Held u)) (Some plan)) (sym is) (
@@ -80,6 +80,7 @@ held_keeps p t n c s u plan kept found free valid = record {
         valid_claimed (problem_of p c.flow) c s u plan found.step free valid,
       ));
   next = changed_state p t n (held_row s u plan) (λ d. with_state d s (Held u)) (λ r. refl) (λ r. refl);
+  rows = refl;
   spare = refl;
 }
 
@@ -90,7 +91,7 @@ finished_planned p c s None live held planned true still = live_apart c live pla
 finished_planned p c s (Some plan) live held planned true still = valid_finished (problem_of p c.flow) c s plan held planned
 
 pub finished_keeps : (p : PolicyShape) (t : CasesShape) (n : ℕ) (c : CaseShape) (s : ℕ) → IsKept p t → IsOpenAt p t.rows n c → is_held (state_at c s) ≡ true →
-    HasChanged p t (with_row t n (finished_row s)) n (λ d. finished_case d s)
+    HasChanged p t (with_row t n (finished_row s)) n (finished_row s) (λ d. finished_case d s)
 finished_keeps p t n c s kept found held = record {
   kept = changed_keeps p t n c (finished_row s) kept found.found (λ r. refl)
       (λ r is known before. subst (λ d. IsKeptRow p (finished_case d s) (plan_while (is_open (finished_case d s)) r.plan)) (sym is) (
@@ -98,6 +99,7 @@ finished_keeps p t n c s kept found held = record {
         finished_planned p c s r.plan found.live held before (is_open (finished_case c s)) refl,
       ));
   next = changed_state p t n (finished_row s) (λ d. finished_case d s) (λ r. refl) (λ r. refl);
+  rows = refl;
   spare = refl;
 }
 
@@ -106,7 +108,7 @@ freed_planned p c s None held planned = planned
 freed_planned p c s (Some plan) held planned = valid_freed (problem_of p c.flow) c s plan held planned
 
 pub freed_keeps : (p : PolicyShape) (t : CasesShape) (n : ℕ) (c : CaseShape) (s : ℕ) → IsKept p t → IsOpenAt p t.rows n c → is_held (state_at c s) ≡ true →
-    HasChanged p t (with_row t n (freed_row s)) n (λ d. with_state d s Free)
+    HasChanged p t (with_row t n (freed_row s)) n (freed_row s) (λ d. with_state d s Free)
 freed_keeps p t n c s kept found held = record {
   kept = changed_keeps p t n c (freed_row s) kept found.found (λ r. refl)
       (λ r is known before. subst (λ d. IsKeptRow p (with_state d s Free) r.plan) (sym is) (
@@ -114,15 +116,17 @@ freed_keeps p t n c s kept found held = record {
         freed_planned p c s r.plan held before,
       ));
   next = changed_state p t n (freed_row s) (λ d. with_state d s Free) (λ r. refl) (λ r. refl);
+  rows = refl;
   spare = refl;
 }
 
 pub withdrawn_keeps : (p : PolicyShape) (t : CasesShape) (n : ℕ) (c : CaseShape) → IsKept p t → IsOpenAt p t.rows n c →
-    HasChanged p t (with_row t n withdrawn_row) n (λ d. with_phase d Withdrawn)
+    HasChanged p t (with_row t n withdrawn_row) n withdrawn_row (λ d. with_phase d Withdrawn)
 withdrawn_keeps p t n c kept found = record {
   kept = changed_keeps p t n c withdrawn_row kept found.found (λ r. refl)
       (λ r is known before. subst (λ d. IsKeptRow p (with_phase d Withdrawn) None) (sym is) (of_policy_in_phase p c Withdrawn known, refl));
   next = changed_state p t n withdrawn_row (λ d. with_phase d Withdrawn) (λ r. refl) (λ r. refl);
+  rows = refl;
   spare = refl;
 }
 

@@ -16,6 +16,7 @@ use Rattle.wf_board.specs.Admitting.{MayLackMemoryFor}
 use Rattle.wf_board.specs.States.{Book}
 use Rattle.wf_board.specs.Boards.{BoardShape, state_on}
 use Rattle.wf_board.specs.Decisions.{decision_of}
+use Rattle.wf_board.specs.KeptPlans.{KeepsPlans}
 use Rattle.wf_board.specs.Steps.{Answers, IsStep, room_taken, state_after_step}
 use Rattle.wf_board.specs.Taking.{board_of, HasTakenStep}
 use Rattle.wf_board.specs.Verdicts.{IsStrandingFor, IsViewFor}
@@ -54,11 +55,16 @@ IsVerdictFor b (deed.WhatIf a) (verdict.View v) = IsViewFor b (Ok (deed.WhatIf a
 IsVerdictFor b (deed.WhatIf a) v = ⊥
 IsVerdictFor b given v = Unit {0}
 
--- a board has taken a reply, or has not changed
-abbrev pub HasAdmittedStep : BoardShape → BoardShape → Ask → Reply → Result (Unit {0}) AdmitFault → Type 0
-HasAdmittedStep before after what given (Ok done) =
-    IsStep (state_on before) what given
-    × ((state_on after ≡ state_after_step (state_on before) what given) × (before.cases.spare ≤ after.cases.spare + room_taken given))
-HasAdmittedStep before after what given (Err NotStep) = (after ≡ before) × (¬ IsStep (state_on before) what given)
-HasAdmittedStep before after what given (Err NoMemory) =
+-- a board has taken the step of a reply, with a verdict
+pub record HasTakenReply (before after : BoardShape) (what : Ask) (v : Verdict) (given : Reply) : Type 0 where
+  pub step : IsStep (state_on before) what given
+  pub next : state_on after ≡ state_after_step (state_on before) what given
+  pub plans : KeepsPlans before after what v given
+  pub spare : before.cases.spare ≤ after.cases.spare + room_taken given
+
+-- it has, or it has not changed
+abbrev pub HasAdmittedStep : BoardShape → BoardShape → Ask → Verdict → Reply → Result (Unit {0}) AdmitFault → Type 0
+HasAdmittedStep before after what v given (Ok done) = HasTakenReply before after what v given
+HasAdmittedStep before after what v given (Err NotStep) = (after ≡ before) × (¬ IsStep (state_on before) what given)
+HasAdmittedStep before after what v given (Err NoMemory) =
     (after ≡ before) × MayLackMemoryFor before.cases.spare (decision_of (state_on before).book what)

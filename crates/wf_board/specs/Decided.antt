@@ -37,55 +37,63 @@ pub record IsDecision (given : Reply) : Type 0 where
   pub memory : ¬ (given ≡ reply.NoMemory)
 
 -- the tree refutes, and there is no valid plan
-pub record IsRefuted (p : Problem) (assigned : List (Option ℕ)) (finished : List Bool) (tree : Tree) : Type 0 where
+pub record IsRefuted (p : Problem) (assigned : List (Option ℕ)) (finished : List Bool) (tree : Tree)
+    : Type 0 where
   pub refutes : IsTrue (refutes p assigned finished (shape_of tree))
   pub incomplete : ¬ IsCompletable p assigned finished
 
--- the case with this number, of this workflow, is open and cannot be completed, as the tree shows; each open case with a
--- lesser number can be
+-- the case with this number, of this workflow, is open and cannot be completed, as the tree shows;
+-- each open case with a lesser number can be
 pub record IsLeastStranded (s : State) (n f : ℕ) (tree : Tree) : Type 0 where
   pub case : CaseShape
   pub its_case : numbered_case s.book.cases n ≡ Some case
   pub live : is_open case ≡ true
   pub flow : case.flow ≡ f
-  pub refuted : IsRefuted (problem_of s.book.policy case.flow) (assigned_of case) (finished_of case) tree
-  pub least : (m : ℕ) (other : CaseShape) → m < n → numbered_case s.book.cases m ≡ Some other → is_open other ≡ true →
-      CanBeCompleted s.book.policy other
+  pub refuted :
+      IsRefuted (problem_of s.book.policy case.flow) (assigned_of case) (finished_of case) tree
+  pub least : (m : ℕ) (other : CaseShape) → m < n → numbered_case s.book.cases m ≡ Some other →
+      is_open other ≡ true → CanBeCompleted s.book.policy other
 
--- a claim that names an open case, one of its steps and a user, and is decided, is granted exactly where its user is
--- authorised, its step is ready, and its case can then be completed
+-- a claim that names an open case, one of its steps and a user, and is decided, is granted exactly
+-- where its user is authorised, its step is ready, and its case can then be completed
 abbrev pub IsGrantExact : State → Ask → Reply → Type 0
 IsGrantExact s what given =
     (n : ℕ) (step user : List ℕ) (c : CaseShape) (t u : ℕ) →
-    what ≡ ask.Request (request.Claim n step user) → AreNamed s.book n step user c t u → IsDecision given →
+    what ≡ ask.Request (request.Claim n step user) → AreNamed s.book n step user c t u →
+    IsDecision given →
     ((plan : List ℕ) × (given ≡ reply.Granted plan)) ↔ MayBeGranted s.book.policy c t u
 
--- it is accepted exactly where each open case can be completed under the changed policy, and else the least case is named
--- that cannot be
+-- the edit is accepted exactly where each open case can be completed under the policy with this
+-- change, and else denied by the least case that cannot be
 pub record IsChangeExact (s : State) (a : Amendment) (given : Reply) : Type 0 where
   pub accepted : ((number : ℕ) × (given ≡ reply.Edited number)) ↔ KeepsCompletable (with_edited s a)
   pub strands : ¬ KeepsCompletable (with_edited s a) →
-      (n : ℕ) × ((f : ℕ) × ((tree : Tree) × ((given ≡ reply.Denied (denial.Strands n f tree)) × IsLeastStranded (with_edited s a) n f tree)))
+      (n : ℕ) × ((f : ℕ) × ((tree : Tree) × ((given ≡ reply.Denied (denial.Strands n f tree))
+      × IsLeastStranded (with_edited s a) n f tree)))
 
 -- so is an edit against which no other cause stands, and which is decided
 abbrev pub IsEditExact : State → Ask → Reply → Type 0
 IsEditExact s what given =
     (by : List ℕ) (edit : Edit) (a : Amendment) →
-    what ≡ ask.Request (request.Change by edit) → amendment_of s.book.policy by edit ≡ Ok a → IsDecision given →
-    IsChangeExact s a given
+    what ≡ ask.Request (request.Change by edit) → amendment_of s.book.policy by edit ≡ Ok a →
+    IsDecision given → IsChangeExact s a given
 
--- what a request asks for is denied by a tree: there is no cause against it, and no valid plan for it
+-- what a request asks for is denied by a tree: no cause is against it, and there is no valid plan
 abbrev pub IsDeniedByTree : State → Result Deed Denial → Denial → Type 0
-IsDeniedByTree s (Ok (deed.Open f)) (denial.Unsatisfiable g tree) = (g ≡ f) × IsRefuted (problem_of s.book.policy f) no_users no_steps tree
+IsDeniedByTree s (Ok (deed.Open f)) (denial.Unsatisfiable g tree) =
+    (g ≡ f) × IsRefuted (problem_of s.book.policy f) no_users no_steps tree
 IsDeniedByTree s (Ok (deed.Claim n c t u)) (denial.Stranded g tree) =
-    (g ≡ c.flow) × IsRefuted (problem_of s.book.policy c.flow) (assigned_with c t u) (finished_of c) tree
-IsDeniedByTree s (Ok (deed.Change a)) (denial.Strands n f tree) = IsLeastStranded (with_edited s a) n f tree
+    (g ≡ c.flow)
+    × IsRefuted (problem_of s.book.policy c.flow) (assigned_with c t u) (finished_of c) tree
+IsDeniedByTree s (Ok (deed.Change a)) (denial.Strands n f tree) =
+    IsLeastStranded (with_edited s a) n f tree
 IsDeniedByTree s given d = ⊥
 
 -- a denial is the first cause, or its tree refutes
 abbrev pub IsDenialExact : State → Ask → Reply → Type 0
 IsDenialExact s what given =
-    (d : Denial) → given ≡ reply.Denied d → (decision_of s.book what ≡ Err d) ⊎ IsDeniedByTree s (decision_of s.book what) d
+    (d : Denial) → given ≡ reply.Denied d →
+    (decision_of s.book what ≡ Err d) ⊎ IsDeniedByTree s (decision_of s.book what) d
 
 -- a reply decides exactly what was asked
 pub record IsExact (s : State) (what : Ask) (given : Reply) : Type 0 where
@@ -96,4 +104,5 @@ pub record IsExact (s : State) (what : Ask) (given : Reply) : Type 0 where
 -- each of the entries is exact in the state that those before it leave
 abbrev pub AreExact : PolicyShape → List Entry → Type 0
 AreExact p entries =
-    (n : ℕ) (e : Entry) → slice_get entries n ≡ Some e → IsExact (state_after (opening_state p) (take n entries)) e.ask e.reply
+    (n : ℕ) (e : Entry) → slice_get entries n ≡ Some e →
+    IsExact (state_after (opening_state p) (take n entries)) e.ask e.reply

@@ -15,7 +15,8 @@ pub record AreNamed (b : Book) (n : ℕ) (step user : List ℕ) (c : CaseShape) 
   pub its_step : step_named b c.flow step ≡ Some t
   pub its_user : user_named b user ≡ Some u
 
--- a user is authorised for a step of a case, the step is ready, and the case can be completed with the step given to the user
+-- a user is authorised for a step of a case, the step is ready, and the case can be completed with
+-- the step given to the user
 pub record MayBeGranted (p : PolicyShape) (c : CaseShape) (t u : ℕ) : Type 0 where
   pub authorised : IsTrue (is_authorised p c.flow t u)
   pub ready : IsTrue (is_ready c (flow_at p c.flow).flow.order t)

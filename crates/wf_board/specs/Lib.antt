@@ -10,6 +10,7 @@ pub mod Histories
 pub mod Kept
 pub mod Found
 pub mod Boards
+pub mod KeptPlans
 pub mod Verdicts
 pub mod Deeds
 pub mod Admitting

@@ -6,7 +6,8 @@ use Rattle.policy_book.specs.Shapes.{PolicyShape}
 use Rattle.policy_book.specs.Plans.{IsValidPlan, Problem}
 use Rattle.policy_book.specs.Refuting.{refutes}
 use Rattle.case_record.specs.Cases.{CaseShape}
-use Rattle.grant_table.specs.Tables.{CasesShape}
+use Rattle.grant_table.specs.declared.rows.Row.{Row}
+use Rattle.grant_table.specs.Tables.{CasesShape, change_row}
 use Rattle.wf_talk.specs.declared.request.Ask.{Ask}
 use Rattle.wf_talk.specs.declared.reply.Reply.{Reply}
 use Rattle.wf_talk.specs.declared.reply.Reply.TheVariants as reply
@@ -22,6 +23,7 @@ use Rattle.wf_board.specs.declared.verdict.Answered.{Answered}
 use Rattle.wf_board.specs.declared.verdict.Answered.TheVariants.{Done, Needs}
 use Rattle.wf_board.specs.States.{Book}
 use Rattle.wf_board.specs.Boards.{BoardShape, book_of, state_on}
+use Rattle.wf_board.specs.KeptPlans.{rows_after}
 use Rattle.wf_board.specs.Decisions.{cause_aside, cause_full, decision_of, needs_verdict, takes_memory, unless_denied}
 use Rattle.wf_board.specs.Steps.{Answers, room_taken, state_after_decision, with_changed}
 use Rattle.wf_board.specs.Kept.{AreNumbered, ArePlanned}
@@ -79,11 +81,13 @@ pub record HasTakenStep (p : PolicyShape) (before after : CasesShape) (decision 
   pub kept : IsKept p after
   pub step : (edits : ℕ) → Answers (state_on (board_of p before edits)) decision given
   pub next : (edits : ℕ) → state_on (board_of p after edits) ≡ state_after_decision (state_on (board_of p before edits)) decision given
+  pub rows : after.rows ≡ rows_after p before decision given
   pub room : before.spare ≤ after.spare + room_taken given
 
--- one case was changed
-pub record HasChanged (p : PolicyShape) (before after : CasesShape) (n : ℕ) (change : CaseShape → CaseShape) : Type 0 where
+-- one case was changed, and its row so
+pub record HasChanged (p : PolicyShape) (before after : CasesShape) (n : ℕ) (row : Row → Row) (change : CaseShape → CaseShape) : Type 0 where
   pub kept : IsKept p after
+  pub rows : after.rows ≡ change_row n row before.rows
   pub next : (edits : ℕ) → state_on (board_of p after edits) ≡ with_changed (state_on (board_of p before edits)) n change
   pub spare : after.spare ≡ before.spare
 
@@ -94,6 +98,11 @@ HasAnsweredAlone p before after decision (Done given) =
     HasTakenStep p before after decision given
     × ((needs_verdict decision ≡ false) × (given ≡ reply.NoMemory → (takes_memory decision ≡ true) × (after ≡ before)))
 
+-- the rows are those that the deed leaves, where there is a reply
+abbrev pub HasRowsAfter : PolicyShape → CasesShape → CasesShape → Result Deed Denial → Answered → Type 0
+HasRowsAfter p before after decision Needs = after.rows ≡ before.rows
+HasRowsAfter p before after decision (Done given) = after.rows ≡ rows_after p before decision given
+
 -- all that a board promises of an answer
 pub record HasAnsweredBy (p : PolicyShape) (before after : CasesShape) (what : Ask) (v : Verdict) (given : Answered) : Type 0 where
   pub kept : IsKept p after
@@ -102,4 +111,5 @@ pub record HasAnsweredBy (p : PolicyShape) (before after : CasesShape) (what : A
   pub made : needs_verdict (decision_of (book_of p before) what) ≡ true → HasUsed v given
   pub memory : (edits : ℕ) → given ≡ Done reply.NoMemory → MayLackMemory (board_of p before edits) what v
   pub lacking : given ≡ Done reply.NoMemory → after ≡ before
+  pub rows : HasRowsAfter p before after (decision_of (book_of p before) what) given
   pub room : before.spare ≤ after.spare + room_used given

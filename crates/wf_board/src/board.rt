@@ -1,5 +1,5 @@
 //! The board: a policy and its cases.
-ghost use Rattle.std.specs.Prelude.{◌≡◌, ◌≢◌, ◌<◌, ◌≤◌, ◌+◌, ◌↔◌, true, IfOk, IsErrOf, OnErr, OnOk};
+ghost use Rattle.std.specs.Prelude.{◌≡◌, ◌≢◌, ◌<◌, ◌≤◌, ◌+◌, ◌↔◌, map, true, IfOk, IsErrOf, OnErr, OnOk, Some};
 ghost use Rattle.std.specs.Arc.{arc_value};
 ghost use Rattle.wf_board.specs.Admission.{HasAdmittedStep};
 ghost use Rattle.wf_board.specs.Admitting.{HasVerdict, MayLackMemoryFor};
@@ -7,6 +7,7 @@ ghost use Rattle.wf_board.specs.Boards.{book_of, state_on};
 ghost use Rattle.wf_board.specs.Decisions.{decision_aside, decision_of, needs_plan, needs_verdict};
 ghost use Rattle.wf_board.specs.Deeds.{answered_of, is_over_open, FitsDeed, HasStepped, IsUndecided};
 ghost use Rattle.wf_board.specs.Found.{IsFound};
+ghost use Rattle.wf_board.specs.KeptPlans.{kept_plans, KeepsPlans, KeepsPlansBy};
 ghost use Rattle.wf_board.specs.Kept.{AreNumbered, ArePlanned, IsSoundState, KeepsCompletable};
 ghost use Rattle.wf_board.specs.States.{opening_state};
 ghost use Rattle.wf_board.specs.Steps.{room_taken, state_after_step, IsStep};
@@ -99,6 +100,7 @@ impl Board {
         ensures memory { result ≡ Answered.Done Reply.NoMemory
             → MayLackMemory self.old ask.now verdict }
         ensures lacking { result ≡ Answered.Done Reply.NoMemory → self.new ≡ self.old }
+        ensures plans { KeepsPlansBy self.old self.new ask.now verdict result }
         ensures room { self.old.cases.spare ≤ self.new.cases.spare + 1 }
         ensures spare { self.old.cases.spare ≤ self.new.cases.spare + room_used result }
     {
@@ -130,6 +132,7 @@ impl Board {
         ensures step { OnOk result (IsStep (state_on self.old) ask.now reply.now) }
         ensures next { OnOk result
             (state_on self.new ≡ state_after_step (state_on self.old) ask.now reply.now) }
+        ensures plans { OnOk result (KeepsPlans self.old self.new ask.now verdict reply.now) }
         ensures none { IsErrOf result AdmitFault.NotStep
             → ¬ IsStep (state_on self.old) ask.now reply.now }
         ensures memory { IsErrOf result AdmitFault.NoMemory
@@ -155,7 +158,7 @@ impl Board {
         requires right { IsRight (state_on self.old).book ask.now verdict.now }
         requires same { keeps_policy verdict.now ≡ true }
         requires verdict { HasVerdict (state_on self.old) ask.now reply.now verdict.now }
-        ensures { HasAdmittedStep self.old self.new ask.now reply.now result }
+        ensures { HasAdmittedStep self.old self.new ask.now verdict.now reply.now result }
     {
         let policy: &Policy = &self.policy;
         admit(alloc, policy, &mut self.cases, ask, reply, verdict)
@@ -166,7 +169,8 @@ impl Board {
         requires right { IsEditionFor (state_on self.old).book
             (decision_aside (state_on self.old).book ask.now) edition }
         requires few { self.old.edits < 4294967295 }
-        ensures { HasAdmittedStep self.old self.new ask.now reply.now result }
+        ensures { HasAdmittedStep self.old self.new ask.now (Verdict.Edited edition)
+            reply.now result }
     {
         let _sound = self.policy();
         match reply {
@@ -181,7 +185,8 @@ impl Board {
         requires right { IsEditionFor (state_on self.old).book
             (decision_aside (state_on self.old).book ask.now) edition }
         requires few { self.old.edits < 4294967295 }
-        ensures { HasAdmittedStep self.old self.new ask.now (Reply.Edited number) result }
+        ensures { HasAdmittedStep self.old self.new ask.now (Verdict.Edited edition)
+            (Reply.Edited number) result }
     {
         if number != self.edits + 1 {
             return Err(AdmitFault::NotStep);
@@ -198,6 +203,7 @@ impl Board {
         requires few { self.old.edits < 4294967295 }
         ensures answered { HasAnswered self.old self.new ask.now (Verdict.Edited edition)
             (Answered.Done (Reply.Edited result)) }
+        ensures plans { kept_plans self.new.cases.rows ≡ map Some edition.plans }
         ensures number { result ≡ self.old.edits + 1 }
         ensures spare { self.new.cases.spare ≡ self.old.cases.spare }
     {
@@ -252,6 +258,7 @@ impl Board {
         requires right { IsRight (state_on self.old).book ask.now verdict }
         requires few { self.old.edits < 4294967295 }
         ensures decided { IsDecided self.old ask.now verdict result }
+        ensures plans { KeepsPlans self.old self.new ask.now verdict result }
         ensures next { state_on self.new ≡ state_after_step (state_on self.old) ask.now result }
         ensures lacking { result ≡ Reply.NoMemory → self.new ≡ self.old }
         ensures room { self.old.cases.spare ≤ self.new.cases.spare + 1 }
@@ -271,6 +278,7 @@ impl Board {
         requires ready { V.ready decider.now }
         requires few { self.old.edits < 4294967295 }
         ensures decided { IsDecided self.old ask.now Verdict.Nothing result }
+        ensures plans { KeepsPlans self.old self.new ask.now Verdict.Nothing result }
         ensures next { state_on self.new ≡ state_after_step (state_on self.old) ask.now result }
         ensures lacking { result ≡ Reply.NoMemory → self.new ≡ self.old }
         ensures room { self.old.cases.spare ≤ self.new.cases.spare + 1 }
@@ -286,6 +294,8 @@ impl Board {
     /// deed, and nothing changes.
     pub fn step(&mut self, alloc: Global, ask: &Ask) -> Stepped
         ensures stepped { HasStepped self.old self.new ask.now result }
+        ensures plans { KeepsPlansBy self.old self.new ask.now Verdict.Nothing
+            (answered_of result) }
         ensures lacking { result ≡ Stepped.Done Reply.NoMemory → self.new ≡ self.old }
         ensures room { self.old.cases.spare ≤ self.new.cases.spare + 1 }
         ensures spare { self.old.cases.spare
@@ -303,6 +313,7 @@ impl Board {
         requires few { self.old.edits < 4294967295 }
         ensures step { IsStep (state_on self.old) ask.now result }
         ensures next { state_on self.new ≡ state_after_step (state_on self.old) ask.now result }
+        ensures plans { KeepsPlans self.old self.new ask.now Verdict.Nothing result }
         ensures lacking { result ≡ Reply.NoMemory → self.new ≡ self.old }
         ensures room { self.old.cases.spare ≤ self.new.cases.spare + 1 }
         ensures spare { self.old.cases.spare ≤ self.new.cases.spare + room_taken result }
@@ -324,6 +335,7 @@ impl Board {
         requires few { self.old.edits < 4294967295 }
         ensures step { IsStep (state_on self.old) ask.now result }
         ensures next { state_on self.new ≡ state_after_step (state_on self.old) ask.now result }
+        ensures plans { KeepsPlans self.old self.new ask.now verdict result }
         ensures lacking { result ≡ Reply.NoMemory → self.new ≡ self.old }
         ensures room { self.old.cases.spare ≤ self.new.cases.spare + 1 }
         ensures spare { self.old.cases.spare ≤ self.new.cases.spare + room_taken result }
@@ -345,6 +357,7 @@ impl Board {
         requires few { self.old.edits < 4294967295 }
         ensures step { IsStep (state_on self.old) ask.now result }
         ensures next { state_on self.new ≡ state_after_step (state_on self.old) ask.now result }
+        ensures plans { KeepsPlans self.old self.new ask.now Verdict.Nothing result }
         ensures lacking { result ≡ Reply.NoMemory → self.new ≡ self.old }
         ensures spare { self.new.cases.spare ≡ self.old.cases.spare }
     {

@@ -11,6 +11,7 @@ mod decider;
 mod decision;
 mod deed;
 mod edition;
+mod flows;
 mod granted;
 mod harmless;
 pub mod laws;

@@ -7,6 +7,7 @@ ghost use Rattle.constraint_forms.specs.Assigned.{no_steps, no_users};
 ghost use Rattle.policy_book.specs.Plans.{IsValidPlan};
 ghost use Rattle.policy_book.specs.Policies.{problem_of};
 ghost use Rattle.case_record.specs.Cases.{finished_of, state_at, with_phase, with_state, CaseShape};
+ghost use Rattle.grant_table.specs.Tables.{freed_row, withdrawn_row};
 ghost use Rattle.denial_reasons.specs.Causes.{assigned_with};
 ghost use Rattle.wf_board.specs.declared.deed.Deed.TheVariants as deeds;
 ghost use Rattle.wf_board.specs.declared.verdict.Verdict.TheVariants as verdicts;
@@ -365,7 +366,7 @@ pub(crate) fn give_back(p: &Policy, cases: &mut Cases, n: CaseId, case: &Case, s
     requires kept { IsKept p.now cases.old }
     requires found { IsOpenAt p.now cases.old.rows n case.now }
     requires held { is_held (state_at case.now s) ≡ true }
-    ensures { HasChanged p.now cases.old cases.new n (λ c. with_state c s FreeStep) }
+    ensures { HasChanged p.now cases.old cases.new n (freed_row s) (λ c. with_state c s FreeStep) }
 {
     let _ = p;
     let _ = case;
@@ -376,7 +377,8 @@ pub(crate) fn give_back(p: &Policy, cases: &mut Cases, n: CaseId, case: &Case, s
 pub(crate) fn withdraw(p: &Policy, cases: &mut Cases, n: CaseId)
     requires kept { IsKept p.now cases.old }
     requires found { (c : CaseShape) × IsOpenAt p.now cases.old.rows n c }
-    ensures { HasChanged p.now cases.old cases.new n (λ c. with_phase c WithdrawnCase) }
+    ensures { HasChanged p.now cases.old cases.new n withdrawn_row
+        (λ c. with_phase c WithdrawnCase) }
 {
     let _ = p;
     cases.withdraw(n);

@@ -1,6 +1,7 @@
 use Rattle.std.proofs.Common.{Ok, refl, sym, subst}
 use Rattle.wf_names.specs.declared.states.StepState.TheVariants.{Free}
 use Rattle.case_record.specs.Cases.{with_state}
+use Rattle.grant_table.specs.Tables.{freed_row}
 use Rattle.wf_talk.specs.declared.reply.Reply.TheVariants as replies
 use Rattle.wf_board.specs.declared.deed.Deed.TheVariants as deeds
 use Rattle.wf_board.specs.Taking.{HasTakenStep}
@@ -11,4 +12,4 @@ pub returns-in-Returned : goal.returns-in-Returned
 returns-in-Returned c =
     let d = Ok (deeds.GiveBack c.args.n c.args.case.now c.args.s c.args.u) in
     subst (λ r. HasTakenStep c.args.p.now c.args.cases.now c.give_back.new.cases d r) (sym c.in-Returned.is)
-    (changed_taken c.args.p.now c.args.cases.now c.give_back.new.cases c.args.n (λ k. with_state k c.args.s Free) d replies.Returned c.give_back.ensures (λ edits. tt) (λ s. refl))
+    (changed_taken c.args.p.now c.args.cases.now c.give_back.new.cases c.args.n (freed_row c.args.s) (λ k. with_state k c.args.s Free) d replies.Returned c.give_back.ensures (λ edits. tt) (λ s. refl) refl)

@@ -1,6 +1,7 @@
 use Rattle.std.proofs.Common.{Ok, refl, sym, subst}
 use Rattle.wf_names.specs.declared.states.StepState.TheVariants.{Held}
 use Rattle.case_record.specs.Cases.{with_state}
+use Rattle.grant_table.specs.Tables.{held_row}
 use Rattle.wf_talk.specs.declared.reply.Reply.TheVariants as replies
 use Rattle.wf_board.specs.declared.deed.Deed.TheVariants as deeds
 use Rattle.wf_board.specs.Taking.{HasTakenStep}
@@ -14,6 +15,6 @@ returns c =
     let k = c.args.case.now in
     let decision = Ok (deeds.Claim c.args.n k c.args.s c.args.u) in
     subst (λ t. HasTakenStep p c.args.cases.now t decision (replies.Granted c.args.plan)) (sym c.hold.ensures)
-    (changed_taken p c.args.cases.now _ c.args.n (λ d. with_state d c.args.s (Held c.args.u)) decision (replies.Granted c.args.plan)
+    (changed_taken p c.args.cases.now _ c.args.n (held_row c.args.s c.args.u c.args.plan) (λ d. with_state d c.args.s (Held c.args.u)) decision (replies.Granted c.args.plan)
     (held_keeps p c.args.cases.now c.args.n k c.args.s c.args.u c.args.plan c.requires.kept c.requires.found c.requires.free c.requires.valid)
-    (λ edits. c.requires.valid) (λ s. refl))
+    (λ edits. c.requires.valid) (λ s. refl) refl)

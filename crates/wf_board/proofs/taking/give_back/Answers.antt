@@ -1,7 +1,7 @@
 use Rattle.std.proofs.Common.{sym, subst}
 use Rattle.wf_names.specs.declared.states.StepState.TheVariants.{Free}
 use Rattle.case_record.specs.Cases.{with_state}
-use Rattle.grant_table.specs.Tables.{HasHeldStep}
+use Rattle.grant_table.specs.Tables.{freed_row, HasHeldStep}
 use Rattle.wf_board.specs.Taking.{HasChanged}
 use Rattle.wf_board.proofs.Planned.{freed_keeps, on_case}
 use Rattle.wf_board.proofs.taking.give_back.Goals as goal
@@ -12,5 +12,5 @@ give_back-requires c =
 
 pub returns : goal.returns
 returns c =
-    subst (λ t. HasChanged c.args.p.now c.args.cases.now t c.args.n (λ d. with_state d c.args.s Free)) (sym c.give_back.ensures)
+    subst (λ t. HasChanged c.args.p.now c.args.cases.now t c.args.n (freed_row c.args.s) (λ d. with_state d c.args.s Free)) (sym c.give_back.ensures)
     (freed_keeps c.args.p.now c.args.cases.now c.args.n c.args.case.now c.args.s c.requires.kept c.requires.found c.requires.held)

@@ -10,6 +10,7 @@ use Rattle.wf_board.specs.Taking.{board_of}
 use Rattle.wf_board.specs.Verdicts.{HasAnswered, IsEditionFor}
 use Rattle.wf_board.proofs.Amended.{with_plans}
 use Rattle.wf_board.proofs.Answering.{edition_taken}
+use Rattle.wf_board.proofs.PlansKept.{edition_kept}
 use Rattle.wf_board.proofs.board.Board.edit.Goals as goal
 
 pub invariant_of-self : goal.invariant_of-self
@@ -39,3 +40,10 @@ returns-clause-answered c =
     (c.replace_plans.ensures ∙ ap (with_plans t) (c.as_slice.ensures ∙ c.into_parts-policy.ensures.plans)) in
     subst (λ b. HasAnswered b (board_of q c.replace_plans.new.self (c.self.inside.edits + 1)) c.args.ask.now (verdicts.Edited c.args.edition) (Done (replies.Edited (c.self.inside.edits + 1))))
     c.self.view_is taken.1
+
+pub returns-clause-plans : goal.returns-clause-plans
+returns-clause-plans c =
+    let t = c.self.inside.cases in
+    edition_kept (arc_value c.self.inside.policy) t c.replace_plans.new.self c.args.ask.now c.args.edition
+    (subst (λ b. IsEditionFor (state_on b).book (decision_aside (state_on b).book c.args.ask.now) c.args.edition) (sym c.self.view_is) c.requires.right)
+    (c.replace_plans.ensures ∙ ap (with_plans t) (c.as_slice.ensures ∙ c.into_parts-policy.ensures.plans))
