@@ -1,0 +1,106 @@
+//! The search for the least absence that leaves no valid plan.
+ghost use Rattle.std.specs.Prelude.{◌≡◌, ◌+◌, ◌<◌, ◌≤◌, ◌^◌, ◌∷◌, ◌++◌, [], ℕ, true, false, length};
+ghost use Rattle.std.specs.Prelude.{None, Some, IfOk, OnOk};
+ghost use Rattle.resilience_check.specs.Absences.{AreUsers};
+ghost use Rattle.policy_book.specs.Policies.{problem_of};
+ghost use Rattle.resilience_check.specs.Families.{AreValidPlans};
+ghost use Rattle.resilience_check.specs.Searches.{HasTried, HasTriedOne, HasTriedWith};
+
+use crate::away::Away;
+use crate::covering::can_break;
+use crate::left::without;
+use crate::{Absent, Plans};
+use policy_book::{Assign, Policy, StepSet};
+use refutation_tree::Tree;
+use std::alloc::{AllocError, Global};
+use wf_names::{FlowId, UserId};
+use wsp_solver::{Outcome, solve};
+
+/// The first absence of so many more users, numbered from `from` on, that leaves with those who are
+/// absent already no valid plan; they are put behind these, and a tree refutes what is left. Where
+/// there is none, the family comes to have a plan for each such absence.
+#[cycle(finding)]
+pub(crate) fn first_breaking(
+    alloc: Global,
+    p: &Policy,
+    f: FlowId,
+    family: &mut Plans,
+    absent: &mut Absent,
+    from: u16,
+    left: u8,
+) -> Result<Option<Tree>, AllocError>
+    requires flow { f < length p.now.flows }
+    requires users { AreUsers (length p.now.roster.users) absent.old }
+    requires family { AreValidPlans (problem_of p.now f) family.old }
+    ensures { IfOk result (HasTried p.now f family.old absent.old from left family.new absent.new) }
+{
+    if !can_break(
+        family.as_slice(),
+        &Away::Those(absent.as_slice()),
+        from,
+        left,
+    ) {
+        return Ok(None);
+    }
+    if left == 0 {
+        return try_absence(alloc, p, f, family, absent);
+    }
+    'users: for u in from..p.roster().users().len() {
+        match with_user(alloc, p, f, family, absent, UserId(u), left - 1)? {
+            Some(tree) => return Ok(Some(tree)),
+            None => {}
+        }
+    }
+    Ok(None)
+}
+
+// The same, of absences that begin with a user.
+#[cycle(finding)]
+fn with_user(
+    alloc: Global,
+    p: &Policy,
+    f: FlowId,
+    family: &mut Plans,
+    absent: &mut Absent,
+    u: UserId,
+    left: u8,
+) -> Result<Option<Tree>, AllocError>
+    requires flow { f < length p.now.flows }
+    requires users { AreUsers (length p.now.roster.users) absent.old }
+    requires user { u < length p.now.roster.users }
+    requires room { u + 1 < 2 ^ 16 }
+    requires family { AreValidPlans (problem_of p.now f) family.old }
+    ensures { IfOk result
+        (HasTriedWith p.now f family.old absent.old u left family.new absent.new) }
+{
+    let count = absent.len();
+    absent.push(u)?;
+    let found = first_breaking(alloc, p, f, family, absent, u.0 + 1, left)?;
+    if found.is_none() {
+        absent.truncate(count);
+    }
+    Ok(found)
+}
+
+// A tree that refutes what is left without some users; or a valid plan without them, in the family.
+fn try_absence(
+    alloc: Global,
+    p: &Policy,
+    f: FlowId,
+    family: &mut Plans,
+    absent: &Absent,
+) -> Result<Option<Tree>, AllocError>
+    requires flow { f < length p.now.flows }
+    requires users { AreUsers (length p.now.roster.users) absent.now }
+    requires family { AreValidPlans (problem_of p.now f) family.old }
+    ensures { IfOk result (HasTriedOne p.now f family.old absent.now family.new) }
+{
+    let left = without(p, absent)?;
+    match solve(alloc, &left, f, &Assign::empty(), &StepSet::empty())? {
+        Outcome::Plan(plan) => {
+            family.push(plan)?;
+            Ok(None)
+        }
+        Outcome::Refuted(tree) => Ok(Some(tree)),
+    }
+}
