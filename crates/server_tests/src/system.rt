@@ -4,7 +4,7 @@
 use crate::outsides::{ample, shelf_of, words_of};
 use std::alloc::{AllocError, Global};
 use std::io;
-use std::io::{ErrorKind, Read, Write};
+use std::io::{BufWriter, ErrorKind, Read, Write};
 use std::test::Fail;
 use wf_outside::{Failed, MemShelf, Source};
 use wf_server::run_alone;
@@ -90,6 +90,17 @@ fn bytes_go_through_one_by_one(rt: HostRuntime) -> Result<(), Fail> {
     Ok(())
 }
 
+// The room, the status, and what was written where bytes are kept back until they are let go.
+#[test]
+fn a_flush_lets_go_and_tells_its_fault(rt: HostRuntime) -> Result<(), Fail> {
+    let rows = [(16, 0, "valid\n"), (5, 5, "valid"), (0, 5, "")];
+    for (room, status, output) in rows {
+        let right = answers_kept(rt.alloc(), room, status, output)?;
+        assert!(rt; right, "{room}");
+    }
+    Ok(())
+}
+
 // A slice is read to its end, and the program's name is taken off the words.
 #[test]
 fn a_reader_ends_and_the_name_is_no_word(rt: HostRuntime) -> Result<(), Fail> {
@@ -127,13 +138,34 @@ fn answers(
     Ok(ended == status && &narrow.taken[..narrow.len.min(16)] == output.as_bytes())
 }
 
-fn run(
+// The same over a writer that keeps bytes back.
+fn answers_kept(
+    alloc: Global,
+    room: usize,
+    status: u8,
+    output: &str,
+) -> Result<bool, AllocError> {
+    let words = words_of(alloc, &["plan", "policy", "one"])?;
+    let mut shelf = shelf_of(alloc, &[("policy", ONE)], ample())?;
+    let mut narrow = Narrow {
+        taken: [0; 16],
+        len: 0,
+        room,
+    };
+    let Ok(kept) = BufWriter::with_capacity(alloc, 64, &mut narrow) else {
+        return Err(AllocError);
+    };
+    let ended = run(alloc, &words, &mut shelf, r#"["kim"]"#, 99, kept);
+    Ok(ended == status && &narrow.taken[..narrow.len.min(16)] == output.as_bytes())
+}
+
+fn run<W: Write + Drop>(
     alloc: Global,
     words: &[String],
     shelf: &mut MemShelf,
     input: &'static str,
     failing: usize,
-    narrow: &mut Narrow,
+    writer: W,
 ) -> u8 {
     let bytes = input.as_bytes();
     let mut source = StdinSource::new(Dripping {
@@ -141,6 +173,6 @@ fn run(
         at: 0,
         failing,
     });
-    let mut sink = StdoutSink::new(narrow);
+    let mut sink = StdoutSink::new(writer);
     run_alone(alloc, words, shelf, &mut source, &mut sink).status
 }
