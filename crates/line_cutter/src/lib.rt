@@ -3,10 +3,12 @@
 
 mod cutter;
 mod laws;
+mod lines;
 mod stop;
 mod whole;
 
 pub use cutter::Cutter;
 pub use laws::{jobs_are_in_order, jobs_are_named};
+pub use lines::jobs_are_of_lines;
 pub use stop::Stop;
 pub use whole::{Batch, jobs_of};

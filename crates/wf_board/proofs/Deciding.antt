@@ -163,14 +163,20 @@ grant_exact s what given known step n name user c t u asked named decides =
 -- ---- denials
 
 denied_by_tree : (s : State) (made : Deed) (d : Denial) → IsKnown s → IsTold s.book made → IsReplyTo s made (reply.Denied d) → IsDeniedByTree s (Ok made) d
-denied_by_tree s (deed.Open f) (denial.Unsatisfiable g tree) known its is = (is.0, record {
-  refutes = is.1;
-  incomplete = refutes_soundly (problem_of s.book.policy f) no_users no_steps (shape_of tree) (well_formed_any s.book.policy f known.sound.policy) none_assigned is.1;
-})
-denied_by_tree s (deed.Claim n c t u) (denial.Stranded g tree) known its is = (is.0, record {
-  refutes = is.1;
-  incomplete = refuted_claim s n c t u tree known.sound its (refl, is.1);
-})
+denied_by_tree s (deed.Open f) (denial.Unsatisfiable g tree) known its is = (
+  is.0,
+  record {
+    refutes = is.1;
+    incomplete = refutes_soundly (problem_of s.book.policy f) no_users no_steps (shape_of tree) (well_formed_any s.book.policy f known.sound.policy) none_assigned is.1;
+  },
+)
+denied_by_tree s (deed.Claim n c t u) (denial.Stranded g tree) known its is = (
+  is.0,
+  record {
+    refutes = is.1;
+    incomplete = refuted_claim s n c t u tree known.sound its (refl, is.1);
+  },
+)
 denied_by_tree s (deed.Change a) (denial.Strands n f tree) known its is = least_stranded s a n f tree (sound_after s a known.sound its) known.numbers is
 denied_by_tree s made d known its is = absurd is
 
