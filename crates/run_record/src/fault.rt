@@ -1,11 +1,13 @@
 //! How a run ends, with its status and its text.
-ghost use Rattle.std.specs.Prelude.{◌≡◌};
+ghost use Rattle.std.specs.Prelude.{◌≡◌, Some};
 ghost use Rattle.run_record.specs.Fault.{status_of, reading_ended};
+ghost use Rattle.run_record.specs.Texts.{text_of};
 ghost use Rattle.run_record.specs.declared.fault.RunFault.TheVariants.{NoMemory};
 
 use policy_reader::{PolicyFault, ReadFault};
 use std::alloc::AllocError;
-use thiserror::Error;
+use std::error::Error;
+use std::fmt;
 
 /// What is wrong with the input of `plan`.
 #[derive(Clone, Copy, Debug, PartialEq, Eq)]
@@ -21,46 +23,57 @@ pub enum InputFault {
 }
 
 /// How a run ended. The text of each ending but the first two is printed to standard error.
-#[derive(Clone, Copy, Debug, Error)]
+#[derive(Clone, Copy, Debug)]
 pub enum RunFault {
     /// The command was done.
-    #[error("wfserve: done")]
     Nothing,
     /// The command was done, and found what it looks for: `plan` that the plan is not valid,
     /// `audit` a line of the transcript that has a fault or is missing. No other command ends so.
-    #[error("wfserve: found")]
     Found,
     /// The words are none of the program's commands.
-    #[error("wfserve: usage")]
     Usage,
     /// The policy file has this fault.
-    #[error("wfserve: policy {0}")]
     Policy(PolicyFault),
     /// The source failed.
-    #[error("wfserve: read fault")]
     Read,
     /// The sink failed.
-    #[error("wfserve: write fault")]
     Write,
     /// The shelf failed.
-    #[error("wfserve: load fault")]
     Load,
     /// There was no memory.
-    #[error("wfserve: no memory")]
     NoMemory,
     /// A file is longer than its limit.
-    #[error("wfserve: file too long")]
     FileTooLong,
     /// A line is longer than its limit; for `plan` the whole input counts as line 0.
-    #[error("wfserve: line {0} too long")]
     LineTooLong(u32),
     /// There are more lines than a session may have.
-    #[error("wfserve: too many lines")]
     TooManyLines,
     /// The input of `plan` has this fault.
-    #[error("wfserve: bad input")]
     BadInput(InputFault),
 }
+
+impl fmt::Display for RunFault {
+    ghost output = { λ fault. Some (text_of fault) };
+
+    fn fmt<W: fmt::Write>(&self, f: &mut fmt::Formatter<W>) -> fmt::Result {
+        match self {
+            RunFault::Nothing => f.write_str("wfserve: done"),
+            RunFault::Found => f.write_str("wfserve: found"),
+            RunFault::Usage => f.write_str("wfserve: usage"),
+            RunFault::Policy(fault) => write!(f, "wfserve: policy {fault}"),
+            RunFault::Read => f.write_str("wfserve: read fault"),
+            RunFault::Write => f.write_str("wfserve: write fault"),
+            RunFault::Load => f.write_str("wfserve: load fault"),
+            RunFault::NoMemory => f.write_str("wfserve: no memory"),
+            RunFault::FileTooLong => f.write_str("wfserve: file too long"),
+            RunFault::LineTooLong(line) => write!(f, "wfserve: line {line} too long"),
+            RunFault::TooManyLines => f.write_str("wfserve: too many lines"),
+            RunFault::BadInput(_) => f.write_str("wfserve: bad input"),
+        }
+    }
+}
+
+impl Error for RunFault {}
 
 impl RunFault {
     /// The status with which the program ends.

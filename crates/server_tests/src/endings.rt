@@ -2,8 +2,10 @@
 
 use policy_reader::{PolicyFault, PolicyKind, PolicyPart};
 use run_record::{InputFault, RunFault};
-use std::alloc::{AllocError, Global};
+use std::alloc::Global;
+use std::io;
 use std::test::Fail;
+use wf_system::write_ending;
 
 #[test]
 fn endings_have_their_texts(rt: HostRuntime) -> Result<(), Fail> {
@@ -13,8 +15,22 @@ fn endings_have_their_texts(rt: HostRuntime) -> Result<(), Fail> {
     Ok(())
 }
 
-fn has_text(alloc: Global, fault: &RunFault, text: &str) -> Result<bool, AllocError> {
-    Ok(format!(in alloc; "{fault}")?.as_str() == text)
+// What a command that was done leaves has no text to be written.
+#[test]
+fn a_done_command_has_no_text(rt: HostRuntime) -> Result<(), Fail> {
+    for fault in [RunFault::Nothing, RunFault::Found] {
+        let mut written = Vec::new(rt.alloc());
+        write_ending(&mut written, &fault)?;
+        assert!(rt; written.is_empty(), "{fault}");
+    }
+    Ok(())
+}
+
+// Whether this text is written, and a line end.
+fn has_text(alloc: Global, fault: &RunFault, text: &str) -> io::Result<bool> {
+    let mut written = Vec::new(alloc);
+    write_ending(&mut written, fault)?;
+    Ok(written.as_slice().strip_suffix(b"\n") == Some(text.as_bytes()))
 }
 
 fn endings() -> [(RunFault, &'static str); 10] {

@@ -13,7 +13,7 @@ const KEPT_BACK: usize = 65_536;
 
 fn main(rt: HostRuntime) -> ExitCode {
     let Ok(writer) = BufWriter::with_capacity(rt.alloc(), KEPT_BACK, io::writer(&rt)) else {
-        return end(&rt, RunFault::NoMemory);
+        return end(&mut rt.stderr(), RunFault::NoMemory);
     };
     let fault = match all_words(rt.alloc(), env::args(&rt)) {
         Ok(words) => {
@@ -30,5 +30,5 @@ fn main(rt: HostRuntime) -> ExitCode {
         }
         Err(fault) => fault,
     };
-    end(&rt, fault)
+    end(&mut rt.stderr(), fault)
 }

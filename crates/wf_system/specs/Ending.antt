@@ -1,5 +1,6 @@
--- Which endings have a text.
-use Rattle.std.specs.Prelude.{Bool, true, false}
+-- Which endings have a text, and what is written of them.
+use Rattle.std.specs.Prelude.{ℕ, Bool, true, false, List, [], ◌∷◌, ◌++◌, if◌then◌else◌}
+use Rattle.run_record.specs.Texts.{text_of}
 use Rattle.run_record.specs.declared.fault.RunFault.{RunFault}
 use Rattle.run_record.specs.declared.fault.RunFault.TheVariants.{Nothing, Found}
 
@@ -8,3 +9,7 @@ abbrev pub has_text : RunFault → Bool
 has_text Nothing = false
 has_text Found = false
 has_text fault = true
+
+-- the text with a line end, where there is one
+abbrev pub told_text : RunFault → List ℕ
+told_text fault = if has_text fault then text_of fault ++ 10 ∷ [] else []

@@ -7,6 +7,6 @@ mod streams;
 mod words;
 
 pub use disk::DiskShelf;
-pub use ending::end;
+pub use ending::{end, write_ending};
 pub use streams::{StdinSource, StdoutSink};
 pub use words::{after_name, all_words};
