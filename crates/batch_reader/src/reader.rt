@@ -63,12 +63,7 @@ impl Model for Reader {
 impl Reader {
     /// A reader before the first byte, that counts lines from a number on, and takes at most so many
     /// bytes at once.
-    pub fn new(
-        alloc: Global,
-        lanes: u8,
-        number: u32,
-        room: usize,
-    ) -> Result<Reader, AllocError>
+    pub fn new(alloc: Global, lanes: u8, number: u32, room: usize) -> Result<Reader, AllocError>
         requires room { 0 < room }
         requires number { number ≤ SESSION_LINE_LIMIT }
         ensures { IfOk result (λ r. r

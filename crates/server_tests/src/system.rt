@@ -139,12 +139,7 @@ fn answers(
 }
 
 // The same over a writer that keeps bytes back.
-fn answers_kept(
-    alloc: Global,
-    room: usize,
-    status: u8,
-    output: &str,
-) -> Result<bool, AllocError> {
+fn answers_kept(alloc: Global, room: usize, status: u8, output: &str) -> Result<bool, AllocError> {
     let words = words_of(alloc, &["plan", "policy", "one"])?;
     let mut shelf = shelf_of(alloc, &[("policy", ONE)], ample())?;
     let mut narrow = Narrow {

@@ -112,7 +112,7 @@ names_all a k (line ∷ lines) (e ∷ es) session sound names next =
     let more = sound_more a k e sound next.0.next in
     let adds = each_next (λ j. AddsNamed j.ask) a e.lane (job_of_entry e) (adds_each a.jobs session.named) next.0.next.answers in
     let after : HasNames (state_now (with_entry a e)).book.policy = subst (λ (s : State). HasNames s.book.policy) (sym (state_more a e))
-        (step_names (state_now a) e.ask e.reply (policy_sound a k session.policy sound) adds names) in
+    (step_names (state_now a) e.ask e.reply (policy_sound a k session.policy sound) adds names) in
     subst (λ xs. HasNames (state_now (record a { entries = xs })).book.policy) (append_assoc a.entries (e ∷ []) es)
     (names_all (with_entry a e) more.0 lines es session more.1 after next.1)
 names_all a k [] (e ∷ es) session sound names next = absurd next

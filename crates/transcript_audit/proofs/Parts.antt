@@ -155,20 +155,20 @@ part_front a k i lane sound known = elim (bool_cases (nat_lt i k)) [
       let asked = lane_asked a.jobs a.batch_ends i lane in
       subst (λ js. js ≡ take (length js) asked) (sym same) (sym (take_all (length asked) asked (omega arith)))
   | inr late ↦ elim (bool_cases (nat_eq i k)) [
-      | inl here ↦ let same : k ≡ i = sym (eq_back i k here) in subst (λ n. n < length a.batch_ends → lane_answered a.entries a.batch_ends n lane ≡ take (length (lane_answered a.entries a.batch_ends n lane)) (lane_asked a.jobs a.batch_ends n lane)) same (here_front a k lane sound) known
-      | inr other ↦
-          let past : k < i = grind (arith, common_steps) in
-          subst (λ js. js ≡ take (length js) (lane_asked a.jobs a.batch_ends i lane)) (sym (past_answered a k i lane sound past known)) refl
-    ]
+    | inl here ↦ let same : k ≡ i = sym (eq_back i k here) in subst (λ n. n < length a.batch_ends → lane_answered a.entries a.batch_ends n lane ≡ take (length (lane_answered a.entries a.batch_ends n lane)) (lane_asked a.jobs a.batch_ends n lane)) same (here_front a k lane sound) known
+    | inr other ↦
+        let past : k < i = grind (arith, common_steps) in
+        subst (λ js. js ≡ take (length js) (lane_asked a.jobs a.batch_ends i lane)) (sym (past_answered a k i lane sound past known)) refl
+  ]
 ]
 
 part_rests : (a : AuditShape) (k i : ℕ) → IsSoundAudit a k → i < length a.batch_ends → BatchRests a.batch_ends i a.entries
 part_rests a k i sound known = elim (bool_cases (nat_lt i k)) [
   | inl before ↦ before_rests a k i sound (grind (arith, common_steps))
   | inr late ↦ elim (bool_cases (nat_eq i k)) [
-      | inl here ↦ let same : k ≡ i = sym (eq_back i k here) in subst (λ n. n < length a.batch_ends → BatchRests a.batch_ends n a.entries) same (here_rests a k sound) known
-      | inr other ↦ past_rests a k i sound (grind (arith, common_steps)) known
-    ]
+    | inl here ↦ let same : k ≡ i = sym (eq_back i k here) in subst (λ n. n < length a.batch_ends → BatchRests a.batch_ends n a.entries) same (here_rests a k sound) known
+    | inr other ↦ past_rests a k i sound (grind (arith, common_steps)) known
+  ]
 ]
 
 -- a batch that ends within the entries stands before the present one

@@ -151,12 +151,7 @@ impl Desk {
 
     /// Takes the jobs of a batch of which the entries from a place on answer some already, and makes
     /// room as for a whole batch. Without memory the desk stays as it was.
-    pub fn resume_batch(
-        &mut self,
-        alloc: Global,
-        jobs: &[Job],
-        from: u32,
-    ) -> Result<(), AllocError>
+    pub fn resume_batch(&mut self, alloc: Global, jobs: &[Job], from: u32) -> Result<(), AllocError>
         requires done { IsDone self.old }
         requires few { length jobs.now ≤ BATCH_LINE_LIMIT }
         requires lanes { AreOfLanes self.old.lanes jobs.now }

@@ -54,7 +54,15 @@ pub(crate) fn run_session<S: Source, K: Sink, W: Fn(Desk) -> Desk>(
         return bare_report(alloc, RunFault::NoMemory);
     };
     jobs_are_in_order(options.lanes);
-    serve_batches(alloc, way, &mut reader, desk, Answered::new(alloc), source, sink)
+    serve_batches(
+        alloc,
+        way,
+        &mut reader,
+        desk,
+        Answered::new(alloc),
+        source,
+        sink,
+    )
 }
 
 // Serves batch after batch of what is read, behind those that were answered before.

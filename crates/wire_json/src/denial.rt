@@ -17,11 +17,7 @@ use wf_talk::{Denial, Missing};
 
 /// Adds why a request was denied.
 #[tactic(auto, unfolding(json::specs::Print::escape_byte))]
-pub(crate) fn push_denial(
-    out: &mut Vec<u8>,
-    p: &Policy,
-    denial: &Denial,
-) -> Result<(), AllocError>
+pub(crate) fn push_denial(out: &mut Vec<u8>, p: &Policy, denial: &Denial) -> Result<(), AllocError>
     ensures { OnOk result (out.new.items ≡ out.old.items ++ compact_text
         (denial_data p.now denial.now)) }
 {
@@ -40,9 +36,7 @@ pub(crate) fn push_denial(
         Denial::Order { flow, step } => push_step_in(out, b"{\"order\":", p, *flow, *step),
         Denial::Role(roles) => push_roles_in(out, b"{\"role\":", p, roles.as_slice()),
         Denial::Rule(rule) => push_rule(out, *rule),
-        Denial::Stranded { flow, tree } => {
-            push_tree_in(out, b"{\"stranded\":", p, *flow, tree)
-        }
+        Denial::Stranded { flow, tree } => { push_tree_in(out, b"{\"stranded\":", p, *flow, tree) }
         Denial::NotHeld(state) => push_not_held(out, p, *state),
         Denial::NotAdmin => push(out, b"\"not_admin\""),
         Denial::Unknown(missing) => push_unknown(out, *missing),

@@ -242,11 +242,7 @@ fn push_seen(out: &mut Vec<u8>, p: &Policy, state: StepState) -> Result<(), Allo
     }
 }
 
-fn push_denied(
-    out: &mut Vec<u8>,
-    p: &Policy,
-    denial: &Denial,
-) -> Result<(), AllocError>
+fn push_denied(out: &mut Vec<u8>, p: &Policy, denial: &Denial) -> Result<(), AllocError>
     ensures { OnOk result (out.new.items ≡ out.old.items ++ compact_text
         (single (codes "denied") (denial_data p.now denial.now))) }
 {

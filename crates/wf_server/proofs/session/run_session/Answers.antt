@@ -25,9 +25,11 @@ pub serve_batches-requires-clause-serving : goal.serve_batches-requires-clause-s
 serve_batches-requires-clause-serving g c =
     let streams : Streams = record { input = g.S.Source.left c.args.source.now; output = g.K.Sink.held c.args.sink.now; read_faults = g.S.Source.faults c.args.source.now; write_faults = g.K.Sink.faults c.args.sink.now } in
     let d = c.in-Ok.desk in
-    let new = c.in-Ok.ensures in
-    (start d.lanes, session_begins streams c.in-Ok-new.reader d c.new-3.result c.args.options.lanes c.args.room c.jobs_are_in_order.ensures new.lanes new.jobs new.entries new.restored
-    c.new-3.ensures.jobs c.new-3.ensures.ends c.in-Ok-new.ensures)
+    let new = c.in-Ok.ensures in (
+      start d.lanes,
+      session_begins streams c.in-Ok-new.reader d c.new-3.result c.args.options.lanes c.args.room c.jobs_are_in_order.ensures new.lanes new.jobs new.entries new.restored
+          c.new-3.ensures.jobs c.new-3.ensures.ends c.in-Ok-new.ensures,
+    )
 
 pub returns-clause-serves : goal.returns-clause-serves
 returns-clause-serves g c =
