@@ -1,10 +1,12 @@
 //! Runs each row of its files over a source, a sink and a shelf in memory, and says which do not hold.
 #![tactic(auto)]
 
+mod disk;
 mod outside;
 mod row;
 mod session;
 
+use crate::disk::count_loads;
 use crate::outside::{shelf_of, sink_of, source_of, with_pieces, words_of};
 use crate::row::{is_row, list, number, text};
 use crate::session::is_legal;
@@ -15,9 +17,9 @@ use toml::{Table, Value};
 use wf_outside::{MemShelf, MemSink, MemSource};
 use wf_server::{Report, run_alone};
 
-// The files: commands with what comes of them, faulty policies, and devices that fail with texts
-// made to break it.
-const FILES: [&str; 3] = ["rows.toml", "policies.toml", "hostile.toml"];
+// The files: commands with what comes of them, faulty policies, devices that fail with texts made to
+// break it, and limits.
+const FILES: [&str; 4] = ["rows.toml", "policies.toml", "hostile.toml", "limits.toml"];
 
 // Whole sessions.
 const SESSIONS: &str = "sessions.toml";
@@ -28,6 +30,10 @@ fn main(rt: HostRuntime) -> anyhow::Result<()> {
         let holding = count_rows(&rt, rt.alloc(), &rows)?;
         println!(rt; "{file}: {holding} rows hold")?;
     }
+    println!(rt;
+        "the disk: {} loads are right",
+        count_loads(&rt, rt.alloc())
+    )?;
     let sessions = table_of(&rt, SESSIONS)?;
     let legal = count_sessions(&rt, rt.alloc(), &sessions)?;
     println!(rt; "{SESSIONS}: {legal} sessions are legal")?;

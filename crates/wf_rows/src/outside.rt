@@ -32,7 +32,14 @@ fn put_files(
 ) -> Result<(), AllocError> {
     let own = own_text(alloc, rows, row)?;
     put_file(alloc, "here", &own, list(row.get("more_here")), files)?;
-    put_text(alloc, row, "requests", files)?;
+    let requests = text(row.get("requests"));
+    put_file(
+        alloc,
+        "requests",
+        requests,
+        list(row.get("more_requests")),
+        files,
+    )?;
     for policy in list(rows.get("policy")) {
         let (name, whole) = (text(policy.get("name")), text(policy.get("text")));
         put_file(alloc, name, whole, &[], files)?;
@@ -94,22 +101,43 @@ pub fn with_pieces(alloc: Global, text: &str, more: &[Value]) -> Result<Vec<u8>,
 
 fn push_piece(alloc: Global, piece: &Value, bytes: &mut Vec<u8>) -> Result<(), AllocError> {
     let (copy, more) = (text(piece.get("text")), list(piece.get("bytes")));
+    let width = number(piece.get("width")).unwrap_or(0);
     for place in 0..number(piece.get("times")).unwrap_or(1) {
-        push_copy(alloc, copy, place, bytes)?;
+        push_copy(alloc, copy, place, width, bytes)?;
         push_bytes(more, bytes)?;
     }
     Ok(())
 }
 
-fn push_copy(alloc: Global, text: &str, place: u64, bytes: &mut Vec<u8>) -> Result<(), AllocError> {
+fn push_copy(
+    alloc: Global,
+    text: &str,
+    place: u64,
+    width: u64,
+    bytes: &mut Vec<u8>,
+) -> Result<(), AllocError> {
     for byte in text.as_bytes() {
         if *byte == b'@' {
-            bytes.extend_from_slice(format!(in alloc; "{place}")?.as_bytes())?;
+            push_number(alloc, place, width, bytes)?;
         } else {
             bytes.push(*byte)?;
         }
     }
     Ok(())
+}
+
+// A number, with zeros in front up to a width.
+fn push_number(
+    alloc: Global,
+    number: u64,
+    width: u64,
+    bytes: &mut Vec<u8>,
+) -> Result<(), AllocError> {
+    let digits = format!(in alloc; "{number}")?;
+    for _ in digits.len() as u64..width {
+        bytes.push(b'0')?;
+    }
+    bytes.extend_from_slice(digits.as_bytes())
 }
 
 fn push_bytes(more: &[Value], bytes: &mut Vec<u8>) -> Result<(), AllocError> {

@@ -37,7 +37,7 @@ pub fn of_outside<'a>(row: &'a Value, key: &str) -> Option<&'a Value> {
 /// text that they are more of.
 ///
 /// A piece is so many copies, `times`, of a `text` with `bytes` behind it. Each `@` of the text stands
-/// for the number of the copy, from 0. The `outside` says how many bytes the source gives and the sink
+/// for the number of the copy, from 0, with zeros in front where the piece has a `width`. The `outside` says how many bytes the source gives and the sink
 /// takes at once, `piece` and `most`, how many the sink takes in all, `room`, and the numbers, from 0,
 /// of the calls that fail: `failing_takes`, `failing_puts` and `failing_loads`.
 pub fn is_row(row: &Value) -> bool {
@@ -56,7 +56,9 @@ fn is_of_row(key: &str, value: &Value) -> bool {
     match key {
         "name" | "here" | "requests" | "input" | "output" | "fault" => value.as_str().is_some(),
         "words" | "after" => value.as_array().is_some(),
-        "more_here" | "more_input" | "more_output" => value.as_array().is_some(),
+        "more_here" | "more_requests" | "more_input" | "more_output" => {
+            value.as_array().is_some()
+        }
         "status" => value.as_integer().is_some(),
         "outside" => value.as_table().is_some(),
         _ => false,
