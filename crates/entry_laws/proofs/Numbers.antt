@@ -1,12 +1,9 @@
 -- Cases are numbered in the order in which they were opened, and no more are ever opened than the limit.
 use Rattle.std.proofs.Common.{◌≡◌, ℕ, suc, ◌+◌, ◌<◌, ◌≤◌, Bool, true, false, not, nat_eq, nat_le, List, [], ◌∷◌, ◌++◌, length, None, Some, Result, Ok, Err, if◌then◌else◌, refl, sym, ap, subst, ◌∙◌, arith}
 use Rattle.std.specs.Option.{option_map}
-use Rattle.std.proofs.lemmas.List.{length-append}
 use Rattle.basics.proofs.Booleans.{eq_other, or_false, not_yes}
 use Rattle.wf_names.specs.declared.limits.TheConstants.{CASE_LIMIT, OPEN_CASE_LIMIT}
-use Rattle.wf_names.specs.declared.states.StepState.TheVariants.{Free, Held}
-use Rattle.wf_names.specs.declared.states.Phase.TheVariants.{Withdrawn}
-use Rattle.case_record.specs.Cases.{CaseShape, finished_case, is_open, with_phase, with_state}
+use Rattle.case_record.specs.Cases.{is_open}
 use Rattle.grant_table.specs.Lookup.{look_up}
 use Rattle.wf_talk.specs.declared.request.Ask.{Ask}
 use Rattle.wf_talk.specs.declared.reply.Reply.{Reply}
@@ -15,63 +12,19 @@ use Rattle.wf_talk.specs.declared.reply.Denial.{Denial}
 use Rattle.wf_talk.specs.declared.reply.Denial.TheVariants as denial
 use Rattle.wf_board.specs.declared.deed.Deed.{Deed}
 use Rattle.wf_board.specs.declared.deed.Deed.TheVariants as deed
-use Rattle.wf_board.specs.States.{Book, Numbered, State, numbered_case, is_full, open_cases, open_count, with_case_changed}
+use Rattle.wf_board.specs.States.{Book, Numbered, State, numbered_case, is_full, open_cases, open_count}
 use Rattle.wf_board.specs.Decisions.{cause_full, decision_aside, decision_of}
 use Rattle.wf_board.specs.Steps.{state_after_decision, state_after_deed, state_after_step}
+use Rattle.wf_board.specs.Kept.{AreNumberedFrom}
 use Rattle.admin_edits.proofs.Keeping.{always}
+use Rattle.wf_board.proofs.Numbers.{step_numbered}
 use Rattle.wf_board.proofs.Told.{HoldsOf, then_holds, unless_holds, unless_tells}
-
--- these cases have the numbers from k on
-abbrev pub AreFrom : ℕ → List Numbered → Type 0
-AreFrom k [] = Unit {0}
-AreFrom k (e ∷ es) = (e.number ≡ k) × AreFrom (k + 1) es
 
 -- the cases of a book are numbered in order, and no more than the limit were ever opened
 pub record AreSerial (b : Book) : Type 0 where
-  pub numbers : AreFrom 0 b.cases
+  pub numbers : AreNumberedFrom 0 b.cases
   pub ever : b.ever ≡ length b.cases
   pub within : b.ever ≤ CASE_LIMIT
-
--- ---- changes
-
-changed_from : (k n : ℕ) (change : CaseShape → CaseShape) (cases : List Numbered) → AreFrom k cases → AreFrom k (with_case_changed n change cases)
-changed_from k n change [] are = tt
-changed_from k n change (x ∷ xs) are = at_first (nat_eq x.number n) (changed_from (k + 1) n change xs are.1)
-  where
-    at_first : (b : Bool) → AreFrom (k + 1) (with_case_changed n change xs) → AreFrom k (if b then record x { case = change x.case } ∷ xs else x ∷ with_case_changed n change xs)
-    at_first true rest = are
-    at_first false rest = (are.0, rest)
-
-changed_length : (n : ℕ) (change : CaseShape → CaseShape) (cases : List Numbered) → length (with_case_changed n change cases) ≡ length cases
-changed_length n change [] = refl
-changed_length n change (x ∷ xs) = at_first (nat_eq x.number n) (changed_length n change xs)
-  where
-    at_first : (b : Bool) → length (with_case_changed n change xs) ≡ length xs →
-        length (if b then record x { case = change x.case } ∷ xs else x ∷ with_case_changed n change xs) ≡ length (x ∷ xs)
-    at_first true rest = refl
-    at_first false rest = ap suc rest
-
-added_from : (k : ℕ) (cases : List Numbered) (new : Numbered) → AreFrom k cases → new.number ≡ k + length cases → AreFrom k (cases ++ new ∷ [])
-added_from k [] new are next = (omega (arith, next), tt)
-added_from k (x ∷ xs) new are next = (are.0, added_from (k + 1) xs new are.1 (omega (arith, next)))
-
-changed_serial : (s : State) (n : ℕ) (change : CaseShape → CaseShape) → AreSerial s.book → AreSerial (record s.book { cases = with_case_changed n change s.book.cases })
-changed_serial s n change are = record {
-  numbers = changed_from 0 n change s.book.cases are.numbers;
-  ever = are.ever ∙ sym (changed_length n change s.book.cases);
-  within = are.within;
-}
-
-opened_serial : (b : Book) (c : CaseShape) → AreSerial b → b.ever < CASE_LIMIT → AreSerial (record b { cases = b.cases ++ record { number = b.ever; case = c } ∷ []; ever = b.ever + 1 })
-opened_serial b c are room =
-    let new : Numbered = record { number = b.ever; case = c } in
-    let longer = length-append b.cases (new ∷ []) in
-    let same = are.ever in
-    record {
-      numbers = added_from 0 b.cases new are.numbers (omega (arith, same));
-      ever = omega (arith, longer, same);
-      within = omega (arith, room);
-    }
 
 -- ---- steps
 
@@ -103,23 +56,29 @@ decided_room b what =
     then_holds (λ _. Unit {0}) (HasRoom b) (decision_aside b what) _ (always (decision_aside b what))
     (λ given _. unless_holds (HasRoom b) given (cause_full b given) (room_of b given))
 
-deed_serial : (s : State) (given : Deed) (answer : Reply) → AreSerial s.book → HasRoom s.book given → AreSerial (state_after_deed s given answer).book
-deed_serial s (deed.Open f) (reply.Opened n plan) are room = opened_serial s.book _ are room
-deed_serial s (deed.Claim n c t u) (reply.Granted plan) are room = changed_serial s n (λ d. with_state d t (Held u)) are
-deed_serial s (deed.Finish n c t u) (reply.Finished done) are room = changed_serial s n (λ d. finished_case d t) are
-deed_serial s (deed.GiveBack n c t u) reply.Returned are room = changed_serial s n (λ d. with_state d t Free) are
-deed_serial s (deed.Release n c t) reply.Released are room = changed_serial s n (λ d. with_state d t Free) are
-deed_serial s (deed.Withdraw n) reply.Withdrawn are room = changed_serial s n (λ d. with_phase d Withdrawn) are
-deed_serial s (deed.Change a) (reply.Edited number) are room = record { numbers = are.numbers; ever = are.ever; within = are.within }
-deed_serial s given answer are room = are
+deed_within : (s : State) (given : Deed) (answer : Reply) → s.book.ever ≤ CASE_LIMIT → HasRoom s.book given → (state_after_deed s given answer).book.ever ≤ CASE_LIMIT
+deed_within s (deed.Open f) (reply.Opened n plan) few room = omega (arith, room)
+deed_within s (deed.Claim n c t u) (reply.Granted plan) few room = few
+deed_within s (deed.Finish n c t u) (reply.Finished done) few room = few
+deed_within s (deed.GiveBack n c t u) reply.Returned few room = few
+deed_within s (deed.Release n c t) reply.Released few room = few
+deed_within s (deed.Withdraw n) reply.Withdrawn few room = few
+deed_within s (deed.Change a) (reply.Edited number) few room = few
+deed_within s given answer few room = few
 
-decision_serial : (s : State) (decision : Result Deed Denial) (answer : Reply) → AreSerial s.book → HoldsOf (HasRoom s.book) decision → AreSerial (state_after_decision s decision answer).book
-decision_serial s (Ok given) answer are room = deed_serial s given answer are room
-decision_serial s (Err d) answer are room = are
+decision_within : (s : State) (decision : Result Deed Denial) (answer : Reply) → s.book.ever ≤ CASE_LIMIT → HoldsOf (HasRoom s.book) decision → (state_after_decision s decision answer).book.ever ≤ CASE_LIMIT
+decision_within s (Ok given) answer few room = deed_within s given answer few room
+decision_within s (Err d) answer few room = few
 
 -- a step keeps the numbers
 pub step_serial : (s : State) (what : Ask) (answer : Reply) → AreSerial s.book → AreSerial (state_after_step s what answer).book
-step_serial s what answer are = decision_serial s (decision_of s.book what) answer are (decided_room s.book what)
+step_serial s what answer are =
+    let numbered = step_numbered s what answer (record { order = are.numbers; next = are.ever }) in
+    record {
+      numbers = numbered.order;
+      ever = numbered.next;
+      within = decision_within s (decision_of s.book what) answer are.within (decided_room s.book what);
+    }
 
 -- ---- each case stands at its number
 
@@ -161,7 +120,7 @@ each_later : (k : ℕ) (x : Numbered) (xs es : List Numbered) → x.number ≡ k
 each_later k x xs [] is each = tt
 each_later k x xs (e ∷ es) is each = (found_later k x xs e is each.0, each_later k x xs es is each.1)
 
-pub each_found : (k : ℕ) (cases : List Numbered) → AreFrom k cases → EachOf (IsFoundIn cases k) cases
+pub each_found : (k : ℕ) (cases : List Numbered) → AreNumberedFrom k cases → EachOf (IsFoundIn cases k) cases
 each_found k [] are = tt
 each_found k (x ∷ xs) are = (found_first k x xs are.0, each_later k x xs xs are.0 (each_found (k + 1) xs are.1))
 

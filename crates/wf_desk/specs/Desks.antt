@@ -53,8 +53,8 @@ IsDone d = (lane : ℕ) → next_job d lane ≡ None
 
 -- what the type of a desk keeps: the entries are a legal history, and the board shows the state after it; each lane's
 -- entries of the batch answer its first jobs, in order; what is answered again rests on entries of the batch; of the
--- entries that were not taken up, only an opening, a claim, an edit or a view over the open cases is answered with want of memory; and there is room for a case for
--- each job that is left
+-- entries that were not taken up, only an opening, a claim, an edit or a view over the open cases is answered with want
+-- of memory; and there is room for a case for each job that is left
 pub record IsSoundDesk (d : DeskShape) : Type 0 where
   pub legal : IsLegal (opening_state d.opening) d.rounds d.entries
   pub state : state_on d.board ≡ state_after (opening_state d.opening) d.entries
@@ -76,6 +76,11 @@ loss_of losses lane = slice_index_or losses lane no_loss
 -- with so much room in the journal and in the table of cases
 abbrev pub with_room : DeskShape → ℕ → ℕ → DeskShape
 with_room d spare cases = record d { spare = spare; board = record d.board { cases = record d.board.cases { spare = cases } } }
+
+-- there is room for so many more entries, and for so many more cases
+pub record HasRoomFor (n : ℕ) (d : DeskShape) : Type 0 where
+  pub entries : n ≤ d.spare
+  pub cases : n ≤ d.board.cases.spare
 
 -- with the jobs of another batch
 abbrev pub with_batch : DeskShape → List Job → DeskShape

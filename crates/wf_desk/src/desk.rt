@@ -6,7 +6,7 @@ ghost use Rattle.wf_board.specs.States.{opening_state};
 ghost use Rattle.wf_board.specs.Verdicts.{Decides, IsDecided, IsRight};
 ghost use Rattle.std.specs.Arc.{arc_value};
 ghost use Rattle.wf_board.specs.Histories.{IsLegal, state_after};
-ghost use Rattle.wf_desk.specs.Desks.{AnswersPart, AreOfLanes, HasAdded, IsDone, IsSoundDesk, desk_with, left_of, next_job, no_loss, with_batch, with_batch_from, with_room};
+ghost use Rattle.wf_desk.specs.Desks.{AnswersPart, AreOfLanes, HasAdded, HasRoomFor, IsDone, IsSoundDesk, desk_with, left_of, next_job, no_loss, with_batch, with_batch_from, with_room};
 ghost use Rattle.wf_desk.specs.Commits.{HasCommitted, HasCommittedChecked, HasServed, HasTakenUp, IsAgain, IsNext, IsRightFor, IsTask, floor_of, is_change, is_fresh, is_fresh_or_change, is_last_round, is_lost, job_of_task, with_loss};
 ghost use Rattle.wf_desk.specs.Keeping.{HasCommittedNone, HasLookedAt, HasMissed, may_lose};
 
@@ -144,6 +144,7 @@ impl Desk {
             ≡ with_room self.old self.new.spare self.new.board.cases.spare) }
         ensures kept { self.old.spare ≤ self.new.spare }
         ensures room { self.old.board.cases.spare ≤ self.new.board.cases.spare }
+        ensures whole { OnOk result (HasRoomFor (length jobs.now) self.new) }
     {
         let start = self.number();
         self.resume_batch(alloc, jobs, start)
@@ -164,6 +165,7 @@ impl Desk {
             ≡ with_room self.old self.new.spare self.new.board.cases.spare) }
         ensures kept { self.old.spare ≤ self.new.spare }
         ensures room { self.old.board.cases.spare ≤ self.new.board.cases.spare }
+        ensures whole { OnOk result (HasRoomFor (length jobs.now) self.new) }
     {
         self.journal.reserve(jobs.len() as u32)?;
         self.board.reserve(jobs.len() as u16)?;

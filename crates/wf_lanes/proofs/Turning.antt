@@ -24,7 +24,7 @@ use Rattle.wf_desk.specs.Tabling.{fixed_of, tagged, tagged_of}
 use Rattle.wf_desk.proofs.Scheduling.{begun_held, grown_committed, grown_served, held_on}
 use Rattle.wf_lanes.specs.declared.worker.Begun.{Begun}
 use Rattle.wf_lanes.specs.declared.worker.Begun.TheVariants as begun
-use Rattle.wf_lanes.specs.Workers.{HasBegun, HasBegunAt, HasEnded, HasJoined, HasLanes, HasRoom, HasSeen, HasTurned, IsBegun, IsFirst, IsIdle, IsSameLane}
+use Rattle.wf_lanes.specs.Workers.{HasBegun, HasBegunAt, HasEnded, HasJoined, HasMadeAll, HasLanes, HasRoom, HasSeen, HasTurned, IsBegun, IsFirst, IsIdle, IsSameLane}
 
 -- ---- entries without their lanes
 
@@ -269,6 +269,10 @@ first_room table s d lanes is same = record {
   table = let all = ap (λ (x : LaneShape Fixed Entry). x.lanes) is in omega (arith, all);
   desk = (fixed_of d, (ap (λ (x : LaneShape Fixed Entry). x.fixed) is, (omega (arith, same))));
 }
+
+pub whole_made : (table : TableId) (s t : LaneShape Fixed Entry) (d : DeskShape) (lanes : ℕ) → s ≡ first_lane table (fixed_of d) (tagged_of d) lanes → lanes ≡ d.lanes → HasJoined s t 0 lanes → HasMadeAll t
+whole_made table s t d lanes is same joined =
+    let made = joined.made in (fixed_of d, (joined.fixed ∙ ap (λ (x : LaneShape Fixed Entry). x.fixed) is, omega (arith, made, same)))
 
 pub closed_grown : (table : TableId) (s t : LaneShape Fixed Entry) (d e : DeskShape) (lanes : ℕ) → s ≡ first_lane table (fixed_of d) (tagged_of d) lanes → HasJoined s t 0 lanes →
     Some (fixed_of e) ≡ t.fixed → tagged_of e ≡ t.seen → HasGrown d e

@@ -85,6 +85,10 @@ pub record HasRoom (s : LaneShape Fixed Entry) (next count : ℕ) : Type 0 where
   pub table : next + count ≤ s.lanes
   pub desk : HasLanes s (next + count)
 
+-- it has made each lane that the desk of its table has
+abbrev pub HasMadeAll : LaneShape Fixed Entry → Type 0
+HasMadeAll s = (f : Fixed) × ((s.fixed ≡ Some f) × (s.made ≡ f.lanes))
+
 -- the lanes from a number on, so many, were joined into it
 pub record HasJoined (before after : LaneShape Fixed Entry) (next count : ℕ) : Type 0 where
   pub fixed : after.fixed ≡ before.fixed

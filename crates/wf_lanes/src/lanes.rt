@@ -1,10 +1,12 @@
 //! Serving the jobs of a batch, each lane's on a thread of its own.
-ghost use Rattle.std.specs.Prelude.{◌≡◌, ◌<◌, ◌≤◌, ◌+◌, ◌-◌, nat_le};
+ghost use Rattle.std.specs.Prelude.{◌≡◌, ◌<◌, ◌≤◌, ◌+◌, ◌-◌, nat_le, ℕ, Some};
+ghost use Rattle.std.specs.List.{Contains};
 ghost use Rattle.std.specs.Thread.{IsSync};
 ghost use Rattle.wf_names.specs.declared.limits.TheConstants.{LANE_LIMIT};
 ghost use Rattle.wf_desk.specs.Desks.{AreOfLanes, IsDone};
 ghost use Rattle.wf_desk.specs.Schedules.{HasGrown};
-ghost use Rattle.wf_lanes.specs.Workers.{HasEnded, HasJoined, HasRoom, IsFirst, IsIdle};
+ghost use Rattle.wf_desk.specs.Tabling.{fixed_of, tagged_of};
+ghost use Rattle.wf_lanes.specs.Workers.{HasEnded, HasJoined, HasMadeAll, HasRoom, IsFirst, IsIdle};
 
 use crate::gate::Gate;
 use crate::table_turns::TableTurns;
@@ -65,10 +67,21 @@ fn serve_on_lanes<R: Threads + Wait + Sync, V: Decider + Sync, G: Gate + Sync>(
             let first = run_lanes(
                 rt, alloc, decider, gate, tells, &busy, &table, first, 0, lanes,
             );
-            table.close(first)
+            close_whole(table, first)
         }
         Err(Refused { value }) => value,
     }
+}
+
+// Closes a table of which each lane that its desk has was made, served and joined.
+fn close_whole(table: TurnTable<Desk>, first: Lane<Desk>) -> Desk
+    requires first { IsFirst table first }
+    requires joined { (n : ℕ) → n < first.made → Contains first.joined n }
+    requires whole { HasMadeAll first }
+    ensures fixed { Some (fixed_of result) ≡ first.fixed }
+    ensures list { tagged_of result ≡ first.seen }
+{
+    table.close(first)
 }
 
 // Whether searches are told to the gate: where a job may be answered again after a lost round.

@@ -1,5 +1,5 @@
 //! The top calls: one run of the program over a source, a sink and a shelf, with threads or alone.
-ghost use Rattle.std.specs.Prelude.{◌≡◌, ◌<◌, map, string_bytes, None, Some, IfErr, IfOk, false};
+ghost use Rattle.std.specs.Prelude.{◌≡◌, ◌<◌, map, nat_lt, string_bytes, None, Some, IfErr, IfOk, false};
 ghost use Rattle.run_record.specs.Fault.{status_of};
 ghost use Rattle.run_record.specs.Report.{told_by};
 ghost use Rattle.run_record.specs.Run.{run_of, streams_of};
@@ -14,7 +14,7 @@ ghost use Rattle.wf_server.specs.Run.{Does, HasRun, IsWordsEnding};
 use crate::serve::run_serve;
 use audit_command::run_audit;
 use case_views::{PlainDecider, SpreadDecider};
-use command_words::{Command, read_words};
+use command_words::{Command, Options, read_words};
 use run_record::{Report, RunFault, bare_report};
 use std::alloc::Global;
 use std::sync::Wait;
@@ -49,7 +49,7 @@ pub fn run<R: Threads + Wait + Sync, F: Shelf, S: Source, K: Sink, G: Gate + Syn
         → AreAnsweredOnce (told_by result).entries }
 {
     match read_command(alloc, words) {
-        Ok(Command::Serve { policy, options }) if options.lanes > 1 => {
+        Ok(Command::Serve { policy, options }) if on_threads(&options) => {
             let on_lanes = |desk: Desk| -> Desk
                 requires { (0 < desk.lanes) × AreOfLanes desk.lanes desk.jobs }
                 ensures { HasGrown desk result × IsDone result }
@@ -84,6 +84,13 @@ pub fn run_alone<F: Shelf, S: Source, K: Sink>(
         Ok(command) => run_command(alloc, command, shelf, source, sink),
         Err(fault) => bare_report(alloc, fault),
     }
+}
+
+// Whether each lane of a session runs on a thread: where there are two or more.
+fn on_threads(options: &Options) -> bool
+    ensures { result ≡ nat_lt 1 options.now.lanes }
+{
+    options.lanes > 1
 }
 
 // The command that the words are; a usage fault where they are none.
