@@ -21,7 +21,7 @@ pub fn count_loads(rt: &impl Files, alloc: Global) -> u32 {
 
 fn is_whole(loaded: Result<Loaded, LoadFault>) -> bool {
     match loaded {
-        Ok(bytes) => bytes.as_bytes() == b"0123456789",
+        Ok(bytes) => bytes.as_bytes() == b"0123456789".as_slice(),
         Err(_) => false,
     }
 }
