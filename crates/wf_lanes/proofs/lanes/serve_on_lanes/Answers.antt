@@ -6,7 +6,7 @@ pub run_lanes-first-requires-clause-room : goal.run_lanes-first-requires-clause-
 run_lanes-first-requires-clause-room g c κs within = first_room _ _ c.args.desk _ c.in-Ok.ensures.first c.lanes-lanes.ensures.count
 
 pub close_whole-requires-clause-whole : goal.close_whole-requires-clause-whole
-close_whole-requires-clause-whole g c κs within =
+close_whole-requires-clause-whole g c =
     whole_made _ _ c.run_lanes-first.result c.args.desk _ c.in-Ok.ensures.first c.lanes-lanes.ensures.count c.run_lanes-first.ensures.joined
 
 pub returns-in-Ok : goal.returns-in-Ok
