@@ -116,6 +116,9 @@ fn push_copy(
     width: u64,
     bytes: &mut Vec<u8>,
 ) -> Result<(), AllocError> {
+    if !text.as_bytes().contains(&b'@') {
+        return bytes.extend_from_slice(text.as_bytes());
+    }
     for byte in text.as_bytes() {
         if *byte == b'@' {
             push_number(alloc, place, width, bytes)?;
