@@ -22,8 +22,8 @@ use Rattle.wf_talk.specs.declared.edit.Edit.TheVariants as edit
 use Rattle.wf_talk.specs.declared.edit.Missing.TheVariants.{Flow, Step, Relation, User, Role}
 use Rattle.admin_edits.specs.declared.amendment.Amendment.{Amendment}
 use Rattle.admin_edits.specs.declared.amendment.Amendment.TheVariants as amend
-use Rattle.admin_edits.specs.declared.fault.EditFault.{EditFault}
-use Rattle.admin_edits.specs.declared.fault.EditFault.TheVariants.{Unknown}
+use Rattle.admin_edits.specs.declared.fault.EditCause.{EditCause}
+use Rattle.admin_edits.specs.declared.fault.EditCause.TheVariants.{Unknown}
 use Rattle.admin_edits.specs.Edits.{allowed, amended, amendment_of, found, is_admin}
 use Rattle.admin_edits.specs.Found.{AreMember, ArePair, ArePermit, IsKnownChange}
 use Rattle.admin_edits.specs.Keeping.{ChangesKeepNames, ChangesKeepPoliciesSound, KeepsNames}
@@ -99,7 +99,7 @@ passed false fault e = cc
 
 pub changes_keep_policies_sound : ChangesKeepPoliciesSound
 changes_keep_policies_sound p (amend.AddUser name) sound is fine =
-    let room = lt_back _ _ (passed (nat_lt (length p.roster.users) USER_LIMIT) EditFault.Full (checked _ _ _ _ fine).1) in
+    let room = lt_back _ _ (passed (nat_lt (length p.roster.users) USER_LIMIT) EditCause.Full (checked _ _ _ _ fine).1) in
     (stored_with_user p.roster p.relations (record { names = p.flow_names; limit = FLOW_LIMIT }) p.flows p.admin (stored p sound) name room).sound
 changes_keep_policies_sound p (amend.Leave u) sound is fine = record { users = sound.users; roles = sound.roles; admin = sound.admin; named = sound.named; few = sound.few; related = sound.related; flows = sound.flows }
 changes_keep_policies_sound p (amend.Enrol u r) sound is fine = record { users = sound.users; roles = sound.roles; admin = sound.admin; named = sound.named; few = sound.few; related = sound.related; flows = sound.flows }
@@ -138,7 +138,7 @@ fine (Ok tt) same = sym same
 fine (Err fault) same = tt
 
 -- the place of a name in a list is one of its places
-below : (names : List (List ℕ)) (name : List ℕ) (fault : EditFault) → HoldsOf (λ i. i < length names) (or_fault (place_of names name) fault)
+below : (names : List (List ℕ)) (name : List ℕ) (fault : EditCause) → HoldsOf (λ i. i < length names) (or_fault (place_of names name) fault)
 below names name fault = at_place (place_of names name) (λ i h. (position-Some (pointwise nat_eq name) names i [] h).0)
   where
     at_place : (o : Option ℕ) → ((i : ℕ) → o ≡ Some i → i < length names) → HoldsOf (λ i. i < length names) (or_fault o fault)
@@ -146,21 +146,21 @@ below names name fault = at_place (place_of names name) (λ i h. (position-Some 
     at_place (Some i) within = within i refl
 
 -- what is found by a name in a list
-found_in : (P : Amendment → Type 0) (n : ℕ) (names : List (List ℕ)) (name : List ℕ) (fault : EditFault) (next : ℕ → Result Amendment EditFault) → length names ≡ n →
+found_in : (P : Amendment → Type 0) (n : ℕ) (names : List (List ℕ)) (name : List ℕ) (fault : EditCause) (next : ℕ → Result Amendment EditCause) → length names ≡ n →
     ((i : ℕ) → i < n → HoldsOf P (next i)) → HoldsOf P (or_fault (place_of names name) fault >>= next)
 found_in P n names name fault next same holds =
     then_holds (λ i. i < n) P (or_fault (place_of names name) fault) next (subst (λ m. HoldsOf (λ i. i < m) (or_fault (place_of names name) fault)) same (below names name fault)) holds
 
 -- a user and a role, two users, and a workflow with a step and a role, by their names
-abbrev a_member : PolicyShape → List ℕ → List ℕ → (ℕ → ℕ → Amendment) → Result Amendment EditFault
+abbrev a_member : PolicyShape → List ℕ → List ℕ → (ℕ → ℕ → Amendment) → Result Amendment EditCause
 a_member p user role change =
     or_fault (place_of p.roster.users user) (Unknown User) >>= (λ u. or_fault (place_of p.roster.roles role) (Unknown Role) >>= (λ r. Ok (change u r)))
 
-abbrev a_pair : PolicyShape → List ℕ → List ℕ → (ℕ → ℕ → Amendment) → Result Amendment EditFault
+abbrev a_pair : PolicyShape → List ℕ → List ℕ → (ℕ → ℕ → Amendment) → Result Amendment EditCause
 a_pair p first second change =
     or_fault (place_of p.roster.users first) (Unknown User) >>= (λ u. or_fault (place_of p.roster.users second) (Unknown User) >>= (λ v. Ok (change u v)))
 
-abbrev a_permit : PolicyShape → List ℕ → List ℕ → List ℕ → (ℕ → ℕ → ℕ → Amendment) → Result Amendment EditFault
+abbrev a_permit : PolicyShape → List ℕ → List ℕ → List ℕ → (ℕ → ℕ → ℕ → Amendment) → Result Amendment EditCause
 a_permit p flow role step change =
     or_fault (place_of p.flow_names flow) (Unknown Flow) >>= (λ f. or_fault (place_of (flow_at p f).flow.steps step) (Unknown Step) >>= (λ s.
     or_fault (place_of p.roster.roles role) (Unknown Role) >>= (λ r. Ok (change f r s))))
@@ -202,6 +202,6 @@ found_there p (edit.Retire flow) named = found_in (IsKnownChange p) (length p.fl
 pub amendment_found : (p : PolicyShape) (by : List ℕ) (e : Edit) (a : Amendment) → IsSoundPolicy p → amendment_of p by e ≡ Ok a → IsKnownChange p a × (allowed p a ≡ Ok tt)
 amendment_found p by e a sound is =
     subst (HoldsOf (λ (x : Amendment). IsKnownChange p x × (allowed p x ≡ Ok tt))) is
-    (then_holds (λ _. Unit {0}) _ (check (is_admin p by) EditFault.NotAdmin) _ (always _) (λ _ _.
+    (then_holds (λ _. Unit {0}) _ (check (is_admin p by) EditCause.NotAdmin) _ (always _) (λ _ _.
     then_holds (IsKnownChange p) _ (found p e) _ (found_there p e sound.named) (λ x there.
     then_holds (λ _. allowed p x ≡ Ok tt) _ (allowed p x) _ (fine (allowed p x) refl) (λ _ same. (there, same)))))

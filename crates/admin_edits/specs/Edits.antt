@@ -1,5 +1,5 @@
 -- Edits of a policy by its administrators.
-use Rattle.std.specs.Prelude.{ℕ, zero, suc, ◌==◌, ◌&&◌, nat_lt, not, Bool, true, false, ◌∷◌, [], ◌++◌, List, length, Option, None, Some, is_some, option_map, Result, Ok, Err}
+use Rattle.std.specs.Prelude.{ℕ, zero, suc, ◌==◌, ◌&&◌, nat_lt, not, Bool, true, false, ◌∷◌, [], ◌++◌, List, length, Option, None, Some, is_some, Result, Ok, Err}
 use Rattle.std.specs.FinSet as set
 use Rattle.first_fault.specs.Reading.{◌>>=◌, check, or_fault}
 use Rattle.wf_names.specs.Table.{place_of}
@@ -17,8 +17,10 @@ use Rattle.wf_talk.specs.declared.edit.Edit.TheVariants as edit
 use Rattle.wf_talk.specs.declared.edit.Missing.TheVariants.{Flow, Step, Relation, User, Role}
 use Rattle.admin_edits.specs.declared.amendment.Amendment.{Amendment}
 use Rattle.admin_edits.specs.declared.amendment.Amendment.TheVariants as amend
+use Rattle.admin_edits.specs.declared.fault.EditCause.{EditCause}
+use Rattle.admin_edits.specs.declared.fault.EditCause.TheVariants.{NotAdmin, Unknown, Fixed, Already, Absent, Full, LastAdmin}
 use Rattle.admin_edits.specs.declared.fault.EditFault.{EditFault}
-use Rattle.admin_edits.specs.declared.fault.EditFault.TheVariants.{NotAdmin, Unknown, Fixed, Already, Absent, Full, LastAdmin, NoMemory}
+use Rattle.admin_edits.specs.declared.fault.EditFault.TheVariants as fault
 
 -- there is the user, and the user has the admin role
 abbrev pub administers : PolicyShape → Option ℕ → Bool
@@ -30,7 +32,7 @@ abbrev pub is_admin : PolicyShape → List ℕ → Bool
 is_admin p name = administers p (place_of p.roster.users name)
 
 -- what is changed, with numbers in place of names, or the first name that the policy does not have
-abbrev pub found : PolicyShape → Edit → Result Amendment EditFault
+abbrev pub found : PolicyShape → Edit → Result Amendment EditCause
 found p (edit.AddUser user) = Ok (amend.AddUser user)
 found p (edit.Leave user) = do
   u ← or_fault (place_of p.roster.users user) (Unknown User)
@@ -79,21 +81,22 @@ has_other roster r u = any_below (length roster.users) (λ v. not (v == u) && ha
 abbrev pub is_last_admin : PolicyShape → ℕ → Bool
 is_last_admin p u = has_role p.roster u p.admin && not (has_other p.roster p.admin u)
 
--- why a pair is not put into a relation or taken out of it, as the fault of an edit
-abbrev pub pair_fault : RelationFault → EditFault
-pair_fault relations.Fixed = Fixed
-pair_fault relations.Already = Already
-pair_fault relations.Absent = Absent
-pair_fault relations.Full = Full
-pair_fault relations.NoMemory = NoMemory
+-- why a pair is not put into a relation or taken out of it, as a cause against an edit; want of memory is none
+abbrev pub pair_fault : Option RelationFault → Option EditCause
+pair_fault None = None
+pair_fault (Some relations.Fixed) = Some Fixed
+pair_fault (Some relations.Already) = Some Already
+pair_fault (Some relations.Absent) = Some Absent
+pair_fault (Some relations.Full) = Some Full
+pair_fault (Some relations.NoMemory) = None
 
 -- the fault, if there is one
-abbrev pub unless_fault : Option EditFault → Result (Unit {0}) EditFault
+abbrev pub unless_fault : Option EditCause → Result (Unit {0}) EditCause
 unless_fault None = Ok tt
 unless_fault (Some fault) = Err fault
 
 -- the first fault of a change whose names are known
-abbrev pub allowed : PolicyShape → Amendment → Result (Unit {0}) EditFault
+abbrev pub allowed : PolicyShape → Amendment → Result (Unit {0}) EditCause
 allowed p (amend.AddUser name) = do
   _ ← check (not (is_some (place_of p.roster.users name))) Already
   check (nat_lt (length p.roster.users) USER_LIMIT) Full
@@ -104,24 +107,34 @@ allowed p (amend.Enrol u r) = check (not (has_role p.roster u r)) Already
 allowed p (amend.Dismiss u r) = do
   _ ← check (has_role p.roster u r) Absent
   check (not (r == p.admin && is_last_admin p u)) LastAdmin
-allowed p (amend.Relate rho u v) = unless_fault (option_map pair_fault (relate_fault p.relations rho u v))
-allowed p (amend.Unrelate rho u v) = unless_fault (option_map pair_fault (unrelate_fault p.relations rho u v))
+allowed p (amend.Relate rho u v) = unless_fault (pair_fault (relate_fault p.relations rho u v))
+allowed p (amend.Unrelate rho u v) = unless_fault (pair_fault (unrelate_fault p.relations rho u v))
 allowed p (amend.Permit f r s) = check (not (set.contains (flow_at p f).flow.permits (r, s))) Already
 allowed p (amend.Forbid f r s) = check (set.contains (flow_at p f).flow.permits (r, s)) Absent
 allowed p (amend.Retire f) = check (not (flow_at p f).retired) Already
 
 -- what an edit changes, or its first fault
-abbrev pub amendment_of : PolicyShape → List ℕ → Edit → Result Amendment EditFault
+abbrev pub amendment_of : PolicyShape → List ℕ → Edit → Result Amendment EditCause
 amendment_of p by e = do
   _ ← check (is_admin p by) NotAdmin
   a ← found p e
   _ ← allowed p a
   Ok a
 
+-- a cause against an edit, as its fault; none is want of memory
+abbrev pub fault_as : EditCause → EditFault
+fault_as NotAdmin = fault.NotAdmin
+fault_as (Unknown what) = fault.Unknown what
+fault_as Fixed = fault.Fixed
+fault_as Already = fault.Already
+fault_as Absent = fault.Absent
+fault_as Full = fault.Full
+fault_as LastAdmin = fault.LastAdmin
+
 -- the fault, if there is one
-abbrev pub fault_of : Result Amendment EditFault → Option EditFault
+abbrev pub fault_of : Result Amendment EditCause → Option EditFault
 fault_of (Ok a) = None
-fault_of (Err fault) = Some fault
+fault_of (Err cause) = Some (fault_as cause)
 
 -- the first fault of an edit, if it has one
 abbrev pub edit_cause : PolicyShape → List ℕ → Edit → Option EditFault
@@ -146,7 +159,7 @@ amended p (amend.Forbid f r s) = with_permits p f (set.remove (flow_at p f).flow
 amended p (amend.Retire f) = with_flow p f (record (flow_at p f) { retired = true })
 
 -- a policy with an edit that has no fault; where it has one, as it is
-abbrev pub edited_where : PolicyShape → Result Amendment EditFault → PolicyShape
+abbrev pub edited_where : PolicyShape → Result Amendment EditCause → PolicyShape
 edited_where p (Ok a) = amended p a
 edited_where p (Err fault) = p
 

@@ -1,5 +1,5 @@
 //! Why an edit is refused.
-ghost use Rattle.std.specs.Prelude.{◌≡◌, ◌==◌, ◌&&◌, not, option_map, IfOk, Ok};
+ghost use Rattle.std.specs.Prelude.{◌≡◌, ◌≢◌, ◌==◌, ◌&&◌, not, IfOk, Ok, Some};
 ghost use Rattle.first_fault.specs.Reading.{check};
 ghost use Rattle.admin_edits.specs.declared.amendment.Amendment.TheVariants as amend;
 ghost use Rattle.admin_edits.specs.Edits.{allowed, amendment_of, edit_cause, has_other, has_some_role, is_last_admin, pair_fault, unless_fault};
@@ -7,7 +7,7 @@ ghost use Rattle.admin_edits.specs.Found.{IsKnownChange};
 ghost use Rattle.rbac_state.specs.Rosters.{has_role};
 
 use crate::find::{check_admin, find};
-use crate::{Amendment, EditFault};
+use crate::{Amendment, EditCause, EditFault};
 use policy_book::Policy;
 use rbac_state::Roster;
 use user_relations::RelationFault;
@@ -17,16 +17,17 @@ use wf_talk::Edit;
 /// The first fault of an edit that somebody asks for, if it has one. Takes no memory, and is never
 /// `NoMemory`.
 pub fn edit_cause(p: &Policy, by: &Name, e: &Edit) -> Option<EditFault>
-    ensures { result ≡ edit_cause p.now by.now e.now }
+    ensures cause { result ≡ edit_cause p.now by.now e.now }
+    ensures never { result ≢ Some EditFault.NoMemory }
 {
     match amendment_of(p, by, e) {
         Ok(_) => None,
-        Err(fault) => Some(fault),
+        Err(cause) => Some(EditFault::from(cause)),
     }
 }
 
 /// What an edit changes, with numbers in place of names, or its first fault. Takes no memory.
-pub fn amendment_of(p: &Policy, by: &Name, e: &Edit) -> Result<Amendment, EditFault>
+pub fn amendment_of(p: &Policy, by: &Name, e: &Edit) -> Result<Amendment, EditCause>
     ensures amendment { result ≡ amendment_of p.now by.now e.now }
     ensures within { IfOk result (IsKnownChange p.now) }
     ensures allowed { IfOk result (λ a. allowed p.now a ≡ Ok tt) }
@@ -38,22 +39,22 @@ pub fn amendment_of(p: &Policy, by: &Name, e: &Edit) -> Result<Amendment, EditFa
 }
 
 /// The first fault of a change whose names are known.
-fn allowed(p: &Policy, a: &Amendment) -> Result<(), EditFault>
+fn allowed(p: &Policy, a: &Amendment) -> Result<(), EditCause>
     requires { IsKnownChange p.now a.now }
     ensures { result ≡ allowed p.now a.now }
 {
     match *a {
         Amendment::AddUser { name } => allowed_user(p, &name),
         Amendment::Leave { user } => {
-            check(has_some_role(p.roster(), user), EditFault::Absent)?;
-            check(!is_last_admin(p, user), EditFault::LastAdmin)
+            check(has_some_role(p.roster(), user), EditCause::Absent)?;
+            check(!is_last_admin(p, user), EditCause::LastAdmin)
         }
-        Amendment::Enrol { user, role } => check(!p.roster().has(user, role), EditFault::Already),
+        Amendment::Enrol { user, role } => check(!p.roster().has(user, role), EditCause::Already),
         Amendment::Dismiss { user, role } => {
-            check(p.roster().has(user, role), EditFault::Absent)?;
+            check(p.roster().has(user, role), EditCause::Absent)?;
             check(
                 !(role == p.admin() && is_last_admin(p, user)),
-                EditFault::LastAdmin,
+                EditCause::LastAdmin,
             )
         }
         Amendment::Relate {
@@ -67,42 +68,41 @@ fn allowed(p: &Policy, a: &Amendment) -> Result<(), EditFault>
             second,
         } => unless_fault(p.relations().unrelate_fault(relation, first, second)),
         Amendment::Permit { flow, role, step } => {
-            check(!p.flow(flow).permits(role, step), EditFault::Already)
+            check(!p.flow(flow).permits(role, step), EditCause::Already)
         }
         Amendment::Forbid { flow, role, step } => {
-            check(p.flow(flow).permits(role, step), EditFault::Absent)
+            check(p.flow(flow).permits(role, step), EditCause::Absent)
         }
-        Amendment::Retire { flow } => check(!p.retired(flow), EditFault::Already),
+        Amendment::Retire { flow } => check(!p.retired(flow), EditCause::Already),
     }
 }
 
 /// The fault of adding a user with a name.
-fn allowed_user(p: &Policy, name: &Name) -> Result<(), EditFault>
+fn allowed_user(p: &Policy, name: &Name) -> Result<(), EditCause>
     ensures { result ≡ allowed p.now (amend.AddUser name.now) }
 {
     let users = p.roster().users();
-    check(users.find(name).is_none(), EditFault::Already)?;
-    check(users.len() < USER_LIMIT, EditFault::Full)
+    check(users.find(name).is_none(), EditCause::Already)?;
+    check(users.len() < USER_LIMIT, EditCause::Full)
 }
 
 /// The fault where the test fails.
-fn check(passes: bool, fault: EditFault) -> Result<(), EditFault>
+fn check(passes: bool, fault: EditCause) -> Result<(), EditCause>
     ensures { result ≡ check passes fault }
 {
     if passes { Ok(()) } else { Err(fault) }
 }
 
 /// The fault of putting a pair into a relation or taking it out, if there is one.
-fn unless_fault(fault: Option<RelationFault>) -> Result<(), EditFault>
-    ensures { result ≡ unless_fault (option_map pair_fault fault) }
+fn unless_fault(fault: Option<RelationFault>) -> Result<(), EditCause>
+    ensures { result ≡ unless_fault (pair_fault fault) }
 {
     match fault {
-        None => Ok(()),
-        Some(RelationFault::Fixed) => Err(EditFault::Fixed),
-        Some(RelationFault::Already) => Err(EditFault::Already),
-        Some(RelationFault::Absent) => Err(EditFault::Absent),
-        Some(RelationFault::Full) => Err(EditFault::Full),
-        Some(RelationFault::NoMemory) => Err(EditFault::NoMemory),
+        None | Some(RelationFault::NoMemory) => Ok(()),
+        Some(RelationFault::Fixed) => Err(EditCause::Fixed),
+        Some(RelationFault::Already) => Err(EditCause::Already),
+        Some(RelationFault::Absent) => Err(EditCause::Absent),
+        Some(RelationFault::Full) => Err(EditCause::Full),
     }
 }
 

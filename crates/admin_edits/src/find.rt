@@ -9,13 +9,13 @@ ghost use Rattle.admin_edits.specs.declared.amendment.Amendment.TheVariants as a
 ghost use Rattle.admin_edits.specs.Edits.{found, is_admin};
 ghost use Rattle.admin_edits.specs.Found.{AreMember, ArePair, ArePermit, IsKnownChange};
 
-use crate::{Amendment, EditFault};
+use crate::{Amendment, EditCause};
 use policy_book::Policy;
 use wf_names::{FlowId, Name, RelId, RoleId, StepId, UserId};
 use wf_talk::{Edit, Missing};
 
 /// What is changed, or the first name that the policy does not have.
-pub(crate) fn find(p: &Policy, e: &Edit) -> Result<Amendment, EditFault>
+pub(crate) fn find(p: &Policy, e: &Edit) -> Result<Amendment, EditCause>
     ensures found { result ≡ found p.now e.now }
     ensures within { IfOk result (IsKnownChange p.now) }
 {
@@ -71,7 +71,7 @@ pub(crate) fn find(p: &Policy, e: &Edit) -> Result<Amendment, EditFault>
 }
 
 /// A user and a role.
-fn find_member(p: &Policy, user: &Name, role: &Name) -> Result<(UserId, RoleId), EditFault>
+fn find_member(p: &Policy, user: &Name, role: &Name) -> Result<(UserId, RoleId), EditCause>
     ensures enrol { MatchResult result
         (λ x. found p.now (edit.Enrol role.now user.now) ≡ Ok (amend.Enrol x.0 x.1))
         (λ e. found p.now (edit.Enrol role.now user.now) ≡ Err e) }
@@ -91,7 +91,7 @@ fn find_pair(
     relation: &Name,
     first: &Name,
     second: &Name,
-) -> Result<(RelId, UserId, UserId), EditFault>
+) -> Result<(RelId, UserId, UserId), EditCause>
     ensures relate { MatchResult result
         (λ x. found p.now (edit.Relate first.now relation.now second.now)
         ≡ Ok (amend.Relate x.0 x.1 x.2))
@@ -114,7 +114,7 @@ fn find_permit(
     flow: &Name,
     step: &Name,
     role: &Name,
-) -> Result<(FlowId, StepId, RoleId), EditFault>
+) -> Result<(FlowId, StepId, RoleId), EditCause>
     ensures permit { MatchResult result
         (λ x. found p.now (edit.Permit flow.now role.now step.now) ≡ Ok (amend.Permit x.0 x.2 x.1))
         (λ e. found p.now (edit.Permit flow.now role.now step.now) ≡ Err e) }
@@ -130,66 +130,66 @@ fn find_permit(
 }
 
 /// Refuses who does not administer.
-pub(crate) fn check_admin(p: &Policy, by: &Name) -> Result<(), EditFault>
-    ensures { result ≡ check (is_admin p.now by.now) EditFault.NotAdmin }
+pub(crate) fn check_admin(p: &Policy, by: &Name) -> Result<(), EditCause>
+    ensures { result ≡ check (is_admin p.now by.now) EditCause.NotAdmin }
 {
     match p.roster().users().find(by) {
         Some(u) if p.roster().has(UserId(u), p.admin()) => Ok(()),
-        _ => Err(EditFault::NotAdmin),
+        _ => Err(EditCause::NotAdmin),
     }
 }
 
-fn find_user(p: &Policy, name: &Name) -> Result<UserId, EditFault>
+fn find_user(p: &Policy, name: &Name) -> Result<UserId, EditCause>
     ensures user { result ≡ or_fault (place_of p.now.roster.users name.now)
-        (EditFault.Unknown Missing.User) }
+        (EditCause.Unknown Missing.User) }
     ensures within { IfOk result (λ u. u < length p.now.roster.users) }
 {
     match p.roster().users().find(name) {
         Some(u) => Ok(UserId(u)),
-        None => Err(EditFault::Unknown(Missing::User)),
+        None => Err(EditCause::Unknown(Missing::User)),
     }
 }
 
-fn find_role(p: &Policy, name: &Name) -> Result<RoleId, EditFault>
+fn find_role(p: &Policy, name: &Name) -> Result<RoleId, EditCause>
     ensures role { result ≡ or_fault (place_of p.now.roster.roles name.now)
-        (EditFault.Unknown Missing.Role) }
+        (EditCause.Unknown Missing.Role) }
     ensures within { IfOk result (λ r. r < length p.now.roster.roles) }
 {
     match p.roster().roles().find(name) {
         Some(r) => Ok(RoleId(r as u8)),
-        None => Err(EditFault::Unknown(Missing::Role)),
+        None => Err(EditCause::Unknown(Missing::Role)),
     }
 }
 
-fn find_relation(p: &Policy, name: &Name) -> Result<RelId, EditFault>
+fn find_relation(p: &Policy, name: &Name) -> Result<RelId, EditCause>
     ensures { result ≡ or_fault (place_of (known_names p.now.relations) name.now)
-        (EditFault.Unknown Missing.Relation) }
+        (EditCause.Unknown Missing.Relation) }
 {
     match p.relations().find(name) {
         Some(rho) => Ok(rho),
-        None => Err(EditFault::Unknown(Missing::Relation)),
+        None => Err(EditCause::Unknown(Missing::Relation)),
     }
 }
 
-fn find_flow(p: &Policy, name: &Name) -> Result<FlowId, EditFault>
+fn find_flow(p: &Policy, name: &Name) -> Result<FlowId, EditCause>
     ensures flow { result ≡ or_fault (place_of p.now.flow_names name.now)
-        (EditFault.Unknown Missing.Flow) }
+        (EditCause.Unknown Missing.Flow) }
     ensures within { IfOk result (λ f. f < length p.now.flows) }
 {
     match p.find_flow(name) {
         Some(f) => Ok(f),
-        None => Err(EditFault::Unknown(Missing::Flow)),
+        None => Err(EditCause::Unknown(Missing::Flow)),
     }
 }
 
-fn find_step(p: &Policy, f: FlowId, name: &Name) -> Result<StepId, EditFault>
+fn find_step(p: &Policy, f: FlowId, name: &Name) -> Result<StepId, EditCause>
     requires { f < length p.now.flows }
     ensures step { result ≡ or_fault (place_of (flow_at p.now f).flow.steps name.now)
-        (EditFault.Unknown Missing.Step) }
+        (EditCause.Unknown Missing.Step) }
     ensures within { IfOk result (λ s. s < length (flow_at p.now f).flow.steps) }
 {
     match p.flow(f).steps().find(name) {
         Some(s) => Ok(StepId(s as u8)),
-        None => Err(EditFault::Unknown(Missing::Step)),
+        None => Err(EditCause::Unknown(Missing::Step)),
     }
 }

@@ -12,5 +12,5 @@ pub mod laws;
 pub use amendment::Amendment;
 pub use cause::{amendment_of, edit_cause};
 pub use edited::{amended, apply};
-pub use fault::EditFault;
+pub use fault::{EditCause, EditFault};
 pub use hurting::may_hurt;

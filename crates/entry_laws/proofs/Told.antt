@@ -21,8 +21,8 @@ use Rattle.wf_talk.specs.declared.reply.Denial.TheVariants as denial
 use Rattle.wf_talk.specs.Jobs.{IsNamedAsk, IsNamedBad}
 use Rattle.denial_reasons.specs.Causes.{assigned_with, first_cause, first_falsified, permitted_roles}
 use Rattle.admin_edits.specs.declared.amendment.Amendment.{Amendment}
-use Rattle.admin_edits.specs.declared.fault.EditFault.{EditFault}
-use Rattle.admin_edits.specs.declared.fault.EditFault.TheVariants as fault
+use Rattle.admin_edits.specs.declared.fault.EditCause.{EditCause}
+use Rattle.admin_edits.specs.declared.fault.EditCause.TheVariants as fault
 use Rattle.admin_edits.specs.Edits.{amendment_of, is_admin}
 use Rattle.wf_board.specs.declared.deed.Deed.{Deed}
 use Rattle.wf_board.specs.declared.deed.Deed.TheVariants as deed
@@ -75,7 +75,7 @@ unknown_nests p missing.Relation = omega arith
 unknown_nests p missing.User = omega arith
 unknown_nests p missing.Role = omega arith
 
-fault_fits : (p : PolicyShape) (flows : ℕ → Option ℕ) (o : Option ℕ) (why : EditFault) → FitsDenial p flows o (edit_denial why)
+fault_fits : (p : PolicyShape) (flows : ℕ → Option ℕ) (o : Option ℕ) (why : EditCause) → FitsDenial p flows o (edit_denial why)
 fault_fits p flows o fault.NotAdmin = (tt, omega arith)
 fault_fits p flows o (fault.Unknown what) = (tt, unknown_nests p what)
 fault_fits p flows o fault.Fixed = (tt, omega arith)
@@ -83,9 +83,8 @@ fault_fits p flows o fault.Already = (tt, omega arith)
 fault_fits p flows o fault.Absent = (tt, omega arith)
 fault_fits p flows o fault.Full = (tt, omega arith)
 fault_fits p flows o fault.LastAdmin = (tt, omega arith)
-fault_fits p flows o fault.NoMemory = (tt, omega arith)
 
-edit_fares : (s : State) (o : Option ℕ) (make : Amendment → Deed) (r : Result Amendment EditFault) → ((a : Amendment) → IsDeedFor s o (make a))
+edit_fares : (s : State) (o : Option ℕ) (make : Amendment → Deed) (r : Result Amendment EditCause) → ((a : Amendment) → IsDeedFor s o (make a))
     → Fares (IsDeedFor s o) (Fits s o) (on_edit make r)
 edit_fares s o make (Ok a) made = made a
 edit_fares s o make (Err why) made = fault_fits s.book.policy (flows_of s) o why

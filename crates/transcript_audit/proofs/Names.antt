@@ -26,8 +26,8 @@ use Rattle.user_relations.specs.Relations.{known_names}
 use Rattle.case_record.specs.Cases.{CaseShape}
 use Rattle.admin_edits.specs.declared.amendment.Amendment.{Amendment}
 use Rattle.admin_edits.specs.declared.amendment.Amendment.TheVariants as amend
-use Rattle.admin_edits.specs.declared.fault.EditFault.{EditFault}
-use Rattle.admin_edits.specs.declared.fault.EditFault.TheVariants as fault
+use Rattle.admin_edits.specs.declared.fault.EditCause.{EditCause}
+use Rattle.admin_edits.specs.declared.fault.EditCause.TheVariants as fault
 use Rattle.admin_edits.specs.Edits.{allowed, amended, amendment_of, found, is_admin}
 use Rattle.admin_edits.specs.Keeping.{KeepsNames}
 use Rattle.admin_edits.proofs.Keeping.{changes_keep_names}
@@ -146,11 +146,11 @@ amendment_named p by e form =
     then_any IsNamedChange (check (is_admin p by) fault.NotAdmin) (λ _. found p e >>= (λ a. allowed p a >>= (λ _. Ok a)))
     (λ _. then_holds IsNamedChange IsNamedChange (found p e) (λ a. allowed p a >>= (λ _. Ok a)) (found_named p e form) (λ a is. then_same IsNamedChange a (allowed p a) is))
 
-on_edit_named : (r : Result Amendment EditFault) → HoldsOf IsNamedChange r → HoldsOf IsNamedDeed (on_edit deed.Change r)
+on_edit_named : (r : Result Amendment EditCause) → HoldsOf IsNamedChange r → HoldsOf IsNamedDeed (on_edit deed.Change r)
 on_edit_named (Ok a) is = is
 on_edit_named (Err fault) is = tt
 
-on_what_if_named : (r : Result Amendment EditFault) → HoldsOf IsNamedDeed (on_edit deed.WhatIf r)
+on_what_if_named : (r : Result Amendment EditCause) → HoldsOf IsNamedDeed (on_edit deed.WhatIf r)
 on_what_if_named (Ok a) = tt
 on_what_if_named (Err fault) = tt
 

@@ -15,8 +15,8 @@ use Rattle.case_record.specs.Ready.{first_missing}
 use Rattle.grant_table.specs.Tables.{CasesShape, case_in}
 use Rattle.grant_table.specs.Kept.{AscendFrom}
 use Rattle.admin_edits.specs.declared.amendment.Amendment.{Amendment}
-use Rattle.admin_edits.specs.declared.fault.EditFault.{EditFault}
-use Rattle.admin_edits.specs.declared.fault.EditFault.TheVariants as fault
+use Rattle.admin_edits.specs.declared.fault.EditCause.{EditCause}
+use Rattle.admin_edits.specs.declared.fault.EditCause.TheVariants as fault
 use Rattle.admin_edits.specs.Edits.{amended, amendment_of, is_admin}
 use Rattle.admin_edits.proofs.Keeping.{HoldsOf, changes_keep_policies_sound}
 use Rattle.denial_reasons.specs.Causes.{assigned_with, first_cause, first_falsified, first_of, permitted_roles, unless}
@@ -92,7 +92,7 @@ bare_step b make n step user =
     (λ c. then_fault IsBare (or_fault (step_named b c.flow step) denial.NoStep) _ (there_fault IsBare (step_named b c.flow step) denial.NoStep refl)
     (λ t. then_fault IsBare (or_fault (user_named b user) denial.NoUser) _ (there_fault IsBare (user_named b user) denial.NoUser refl) (λ u. tt)))
 
-bare_edit : (f : EditFault) → IsBare (edit_denial f)
+bare_edit : (f : EditCause) → IsBare (edit_denial f)
 bare_edit fault.NotAdmin = refl
 bare_edit (fault.Unknown what) = refl
 bare_edit fault.Fixed = refl
@@ -100,9 +100,8 @@ bare_edit fault.Already = refl
 bare_edit fault.Absent = refl
 bare_edit fault.Full = refl
 bare_edit fault.LastAdmin = refl
-bare_edit fault.NoMemory = refl
 
-bare_change : (make : Amendment → Deed) (r : Result Amendment EditFault) → FaultOf IsBare (on_edit make r)
+bare_change : (make : Amendment → Deed) (r : Result Amendment EditCause) → FaultOf IsBare (on_edit make r)
 bare_change make (Ok a) = tt
 bare_change make (Err f) = bare_edit f
 

@@ -20,7 +20,7 @@ use Rattle.wf_board.specs.declared.verdict.Verdict.{Verdict}
 use Rattle.wf_board.specs.States.{Book, Numbered, State, numbered_case, flow_named, step_named, user_named, with_case_changed}
 use Rattle.admin_edits.specs.Edits.{amendment_of, is_admin}
 use Rattle.admin_edits.specs.declared.amendment.Amendment.{Amendment}
-use Rattle.admin_edits.specs.declared.fault.EditFault.{EditFault}
+use Rattle.admin_edits.specs.declared.fault.EditCause.{EditCause}
 use Rattle.wf_board.specs.Resolved.{on_edit, on_step, open_case_at, resolve}
 use Rattle.wf_board.specs.Decisions.{cause_aside, cause_full, decision_aside, decision_of}
 use Rattle.wf_board.specs.Steps.{Answers, IsReplyTo, IsStep, state_after_decision, state_after_deed, state_after_step}
@@ -107,7 +107,7 @@ named_step what b make n step user named =
     (λ t _. then_holds (λ _. Unit {0}) (IsNamed what) (or_fault (user_named b user) NoUser) _ (always (or_fault (user_named b user) NoUser))
     (λ u _. named c t u)))
 
-change_named : (what : Ask) (make : Amendment → Deed) (r : Result Amendment EditFault) → ((a : Amendment) → IsNamed what (make a)) → HoldsOf (IsNamed what) (on_edit make r)
+change_named : (what : Ask) (make : Amendment → Deed) (r : Result Amendment EditCause) → ((a : Amendment) → IsNamed what (make a)) → HoldsOf (IsNamed what) (on_edit make r)
 change_named what make (Ok a) named = named a
 change_named what make (Err fault) named = tt
 

@@ -19,7 +19,7 @@ use Rattle.wf_talk.specs.declared.reply.Denial.{Denial}
 use Rattle.wf_talk.specs.declared.reply.Denial.TheVariants.{Closed, NoCase, NoFlow, NoStep, NoUser, NotAdmin}
 use Rattle.admin_edits.specs.Edits.{amendment_of, is_admin}
 use Rattle.admin_edits.specs.declared.amendment.Amendment.{Amendment}
-use Rattle.admin_edits.specs.declared.fault.EditFault.{EditFault}
+use Rattle.admin_edits.specs.declared.fault.EditCause.{EditCause}
 use Rattle.denial_reasons.specs.Causes.{first_cause, first_of, unless}
 use Rattle.wf_board.specs.declared.deed.Deed.{Deed}
 use Rattle.wf_board.specs.declared.deed.Deed.TheVariants as deed
@@ -91,11 +91,11 @@ change_allowed b by e a is sound =
     let known = amendment_found b.policy by e a sound is in
     record { found = known.0; allowed = known.1 }
 
-change_there : (b : Book) (by : List ℕ) (e : Edit) (r : Result Amendment EditFault) → amendment_of b.policy by e ≡ r → HoldsOf (IsThere b) (on_edit deed.Change r)
+change_there : (b : Book) (by : List ℕ) (e : Edit) (r : Result Amendment EditCause) → amendment_of b.policy by e ≡ r → HoldsOf (IsThere b) (on_edit deed.Change r)
 change_there b by e (Ok a) is = change_allowed b by e a is
 change_there b by e (Err fault) is = tt
 
-what_if_there : (b : Book) (by : List ℕ) (e : Edit) (r : Result Amendment EditFault) → amendment_of b.policy by e ≡ r → HoldsOf (IsThere b) (on_edit deed.WhatIf r)
+what_if_there : (b : Book) (by : List ℕ) (e : Edit) (r : Result Amendment EditCause) → amendment_of b.policy by e ≡ r → HoldsOf (IsThere b) (on_edit deed.WhatIf r)
 what_if_there b by e (Ok a) is = change_allowed b by e a is
 what_if_there b by e (Err fault) is = tt
 

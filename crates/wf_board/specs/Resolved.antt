@@ -9,8 +9,8 @@ use Rattle.wf_talk.specs.declared.request.Ask.TheVariants as ask
 use Rattle.wf_talk.specs.declared.reply.Denial.{Denial}
 use Rattle.wf_talk.specs.declared.reply.Denial.TheVariants as denial
 use Rattle.admin_edits.specs.declared.amendment.Amendment.{Amendment}
-use Rattle.admin_edits.specs.declared.fault.EditFault.{EditFault}
-use Rattle.admin_edits.specs.declared.fault.EditFault.TheVariants as fault
+use Rattle.admin_edits.specs.declared.fault.EditCause.{EditCause}
+use Rattle.admin_edits.specs.declared.fault.EditCause.TheVariants as fault
 use Rattle.admin_edits.specs.Edits.{amendment_of, is_admin}
 use Rattle.wf_board.specs.declared.deed.Deed.{Deed}
 use Rattle.wf_board.specs.declared.deed.Deed.TheVariants.{Open, Claim, Finish, GiveBack, Release, Withdraw, Change, Show, Work, WhatIf, TurnAway}
@@ -31,8 +31,8 @@ on_step deed b n step user = do
   u ← or_fault (user_named b user) denial.NoUser
   Ok (deed n c s u)
 
--- why an edit is refused; want of memory never is why
-abbrev pub edit_denial : EditFault → Denial
+-- why an edit is refused
+abbrev pub edit_denial : EditCause → Denial
 edit_denial fault.NotAdmin = denial.NotAdmin
 edit_denial (fault.Unknown what) = denial.Unknown what
 edit_denial fault.Fixed = denial.Fixed
@@ -40,10 +40,9 @@ edit_denial fault.Already = denial.Already
 edit_denial fault.Absent = denial.Absent
 edit_denial fault.Full = denial.Full
 edit_denial fault.LastAdmin = denial.LastAdmin
-edit_denial fault.NoMemory = denial.Full
 
 -- a deed with the change that an edit is, or the edit's first fault
-abbrev pub on_edit : (Amendment → Deed) → Result Amendment EditFault → Result Deed Denial
+abbrev pub on_edit : (Amendment → Deed) → Result Amendment EditCause → Result Deed Denial
 on_edit deed (Ok a) = Ok (deed a)
 on_edit deed (Err fault) = Err (edit_denial fault)
 

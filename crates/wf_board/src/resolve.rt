@@ -16,7 +16,7 @@ ghost use Rattle.admin_edits.specs.Edits.{amendment_of, is_admin};
 ghost use Rattle.wf_names.specs.Table.{place_of};
 
 use crate::Deed;
-use admin_edits::{Amendment, EditFault, amendment_of};
+use admin_edits::{Amendment, EditCause, amendment_of};
 use case_record::Case;
 use grant_table::Cases;
 use policy_book::Policy;
@@ -226,17 +226,17 @@ fn change(p: &Policy, by: &Name, edit: &Edit) -> Result<Amendment, Denial>
 }
 
 /// Why an edit is refused.
-fn edit_denial(fault: EditFault) -> Denial
+fn edit_denial(fault: EditCause) -> Denial
     ensures { result ≡ edit_denial fault }
 {
     match fault {
-        EditFault::NotAdmin => Denial::NotAdmin,
-        EditFault::Unknown(what) => Denial::Unknown(what),
-        EditFault::Fixed => Denial::Fixed,
-        EditFault::Already => Denial::Already,
-        EditFault::Absent => Denial::Absent,
-        EditFault::Full | EditFault::NoMemory => Denial::Full,
-        EditFault::LastAdmin => Denial::LastAdmin,
+        EditCause::NotAdmin => Denial::NotAdmin,
+        EditCause::Unknown(what) => Denial::Unknown(what),
+        EditCause::Fixed => Denial::Fixed,
+        EditCause::Already => Denial::Already,
+        EditCause::Absent => Denial::Absent,
+        EditCause::Full => Denial::Full,
+        EditCause::LastAdmin => Denial::LastAdmin,
     }
 }
 

@@ -13,8 +13,8 @@ use Rattle.wf_talk.specs.declared.reply.Denial.{Denial}
 use Rattle.wf_talk.specs.declared.reply.Denial.TheVariants as denial
 use Rattle.denial_reasons.specs.Causes.{first_cause}
 use Rattle.admin_edits.specs.declared.amendment.Amendment.{Amendment}
-use Rattle.admin_edits.specs.declared.fault.EditFault.{EditFault}
-use Rattle.admin_edits.specs.declared.fault.EditFault.TheVariants as fault
+use Rattle.admin_edits.specs.declared.fault.EditCause.{EditCause}
+use Rattle.admin_edits.specs.declared.fault.EditCause.TheVariants as fault
 use Rattle.admin_edits.specs.Edits.{amendment_of, is_admin}
 use Rattle.admin_edits.specs.Found as edits
 use Rattle.admin_edits.specs.Keeping.{KeepsNames}
@@ -49,7 +49,7 @@ IsDeedOf p (deed.TurnAway bad) = Unit {0}
 abbrev pub IsToldAlike : PolicyShape → PolicyShape → Denial → Type 0
 IsToldAlike p q d = denial_data q d ≡ denial_data p d
 
-fault_alike : (p q : PolicyShape) (why : EditFault) → IsToldAlike p q (edit_denial why)
+fault_alike : (p q : PolicyShape) (why : EditCause) → IsToldAlike p q (edit_denial why)
 fault_alike p q fault.NotAdmin = refl
 fault_alike p q (fault.Unknown what) = refl
 fault_alike p q fault.Fixed = refl
@@ -57,9 +57,8 @@ fault_alike p q fault.Already = refl
 fault_alike p q fault.Absent = refl
 fault_alike p q fault.Full = refl
 fault_alike p q fault.LastAdmin = refl
-fault_alike p q fault.NoMemory = refl
 
-edit_fares : (p q : PolicyShape) (make : Amendment → Deed) (by : List ℕ) (e : Edit) (r : Result Amendment EditFault) → ((a : Amendment) → edits.IsKnownChange p a → IsDeedOf p (make a))
+edit_fares : (p q : PolicyShape) (make : Amendment → Deed) (by : List ℕ) (e : Edit) (r : Result Amendment EditCause) → ((a : Amendment) → edits.IsKnownChange p a → IsDeedOf p (make a))
     → IsSoundPolicy p → amendment_of p by e ≡ r → Fares (IsDeedOf p) (IsToldAlike p q) (on_edit make r)
 edit_fares p q make by e (Ok a) made sound is = made a (amendment_found p by e a sound is).0
 edit_fares p q make by e (Err why) made sound is = fault_alike p q why
