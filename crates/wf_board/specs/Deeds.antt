@@ -1,6 +1,9 @@
 -- A deed on which a verdict is still needed, and verdicts on deeds.
-use Rattle.std.specs.Prelude.{◌≡◌, ◌≢◌, Bool, true, false, Ok}
+use Rattle.std.specs.Prelude.{◌≡◌, ◌≢◌, ◌&&◌, not, Bool, true, false, Result, Ok, Err}
 use Rattle.wf_talk.specs.declared.request.Ask.{Ask}
+use Rattle.wf_talk.specs.declared.reply.Denial.{Denial}
+use Rattle.admin_edits.specs.declared.amendment.Amendment.{Amendment}
+use Rattle.admin_edits.specs.declared.amendment.Amendment.TheVariants as amend
 use Rattle.wf_board.specs.declared.deed.Deed.{Deed}
 use Rattle.wf_board.specs.declared.deed.Deed.TheVariants as deed
 use Rattle.wf_board.specs.declared.verdict.Verdict.{Verdict}
@@ -47,6 +50,24 @@ is_over_open (deed.Change a) = true
 is_over_open (deed.Work u) = true
 is_over_open (deed.WhatIf a) = true
 is_over_open given = false
+
+-- a change that makes no valid plan invalid, whatever the plan
+abbrev pub is_harmless : Amendment → Bool
+is_harmless (amend.AddUser name) = true
+is_harmless (amend.Enrol u r) = true
+is_harmless (amend.Permit f r s) = true
+is_harmless (amend.Retire f) = true
+is_harmless a = false
+
+-- a deed is such a change
+abbrev pub is_harmless_deed : Deed → Bool
+is_harmless_deed (deed.Change a) = is_harmless a
+is_harmless_deed given = false
+
+-- no cause, and a verdict on whether cases can be completed has to be searched for: it is no change that hurts no plan
+abbrev pub needs_search : Result Deed Denial → Bool
+needs_search (Ok given) = needs_plan given && not (is_harmless_deed given)
+needs_search (Err d) = false
 
 -- what came of a request, as an answer with no verdict
 abbrev pub answered_of : Stepped → Answered

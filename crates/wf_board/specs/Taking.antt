@@ -13,7 +13,6 @@ use Rattle.wf_talk.specs.declared.reply.Reply.{Reply}
 use Rattle.wf_talk.specs.declared.reply.Reply.TheVariants as reply
 use Rattle.wf_talk.specs.declared.reply.Denial.{Denial}
 use Rattle.admin_edits.specs.declared.amendment.Amendment.{Amendment}
-use Rattle.admin_edits.specs.declared.amendment.Amendment.TheVariants as amend
 use Rattle.wf_board.specs.declared.deed.Deed.{Deed}
 use Rattle.wf_board.specs.declared.deed.Deed.TheVariants as deed
 use Rattle.wf_board.specs.Found.{IsAllowed}
@@ -23,6 +22,7 @@ use Rattle.wf_board.specs.declared.verdict.Answered.{Answered}
 use Rattle.wf_board.specs.declared.verdict.Answered.TheVariants.{Done, Needs}
 use Rattle.wf_board.specs.States.{Book}
 use Rattle.wf_board.specs.Boards.{BoardShape, book_of, state_on}
+pub use Rattle.wf_board.specs.Deeds.{is_harmless}
 use Rattle.wf_board.specs.KeptPlans.{rows_after}
 use Rattle.wf_board.specs.Decisions.{cause_aside, cause_full, decision_of, needs_verdict, takes_memory, unless_denied}
 use Rattle.wf_board.specs.Steps.{Answers, room_taken, state_after_decision, with_changed}
@@ -42,14 +42,6 @@ board_of p t edits = record { policy = p; cases = t; edits = edits }
 abbrev pub keeps_policy : Verdict → Bool
 keeps_policy (verdict.Edited edition) = false
 keeps_policy v = true
-
--- a change that makes no valid plan invalid, whatever the plan
-abbrev pub is_harmless : Amendment → Bool
-is_harmless (amend.AddUser name) = true
-is_harmless (amend.Enrol u r) = true
-is_harmless (amend.Permit f r s) = true
-is_harmless (amend.Retire f) = true
-is_harmless a = false
 
 -- a deed is such a change
 pub record IsHarmless (d : Deed) (a : Amendment) : Type 0 where

@@ -3,7 +3,8 @@ ghost use Rattle.std.specs.Prelude.{◌≡◌, IfOk, IfSome};
 ghost use Rattle.std.specs.Arc.{arc_value};
 ghost use Rattle.admin_edits.specs.Edits.{amended};
 ghost use Rattle.wf_board.specs.Found.{IsAllowed};
-ghost use Rattle.wf_board.specs.Taking.{is_harmless, IsHarmless};
+ghost use Rattle.wf_board.specs.Deeds.{is_harmless, is_harmless_deed};
+ghost use Rattle.wf_board.specs.Taking.{IsHarmless};
 
 use crate::Deed;
 use admin_edits::{Amendment, amended};
@@ -12,8 +13,13 @@ use std::alloc::{AllocError, Global};
 use std::sync::Arc;
 
 /// Whether a deed is a change that makes no valid plan invalid, so that nothing has to be searched.
-pub fn is_harmless_deed(deed: &Deed) -> bool {
-    harmless_change(deed).is_some()
+pub fn is_harmless_deed(deed: &Deed) -> bool
+    ensures { result ≡ is_harmless_deed deed.now }
+{
+    match deed {
+        Deed::Change { amendment } => is_harmless(amendment),
+        _ => false,
+    }
 }
 
 /// The change that a deed is, where it makes no plan invalid.
