@@ -1,5 +1,6 @@
 -- What becomes of a job: decided inside the turn, or with the verdict of a task that was found outside it.
-use Rattle.std.specs.Prelude.{◌≡◌, ℕ, ◌+◌, ◌==◌, ◌&&◌, ◌||◌, nat_le, not, Bool, true, false, length, drop, max, slice_set, None, Some}
+use Rattle.std.specs.Prelude.{◌≡◌, ℕ, ◌+◌, ◌==◌, ◌&&◌, ◌||◌, nat_le, not, Bool, true, false, length, drop, max, slice_set, Option, None, Some, Result, Ok, Err}
+use Rattle.std.specs.declared.alloc.AllocError.{AllocError}
 use Rattle.std.proofs.Common.{◌⊎◌}
 use Rattle.wf_talk.specs.declared.job.Job.{Job}
 use Rattle.wf_talk.specs.declared.request.Ask.{Ask}
@@ -12,6 +13,8 @@ use Rattle.wf_board.specs.declared.verdict.Verdict.TheVariants as verdict
 use Rattle.wf_board.specs.Boards.{state_on}
 use Rattle.wf_board.specs.Counting.{counted, counted_end, lane_end}
 use Rattle.wf_board.specs.Decisions.{decision_of, is_view, needs_verdict}
+use Rattle.wf_board.specs.Deeds.{needs_search}
+use Rattle.wf_board.specs.States.{Book}
 use Rattle.wf_board.specs.Verdicts.{IsCertified, IsDecided, IsRight, snap_of}
 use Rattle.wf_desk.specs.declared.task.Task.{Task}
 use Rattle.wf_desk.specs.declared.task.Taken.{Taken}
@@ -113,8 +116,18 @@ HasServed before after lane true =
     × HasAdded before after job (length before.entries) (IsDecided before.board job.ask verdict.Nothing))
 HasServed before after lane false = (next_job before lane ≡ None) × (after ≡ before)
 
--- a lane's next job was taken up, if it has one: it was decided inside the turn, or this is its task, and nothing has changed
-abbrev pub HasTakenUp : DeskShape → DeskShape → ℕ → Taken → Type 0
-HasTakenUp before after lane (taken.Task t) = IsTask before lane t × (after ≡ before)
-HasTakenUp before after lane taken.Served = HasServed before after lane true
-HasTakenUp before after lane taken.Ended = HasServed before after lane false
+-- a lane has a job left, and a verdict on it has to be searched for
+abbrev pub asks_search : Book → Option Job → Bool
+asks_search b None = false
+asks_search b (Some job) = needs_search (decision_of b job.ask)
+
+abbrev pub next_asks_search : DeskShape → ℕ → Bool
+next_asks_search d lane = asks_search (state_on d.board).book (next_job d lane)
+
+-- a lane's next job was taken up, if it has one: what needs no search was decided inside the turn, and nothing else; of
+-- what has to be searched this is the task, or there was no memory for one, and nothing has changed
+abbrev pub HasTakenUp : DeskShape → DeskShape → ℕ → Result Taken AllocError → Type 0
+HasTakenUp before after lane (Ok (taken.Task t)) = (next_asks_search before lane ≡ true) × (IsTask before lane t × (after ≡ before))
+HasTakenUp before after lane (Ok taken.Served) = (next_asks_search before lane ≡ false) × HasServed before after lane true
+HasTakenUp before after lane (Ok taken.Ended) = HasServed before after lane false
+HasTakenUp before after lane (Err e) = (next_asks_search before lane ≡ true) × (after ≡ before)

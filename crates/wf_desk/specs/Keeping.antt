@@ -1,12 +1,12 @@
 -- Inside: what a desk keeps beside what is said of it.
-use Rattle.std.specs.Prelude.{◌≡◌, ℕ, ◌+◌, ◌<◌, ◌≤◌, ◌&&◌, nat_le, not, Bool, true, false, List, length, take, drop, max, slice_get, slice_index_or, IfSome, Option, None, Some}
+use Rattle.std.specs.Prelude.{◌≡◌, ℕ, ◌+◌, ◌<◌, ◌≤◌, ◌&&◌, nat_le, not, Bool, true, false, List, length, take, drop, max, slice_get, slice_index_or, IfSome, Option, None, Some, Ok}
 use Rattle.wf_names.specs.declared.limits.TheConstants.{LANE_LIMIT}
 use Rattle.wf_talk.specs.declared.job.Job.{Job}
 use Rattle.wf_talk.specs.declared.request.Ask.{Ask}
 use Rattle.wf_board.specs.Counting.{counted, lane_end}
 use Rattle.wf_board.specs.Histories.{lane_jobs}
 use Rattle.wf_board.specs.Boards.{state_on}
-use Rattle.wf_board.specs.Decisions.{decision_of, is_view, needs_verdict}
+use Rattle.wf_board.specs.Decisions.{decision_of, is_view, needs_plan, needs_verdict}
 use Rattle.wf_board.specs.Verdicts.{IsDecided}
 use Rattle.wf_board.specs.declared.deed.Deed.{Deed}
 use Rattle.wf_board.specs.declared.verdict.Verdict.TheVariants as verdict
@@ -60,7 +60,9 @@ abbrev pub HasLookedAt : DeskShape → DeskShape → Job → Option Deed → Typ
 HasLookedAt before after job None =
     HasAdded before after job (length before.entries) (IsDecided before.board job.ask verdict.Nothing)
     × (needs_verdict (decision_of (state_on before.board).book job.ask) ≡ false)
-HasLookedAt before after job (Some d) = (after ≡ before) × (needs_verdict (decision_of (state_on before.board).book job.ask) ≡ true)
+HasLookedAt before after job (Some d) =
+    (after ≡ before) × ((needs_verdict (decision_of (state_on before.board).book job.ask) ≡ true)
+    × ((decision_of (state_on before.board).book job.ask ≡ Ok d) × (needs_plan d ≡ true)))
 
 -- what became of a task without a verdict
 abbrev pub HasCommittedNone : DeskShape → DeskShape → Task → Outcome → Type 0

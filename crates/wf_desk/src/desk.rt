@@ -1,8 +1,9 @@
 //! The desk, with its calls.
-ghost use Rattle.std.specs.Prelude.{◌≡◌, ◌≤◌, ◌<◌, ◌+◌, ◌↔◌, ◌≢◌, nat_le, true, false, [], length, replicate, OnErr, OnOk, IfOk, None, Some, Option};
+ghost use Rattle.std.specs.Prelude.{◌≡◌, ◌≤◌, ◌<◌, ◌+◌, ◌↔◌, ◌≢◌, nat_le, true, false, [], length, replicate, OnErr, OnOk, IfOk, None, Some, Option, Ok};
 ghost use Rattle.wf_names.specs.declared.limits.TheConstants.{BATCH_LINE_LIMIT, LANE_LIMIT, ROUND_LIMIT};
 ghost use Rattle.wf_board.specs.Boards.{book_on, state_on};
 ghost use Rattle.wf_board.specs.States.{opening_state};
+ghost use Rattle.wf_board.specs.Decisions.{decision_of, needs_plan};
 ghost use Rattle.wf_board.specs.Verdicts.{Decides, IsDecided, IsRight};
 ghost use Rattle.std.specs.Arc.{arc_value};
 ghost use Rattle.wf_board.specs.Histories.{IsLegal, state_after};
@@ -187,13 +188,7 @@ impl Desk {
         let Some(job) = self.next_job(lane) else {
             return Ok(None);
         };
-        Ok(Some(Task {
-            lane,
-            line: job.line,
-            ask: job.ask,
-            number: self.number(),
-            snap: self.board.snap(alloc, &job.ask)?,
-        }))
+        Ok(Some(self.task_of(alloc, lane, &job)?))
     }
 
     /// Takes a task's verdict, in a turn. Where nothing that it rests on has changed since, the
@@ -258,37 +253,65 @@ impl Desk {
         true
     }
 
-    /// Takes up a lane's next job, in a turn. Where nothing has to be searched, or there is no
-    /// memory for a task, it is decided at once. Else there is its task, and nothing changes.
-    pub fn take_up<V: Decider>(&mut self, alloc: Global, decider: &V, lane: u8) -> Taken
+    /// Takes up a lane's next job, in a turn. Where nothing has to be searched it is decided at once.
+    /// Else there is its task, or no memory for one, and nothing changes.
+    pub fn take_up<V: Decider>(
+        &mut self,
+        alloc: Global,
+        decider: &V,
+        lane: u8,
+    ) -> Result<Taken, AllocError>
         requires ready { V.ready decider.now }
         requires lane { lane < self.old.lanes }
         ensures { HasTakenUp self.old self.new lane result }
     {
         let Some(job) = self.next_job(lane) else {
-            return Taken::Ended;
+            return Ok(Taken::Ended);
         };
         match self.look_at(alloc, &job) {
-            None => Taken::Served,
-            Some(deed) if is_harmless_deed(&deed) => self.decided(alloc, decider, lane),
-            Some(_) => match self.begin(alloc, lane) {
-                Ok(Some(task)) => Taken::Task(task),
-                _ => self.decided(alloc, decider, lane),
-            },
+            None => Ok(Taken::Served),
+            Some(deed) => self.take_up_deed(alloc, decider, lane, &job, &deed),
         }
     }
 
-    // Decides a lane's next job inside the turn, if it has one.
-    fn decided<V: Decider>(&mut self, alloc: Global, decider: &V, lane: u8) -> Taken
+    // Takes up a job of which the deed is left to decide.
+    fn take_up_deed<V: Decider>(
+        &mut self,
+        alloc: Global,
+        decider: &V,
+        lane: u8,
+        job: &Job,
+        deed: &Deed,
+    ) -> Result<Taken, AllocError>
         requires ready { V.ready decider.now }
         requires lane { lane < self.old.lanes }
+        requires next { next_job self.old lane ≡ Some job.now }
+        requires decided { decision_of (state_on self.old.board).book job.now.ask ≡ Ok deed.now }
+        requires needs { needs_plan deed.now ≡ true }
         ensures { HasTakenUp self.old self.new lane result }
     {
-        if self.serve_next(alloc, decider, lane) {
-            Taken::Served
-        } else {
-            Taken::Ended
+        if !is_harmless_deed(deed) {
+            return Ok(Taken::Task(self.task_of(alloc, lane, job)?));
         }
+        if self.serve_next(alloc, decider, lane) {
+            Ok(Taken::Served)
+        } else {
+            Ok(Taken::Ended)
+        }
+    }
+
+    // The task of a lane's next job.
+    fn task_of(&self, alloc: Global, lane: u8, job: &Job) -> Result<Task, AllocError>
+        requires { next_job self.now lane ≡ Some job.now }
+        ensures { IfOk result (IsTask self.now lane) }
+    {
+        Ok(Task {
+            lane,
+            line: job.line,
+            ask: job.ask,
+            number: self.number(),
+            snap: self.board.snap(alloc, &job.ask)?,
+        })
     }
 
     // Answers a lane's next job, if it needs no verdict. Else there is its deed, and nothing

@@ -21,9 +21,9 @@ pub struct Task {
 /// What came of taking up a lane's next job.
 #[derive(Drop)]
 pub enum Taken {
-    /// A verdict has to be found and committed.
+    /// A verdict has to be searched for and committed.
     Task(Task),
-    /// It was decided inside the turn.
+    /// It needed no search, and was decided inside the turn.
     Served,
     /// The lane has no job left.
     Ended,

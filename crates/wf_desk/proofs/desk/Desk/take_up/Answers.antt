@@ -1,5 +1,7 @@
-use Rattle.std.proofs.Common.{◌≡◌, ◌<◌, Some, sym, subst, ◌∙◌}
-use Rattle.wf_desk.specs.Commits.{IsTask}
+use Rattle.std.proofs.Common.{◌≡◌, ◌<◌, Some, Ok, true, sym, subst, ◌∙◌}
+use Rattle.wf_board.specs.Boards.{state_on}
+use Rattle.wf_board.specs.Decisions.{decision_of}
+use Rattle.wf_desk.specs.Commits.{HasTakenUp}
 use Rattle.wf_desk.specs.Desks.{next_job}
 use Rattle.wf_desk.specs.DocketLaws.{next_lane}
 use Rattle.wf_desk.proofs.desk.Desk.take_up.Goals as goal
@@ -13,11 +15,3 @@ pub look_at-requires-clause-next : goal.look_at-requires-clause-next
 look_at-requires-clause-next g c =
     let next = sym c.next_job.ensures ∙ c.in-Some.is in
     subst (λ n. next_job c.args.self.now n ≡ Some c.in-Some.job) (sym (next_lane c.args.lane _ c.args.self.now.jobs c.in-Some.job next)) next
-
-pub returns-in-Ok-Some : goal.returns-in-Ok-Some
-returns-in-Ok-Some g c =
-    let same = c.in-Some-look_at.ensures.0 in (
-      subst (λ d. IsTask d c.args.lane c.in-Ok-Some.task) same
-          (subst (IsTask c.look_at.new.self c.args.lane) (sym c.in-Ok-Some.task-is) (c.in-Ok-Some.ensures.task c.in-Ok-Some.task c.in-Ok-Some.field-0-is)),
-      same,
-    )
