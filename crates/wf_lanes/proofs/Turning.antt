@@ -105,8 +105,9 @@ grows_served d e lane (job, (next, added)) =
     grows_added lane d e job _ _ (docket.next_lane lane (length (served d lane)) d.jobs job next) added
 
 pub grows_begun : (d e : DeskShape) (lane : ℕ) (result : Begun) → HasBegunAt d e lane result → GrowsByOne lane (tagged_of e) (tagged_of d)
-grows_begun d e lane (begun.Task t) done = grows_same lane d e done.1.1
-grows_begun d e lane begun.Served done = grows_served d e lane done
+grows_begun d e lane (begun.Task t) done = grows_same lane d e done.1.1.1
+grows_begun d e lane begun.Served done = grows_served d e lane done.1
+grows_begun d e lane begun.Lacking done = grows_served d e lane done.1
 grows_begun d e lane begun.Ended done = grows_same lane d e done.1
 
 -- ---- what no turn changes
@@ -118,8 +119,9 @@ pub fixed_committed : (d e : DeskShape) (t : Task) (v : Verdict) (result : Outco
 fixed_committed d e t v result done = fixed_grown d e (grown_committed d e t v result done)
 
 pub fixed_begun : (d e : DeskShape) (lane : ℕ) (result : Begun) → HasBegunAt d e lane result → fixed_of e ≡ fixed_of d
-fixed_begun d e lane (begun.Task t) done = ap fixed_of done.1.1
-fixed_begun d e lane begun.Served done = fixed_grown d e (grown_served d e lane true done)
+fixed_begun d e lane (begun.Task t) done = ap fixed_of done.1.1.1
+fixed_begun d e lane begun.Served done = fixed_grown d e (grown_served d e lane true done.1)
+fixed_begun d e lane begun.Lacking done = fixed_grown d e (grown_served d e lane true done.1)
 fixed_begun d e lane begun.Ended done = ap fixed_of done.1
 
 -- ---- a turn
@@ -182,7 +184,7 @@ same_then s t u first later = record {
 }
 
 pub begun_task : (s u : LaneShape Fixed Entry) (m n : ℕ) (t : Task) → HasBegun s u n (begun.Task t) → m ≡ n → IsBegun u m t
-begun_task s u m n t (d, (e, (turned, (task, (sound, same))))) is =
+begun_task s u m n t (d, (e, (turned, (needed, (task, (sound, same)))))) is =
     (d, (subst (HasSeen u) same turned.seen, (subst (λ k. IsTask d k t) (sym is) task, sound)))
 
 pub begun_ended : (s u : LaneShape Fixed Entry) (m n : ℕ) → HasBegun s u n begun.Ended → m ≡ n → HasEnded u m

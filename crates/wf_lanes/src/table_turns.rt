@@ -1,11 +1,11 @@
 //! A lane's turns at a desk that stands at a turn table.
-ghost use Rattle.std.specs.Prelude.{◌≡◌, ◌<◌, ℕ};
+ghost use Rattle.std.specs.Prelude.{◌≡◌, ◌<◌, ℕ, true};
 ghost use Rattle.turn_table.specs.Lanes.{LaneShape};
 ghost use Rattle.wf_board.specs.Boards.{book_on};
 ghost use Rattle.wf_board.specs.Verdicts.{Decides};
 ghost use Rattle.wf_talk.specs.declared.entry.Entry.{Entry};
 ghost use Rattle.wf_desk.specs.declared.tabled.Fixed.{Fixed};
-ghost use Rattle.wf_desk.specs.Commits.{HasCommitted, IsRightFor};
+ghost use Rattle.wf_desk.specs.Commits.{HasCommitted, IsRightFor, next_asks_search};
 ghost use Rattle.wf_lanes.specs.Workers.{HasBegun, HasBegunAt, HasCommittedTask, IsBegun, IsIdle};
 
 use crate::worker::{Begun, Turns};
@@ -53,7 +53,7 @@ impl<R: Wait, V: Decider> Turns for TableTurns<'_, R, V> {
     }
 }
 
-// Takes up a lane's next job at a desk.
+// Takes up a lane's next job at a desk. Without memory for its task it is decided at once.
 fn begin_at<V: Decider>(alloc: Global, decider: &V, desk: &mut Desk, lane: u8) -> Begun
     requires ready { V.ready decider.now }
     requires lane { lane < desk.old.lanes }
@@ -61,9 +61,24 @@ fn begin_at<V: Decider>(alloc: Global, decider: &V, desk: &mut Desk, lane: u8) -
 {
     let _sound = desk.journal();
     match desk.take_up(alloc, decider, lane) {
-        Taken::Task(task) => Begun::Task(task),
-        Taken::Served => Begun::Served,
-        Taken::Ended => Begun::Ended,
+        Ok(Taken::Task(task)) => Begun::Task(task),
+        Ok(Taken::Served) => Begun::Served,
+        Ok(Taken::Ended) => Begun::Ended,
+        Err(_) => decide_at(alloc, decider, desk, lane),
+    }
+}
+
+// Decides a lane's next job at a desk, since there was no memory for its task.
+fn decide_at<V: Decider>(alloc: Global, decider: &V, desk: &mut Desk, lane: u8) -> Begun
+    requires ready { V.ready decider.now }
+    requires lane { lane < desk.old.lanes }
+    requires searched { next_asks_search desk.old lane ≡ true }
+    ensures { HasBegunAt desk.old desk.new lane result }
+{
+    if desk.serve_next(alloc, decider, lane) {
+        Begun::Lacking
+    } else {
+        Begun::Ended
     }
 }
 

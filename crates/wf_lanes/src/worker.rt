@@ -18,8 +18,10 @@ use wf_desk::{Outcome, Task, solve_task};
 pub(crate) enum Begun {
     /// The task of the job: a verdict has to be found and committed.
     Task(Task),
-    /// The job was decided inside the turn.
+    /// The job needed no search, and was decided inside the turn.
     Served,
+    /// There was no memory for a task, and the job was decided inside the turn.
+    Lacking,
     /// The lane has no job left.
     Ended,
 }
@@ -85,7 +87,7 @@ pub(crate) fn work<R: Wait, V: Decider, G: Gate, T: Turns>(
                 let verdict = find(alloc, decider, gate, tells, &task);
                 turns.commit(&task, verdict);
             }
-            Begun::Served => {}
+            Begun::Served | Begun::Lacking => {}
             Begun::Ended => return,
         }
     }
