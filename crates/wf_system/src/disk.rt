@@ -1,12 +1,13 @@
-//! The disk as a shelf that does not tell what it holds.
-ghost use Rattle.std.specs.Prelude.{◌≡◌};
-ghost use Rattle.wf_outside.specs.Outside.{untold};
+//! The disk as a shelf that does not tell what it holds; what the reader of a file tells is kept.
+ghost use Rattle.std.specs.Prelude.{◌≡◌, ◌≤◌, length, IfOk, IsErrOf};
+ghost use Rattle.wf_outside.specs.Outside.{untold, Rose, StaysUnlessFailed};
+ghost use Rattle.wf_system.specs.Streams.{HandsOn};
 
-use crate::streams::StdinSource;
+use crate::reading::read_all;
 use std::alloc::Global;
 use std::fs;
 use std::rt::Files;
-use wf_outside::{LoadFault, Loaded, Shelf, take_all};
+use wf_outside::{LoadFault, Loaded, Shelf};
 
 /// How many bytes of a file are read at once.
 const CHUNK: usize = 65_536;
@@ -32,12 +33,21 @@ impl<'a, R: Files> Shelf for DiskShelf<'a, R> {
 
     ghost faults = { λ s. s.faults };
 
-    fn load(&mut self, alloc: Global, name: &str, limit: usize) -> Result<Loaded, LoadFault> {
-        let Ok(file) = fs::open(self.rt, name) else {
+    fn load(&mut self, alloc: Global, name: &str, limit: usize) -> Result<Loaded, LoadFault>
+        // What the reader of a file gave, cut at the limit, is what is answered.
+        ensures given { HandsOn R.File.remaining limit result }
+
+        // The clauses of every shelf.
+        ensures within { IfOk result (λ bytes. length bytes ≤ limit) }
+        ensures faults { self.old.faults ≤ self.new.faults }
+        ensures rose { IsErrOf result LoadFault.Failed → Rose self.old.faults self.new.faults }
+        ensures stays { StaysUnlessFailed result self.old.faults self.new.faults }
+    {
+        let Ok(mut file) = fs::open(self.rt, name) else {
             self.faults = self.faults.saturating_add(1);
             return Err(LoadFault::Failed);
         };
-        let read = take_all(alloc, &mut StdinSource::new(file), limit, CHUNK);
+        let read = read_all(alloc, &mut file, limit, CHUNK);
         match read {
             Err(LoadFault::Failed) => {
                 self.faults = self.faults.saturating_add(1);

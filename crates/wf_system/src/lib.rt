@@ -3,6 +3,7 @@
 
 mod disk;
 mod ending;
+mod reading;
 mod streams;
 mod words;
 
