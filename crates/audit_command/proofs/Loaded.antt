@@ -1,12 +1,9 @@
 -- What was loaded, and what is found with it.
-use Rattle.std.proofs.Common.{◌≡◌, ℕ, ◌≤◌, List, [], ◌∷◌, length, Result, Ok, Err, refl, subst, arith}
+use Rattle.std.proofs.Common.{◌≡◌, ℕ, ◌<◌, ◌≤◌, List, [], ◌∷◌, length, Result, Ok, Err, refl, subst, arith}
 use Rattle.std.specs.Prelude.{◌↔◌, IfOk, IfErr, IfSome, IsErrAnd}
 use Rattle.std.proofs.lemmas.Bool.{le-ltb, lt-ltb}
 use Rattle.wf_names.specs.declared.limits.TheConstants.{LANE_LIMIT, POLICY_FILE_LIMIT, REQUESTS_FILE_LIMIT}
-use Rattle.wf_outside.specs.declared.loaded.LoadFault.{LoadFault}
-use Rattle.wf_outside.specs.declared.loaded.LoadFault.TheVariants.{Failed, TooLong}
-use Rattle.wf_outside.specs.declared.loaded.LoadFault.TheVariants as load
-use Rattle.wf_outside.specs.Outside.{Filed, told, missing, untold, LoadsAs, LoadsFile}
+use Rattle.wf_outside.specs.Outside.{Filed, told, missing, untold}
 use Rattle.policy_book.specs.Shapes.{PolicyShape}
 use Rattle.wf_talk.specs.declared.job.Job.{Job}
 use Rattle.wf_talk.specs.Jobs.{AreOfLanes}
@@ -18,14 +15,14 @@ use Rattle.transcript_audit.specs.Laws.{AreOfSession}
 use Rattle.run_record.specs.declared.fault.RunFault.{RunFault}
 use Rattle.run_record.specs.declared.fault.RunFault.TheVariants.{Nothing, Found, Usage, Policy, Read, Write, Load, NoMemory, FileTooLong, LineTooLong, TooManyLines, BadInput}
 use Rattle.wf_commands.specs.Once.{OverPolicy}
-use Rattle.wf_commands.specs.Load.{GivesPolicy, PolicyOf, IsFileEnding, IsLoadEnding}
-use Rattle.wf_commands.proofs.Loading.{answers_file, some_longer}
+use Rattle.wf_commands.specs.Load.{GivesPolicy, PolicyOf, IsLoadEnding}
+use Rattle.wf_commands.proofs.Loading.{answers_file}
 use Rattle.audit_command.specs.declared.finding.Finding.{Finding}
 use Rattle.audit_command.specs.declared.finding.Finding.TheVariants.{Legal}
 use Rattle.audit_command.proofs.Legal.{legal_input}
 use Rattle.audit_command.specs.Auditing.{AreShort, HasFound, ending_of, text_of}
 use Rattle.audit_command.specs.Laws.{LegalIsExact}
-use Rattle.audit_command.specs.Loading.{GivesJobs, GivesRequests, JobsOf}
+use Rattle.audit_command.specs.Loading.{GivesJobs, JobsOf}
 use Rattle.audit_command.specs.Running.{AuditOf, AuditsFile, AuditsPolicy, AuditsRequests, EndsWithout, Input, audit_for}
 use Rattle.audit_command.specs.Steps.{FindsAs, FindsFile, IsReadEnding}
 
@@ -35,23 +32,6 @@ of_more_lanes lanes more (j ∷ js) within all = (let h = all.0 in omega (arith,
 
 pub order_within : (lanes : ℕ) (jobs : List Job) (batch_ends : List ℕ) → lanes ≤ LANE_LIMIT → AreInOrder lanes jobs batch_ends → AreInOrder LANE_LIMIT jobs batch_ends
 order_within lanes jobs batch_ends within h = record { few = h.few; lines = h.lines; below = h.below; of_lanes = of_more_lanes lanes LANE_LIMIT jobs within h.of_lanes; ends = h.ends }
-
--- a requests file is too long
-pub too_long_given : (f : Filed) (e : LoadFault) → e ≡ TooLong → LoadsAs f REQUESTS_FILE_LIMIT (Err e) → GivesRequests f (Err FileTooLong)
-too_long_given untold e is loads = some_longer REQUESTS_FILE_LIMIT
-too_long_given missing e is loads = cc
-too_long_given (told file) e is loads = subst (λ (x : LoadFault). LoadsFile file REQUESTS_FILE_LIMIT (Err x)) is loads
-
--- it was not loaded, or there was no memory for it: it is not too long
-pub failed_given : (f : Filed) (e : LoadFault) → e ≡ Failed → LoadsAs f REQUESTS_FILE_LIMIT (Err e) → GivesRequests f (Err Load)
-failed_given untold e is loads = ([], omega arith)
-failed_given missing e is loads = refl
-failed_given (told file) e is loads = subst (λ (x : LoadFault). LoadsFile file REQUESTS_FILE_LIMIT (Err x)) is loads
-
-pub lacking_given : (f : Filed) (e : LoadFault) → e ≡ load.NoMemory → LoadsAs f REQUESTS_FILE_LIMIT (Err e) → GivesRequests f (Err NoMemory)
-lacking_given untold e is loads = ([], omega arith)
-lacking_given missing e is loads = cc
-lacking_given (told file) e is loads = subst (λ (x : LoadFault). LoadsFile file REQUESTS_FILE_LIMIT (Err x)) is loads
 
 -- ---- what is found with them
 
@@ -91,23 +71,29 @@ finds_under exact p o i batch (Err (LineTooLong line)) gives order found ending 
 finds_under exact p o i batch (Err TooManyLines) gives order found ending = absurd ending
 finds_under exact p o i batch (Err (BadInput e)) gives order found ending = absurd ending
 
--- where there are jobs the file is not missing
+-- where there are jobs the file is not missing, and not too long
 pub jobs_there : (filed : Filed) (lanes : ℕ) (batch : Batch) (fault : RunFault) → GivesJobs filed lanes (Ok batch) → EndsWithout filed fault
 jobs_there untold lanes batch fault gives = tt
 jobs_there missing lanes batch fault gives = cc
-jobs_there (told file) lanes batch fault gives = tt
+jobs_there (told file) lanes batch fault gives = λ long. let short : length file ≤ REQUESTS_FILE_LIMIT = gives.0 in absurd (omega arith)
 
 requests_too_long : (p : PolicyShape) (o : AuditOf) (i : Input) (filed : Filed) → GivesJobs filed o.lanes (Err FileTooLong) → AuditsFile p o i filed FileTooLong []
 requests_too_long p o i untold gives = (gives.0, rw (lt-ltb REQUESTS_FILE_LIMIT (length gives.0) gives.1) (refl, refl))
 requests_too_long p o i missing gives = cc
 requests_too_long p o i (told file) gives = rw (lt-ltb REQUESTS_FILE_LIMIT (length file) gives) (refl, refl)
 
-finds_no_jobs : (p : PolicyShape) (o : AuditOf) (i : Input) (fault : RunFault) → GivesJobs o.requests o.lanes (Err fault) → IsFileEnding fault
+ends_otherwise : (filed : Filed) (lanes : ℕ) (fault : RunFault) → ((file : List ℕ) → JobsOf file lanes (Err fault) → ⊥) → (fault ≡ Load → ⊥)
+    → GivesJobs filed lanes (Err fault) → ⊥
+ends_otherwise untold lanes fault never other gives = never gives.0 gives.1
+ends_otherwise missing lanes fault never other gives = other (let is = gives in cc)
+ends_otherwise (told file) lanes fault never other gives = never file gives
+
+finds_no_jobs : (p : PolicyShape) (o : AuditOf) (i : Input) (fault : RunFault) → GivesJobs o.requests o.lanes (Err fault) → IsLoadEnding fault
     → FindsAs (AuditsPolicy o i p) (Err fault)
 finds_no_jobs p o i FileTooLong gives ending = requests_too_long p o i o.requests gives
 finds_no_jobs p o i Load gives ending = tt
 finds_no_jobs p o i NoMemory gives ending = tt
-finds_no_jobs p o i (Policy e) gives ending = absurd ending
+finds_no_jobs p o i (Policy e) gives ending = absurd (ends_otherwise o.requests o.lanes (Policy e) (λ file h. h) (λ is. cc) gives)
 finds_no_jobs p o i Nothing gives ending = absurd ending
 finds_no_jobs p o i Found gives ending = absurd ending
 finds_no_jobs p o i Usage gives ending = absurd ending
@@ -118,7 +104,7 @@ finds_no_jobs p o i TooManyLines gives ending = absurd ending
 finds_no_jobs p o i (BadInput e) gives ending = absurd ending
 
 pub no_jobs : (p : PolicyShape) (o : AuditOf) (i : Input) (result : Result Finding RunFault) (fault : RunFault) → IsErrAnd result (λ e. e ≡ fault)
-    → GivesJobs o.requests o.lanes (Err fault) → IsFileEnding fault → FindsAs (AuditsPolicy o i p) result
+    → GivesJobs o.requests o.lanes (Err fault) → IsLoadEnding fault → FindsAs (AuditsPolicy o i p) result
 no_jobs p o i (Ok f) fault is gives ending = absurd is
 no_jobs p o i (Err e) fault is gives ending = rw is (finds_no_jobs p o i fault gives ending)
 

@@ -1,6 +1,7 @@
 -- How the steps of a run compose.
 use Rattle.std.proofs.Common.{◌≡◌, ℕ, true, List, [], Option, Result, Ok, Err, refl, subst, ◌∙◌, arith}
 use Rattle.std.specs.Prelude.{IsErrAnd}
+use Rattle.wf_names.specs.declared.limits.TheConstants.{POLICY_FILE_LIMIT}
 use Rattle.wf_outside.specs.Outside.{Filed, told, missing, untold, HasPart, with_bytes}
 use Rattle.wf_outside.proofs.OutsideLaws.{nothing_put, nothing_taken}
 use Rattle.policy_book.specs.Shapes.{PolicyShape}
@@ -10,9 +11,9 @@ use Rattle.run_record.specs.Fault.{fault_in, is_before_input, CountsLoads, Count
 use Rattle.run_record.specs.Report.{nothing_told}
 use Rattle.run_record.specs.Run.{Run, OverFile}
 use Rattle.wf_commands.specs.Once.{Ends, HasText, IsQuiet, OverPolicy}
-use Rattle.wf_commands.specs.Load.{IsLoadEnding, IsFileEnding}
+use Rattle.wf_commands.specs.Load.{EndsTooLong, IsLoadEnding}
 use Rattle.wf_commands.specs.Answer as answer
-use Rattle.wf_commands.proofs.Runs.{ends_refused, no_writes, own_reads, quiet_refused}
+use Rattle.wf_commands.proofs.Runs.{ends_refused, loaded, no_writes, own_reads, quiet_refused}
 use Rattle.audit_command.specs.declared.finding.Finding.{Finding}
 use Rattle.audit_command.specs.declared.finding.Finding.TheVariants.{Legal, Fault, TooLong}
 use Rattle.audit_command.specs.Auditing.{ending_of, text_of}
@@ -40,20 +41,6 @@ pub unread_after : (result : Result Finding RunFault) (fault : RunFault) (left :
     → ReadsAsAudit (fault_in result) left left
 unread_after (Ok f) fault left is ending = absurd is
 unread_after (Err e) fault left is ending = rw is (unread fault left ending)
-
-pub file_ending : (fault : RunFault) → IsFileEnding fault → IsLoadEnding fault
-file_ending Load ending = tt
-file_ending FileTooLong ending = tt
-file_ending NoMemory ending = tt
-file_ending (Policy e) ending = absurd ending
-file_ending Nothing ending = absurd ending
-file_ending Found ending = absurd ending
-file_ending Usage ending = absurd ending
-file_ending Read ending = absurd ending
-file_ending Write ending = absurd ending
-file_ending (LineTooLong line) ending = absurd ending
-file_ending TooManyLines ending = absurd ending
-file_ending (BadInput e) ending = absurd ending
 
 -- ---- the run
 
@@ -102,14 +89,14 @@ finding_over A f (told file) before after h is = finding_ends (OverPolicy A file
 late_without : (filed : Filed) (fault : RunFault) → EndsWithout filed Nothing → EndsWithout filed fault
 late_without untold fault h = tt
 late_without missing fault h = absurd h
-late_without (told file) fault h = tt
+late_without (told file) fault h = λ long. absurd (h long)
 
 -- what is found is told
 pub told_run : (policy requests : List ℕ) (lanes rounds : ℕ) (r : Run) (f : Finding) → r.fault ≡ ending_of f
     → FindsFile (AuditsPolicy (record { requests = r.files requests; lanes = lanes; rounds = rounds }) (record { before = r.before.input; after = r.after.input })) (r.files policy) (Ok f)
-    → EndsWithout (r.files requests) Nothing → r.load_faults_after ≡ r.load_faults → r.after.read_faults ≡ r.before.read_faults → r.after.write_faults ≡ r.before.write_faults
+    → EndsTooLong POLICY_FILE_LIMIT (r.files policy) Nothing → EndsWithout (r.files requests) Nothing → r.load_faults_after ≡ r.load_faults → r.after.read_faults ≡ r.before.read_faults → r.after.write_faults ≡ r.before.write_faults
     → HasTakenSome r.before.input r.after.input → r.after.output ≡ with_bytes r.before.output (text_of f) → r.told ≡ nothing_told → AuditsRun policy requests lanes rounds r
-told_run policy requests lanes rounds r f is finds without loads reads writes input wrote nothing = record {
+told_run policy requests lanes rounds r f is finds named without loads reads writes input wrote nothing = record {
   orderly = record {
     early = λ early. absurd (finding_late f (subst (λ (x : RunFault). is_before_input x ≡ true) is early));
     loads = rw is (finding_loads f r.load_faults r.load_faults_after loads);
@@ -118,6 +105,7 @@ told_run policy requests lanes rounds r f is finds without loads reads writes in
   };
   once = record {
     answer = rw is (finding_over (AuditsPolicy (record { requests = r.files requests; lanes = lanes; rounds = rounds }) (record { before = r.before.input; after = r.after.input })) f (r.files policy) r.before.output r.after.output finds wrote);
+    named = loaded POLICY_FILE_LIMIT (r.files policy) r.fault named;
     quiet = rw is (finding_quiet f r.before.output r.after.output wrote);
     untold = nothing;
     reads = rw is (finding_reads f r.before.read_faults r.after.read_faults reads);
@@ -146,12 +134,13 @@ none_over A f (told file) before after h same = same
 
 pub untold_run : (policy requests : List ℕ) (lanes rounds : ℕ) (r : Run) (f : Finding) (fault : RunFault) → r.fault ≡ fault → FailsAs f r.before.output r.after.output fault
     → FindsFile (AuditsPolicy (record { requests = r.files requests; lanes = lanes; rounds = rounds }) (record { before = r.before.input; after = r.after.input })) (r.files policy) (Ok f)
-    → EndsWithout (r.files requests) Nothing → r.load_faults_after ≡ r.load_faults → r.after.read_faults ≡ r.before.read_faults
+    → EndsTooLong POLICY_FILE_LIMIT (r.files policy) Nothing → EndsWithout (r.files requests) Nothing → r.load_faults_after ≡ r.load_faults → r.after.read_faults ≡ r.before.read_faults
     → CountsWrites fault r.before.write_faults r.after.write_faults → HasTakenSome r.before.input r.after.input → r.told ≡ nothing_told → AuditsRun policy requests lanes rounds r
-untold_run policy requests lanes rounds r f Write is fails finds without loads reads writes input nothing = record {
+untold_run policy requests lanes rounds r f Write is fails finds named without loads reads writes input nothing = record {
   orderly = record { early = λ early. cc; loads = rw is loads; reads = rw is (omega (arith, reads)); writes = rw is writes };
   once = record {
     answer = rw is (part_over (AuditsPolicy (record { requests = r.files requests; lanes = lanes; rounds = rounds }) (record { before = r.before.input; after = r.after.input })) f (r.files policy) r.before.output r.after.output finds fails);
+    named = loaded POLICY_FILE_LIMIT (r.files policy) r.fault named;
     quiet = rw is tt;
     untold = nothing;
     reads = rw is reads;
@@ -159,10 +148,11 @@ untold_run policy requests lanes rounds r f Write is fails finds without loads r
   without = rw is (late_without (r.files requests) Write without);
   reads = rw is input;
 }
-untold_run policy requests lanes rounds r f NoMemory is fails finds without loads reads writes input nothing = record {
+untold_run policy requests lanes rounds r f NoMemory is fails finds named without loads reads writes input nothing = record {
   orderly = record { early = λ early. cc; loads = rw is loads; reads = rw is (omega (arith, reads)); writes = rw is writes };
   once = record {
     answer = rw is (none_over (AuditsPolicy (record { requests = r.files requests; lanes = lanes; rounds = rounds }) (record { before = r.before.input; after = r.after.input })) f (r.files policy) r.before.output r.after.output finds fails);
+    named = loaded POLICY_FILE_LIMIT (r.files policy) r.fault named;
     quiet = rw is fails;
     untold = nothing;
     reads = rw is reads;
@@ -170,16 +160,16 @@ untold_run policy requests lanes rounds r f NoMemory is fails finds without load
   without = rw is (late_without (r.files requests) NoMemory without);
   reads = rw is input;
 }
-untold_run policy requests lanes rounds r f Nothing is fails finds without loads reads writes input nothing = absurd fails
-untold_run policy requests lanes rounds r f Found is fails finds without loads reads writes input nothing = absurd fails
-untold_run policy requests lanes rounds r f Usage is fails finds without loads reads writes input nothing = absurd fails
-untold_run policy requests lanes rounds r f (Policy e) is fails finds without loads reads writes input nothing = absurd fails
-untold_run policy requests lanes rounds r f Read is fails finds without loads reads writes input nothing = absurd fails
-untold_run policy requests lanes rounds r f Load is fails finds without loads reads writes input nothing = absurd fails
-untold_run policy requests lanes rounds r f FileTooLong is fails finds without loads reads writes input nothing = absurd fails
-untold_run policy requests lanes rounds r f (LineTooLong line) is fails finds without loads reads writes input nothing = absurd fails
-untold_run policy requests lanes rounds r f TooManyLines is fails finds without loads reads writes input nothing = absurd fails
-untold_run policy requests lanes rounds r f (BadInput e) is fails finds without loads reads writes input nothing = absurd fails
+untold_run policy requests lanes rounds r f Nothing is fails finds named without loads reads writes input nothing = absurd fails
+untold_run policy requests lanes rounds r f Found is fails finds named without loads reads writes input nothing = absurd fails
+untold_run policy requests lanes rounds r f Usage is fails finds named without loads reads writes input nothing = absurd fails
+untold_run policy requests lanes rounds r f (Policy e) is fails finds named without loads reads writes input nothing = absurd fails
+untold_run policy requests lanes rounds r f Read is fails finds named without loads reads writes input nothing = absurd fails
+untold_run policy requests lanes rounds r f Load is fails finds named without loads reads writes input nothing = absurd fails
+untold_run policy requests lanes rounds r f FileTooLong is fails finds named without loads reads writes input nothing = absurd fails
+untold_run policy requests lanes rounds r f (LineTooLong line) is fails finds named without loads reads writes input nothing = absurd fails
+untold_run policy requests lanes rounds r f TooManyLines is fails finds named without loads reads writes input nothing = absurd fails
+untold_run policy requests lanes rounds r f (BadInput e) is fails finds named without loads reads writes input nothing = absurd fails
 
 -- nothing was found: so may every command end
 is_refusal : (fault : RunFault) → IsAuditEnding fault → answer.IsCommandEnding fault
@@ -218,10 +208,10 @@ refused_file A (told file) fault before after ending h same = ends_refused (Over
 
 pub refused_run : (policy requests : List ℕ) (lanes rounds : ℕ) (r : Run) → IsAuditEnding r.fault
     → FindsFile (AuditsPolicy (record { requests = r.files requests; lanes = lanes; rounds = rounds }) (record { before = r.before.input; after = r.after.input })) (r.files policy) (Err r.fault)
-    → EndsWithout (r.files requests) r.fault → CountsLoads r.fault r.load_faults r.load_faults_after → CountsReadsAlone r.fault r.before.read_faults r.after.read_faults
+    → EndsTooLong POLICY_FILE_LIMIT (r.files policy) r.fault → EndsWithout (r.files requests) r.fault → CountsLoads r.fault r.load_faults r.load_faults_after → CountsReadsAlone r.fault r.before.read_faults r.after.read_faults
     → r.after.write_faults ≡ r.before.write_faults → ReadsAsAudit r.fault r.before.input r.after.input → r.after.output ≡ r.before.output → r.told ≡ nothing_told
     → AuditsRun policy requests lanes rounds r
-refused_run policy requests lanes rounds r ending finds without loads reads writes input output nothing = record {
+refused_run policy requests lanes rounds r ending finds named without loads reads writes input output nothing = record {
   orderly = record {
     early = λ early. record { unread = refused_early r.fault r.before.input r.after.input ending early input; unwritten = output; untold = nothing };
     loads = loads;
@@ -230,6 +220,7 @@ refused_run policy requests lanes rounds r ending finds without loads reads writ
   };
   once = record {
     answer = refused_file (AuditsPolicy (record { requests = r.files requests; lanes = lanes; rounds = rounds }) (record { before = r.before.input; after = r.after.input })) (r.files policy) r.fault r.before.output r.after.output ending finds output;
+    named = named;
     quiet = quiet_refused r.fault r.before.output r.after.output (is_refusal r.fault ending) output;
     untold = nothing;
     reads = reads;

@@ -7,20 +7,6 @@ use Rattle.line_cutter.specs.Jobs.{jobs_of_input}
 use Rattle.run_record.specs.declared.fault.RunFault.{RunFault}
 use Rattle.run_record.specs.declared.fault.RunFault.TheVariants.{Load, NoMemory, FileTooLong}
 
--- a file gives its bytes, or is too long; one that is not may fail to load, or lack memory
-abbrev pub RequestsOf : List ℕ → Result (List ℕ) RunFault → Type 0
-RequestsOf file (Ok bytes) = (length file ≤ REQUESTS_FILE_LIMIT) × (bytes ≡ file)
-RequestsOf file (Err FileTooLong) = REQUESTS_FILE_LIMIT < length file
-RequestsOf file (Err Load) = length file ≤ REQUESTS_FILE_LIMIT
-RequestsOf file (Err NoMemory) = length file ≤ REQUESTS_FILE_LIMIT
-RequestsOf file (Err fault) = ⊥
-
--- the same by what is told; a missing file is a load fault, and one of which nothing is told has some content
-abbrev pub GivesRequests : Filed → Result (List ℕ) RunFault → Type 0
-GivesRequests untold result = (file : List ℕ) × RequestsOf file result
-GivesRequests missing result = result ≡ Err Load
-GivesRequests (told file) result = RequestsOf file result
-
 -- a file gives its jobs
 abbrev pub JobsOf : List ℕ → ℕ → Result Batch RunFault → Type 0
 JobsOf file lanes (Ok batch) =

@@ -1,5 +1,5 @@
 -- The command `audit`: the transcript in the input is audited for a policy file and a requests file.
-use Rattle.std.specs.Prelude.{◌≡◌, ◌↔◌, ℕ, List, [], length, Option, IfSome, MatchBool, nat_lt, true}
+use Rattle.std.specs.Prelude.{◌≡◌, ◌↔◌, ◌<◌, ℕ, List, [], length, Option, IfSome, MatchBool, nat_lt, true}
 use Rattle.wf_names.specs.declared.limits.TheConstants.{REQUESTS_FILE_LIMIT}
 use Rattle.wf_outside.specs.Outside.{Filed, told, missing, untold, HasTaken}
 use Rattle.policy_book.specs.Shapes.{PolicyShape}
@@ -58,11 +58,11 @@ AuditsFile p o i (told requests) ending text = AuditsRequests p o i requests end
 abbrev pub AuditsPolicy : AuditOf → Input → PolicyShape → RunFault → List ℕ → Type 0
 AuditsPolicy o i p ending text = AuditsFile p o i o.requests ending text
 
--- a run whose requests file is missing ends while it loads
+-- a run whose requests file is missing, or told and too long, ends while it loads
 abbrev pub EndsWithout : Filed → RunFault → Type 0
 EndsWithout untold ending = Unit {0}
 EndsWithout missing ending = IsLoadEnding ending
-EndsWithout (told requests) ending = Unit {0}
+EndsWithout (told requests) ending = REQUESTS_FILE_LIMIT < length requests → IsLoadEnding ending
 
 -- how much of the input is read, by the ending: nothing where a file could not be loaded
 abbrev pub ReadsAsAudit : RunFault → Option (List ℕ) → Option (List ℕ) → Type 0

@@ -1,16 +1,17 @@
 //! Loading the requests.
 ghost use Rattle.std.specs.Prelude.{◌<◌, ◌≤◌, IfErr, IfOk};
-ghost use Rattle.wf_names.specs.declared.limits.TheConstants.{LANE_LIMIT};
+ghost use Rattle.wf_names.specs.declared.limits.TheConstants.{LANE_LIMIT, REQUESTS_FILE_LIMIT};
 ghost use Rattle.line_cutter.specs.Laws.{AreInOrder, AreNamedJobs};
 ghost use Rattle.run_record.specs.Fault.{fault_in, CountsLoads};
-ghost use Rattle.wf_commands.specs.Load.{IsFileEnding};
-ghost use Rattle.audit_command.specs.Loading.{GivesRequests, GivesJobs};
+ghost use Rattle.wf_commands.specs.Load.{EndsTooLong, IsLoadEnding};
+ghost use Rattle.audit_command.specs.Loading.{GivesJobs};
 
 use line_cutter::{Batch, jobs_of};
 use run_record::RunFault;
 use std::alloc::Global;
+use wf_commands::load_file;
 use wf_names::REQUESTS_FILE_LIMIT;
-use wf_outside::{LoadFault, Loaded, Shelf};
+use wf_outside::Shelf;
 
 /// The jobs of a requests file, with the ends of their batches.
 pub(crate) fn load_jobs<F: Shelf>(
@@ -24,23 +25,10 @@ pub(crate) fn load_jobs<F: Shelf>(
     ensures jobs { GivesJobs (F.file shelf.old name.now) lanes result }
     ensures order { IfOk result (λ batch. AreInOrder LANE_LIMIT batch.jobs batch.ends) }
     ensures named { IfOk result (λ batch. AreNamedJobs batch.jobs) }
-    ensures ending { IfErr result IsFileEnding }
+    ensures ending { IfErr result IsLoadEnding }
+    ensures long { EndsTooLong REQUESTS_FILE_LIMIT (F.file shelf.old name.now) (fault_in result) }
     ensures loads { CountsLoads (fault_in result) (F.faults shelf.old) (F.faults shelf.new) }
 {
-    let requests = load_requests(alloc, shelf, name)?;
+    let requests = load_file(alloc, shelf, name, REQUESTS_FILE_LIMIT)?;
     Ok(jobs_of(alloc, requests.as_bytes(), lanes)?)
-}
-
-// The bytes of a requests file.
-fn load_requests<F: Shelf>(alloc: Global, shelf: &mut F, name: &str) -> Result<Loaded, RunFault>
-    ensures bytes { GivesRequests (F.file shelf.old name.now) result }
-    ensures ending { IfErr result IsFileEnding }
-    ensures loads { CountsLoads (fault_in result) (F.faults shelf.old) (F.faults shelf.new) }
-{
-    match shelf.load(alloc, name, REQUESTS_FILE_LIMIT) {
-        Ok(file) => Ok(file),
-        Err(LoadFault::Failed) => Err(RunFault::Load),
-        Err(LoadFault::TooLong) => Err(RunFault::FileTooLong),
-        Err(LoadFault::NoMemory) => Err(RunFault::NoMemory),
-    }
 }

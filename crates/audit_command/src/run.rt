@@ -1,9 +1,10 @@
 //! The run of the command.
 ghost use Rattle.std.specs.Prelude.{◌≡◌, ◌<◌, ◌≤◌, ℕ, List, Ok, IfErr, IfOk, OnOk};
-ghost use Rattle.wf_names.specs.declared.limits.TheConstants.{LANE_LIMIT};
+ghost use Rattle.wf_names.specs.declared.limits.TheConstants.{LANE_LIMIT, POLICY_FILE_LIMIT};
 ghost use Rattle.wf_outside.specs.Outside.{with_bytes};
 ghost use Rattle.run_record.specs.Fault.{fault_in, status_of, CountsLoads, CountsReadsAlone, CountsWrites};
 ghost use Rattle.run_record.specs.Run.{run_of, streams_of};
+ghost use Rattle.wf_commands.specs.Load.{EndsTooLong};
 ghost use Rattle.audit_command.specs.Auditing.{text_of};
 ghost use Rattle.audit_command.specs.Running.{AuditsPolicy, AuditsRun, EndsWithout, ReadsAsAudit};
 ghost use Rattle.audit_command.specs.Steps.{FailsAs, FindsAs, FindsFile, IsAuditEnding};
@@ -73,6 +74,7 @@ fn find<V: Decider, F: Shelf, S: Source>(
         (record { requests = F.file shelf.old requests.now; lanes = lanes; rounds = rounds })
         (record { before = S.left source.old; after = S.left source.new })) (F.file shelf.old policy.now) result }
     ensures ending { IfErr result IsAuditEnding }
+    ensures named { EndsTooLong POLICY_FILE_LIMIT (F.file shelf.old policy.now) (fault_in result) }
     ensures without { EndsWithout (F.file shelf.old requests.now) (fault_in result) }
     ensures loads { CountsLoads (fault_in result) (F.faults shelf.old) (F.faults shelf.new) }
     ensures reads { CountsReadsAlone (fault_in result) (S.faults source.old) (S.faults source.new) }

@@ -4,4 +4,4 @@ pub mod Usage
 pub mod Plain
 pub mod Decimals
 pub mod Walking
-pub mod EachKind
+pub mod NoCommand

@@ -1,6 +1,6 @@
 -- Words in the form of the usage are taken, and are read as their command.
 use Rattle.std.proofs.Common.{◌≡◌, ◌∙◌, ◌<◌, ◌≤◌, ◌^◌, ◌-◌, ℕ, true, false, refl, ap, ap₂, arith, List, [], ◌∷◌, ◌++◌, Option, Some, None}
-use Rattle.std.specs.Prelude.{codes, pos, option_and_then, option_map}
+use Rattle.std.specs.Prelude.{codes, pos, option_and_then}
 use Rattle.std.specs.Fmt.{decimal}
 use Rattle.std.specs.Str.Parse.{digits_value, without_leading_plus}
 use Rattle.clap.specs.Lexer.{without_minus}
@@ -16,10 +16,10 @@ use Rattle.clap.specs.declared.parser.matches.ValueSource.{ValueSource}
 use Rattle.clap.specs.declared.parser.matches.ValueSource.TheVariants.{CommandLine, DefaultValue}
 use Rattle.clap.proofs.OnLiterals.{clap_on_literals}
 use Rattle.wf_names.specs.declared.limits.TheConstants.{DEFAULT_LANES, DEFAULT_ROUNDS, LANE_LIMIT, ROUND_LIMIT}
-use Rattle.command_words.specs.Words.{AreOptions, Options, command_of, found, number_in, policy_in}
+use Rattle.command_words.specs.Words.{AreOptions, Options, command_of, found}
 use Rattle.command_words.specs.Words.{audit, plan, serve, show, solve, trial}
 use Rattle.command_words.specs.Words.{audit_form, plan_form, serve_form, show_form, solve_form, trial_form}
-use Rattle.command_words.specs.Words.{audit_in, plan_in, serve_in}
+use Rattle.command_words.specs.Words.{audit_in, plan_in, serve_in, show_in, solve_in, trial_in}
 use Rattle.command_words.specs.Usage.{IsPlain, option_words, options_with}
 use Rattle.command_words.proofs.Decimals.{decimal_plain, signed_taken, unsigned_taken, value_of, value_without_minus}
 use Rattle.command_words.proofs.Walking.{as_option, as_value, at, end_fault, found_by}
@@ -209,10 +209,10 @@ pub plan_read : (p f : Text) → IsPlain p → IsPlain f → command_of (codes "
 plan_read p f plain plain_f = ap (option_and_then plan_in) (plan_found p f plain plain_f)
 
 pub show_read : (p : Text) → IsPlain p → command_of (codes "show" ∷ p ∷ []) ≡ Some (show p)
-show_read p plain = ap (λ rows. option_map show (option_and_then policy_in rows)) (show_found p plain)
+show_read p plain = ap (option_and_then show_in) (show_found p plain)
 
 pub solve_read : (p : Text) → IsPlain p → command_of (codes "solve" ∷ p ∷ []) ≡ Some (solve p)
-solve_read p plain = ap (λ rows. option_map solve (option_and_then policy_in rows)) (solve_found p plain)
+solve_read p plain = ap (option_and_then solve_in) (solve_found p plain)
 
 serve_rows : (p : Text) (lanes rounds : Option ℕ) → serve_in (serve_files p ++ option_rows lanes rounds)
     ≡ Some (serve p (with_numbers (number (options_with lanes rounds).lanes) (number (options_with lanes rounds).rounds)))
@@ -242,6 +242,6 @@ audit_read p q lanes rounds plain plain_q are =
 
 pub trial_read : (seed : ℕ) → seed < 2 ^ 64 → command_of (codes "trial" ∷ decimal seed ∷ []) ≡ Some (trial seed)
 trial_read seed small =
-    ap (λ rows. option_map trial (option_and_then (number_in (codes "SEED")) rows))
+    ap (option_and_then trial_in)
     (trial_found (decimal seed) (decimal_plain seed small) (unsigned_taken seed small))
     ∙ ap (λ (n : ℕ). Some (trial n)) (value_of seed small)

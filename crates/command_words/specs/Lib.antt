@@ -2,4 +2,3 @@ pub mod Words
 pub mod Asked
 pub mod Finding
 pub mod Usage
-pub mod Kinds

@@ -31,7 +31,7 @@ pub data Command : Type 0 where
   audit : Text → Text → Options → Command
   trial : ℕ → Command
 
--- ---- the forms of the commands
+-- ---- what the forms are made of
 
 -- a word that has to be there
 abbrev pub wanted : Text → Rule
@@ -62,25 +62,6 @@ rounds_option = ranged (codes "rounds") 0 ROUND_LIMIT (decimal DEFAULT_ROUNDS)
 abbrev pub form : Text → List Rule → App
 form name arguments = fold with_rule (new_app name) arguments
 
-abbrev pub plan_form : App
-plan_form = form (codes "plan") (policy_word ∷ wanted (codes "FLOW") ∷ [])
-
-abbrev pub show_form : App
-show_form = form (codes "show") (policy_word ∷ [])
-
-abbrev pub solve_form : App
-solve_form = form (codes "solve") (policy_word ∷ [])
-
-abbrev pub serve_form : App
-serve_form = form (codes "serve") (policy_word ∷ lanes_option ∷ rounds_option ∷ [])
-
-abbrev pub audit_form : App
-audit_form = form (codes "audit")
-    (policy_word ∷ wanted (codes "REQUESTS") ∷ lanes_option ∷ rounds_option ∷ [])
-
-abbrev pub trial_form : App
-trial_form = form (codes "trial") (wanted_number (codes "SEED") ∷ [])
-
 -- ---- what is found at the words
 
 -- what `clap` finds at the words, where none of them is at fault; the first names the command
@@ -103,15 +84,49 @@ abbrev pub options_of : List Row → Option Options
 options_of rows = with_both (λ lanes rounds. record { lanes = lanes; rounds = rounds })
     (number_in (codes "lanes") rows) (number_in (codes "rounds") rows)
 
+-- ---- the commands, each by its form and by what is found in it
+
+-- what is found in a form at the words, as a command
+abbrev pub command_by : App → (List Row → Option Command) → List Text → Option Command
+command_by form command_in words = option_and_then command_in (found form words)
+
+abbrev pub plan_form : App
+plan_form = form (codes "plan") (policy_word ∷ wanted (codes "FLOW") ∷ [])
+
 abbrev pub plan_in : List Row → Option Command
 plan_in rows = with_both plan (policy_in rows) (first_of (codes "FLOW") rows)
+
+abbrev pub show_form : App
+show_form = form (codes "show") (policy_word ∷ [])
+
+abbrev pub show_in : List Row → Option Command
+show_in rows = option_map show (policy_in rows)
+
+abbrev pub solve_form : App
+solve_form = form (codes "solve") (policy_word ∷ [])
+
+abbrev pub solve_in : List Row → Option Command
+solve_in rows = option_map solve (policy_in rows)
+
+abbrev pub serve_form : App
+serve_form = form (codes "serve") (policy_word ∷ lanes_option ∷ rounds_option ∷ [])
 
 abbrev pub serve_in : List Row → Option Command
 serve_in rows = with_both serve (policy_in rows) (options_of rows)
 
+abbrev pub audit_form : App
+audit_form = form (codes "audit")
+    (policy_word ∷ wanted (codes "REQUESTS") ∷ lanes_option ∷ rounds_option ∷ [])
+
 abbrev pub audit_in : List Row → Option Command
 audit_in rows = option_and_then (λ policy.
     with_both (audit policy) (first_of (codes "REQUESTS") rows) (options_of rows)) (policy_in rows)
+
+abbrev pub trial_form : App
+trial_form = form (codes "trial") (wanted_number (codes "SEED") ∷ [])
+
+abbrev pub trial_in : List Row → Option Command
+trial_in rows = option_map trial (number_in (codes "SEED") rows)
 
 -- ---- the command
 
@@ -122,15 +137,12 @@ is_word word other = pointwise nat_eq word other
 -- the command of this first word, at all the words
 abbrev pub command_at : Text → List Text → Option Command
 command_at word words =
-    if is_word word (codes "plan") then option_and_then plan_in (found plan_form words) else
-    if is_word word (codes "show")
-    then option_map show (option_and_then policy_in (found show_form words)) else
-    if is_word word (codes "solve")
-    then option_map solve (option_and_then policy_in (found solve_form words)) else
-    if is_word word (codes "serve") then option_and_then serve_in (found serve_form words) else
-    if is_word word (codes "audit") then option_and_then audit_in (found audit_form words) else
-    if is_word word (codes "trial")
-    then option_map trial (option_and_then (number_in (codes "SEED")) (found trial_form words)) else
+    if is_word word (codes "plan") then command_by plan_form plan_in words else
+    if is_word word (codes "show") then command_by show_form show_in words else
+    if is_word word (codes "solve") then command_by solve_form solve_in words else
+    if is_word word (codes "serve") then command_by serve_form serve_in words else
+    if is_word word (codes "audit") then command_by audit_form audit_in words else
+    if is_word word (codes "trial") then command_by trial_form trial_in words else
     None
 
 -- the command that the words are, where they are one
@@ -151,9 +163,5 @@ reads_input (Some (trial seed)) = false
 -- whether a request may be answered again for these words: there are several lanes, and some rounds
 abbrev pub may_repeat : Option Command → Bool
 may_repeat None = false
-may_repeat (Some (plan policy flow)) = false
-may_repeat (Some (show policy)) = false
-may_repeat (Some (solve policy)) = false
-may_repeat (Some (audit policy requests options)) = false
-may_repeat (Some (trial seed)) = false
 may_repeat (Some (serve policy options)) = nat_lt 1 options.lanes && nat_lt 0 options.rounds
+may_repeat (Some other) = false

@@ -1,12 +1,15 @@
 //! What `clap` finds at the words.
 ghost use Rattle.std.specs.Prelude.{◌≡◌, ◌<◌, ◌≤◌, ◌-◌, ◌^◌, IfOk, IfSome, map, option_map, string_bytes, codes, true};
 ghost use Rattle.clap.specs.Words.{app_of, first_of, is_simple_and_free};
-ghost use Rattle.command_words.specs.Words.{found, number_in};
-ghost use Rattle.command_words.specs.Finding.{PassesIn, WritesWithin, rows_in};
+ghost use Rattle.command_words.specs.Words.{AreOptions, found, number_in, options_of};
+ghost use Rattle.command_words.specs.Asked.{options_in};
+ghost use Rattle.command_words.specs.Finding.{HasOptions, PassesIn, WritesWithin, rows_in};
 
+use crate::Options;
 use clap::error::ErrorKind;
 use clap::{ArgMatches, Command};
 use std::alloc::AllocError;
+use wf_names::{LANE_LIMIT, ROUND_LIMIT};
 
 /// What a command finds at the words, and nothing where a word is at fault.
 pub(crate) fn find<'a>(
@@ -50,4 +53,15 @@ pub(crate) fn seed_in(matches: &ArgMatches<'_>) -> Option<u64>
     ensures { result ≡ number_in (codes "SEED") (rows_in matches.now) }
 {
     matches.get_one::<u64>("SEED")
+}
+
+/// The options of a session that were found.
+pub(crate) fn options_in(matches: &ArgMatches<'_>) -> Option<Options>
+    requires options { HasOptions (rows_in matches.now) }
+    ensures options { option_map options_in result ≡ options_of (rows_in matches.now) }
+    ensures within { IfSome result (λ o. AreOptions (options_in o)) }
+{
+    let lanes = number_in(matches, "lanes", 1, LANE_LIMIT)?;
+    let rounds = number_in(matches, "rounds", 0, ROUND_LIMIT)?;
+    Some(Options { lanes, rounds })
 }

@@ -2,12 +2,17 @@
 #![tactic(auto)]
 
 mod arguments;
+mod audit;
 mod command;
 mod finding;
 mod forms;
-mod kind;
 mod laws;
+mod plan;
 mod reading;
+mod serve;
+mod show;
+mod solve;
+mod trial;
 
 pub use command::{Command, Options};
 pub use laws::usage_is_read;

@@ -10,52 +10,76 @@ use Rattle.wf_outside.specs.Outside.{Filed, told, missing, untold, LoadsAs, Load
 use Rattle.policy_book.specs.Shapes.{PolicyShape}
 use Rattle.policy_reader.specs.Files.{policy_of_file}
 use Rattle.run_record.specs.declared.fault.RunFault.{RunFault}
-use Rattle.run_record.specs.declared.fault.RunFault.TheVariants.{Nothing, Found, Usage, Policy, Read, Write, Load, NoMemory, FileTooLong, LineTooLong, TooManyLines, BadInput}
+use Rattle.run_record.specs.declared.fault.RunFault.TheVariants.{Load, NoMemory, FileTooLong}
+use Rattle.run_record.specs.Fault.{How, unasked, answered, misfiled, refused, unloaded, unread, unwritten, lacking, how_of}
 use Rattle.wf_commands.specs.declared.answer.Answer.{Answer}
 use Rattle.wf_commands.specs.Once.{OverPolicy}
-use Rattle.wf_commands.specs.Answer.{AnswersAs, AnswersFile}
-use Rattle.wf_commands.specs.Load.{GivesBytes, GivesPolicy}
+use Rattle.wf_commands.specs.Answer.{AnswersAs, AnswersFile, RefusesSo}
+use Rattle.wf_commands.specs.Load.{EndsTooLong, GivesBytes, GivesPolicy}
 
 -- some bytes are more than the limit
 pub some_longer : (limit : ℕ) → (file : List ℕ) × limit < length file
 some_longer limit = (replicate (limit + 1) 0, omega (arith, length-replicate {A = ℕ} (limit + 1) 0))
 
 -- a file is too long
-pub too_long_given : (f : Filed) (e : LoadFault) → e ≡ TooLong → LoadsAs f POLICY_FILE_LIMIT (Err e) → GivesBytes f (Err FileTooLong)
-too_long_given untold e is loads = some_longer POLICY_FILE_LIMIT
-too_long_given missing e is loads = cc
-too_long_given (told file) e is loads = subst (λ (x : LoadFault). LoadsFile file POLICY_FILE_LIMIT (Err x)) is loads
+pub too_long_given : (limit : ℕ) (f : Filed) (e : LoadFault) → e ≡ TooLong → LoadsAs f limit (Err e) → GivesBytes limit f (Err FileTooLong)
+too_long_given limit untold e is loads = some_longer limit
+too_long_given limit missing e is loads = cc
+too_long_given limit (told file) e is loads = subst (λ (x : LoadFault). LoadsFile file limit (Err x)) is loads
 
 -- a file was not loaded, or there was no memory for it: it is not too long
-pub failed_given : (f : Filed) (e : LoadFault) → e ≡ Failed → LoadsAs f POLICY_FILE_LIMIT (Err e) → GivesBytes f (Err Load)
-failed_given untold e is loads = ([], omega arith)
-failed_given missing e is loads = refl
-failed_given (told file) e is loads = subst (λ (x : LoadFault). LoadsFile file POLICY_FILE_LIMIT (Err x)) is loads
+pub failed_given : (limit : ℕ) (f : Filed) (e : LoadFault) → e ≡ Failed → LoadsAs f limit (Err e) → GivesBytes limit f (Err Load)
+failed_given limit untold e is loads = ([], omega arith)
+failed_given limit missing e is loads = refl
+failed_given limit (told file) e is loads = subst (λ (x : LoadFault). LoadsFile file limit (Err x)) is loads
 
-pub lacking_given : (f : Filed) (e : LoadFault) → e ≡ load.NoMemory → LoadsAs f POLICY_FILE_LIMIT (Err e) → GivesBytes f (Err NoMemory)
-lacking_given untold e is loads = ([], omega arith)
-lacking_given missing e is loads = cc
-lacking_given (told file) e is loads = subst (λ (x : LoadFault). LoadsFile file POLICY_FILE_LIMIT (Err x)) is loads
+pub lacking_given : (limit : ℕ) (f : Filed) (e : LoadFault) → e ≡ load.NoMemory → LoadsAs f limit (Err e) → GivesBytes limit f (Err NoMemory)
+lacking_given limit untold e is loads = ([], omega arith)
+lacking_given limit missing e is loads = cc
+lacking_given limit (told file) e is loads = subst (λ (x : LoadFault). LoadsFile file limit (Err x)) is loads
+
+-- and so a told file that is too long ends the loading so alone
+pub too_long_named : (limit : ℕ) (f : Filed) → EndsTooLong limit f FileTooLong
+too_long_named limit untold = tt
+too_long_named limit missing = tt
+too_long_named limit (told file) = λ long. refl
+
+pub other_named : (limit : ℕ) (f : Filed) (e : LoadFault) (fault : RunFault) → (e ≡ TooLong → ⊥) → LoadsAs f limit (Err e) → EndsTooLong limit f fault
+other_named limit untold e fault other loads = tt
+other_named limit missing e fault other loads = tt
+other_named limit (told file) Failed fault other loads = λ long. let short : length file ≤ limit = loads in absurd (omega arith)
+other_named limit (told file) load.NoMemory fault other loads = λ long. let short : length file ≤ limit = loads in absurd (omega arith)
+other_named limit (told file) TooLong fault other loads = absurd (other refl)
+
+pub loaded_named : (limit : ℕ) (f : Filed) (bytes : List ℕ) (fault : RunFault) → GivesBytes limit f (Ok bytes) → EndsTooLong limit f fault
+loaded_named limit untold bytes fault gives = tt
+loaded_named limit missing bytes fault gives = tt
+loaded_named limit (told file) bytes fault gives = λ long. let short : length file ≤ limit = gives.0 in absurd (omega arith)
+
+pub policy_named : (f : Filed) (p : PolicyShape) (fault : RunFault) → GivesPolicy f (Ok p) → EndsTooLong POLICY_FILE_LIMIT f fault
+policy_named untold p fault gives = tt
+policy_named missing p fault gives = tt
+policy_named (told file) p fault gives = λ long. let short : length file ≤ POLICY_FILE_LIMIT = gives.0 in absurd (omega arith)
 
 over : (A : PolicyShape → RunFault → List ℕ → Type 0) (file : List ℕ) (p : PolicyShape) (fault : RunFault) (text : List ℕ)
     → length file ≤ POLICY_FILE_LIMIT → policy_of_file file ≡ Ok p → A p fault text → OverPolicy A file fault text
 over A file p fault text within read h = rw (le-ltb POLICY_FILE_LIMIT (length file) within, read) h
 
+over_refusal : (A : PolicyShape → RunFault → List ℕ → Type 0) (file : List ℕ) (p : PolicyShape) (how : How) (fault : RunFault)
+    → length file ≤ POLICY_FILE_LIMIT → policy_of_file file ≡ Ok p → RefusesSo how (A p) fault → RefusesSo how (OverPolicy A file) fault
+over_refusal A file p unloaded fault within read h = tt
+over_refusal A file p unread fault within read h = tt
+over_refusal A file p lacking fault within read h = tt
+over_refusal A file p unasked fault within read h = over A file p _ _ within read h
+over_refusal A file p answered fault within read h = over A file p _ _ within read h
+over_refusal A file p misfiled fault within read h = over A file p _ _ within read h
+over_refusal A file p refused fault within read h = over A file p _ _ within read h
+over_refusal A file p unwritten fault within read h = over A file p _ _ within read h
+
 over_result : (A : PolicyShape → RunFault → List ℕ → Type 0) (file : List ℕ) (p : PolicyShape) (result : Result Answer RunFault)
     → length file ≤ POLICY_FILE_LIMIT → policy_of_file file ≡ Ok p → AnswersAs (A p) result → AnswersAs (OverPolicy A file) result
 over_result A file p (Ok answer) within read h = over A file p _ _ within read h
-over_result A file p (Err Read) within read h = tt
-over_result A file p (Err Load) within read h = tt
-over_result A file p (Err NoMemory) within read h = tt
-over_result A file p (Err Nothing) within read h = over A file p _ _ within read h
-over_result A file p (Err Found) within read h = over A file p _ _ within read h
-over_result A file p (Err Usage) within read h = over A file p _ _ within read h
-over_result A file p (Err (Policy e)) within read h = over A file p _ _ within read h
-over_result A file p (Err Write) within read h = over A file p _ _ within read h
-over_result A file p (Err FileTooLong) within read h = over A file p _ _ within read h
-over_result A file p (Err (LineTooLong line)) within read h = over A file p _ _ within read h
-over_result A file p (Err TooManyLines) within read h = over A file p _ _ within read h
-over_result A file p (Err (BadInput e)) within read h = over A file p _ _ within read h
+over_result A file p (Err fault) within read h = over_refusal A file p (how_of fault) fault within read h
 
 -- an answer about a policy that a file gave
 pub answers_file : (A : PolicyShape → RunFault → List ℕ → Type 0) (f : Filed) (p : PolicyShape) (result : Result Answer RunFault)

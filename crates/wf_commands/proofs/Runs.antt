@@ -1,135 +1,117 @@
 -- How the steps of a command that answers once compose.
-use Rattle.std.proofs.Common.{◌≡◌, ℕ, Bool, true, false, List, [], Option, Result, Ok, Err, refl, sym, subst, ◌∙◌, arith}
+use Rattle.std.proofs.Common.{◌≡◌, ℕ, ◌≤◌, Bool, true, false, List, [], Option, None, Some, Result, Ok, Err, refl, sym, subst, ◌∙◌, arith}
 use Rattle.std.specs.Prelude.{IsErrAnd, string_bytes}
+use Rattle.wf_names.specs.declared.limits.TheConstants.{POLICY_FILE_LIMIT}
 use Rattle.wf_outside.specs.Outside.{Filed, told, missing, untold, HasPart, Rose, with_bytes}
 use Rattle.wf_outside.proofs.OutsideLaws.{nothing_put, nothing_at_most}
 use Rattle.policy_book.specs.Shapes.{PolicyShape}
 use Rattle.run_record.specs.declared.fault.RunFault.{RunFault}
-use Rattle.run_record.specs.declared.fault.RunFault.TheVariants.{Nothing, Found, Usage, Policy, Read, Write, Load, NoMemory, FileTooLong, LineTooLong, TooManyLines, BadInput}
-use Rattle.run_record.specs.declared.fault.InputFault.TheVariants.{NoFlow, Syntax, Length, NoUser}
-use Rattle.run_record.specs.Fault.{fault_in, is_before_input, CountsLoads, CountsReads, CountsReadsAlone, CountsWrites}
+use Rattle.run_record.specs.declared.fault.RunFault.TheVariants.{Nothing, Found, Write}
+use Rattle.run_record.specs.Fault as ending
+use Rattle.run_record.specs.Fault.{How, When, how_of, when_of, when_so, is_early, fault_in, is_before_input}
+use Rattle.run_record.specs.Fault.{CountsLoads, CountsReads, CountsReadsAlone, CountsWrites, ReadsSo, ReadsSoAlone}
 use Rattle.run_record.specs.Report.{nothing_told}
 use Rattle.run_record.specs.Run.{Run, IsOrderly, OverFile}
 use Rattle.wf_commands.specs.declared.answer.Answer.{Answer}
-use Rattle.wf_commands.specs.declared.question.Question.{Question}
-use Rattle.wf_commands.specs.declared.question.Question.TheVariants.{Plan, Show, Solve}
-use Rattle.wf_commands.specs.Once.{AnswersOnce, Ends, HasText, IsQuiet, OverPolicy}
-use Rattle.wf_commands.specs.Questions.{answers, AnswersQuestion, ReadsAs}
-use Rattle.wf_commands.specs.Answer.{ending_with, AnswersAs, AnswersFile, IsCommandEnding}
-use Rattle.wf_commands.specs.Load.{IsLoadEnding}
+use Rattle.wf_commands.specs.Once.{Ends, EndsSo, HasText, IsQuiet, OverPolicy, ReadsInput, ReadsUpTo, RunsOnce, WritesSo}
+use Rattle.wf_commands.specs.Answer.{ending_with, AnswersAs, AnswersFile, EndsUnanswered, IsCommandEnding, RefusesSo}
+use Rattle.wf_commands.specs.Load.{EndsLoading, EndsTooLong, IsLoadEnding}
+
+-- ---- what is read
+
+unread_so : (limit : ℕ) (how : How) (fault : RunFault) (left : Option (List ℕ)) → EndsLoading how → ReadsUpTo limit (when_so how fault) left left
+unread_so limit ending.misfiled fault left ends = refl
+unread_so limit ending.unloaded fault left ends = refl
+unread_so limit ending.lacking fault left ends = nothing_at_most left _
+unread_so limit ending.unasked fault left ends = absurd ends
+unread_so limit ending.answered fault left ends = absurd ends
+unread_so limit ending.refused fault left ends = absurd ends
+unread_so limit ending.unread fault left ends = absurd ends
+unread_so limit ending.unwritten fault left ends = absurd ends
 
 -- where no policy was loaded nothing is read
-pub unread : (q : Question) (fault : RunFault) (left : Option (List ℕ)) → IsLoadEnding fault → ReadsAs q fault left left
-unread (Plan flow) FileTooLong left ending = refl
-unread (Plan flow) (Policy e) left ending = refl
-unread (Plan flow) Load left ending = refl
-unread (Plan flow) NoMemory left ending = nothing_at_most left _
-unread (Plan flow) Nothing left ending = absurd ending
-unread (Plan flow) Found left ending = absurd ending
-unread (Plan flow) Usage left ending = absurd ending
-unread (Plan flow) Read left ending = absurd ending
-unread (Plan flow) Write left ending = absurd ending
-unread (Plan flow) (LineTooLong line) left ending = absurd ending
-unread (Plan flow) TooManyLines left ending = absurd ending
-unread (Plan flow) (BadInput e) left ending = absurd ending
-unread Show fault left ending = refl
-unread Solve fault left ending = refl
+pub unread : (limit : Option ℕ) (fault : RunFault) (left : Option (List ℕ)) → IsLoadEnding fault → ReadsInput limit fault left left
+unread None fault left ends = refl
+unread (Some limit) fault left ends = unread_so limit (how_of fault) fault left ends
 
-pub unread_after : (q : Question) (result : Result Answer RunFault) (fault : RunFault) (left : Option (List ℕ))
-    → IsErrAnd result (λ e. e ≡ fault) → IsLoadEnding fault → ReadsAs q (fault_in result) left left
-unread_after q (Ok answer) fault left is ending = absurd is
-unread_after q (Err e) fault left is ending = rw is (unread q fault left ending)
+pub unread_after : (limit : Option ℕ) (result : Result Answer RunFault) (fault : RunFault) (left : Option (List ℕ))
+    → IsErrAnd result (λ e. e ≡ fault) → IsLoadEnding fault → ReadsInput limit (fault_in result) left left
+unread_after limit (Ok answer) fault left is ends = absurd is
+unread_after limit (Err e) fault left is ends = rw is (unread limit fault left ends)
+
+early_so : (limit : ℕ) (when : When) (before after : Option (List ℕ)) → is_early when ≡ true → ReadsUpTo limit when before after → after ≡ before
+early_so limit ending.early before after is reads = reads
+early_so limit ending.midway before after is reads = cc
+early_so limit ending.overlong before after is reads = cc
+early_so limit ending.late before after is reads = cc
+
+pub early_unread : (limit : Option ℕ) (fault : RunFault) (before after : Option (List ℕ))
+    → is_before_input fault ≡ true → ReadsInput limit fault before after → after ≡ before
+early_unread None fault before after is reads = reads
+early_unread (Some limit) fault before after is reads = early_so limit (when_of fault) before after is reads
+
+-- ---- an ending without an answer
+
+no_writes_so : (how : How) (before after : ℕ) → EndsUnanswered how → after ≡ before → ending.WritesSo how before after
+no_writes_so ending.misfiled before after ends same = same
+no_writes_so ending.refused before after ends same = same
+no_writes_so ending.unloaded before after ends same = same
+no_writes_so ending.unread before after ends same = same
+no_writes_so ending.lacking before after ends same = same
+no_writes_so ending.unasked before after ends same = absurd ends
+no_writes_so ending.answered before after ends same = absurd ends
+no_writes_so ending.unwritten before after ends same = absurd ends
 
 pub no_writes : (fault : RunFault) (before after : ℕ) → IsCommandEnding fault → after ≡ before → CountsWrites fault before after
-no_writes Nothing before after ending same = absurd ending
-no_writes Found before after ending same = absurd ending
-no_writes Usage before after ending same = absurd ending
-no_writes (Policy e) before after ending same = same
-no_writes Read before after ending same = same
-no_writes Write before after ending same = absurd ending
-no_writes Load before after ending same = same
-no_writes NoMemory before after ending same = same
-no_writes FileTooLong before after ending same = same
-no_writes (LineTooLong line) before after ending same = same
-no_writes TooManyLines before after ending same = absurd ending
-no_writes (BadInput e) before after ending same = same
+no_writes fault before after ends same = no_writes_so (how_of fault) before after ends same
+
+own_reads_so : (how : How) (before after : ℕ) → ReadsSoAlone how before after → ReadsSo how before after
+own_reads_so ending.unasked before after counts = counts
+own_reads_so ending.answered before after counts = counts
+own_reads_so ending.misfiled before after counts = counts
+own_reads_so ending.refused before after counts = counts
+own_reads_so ending.unloaded before after counts = counts
+own_reads_so ending.unread before after counts = counts
+own_reads_so ending.unwritten before after counts = omega arith
+own_reads_so ending.lacking before after counts = omega arith
 
 -- where all is read before it is answered, reads are counted as in every run
 pub own_reads : (fault : RunFault) (before after : ℕ) → CountsReadsAlone fault before after → CountsReads fault before after
-own_reads Nothing before after counts = counts
-own_reads Found before after counts = counts
-own_reads Usage before after counts = counts
-own_reads (Policy e) before after counts = counts
-own_reads Read before after counts = counts
-own_reads Write before after counts = omega arith
-own_reads Load before after counts = counts
-own_reads NoMemory before after counts = omega arith
-own_reads FileTooLong before after counts = counts
-own_reads (LineTooLong line) before after counts = counts
-own_reads TooManyLines before after counts = counts
-own_reads (BadInput e) before after counts = counts
+own_reads fault before after counts = own_reads_so (how_of fault) before after counts
+
+quiet_so : (how : How) (before after : Option (List ℕ)) → EndsUnanswered how → after ≡ before → WritesSo how before after
+quiet_so ending.misfiled before after ends same = same
+quiet_so ending.refused before after ends same = same
+quiet_so ending.unloaded before after ends same = same
+quiet_so ending.unread before after ends same = same
+quiet_so ending.lacking before after ends same = same
+quiet_so ending.unasked before after ends same = absurd ends
+quiet_so ending.answered before after ends same = absurd ends
+quiet_so ending.unwritten before after ends same = absurd ends
 
 pub quiet_refused : (fault : RunFault) (before after : Option (List ℕ)) → IsCommandEnding fault → after ≡ before → IsQuiet fault before after
-quiet_refused Nothing before after ending same = absurd ending
-quiet_refused Found before after ending same = absurd ending
-quiet_refused Usage before after ending same = absurd ending
-quiet_refused (Policy e) before after ending same = same
-quiet_refused Read before after ending same = same
-quiet_refused Write before after ending same = absurd ending
-quiet_refused Load before after ending same = same
-quiet_refused NoMemory before after ending same = same
-quiet_refused FileTooLong before after ending same = same
-quiet_refused (LineTooLong line) before after ending same = same
-quiet_refused TooManyLines before after ending same = absurd ending
-quiet_refused (BadInput e) before after ending same = same
+quiet_refused fault before after ends same = quiet_so (how_of fault) before after ends same
+
+ends_so : (A : RunFault → List ℕ → Type 0) (how : How) (fault : RunFault) (before after : Option (List ℕ))
+    → EndsUnanswered how → RefusesSo how A fault → after ≡ before → EndsSo how A before after fault
+ends_so A ending.misfiled fault before after ends h same = ([], h, same ∙ sym (nothing_put before))
+ends_so A ending.refused fault before after ends h same = ([], h, same ∙ sym (nothing_put before))
+ends_so A ending.unloaded fault before after ends h same = same
+ends_so A ending.unread fault before after ends h same = same
+ends_so A ending.lacking fault before after ends h same = same
+ends_so A ending.unasked fault before after ends h same = absurd ends
+ends_so A ending.answered fault before after ends h same = absurd ends
+ends_so A ending.unwritten fault before after ends h same = absurd ends
 
 pub ends_refused : (A : RunFault → List ℕ → Type 0) (before after : Option (List ℕ)) (fault : RunFault)
     → IsCommandEnding fault → AnswersAs A (Err fault) → after ≡ before → Ends A before after fault
-ends_refused A before after Nothing ending h same = absurd ending
-ends_refused A before after Found ending h same = absurd ending
-ends_refused A before after Usage ending h same = absurd ending
-ends_refused A before after (Policy e) ending h same = ([], h, same ∙ sym (nothing_put before))
-ends_refused A before after Read ending h same = same
-ends_refused A before after Write ending h same = absurd ending
-ends_refused A before after Load ending h same = same
-ends_refused A before after NoMemory ending h same = same
-ends_refused A before after FileTooLong ending h same = ([], h, same ∙ sym (nothing_put before))
-ends_refused A before after (LineTooLong line) ending h same = ([], h, same ∙ sym (nothing_put before))
-ends_refused A before after TooManyLines ending h same = absurd ending
-ends_refused A before after (BadInput e) ending h same = ([], h, same ∙ sym (nothing_put before))
+ends_refused A before after fault ends h same = ends_so A (how_of fault) fault before after ends h same
 
 over_refused : (A : PolicyShape → RunFault → List ℕ → Type 0) (f : Filed) (before after : Option (List ℕ)) (fault : RunFault)
     → IsCommandEnding fault → AnswersFile A f (Err fault) → after ≡ before → OverFile f fault (λ file. Ends (OverPolicy A file) before after fault)
-over_refused A untold before after fault ending h same = (h.0, ends_refused (OverPolicy A h.0) before after fault ending h.1 same)
-over_refused A missing before after fault ending h same = cc
-over_refused A (told file) before after fault ending h same = ends_refused (OverPolicy A file) before after fault ending h same
-
-early_unread : (q : Question) (fault : RunFault) (before after : Option (List ℕ))
-    → IsCommandEnding fault → is_before_input fault ≡ true → ReadsAs q fault before after → after ≡ before
-early_unread (Plan flow) Nothing before after ending early reads = absurd ending
-early_unread (Plan flow) Found before after ending early reads = absurd ending
-early_unread (Plan flow) Usage before after ending early reads = absurd ending
-early_unread (Plan flow) (Policy e) before after ending early reads = reads
-early_unread (Plan flow) Read before after ending early reads = cc
-early_unread (Plan flow) Write before after ending early reads = absurd ending
-early_unread (Plan flow) Load before after ending early reads = reads
-early_unread (Plan flow) NoMemory before after ending early reads = cc
-early_unread (Plan flow) FileTooLong before after ending early reads = reads
-early_unread (Plan flow) (LineTooLong line) before after ending early reads = cc
-early_unread (Plan flow) TooManyLines before after ending early reads = absurd ending
-early_unread (Plan flow) (BadInput NoFlow) before after ending early reads = reads
-early_unread (Plan flow) (BadInput Syntax) before after ending early reads = cc
-early_unread (Plan flow) (BadInput Length) before after ending early reads = cc
-early_unread (Plan flow) (BadInput (NoUser n)) before after ending early reads = cc
-early_unread Show fault before after ending early reads = reads
-early_unread Solve fault before after ending early reads = reads
-
--- a run that keeps what every run keeps, and answers once, answers its question
-asks : (q : Question) (policy : List ℕ) (r : Run) → IsOrderly r → AnswersOnce policy (answers q r.before.input) r
-    → ReadsAs q r.fault r.before.input r.after.input → AnswersQuestion q policy r
-asks (Plan flow) policy r orderly once reads = record { orderly = orderly; once = once; reads = reads }
-asks Show policy r orderly once reads = record { orderly = orderly; once = once; unread = reads }
-asks Solve policy r orderly once reads = record { orderly = orderly; once = once; unread = reads }
+over_refused A untold before after fault ends h same = (h.0, ends_refused (OverPolicy A h.0) before after fault ends h.1 same)
+over_refused A missing before after fault ends h same = cc
+over_refused A (told file) before after fault ends h same = ends_refused (OverPolicy A file) before after fault ends h same
 
 -- what is known of a run that writes nothing
 pub record WritesNothing (r : Run) : Type 0 where
@@ -138,25 +120,26 @@ pub record WritesNothing (r : Run) : Type 0 where
   pub untold : r.told ≡ nothing_told
 
 -- a run that ends without an answer
-pub without_answer : (q : Question) (policy : List ℕ) (r : Run)
-    → AnswersFile (answers q r.before.input) (r.files policy) (Err r.fault) → IsCommandEnding r.fault
+pub without_answer : (limit : Option ℕ) (policy : List ℕ) (A : Option (List ℕ) → PolicyShape → RunFault → List ℕ → Type 0) (r : Run)
+    → AnswersFile (A r.before.input) (r.files policy) (Err r.fault) → IsCommandEnding r.fault → EndsTooLong POLICY_FILE_LIMIT (r.files policy) r.fault
     → CountsLoads r.fault r.load_faults r.load_faults_after → CountsReadsAlone r.fault r.before.read_faults r.after.read_faults
-    → ReadsAs q r.fault r.before.input r.after.input → WritesNothing r → AnswersQuestion q policy r
-without_answer q policy r answer ending loads reads input nothing =
-    asks q policy r
-    (record {
-      early = λ h. record { unread = early_unread q r.fault r.before.input r.after.input ending h input; unwritten = nothing.output; untold = nothing.untold };
-      loads = loads;
-      reads = own_reads r.fault r.before.read_faults r.after.read_faults reads;
-      writes = no_writes r.fault r.before.write_faults r.after.write_faults ending nothing.writes;
-    })
-    (record {
-      answer = over_refused (answers q r.before.input) (r.files policy) r.before.output r.after.output r.fault ending answer nothing.output;
-      quiet = quiet_refused r.fault r.before.output r.after.output ending nothing.output;
-      untold = nothing.untold;
-      reads = reads;
-    })
-    input
+    → ReadsInput limit r.fault r.before.input r.after.input → WritesNothing r → RunsOnce limit policy A r
+without_answer limit policy A r answer ends named loads reads input nothing = record {
+  orderly = record {
+    early = λ h. record { unread = early_unread limit r.fault r.before.input r.after.input h input; unwritten = nothing.output; untold = nothing.untold };
+    loads = loads;
+    reads = own_reads r.fault r.before.read_faults r.after.read_faults reads;
+    writes = no_writes r.fault r.before.write_faults r.after.write_faults ends nothing.writes;
+  };
+  once = record {
+    answer = over_refused (A r.before.input) (r.files policy) r.before.output r.after.output r.fault ends answer nothing.output;
+    named = named;
+    quiet = quiet_refused r.fault r.before.output r.after.output ends nothing.output;
+    untold = nothing.untold;
+    reads = reads;
+  };
+  reads = input;
+}
 
 -- ---- a run with an answer
 
@@ -195,57 +178,66 @@ answered_quiet : (found : Bool) (before after : Option (List ℕ)) → IsQuiet (
 answered_quiet true before after = tt
 answered_quiet false before after = tt
 
-answered_reads : (q : Question) (found : Bool) (before after : Option (List ℕ)) → ReadsAs q Nothing before after → ReadsAs q (ending_with found) before after
-answered_reads (Plan flow) true before after reads = reads
-answered_reads (Plan flow) false before after reads = reads
-answered_reads Show found before after reads = reads
-answered_reads Solve found before after reads = reads
+answered_reads : (limit : Option ℕ) (found : Bool) (before after : Option (List ℕ)) → ReadsInput limit Nothing before after → ReadsInput limit (ending_with found) before after
+answered_reads None found before after reads = reads
+answered_reads (Some limit) true before after reads = reads
+answered_reads (Some limit) false before after reads = reads
 
-part_reads : (q : Question) (before after : Option (List ℕ)) → ReadsAs q Nothing before after → ReadsAs q Write before after
-part_reads (Plan flow) before after reads = reads
-part_reads Show before after reads = reads
-part_reads Solve before after reads = reads
+part_reads : (limit : Option ℕ) (before after : Option (List ℕ)) → ReadsInput limit Nothing before after → ReadsInput limit Write before after
+part_reads None before after reads = reads
+part_reads (Some limit) before after reads = reads
+
+-- a policy that was loaded is not too long, however the run ends
+pub loaded : (limit : ℕ) (f : Filed) (fault : RunFault) → EndsTooLong limit f Nothing → EndsTooLong limit f fault
+loaded limit untold fault named = tt
+loaded limit missing fault named = tt
+loaded limit (told file) fault named = λ long. let never = named long in cc
 
 -- what is known of a run that has an answer, before it is written
-pub record HasAnswer (q : Question) (policy : List ℕ) (answer : Answer) (r : Run) : Type 0 where
-  pub given : AnswersFile (answers q r.before.input) (r.files policy) (Ok answer)
+pub record HasAnswer (limit : Option ℕ) (policy : List ℕ) (A : Option (List ℕ) → PolicyShape → RunFault → List ℕ → Type 0) (answer : Answer) (r : Run) : Type 0 where
+  pub given : AnswersFile (A r.before.input) (r.files policy) (Ok answer)
+  pub named : EndsTooLong POLICY_FILE_LIMIT (r.files policy) Nothing
   pub loads : r.load_faults_after ≡ r.load_faults
   pub reads : r.after.read_faults ≡ r.before.read_faults
-  pub input : ReadsAs q Nothing r.before.input r.after.input
+  pub input : ReadsInput limit Nothing r.before.input r.after.input
   pub untold : r.told ≡ nothing_told
 
-pub with_answer : (q : Question) (policy : List ℕ) (answer : Answer) (r : Run) → HasAnswer q policy answer r → r.fault ≡ ending_with answer.found
-    → r.after.output ≡ with_bytes r.before.output (string_bytes answer.text) → r.after.write_faults ≡ r.before.write_faults → AnswersQuestion q policy r
-with_answer q policy answer r has is wrote writes =
-    asks q policy r
-    (record {
-      early = λ early. absurd (answered_late answer.found (subst (λ (x : RunFault). is_before_input x ≡ true) is early));
-      loads = rw is (answered_counts answer.found r.load_faults r.load_faults_after has.loads).0;
-      reads = rw is (own_reads (ending_with answer.found) r.before.read_faults r.after.read_faults (answered_counts answer.found r.before.read_faults r.after.read_faults has.reads).1);
-      writes = rw is (answered_counts answer.found r.before.write_faults r.after.write_faults writes).2;
-    })
-    (record {
-      answer = rw is (over_answered (answers q r.before.input) (r.files policy) r.before.output r.after.output answer has.given wrote);
-      quiet = rw is (answered_quiet answer.found r.before.output r.after.output);
-      untold = has.untold;
-      reads = rw is (answered_counts answer.found r.before.read_faults r.after.read_faults has.reads).1;
-    })
-    (rw is (answered_reads q answer.found r.before.input r.after.input has.input))
+pub with_answer : (limit : Option ℕ) (policy : List ℕ) (A : Option (List ℕ) → PolicyShape → RunFault → List ℕ → Type 0) (answer : Answer) (r : Run)
+    → HasAnswer limit policy A answer r → r.fault ≡ ending_with answer.found
+    → r.after.output ≡ with_bytes r.before.output (string_bytes answer.text) → r.after.write_faults ≡ r.before.write_faults → RunsOnce limit policy A r
+with_answer limit policy A answer r has is wrote writes = record {
+  orderly = record {
+    early = λ early. absurd (answered_late answer.found (subst (λ (x : RunFault). is_before_input x ≡ true) is early));
+    loads = rw is (answered_counts answer.found r.load_faults r.load_faults_after has.loads).0;
+    reads = rw is (own_reads (ending_with answer.found) r.before.read_faults r.after.read_faults (answered_counts answer.found r.before.read_faults r.after.read_faults has.reads).1);
+    writes = rw is (answered_counts answer.found r.before.write_faults r.after.write_faults writes).2;
+  };
+  once = record {
+    answer = rw is (over_answered (A r.before.input) (r.files policy) r.before.output r.after.output answer has.given wrote);
+    named = loaded POLICY_FILE_LIMIT (r.files policy) r.fault has.named;
+    quiet = rw is (answered_quiet answer.found r.before.output r.after.output);
+    untold = has.untold;
+    reads = rw is (answered_counts answer.found r.before.read_faults r.after.read_faults has.reads).1;
+  };
+  reads = rw is (answered_reads limit answer.found r.before.input r.after.input has.input);
+}
 
-pub with_part : (q : Question) (policy : List ℕ) (answer : Answer) (r : Run) → HasAnswer q policy answer r → r.fault ≡ Write
-    → HasPart r.before.output r.after.output (string_bytes answer.text) → Rose r.before.write_faults r.after.write_faults → AnswersQuestion q policy r
-with_part q policy answer r has is part rose =
-    asks q policy r
-    (record {
-      early = λ early. cc;
-      loads = rw is has.loads;
-      reads = rw is (let reads = has.reads in omega (arith, reads));
-      writes = rw is rose;
-    })
-    (record {
-      answer = rw is (over_part (answers q r.before.input) (r.files policy) r.before.output r.after.output answer has.given part);
-      quiet = rw is tt;
-      untold = has.untold;
-      reads = rw is has.reads;
-    })
-    (rw is (part_reads q r.before.input r.after.input has.input))
+pub with_part : (limit : Option ℕ) (policy : List ℕ) (A : Option (List ℕ) → PolicyShape → RunFault → List ℕ → Type 0) (answer : Answer) (r : Run)
+    → HasAnswer limit policy A answer r → r.fault ≡ Write
+    → HasPart r.before.output r.after.output (string_bytes answer.text) → Rose r.before.write_faults r.after.write_faults → RunsOnce limit policy A r
+with_part limit policy A answer r has is part rose = record {
+  orderly = record {
+    early = λ early. cc;
+    loads = rw is has.loads;
+    reads = rw is (let reads = has.reads in omega (arith, reads));
+    writes = rw is rose;
+  };
+  once = record {
+    answer = rw is (over_part (A r.before.input) (r.files policy) r.before.output r.after.output answer has.given part);
+    named = loaded POLICY_FILE_LIMIT (r.files policy) r.fault has.named;
+    quiet = rw is tt;
+    untold = has.untold;
+    reads = rw is has.reads;
+  };
+  reads = rw is (part_reads limit r.before.input r.after.input has.input);
+}

@@ -3,7 +3,7 @@ pub mod Once
 pub mod Plan
 pub mod Show
 pub mod Solve
-pub mod Questions
+pub mod Given
 pub mod Answer
 pub mod Load
 pub mod Judging

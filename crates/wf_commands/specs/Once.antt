@@ -1,14 +1,16 @@
 -- The commands that answer once: each loads a policy, and writes one text.
-use Rattle.std.specs.Prelude.{◌≡◌, ℕ, List, [], length, Option, MatchResult, MatchBool, nat_lt}
-use Rattle.wf_outside.specs.Outside.{with_bytes, HasPart}
+use Rattle.std.specs.Prelude.{◌≡◌, ℕ, ◌+◌, ◌≤◌, List, [], length, Option, None, Some, MatchResult, MatchBool, nat_lt}
+use Rattle.wf_outside.specs.Outside.{with_bytes, HasPart, HasTaken, HasTakenAtMost, HasTakenCount, IsAtEnd}
 use Rattle.wf_names.specs.declared.limits.TheConstants.{POLICY_FILE_LIMIT}
 use Rattle.policy_book.specs.Shapes.{PolicyShape}
 use Rattle.policy_reader.specs.Files.{policy_of_file}
 use Rattle.run_record.specs.declared.fault.RunFault.{RunFault}
-use Rattle.run_record.specs.declared.fault.RunFault.TheVariants.{Nothing, Found, Policy, Read, Write, Load, NoMemory, FileTooLong}
-use Rattle.run_record.specs.Fault.{CountsReadsAlone}
+use Rattle.run_record.specs.declared.fault.RunFault.TheVariants.{Nothing, Found, Policy, FileTooLong}
+use Rattle.run_record.specs.Fault.{How, answered, unloaded, unread, unwritten, lacking, how_of}
+use Rattle.run_record.specs.Fault.{When, early, midway, overlong, late, when_of, CountsReadsAlone}
 use Rattle.run_record.specs.Report.{nothing_told}
-use Rattle.run_record.specs.Run.{Run, OverFile}
+use Rattle.run_record.specs.Run.{Run, IsOrderly, OverFile}
+use Rattle.wf_commands.specs.Load.{EndsTooLong}
 
 -- a run that is refused ends so, and writes nothing
 abbrev pub Refuses : RunFault → RunFault → List ℕ → Type 0
@@ -28,30 +30,68 @@ HasText Nothing = Unit {0}
 HasText Found = Unit {0}
 HasText fault = ⊥
 
--- what the sink holds after a run with these answers: all of one; after a write fault a part of
--- one that has a text; and where reading, loading or memory failed, nothing more than before
-abbrev pub Ends : (RunFault → List ℕ → Type 0) → Option (List ℕ) → Option (List ℕ) → RunFault
+-- what the sink holds after a run with these answers, by how it ended: where loading, reading or
+-- memory failed, nothing more than before; after a write fault a part of one that has a text; and
+-- else all of one
+abbrev pub EndsSo : How → (RunFault → List ℕ → Type 0) → Option (List ℕ) → Option (List ℕ) → RunFault
     → Type 0
-Ends Answers before after Read = after ≡ before
-Ends Answers before after Load = after ≡ before
-Ends Answers before after NoMemory = after ≡ before
-Ends Answers before after Write =
-    (fault : RunFault) × (text : List ℕ) × HasText fault × Answers fault text × HasPart before after text
-Ends Answers before after fault =
+EndsSo unloaded Answers before after fault = after ≡ before
+EndsSo unread Answers before after fault = after ≡ before
+EndsSo lacking Answers before after fault = after ≡ before
+EndsSo unwritten Answers before after fault =
+    (ending : RunFault) × (text : List ℕ) × HasText ending × Answers ending text
+    × HasPart before after text
+EndsSo how Answers before after fault =
     (text : List ℕ) × Answers fault text × (after ≡ with_bytes before text)
 
--- a run writes only where its command was done, or where writing failed
-abbrev pub IsQuiet : RunFault → Option (List ℕ) → Option (List ℕ) → Type 0
-IsQuiet Nothing before after = Unit {0}
-IsQuiet Found before after = Unit {0}
-IsQuiet Write before after = Unit {0}
-IsQuiet fault before after = after ≡ before
+abbrev pub Ends : (RunFault → List ℕ → Type 0) → Option (List ℕ) → Option (List ℕ) → RunFault
+    → Type 0
+Ends Answers before after fault = EndsSo (how_of fault) Answers before after fault
 
--- the run of a command that answers once about the policy in a file
+-- a run writes only where its command was done, or where writing failed
+abbrev pub WritesSo : How → Option (List ℕ) → Option (List ℕ) → Type 0
+WritesSo answered before after = Unit {0}
+WritesSo unwritten before after = Unit {0}
+WritesSo how before after = after ≡ before
+
+abbrev pub IsQuiet : RunFault → Option (List ℕ) → Option (List ℕ) → Type 0
+IsQuiet fault before after = WritesSo (how_of fault) before after
+
+-- the answer of a run about the policy in a file; one that is told and too long ends it so
 pub record AnswersOnce (policy : List ℕ) (Answers : PolicyShape → RunFault → List ℕ → Type 0)
     (r : Run) : Type 0 where
   pub answer : OverFile (r.files policy) r.fault
       (λ file. Ends (OverPolicy Answers file) r.before.output r.after.output r.fault)
+  pub named : EndsTooLong POLICY_FILE_LIMIT (r.files policy) r.fault
   pub quiet : IsQuiet r.fault r.before.output r.after.output
   pub untold : r.told ≡ nothing_told
   pub reads : CountsReadsAlone r.fault r.before.read_faults r.after.read_faults
+
+-- all of the input was read, to its end, and it is within the limit
+pub record HasReadAll (limit : ℕ) (before after : Option (List ℕ)) : Type 0 where
+  pub bytes : List ℕ
+  pub taken : HasTaken before after bytes
+  pub within : length bytes ≤ limit
+  pub ended : IsAtEnd after
+
+-- how much is read of an input with a limit, by when the run ends: nothing before it; no more than
+-- shows that it is too long, while it is read; all that shows it, where it is; and else all of it
+abbrev pub ReadsUpTo : ℕ → When → Option (List ℕ) → Option (List ℕ) → Type 0
+ReadsUpTo limit early before after = after ≡ before
+ReadsUpTo limit midway before after = HasTakenAtMost before after (limit + 1)
+ReadsUpTo limit overlong before after = HasTakenCount before after (limit + 1)
+ReadsUpTo limit late before after = HasReadAll limit before after
+
+-- how much of the input is read by a command that reads it up to a limit, or that reads none
+abbrev pub ReadsInput : Option ℕ → RunFault → Option (List ℕ) → Option (List ℕ) → Type 0
+ReadsInput None fault before after = after ≡ before
+ReadsInput (Some limit) fault before after = ReadsUpTo limit (when_of fault) before after
+
+-- the run of a command that reads so much of the input, and answers once about the policy in a file,
+-- by what is told of the input
+pub record RunsOnce (limit : Option ℕ) (policy : List ℕ)
+    (Answers : Option (List ℕ) → PolicyShape → RunFault → List ℕ → Type 0) (r : Run)
+    : Type 0 where
+  pub orderly : IsOrderly r
+  pub once : AnswersOnce policy (Answers r.before.input) r
+  pub reads : ReadsInput limit r.fault r.before.input r.after.input

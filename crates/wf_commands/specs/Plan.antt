@@ -1,7 +1,6 @@
 -- The command `plan`: the plan in the input is judged.
-use Rattle.std.specs.Prelude.{◌≡◌, ℕ, ◌+◌, ◌≤◌, List, [], ◌++◌, length, Option, Err, IfSome, MatchOption, MatchResult, MatchBool, nat_lt, codes, decimal, slice_index_or}
+use Rattle.std.specs.Prelude.{◌≡◌, ℕ, List, [], ◌++◌, length, Option, Some, Err, IfSome, MatchOption, MatchResult, MatchBool, nat_lt, codes, decimal, slice_index_or}
 use Rattle.wf_names.specs.declared.limits.TheConstants.{LINE_LIMIT}
-use Rattle.wf_outside.specs.Outside.{HasTaken, HasTakenCount, HasTakenAtMost, IsAtEnd}
 use Rattle.constraint_forms.specs.Assigned.{no_users, no_steps}
 use Rattle.policy_book.specs.Shapes.{PolicyShape}
 use Rattle.policy_book.specs.Policies.{flow_at, problem_of}
@@ -10,11 +9,11 @@ use Rattle.certificate_check.specs.declared.plan.PlanFault.{PlanFault}
 use Rattle.certificate_check.specs.declared.plan.PlanFault.TheVariants.{Moved, Role, Rule}
 use Rattle.certificate_check.specs.Faults.{plan_verdict}
 use Rattle.run_record.specs.declared.fault.RunFault.{RunFault}
-use Rattle.run_record.specs.declared.fault.RunFault.TheVariants.{Nothing, Found, Read, Write, NoMemory, LineTooLong, BadInput}
+use Rattle.run_record.specs.declared.fault.RunFault.TheVariants.{Nothing, Found, LineTooLong, BadInput}
 use Rattle.run_record.specs.declared.fault.InputFault.TheVariants.{NoFlow}
-use Rattle.run_record.specs.Run.{Run, IsOrderly}
+use Rattle.run_record.specs.Run.{Run}
 use Rattle.wf_commands.specs.Input.{plan_of_input, number_named}
-use Rattle.wf_commands.specs.Once.{AnswersOnce, Refuses}
+use Rattle.wf_commands.specs.Once.{Refuses, RunsOnce}
 
 -- the line that names the first fault of a plan; a plan from nothing moves no step
 abbrev pub fault_line : List (List ℕ) → PlanFault → List ℕ
@@ -44,29 +43,6 @@ JudgesInput p word told fault text =
     MatchOption (number_named p.flow_names word) (Refuses (BadInput NoFlow) fault text)
     (λ f. IfSome told (λ input. JudgesAll p f input fault text))
 
--- all of the input was read, to its end
-pub record HasReadPlan (before after : Option (List ℕ)) : Type 0 where
-  pub bytes : List ℕ
-  pub taken : HasTaken before after bytes
-  pub within : length bytes ≤ LINE_LIMIT
-  pub ended : IsAtEnd after
-
--- how much of the input was read, by the ending: all for an answer and for a fault of the input;
--- past the limit one byte, which shows that it is too long; no more where reading or memory failed;
--- and else nothing
-abbrev pub ReadsAsPlan : RunFault → Option (List ℕ) → Option (List ℕ) → Type 0
-ReadsAsPlan Nothing before after = HasReadPlan before after
-ReadsAsPlan Found before after = HasReadPlan before after
-ReadsAsPlan Write before after = HasReadPlan before after
-ReadsAsPlan (LineTooLong line) before after = HasTakenCount before after (LINE_LIMIT + 1)
-ReadsAsPlan Read before after = HasTakenAtMost before after (LINE_LIMIT + 1)
-ReadsAsPlan NoMemory before after = HasTakenAtMost before after (LINE_LIMIT + 1)
-ReadsAsPlan (BadInput NoFlow) before after = after ≡ before
-ReadsAsPlan (BadInput fault) before after = HasReadPlan before after
-ReadsAsPlan fault before after = after ≡ before
-
 -- a run of `plan` with a policy file and the name of a workflow
-pub record Plans (policy flow : List ℕ) (r : Run) : Type 0 where
-  pub orderly : IsOrderly r
-  pub once : AnswersOnce policy (λ p. JudgesInput p flow r.before.input) r
-  pub reads : ReadsAsPlan r.fault r.before.input r.after.input
+abbrev pub Plans : List ℕ → List ℕ → Run → Type 0
+Plans policy flow r = RunsOnce (Some LINE_LIMIT) policy (λ told p. JudgesInput p flow told) r

@@ -1,5 +1,5 @@
 -- The command `solve`: a line is written for each workflow of the policy.
-use Rattle.std.specs.Prelude.{◌≡◌, ℕ, zero, suc, List, [], ◌++◌, length, IsTrue}
+use Rattle.std.specs.Prelude.{◌≡◌, ℕ, zero, suc, List, [], ◌++◌, length, None, IsTrue}
 use Rattle.std.proofs.Common.{◌⊎◌}
 use Rattle.constraint_forms.specs.Assigned.{no_users, no_steps}
 use Rattle.refutation_tree.specs.Shapes.{Shape}
@@ -11,8 +11,8 @@ use Rattle.policy_book.specs.Lean.{is_lean}
 use Rattle.wire_json.specs.Findings.{plan_line, tree_line}
 use Rattle.run_record.specs.declared.fault.RunFault.{RunFault}
 use Rattle.run_record.specs.declared.fault.RunFault.TheVariants.{Nothing}
-use Rattle.run_record.specs.Run.{Run, IsOrderly}
-use Rattle.wf_commands.specs.Once.{AnswersOnce}
+use Rattle.run_record.specs.Run.{Run}
+use Rattle.wf_commands.specs.Once.{RunsOnce}
 
 -- a line tells a valid plan of a workflow
 abbrev pub TellsPlan : PolicyShape → ℕ → List ℕ → Type 0
@@ -40,7 +40,5 @@ abbrev pub SolvesPolicy : PolicyShape → RunFault → List ℕ → Type 0
 SolvesPolicy p fault text = (fault ≡ Nothing) × TellsFirst p (length p.flows) text
 
 -- a run of `solve` with a policy file; it reads no input
-pub record Solves (policy : List ℕ) (r : Run) : Type 0 where
-  pub orderly : IsOrderly r
-  pub once : AnswersOnce policy SolvesPolicy r
-  pub unread : r.after.input ≡ r.before.input
+abbrev pub Solves : List ℕ → Run → Type 0
+Solves policy r = RunsOnce None policy (λ told. SolvesPolicy) r

@@ -2,13 +2,18 @@
 #![tactic(auto)]
 
 mod answer;
+mod given;
 mod input;
 mod load;
 mod once;
 mod plan;
-mod question;
+mod show;
 mod solve;
 
-pub use load::load_policy;
+pub use answer::{Answer, Answers};
+pub use given::{find_flow, take_input};
+pub use load::{load_file, load_policy};
 pub use once::answer_once;
-pub use question::Question;
+pub use plan::PlanCommand;
+pub use show::ShowCommand;
+pub use solve::SolveCommand;

@@ -1,71 +1,42 @@
 //! The command `plan`: it judges the plan in the input.
-ghost use Rattle.std.specs.Prelude.{◌≡◌, ◌<◌, ◌≤◌, ℕ, [], length, slice_index_or, string_bytes, None, Some, IfOk, IfSome, IfErr, MatchResult};
-ghost use Rattle.certificate_check.specs.Faults.{plan_verdict};
-ghost use Rattle.constraint_forms.specs.Assigned.{no_steps, no_users, planned};
-ghost use Rattle.policy_book.specs.Policies.{flow_at, problem_of};
-ghost use Rattle.run_record.specs.Fault.{fault_in, CountsReadsAlone};
-ghost use Rattle.wf_commands.specs.Answer.{ending_with, AnswersAs, IsAnswerEnding};
-ghost use Rattle.wf_commands.specs.Input.{number_named};
-ghost use Rattle.wf_commands.specs.Plan.{Judges, JudgesInput, ReadsAsPlan, fault_line};
-ghost use Rattle.wf_commands.specs.Judging.{GivesInput, JudgesAs, IsInputEnding, IsJudgedEnding, TakesInput};
+ghost use Rattle.std.specs.Prelude.{◌≡◌, ◌<◌, ℕ, [], length, slice_index_or, string_bytes, Some, IfOk, IfErr};
+ghost use Rattle.wf_names.specs.declared.limits.TheConstants.{LINE_LIMIT};
+ghost use Rattle.constraint_forms.specs.Assigned.{planned};
+ghost use Rattle.policy_book.specs.Policies.{flow_at};
+ghost use Rattle.wf_commands.specs.Answer.{ending_with};
+ghost use Rattle.wf_commands.specs.Plan.{Judges, JudgesInput, fault_line};
+ghost use Rattle.wf_commands.specs.Judging.{JudgesAs, IsJudgedEnding};
 
-use crate::answer::Answer;
+use crate::answer::{Answer, Answers};
+use crate::given::{find_flow, take_input};
 use crate::input::{InputError, read_plan};
 use certificate_check::{PlanFault, check_plan};
 use policy_book::{Assign, Plan, Policy, StepSet};
-use run_record::{InputFault, RunFault};
+use run_record::RunFault;
 use std::alloc::{AllocError, Global};
-use wf_names::{FlowId, LINE_LIMIT, Name, NameTable};
-use wf_outside::{LoadFault, Loaded, Source, take_all};
+use wf_names::{FlowId, LINE_LIMIT, NameTable};
+use wf_outside::Source;
 
-/// How many bytes of the input are taken at once.
-const CHUNK: usize = 4_096;
-
-/// Judges the plan in the input for the workflow with a name.
-pub(crate) fn judge_input<S: Source>(
-    alloc: Global,
-    p: &Policy,
-    flow: &str,
-    source: &mut S,
-) -> Result<Answer, RunFault>
-    ensures answer { AnswersAs (JudgesInput p.now flow.now (S.left source.old)) result }
-    ensures ending { IfErr result IsAnswerEnding }
-    ensures reads { CountsReadsAlone (fault_in result) (S.faults source.old) (S.faults source.new) }
-    ensures input { ReadsAsPlan (fault_in result) (S.left source.old) (S.left source.new) }
-{
-    let f = find_flow(p, flow)?;
-    let input = take_input(alloc, source)?;
-    judge(alloc, p, f, input.as_bytes())
+/// `plan`: is the plan in the input valid for this workflow?
+#[derive(Clone, Copy)]
+pub struct PlanCommand<'a> {
+    pub flow: &'a str,
 }
 
-// The workflow with a name.
-fn find_flow(p: &Policy, flow: &str) -> Result<FlowId, RunFault>
-    ensures { MatchResult result
-        (λ f. (number_named p.now.flow_names flow.now ≡ Some f) × (f < length p.now.flows))
-        (λ fault. (number_named p.now.flow_names flow.now ≡ None)
-        × (fault ≡ RunFault.BadInput InputFault.NoFlow)) }
-{
-    match Name::read(flow) {
-        Some(name) => match p.find_flow(&name) {
-            Some(f) => Ok(f),
-            None => Err(RunFault::BadInput(InputFault::NoFlow)),
-        },
-        None => Err(RunFault::BadInput(InputFault::NoFlow)),
-    }
-}
+impl Answers for PlanCommand<'_> {
+    ghost limit = { λ _. Some LINE_LIMIT };
 
-// All of the input.
-fn take_input<S: Source>(alloc: Global, source: &mut S) -> Result<Loaded, RunFault>
-    ensures input { IfSome (S.left source.old) (λ input. GivesInput input result) }
-    ensures ending { IfErr result IsInputEnding }
-    ensures reads { CountsReadsAlone (fault_in result) (S.faults source.old) (S.faults source.new) }
-    ensures taken { TakesInput (fault_in result) (S.left source.old) (S.left source.new) }
-{
-    match take_all(alloc, source, LINE_LIMIT, CHUNK) {
-        Ok(input) => Ok(input),
-        Err(LoadFault::Failed) => Err(RunFault::Read),
-        Err(LoadFault::TooLong) => Err(RunFault::LineTooLong(0)),
-        Err(LoadFault::NoMemory) => Err(RunFault::NoMemory),
+    ghost answers = { λ command told p. JudgesInput p command.flow.now told };
+
+    fn answer<S: Source>(
+        &self,
+        alloc: Global,
+        p: &Policy,
+        source: &mut S,
+    ) -> Result<Answer, RunFault> {
+        let f = find_flow(p, self.flow)?;
+        let input = take_input(alloc, source, LINE_LIMIT)?;
+        judge(alloc, p, f, input.as_bytes())
     }
 }
 

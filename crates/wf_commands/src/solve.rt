@@ -1,15 +1,40 @@
 //! The command `solve`: a plan for each workflow, or a tree that shows that there is none.
-ghost use Rattle.std.specs.Prelude.{◌<◌, length, string_bytes, IfOk};
-ghost use Rattle.wf_commands.specs.Solve.{TellsFirst, TellsFlow};
+ghost use Rattle.std.specs.Prelude.{◌<◌, length, string_bytes, None, IfOk};
+ghost use Rattle.wf_commands.specs.Solve.{SolvesPolicy, TellsFirst, TellsFlow};
 
+use crate::answer::{Answer, Answers};
 use policy_book::{Assign, Policy, StepSet};
+use run_record::RunFault;
 use std::alloc::{AllocError, Global};
 use wf_names::FlowId;
+use wf_outside::Source;
 use wire_json::{write_plan, write_tree};
 use wsp_solver::Outcome;
 
-/// The lines of all workflows of a policy, in their order.
-pub(crate) fn solve_flows(alloc: Global, p: &Policy) -> Result<String, AllocError>
+/// `solve`: which plan is there for each workflow, or why is there none?
+#[derive(Clone, Copy)]
+pub struct SolveCommand;
+
+impl Answers for SolveCommand {
+    ghost limit = { λ _. None };
+
+    ghost answers = { λ _ _. SolvesPolicy };
+
+    fn answer<S: Source>(
+        &self,
+        alloc: Global,
+        p: &Policy,
+        _source: &mut S,
+    ) -> Result<Answer, RunFault> {
+        Ok(Answer {
+            found: false,
+            text: solve_flows(alloc, p)?,
+        })
+    }
+}
+
+// The lines of all workflows of a policy, in their order.
+fn solve_flows(alloc: Global, p: &Policy) -> Result<String, AllocError>
     ensures { IfOk result (λ text. TellsFirst p.now (length p.now.flows) (string_bytes text)) }
 {
     let mut text = String::new(alloc);

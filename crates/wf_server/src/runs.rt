@@ -20,7 +20,7 @@ use std::alloc::Global;
 use std::sync::Wait;
 use std::thread::Threads;
 use trial_command::run_trial;
-use wf_commands::{Question, answer_once};
+use wf_commands::{PlanCommand, ShowCommand, SolveCommand, answer_once};
 use wf_desk::Desk;
 use wf_lanes::{Gate, serve_by_lanes, serve_by_turns};
 use wf_outside::{Shelf, Sink, Source};
@@ -127,13 +127,13 @@ fn run_command<F: Shelf, S: Source, K: Sink>(
 {
     match command {
         Command::Plan { policy, flow } => {
-            answer_once(alloc, policy, &Question::Plan { flow }, shelf, source, sink)
+            answer_once(alloc, policy, &PlanCommand { flow }, shelf, source, sink)
         }
         Command::Show { policy } => {
-            answer_once(alloc, policy, &Question::Show, shelf, source, sink)
+            answer_once(alloc, policy, &ShowCommand, shelf, source, sink)
         }
         Command::Solve { policy } => {
-            answer_once(alloc, policy, &Question::Solve, shelf, source, sink)
+            answer_once(alloc, policy, &SolveCommand, shelf, source, sink)
         }
         Command::Serve { policy, options } => {
             let by_turns = |desk: Desk| -> Desk

@@ -3,6 +3,7 @@ use Rattle.wf_outside.specs.Outside.{Filed}
 use Rattle.audit_command.specs.Running.{AuditsPolicy}
 use Rattle.audit_command.specs.Steps.{FindsAs}
 use Rattle.audit_command.proofs.Loaded.{finds_file, no_policy}
+use Rattle.wf_commands.proofs.Loading.{policy_named}
 use Rattle.audit_command.proofs.Runs.{unread_after}
 use Rattle.audit_command.proofs.run.find.Goals as goal
 
@@ -26,3 +27,7 @@ returns-clause-finds g c =
     (λ (x : Filed). FindsAs (AuditsPolicy (record { requests = x; lanes = c.args.lanes; rounds = c.args.rounds })
     (record { before = g.S.Source.left c.args.source.now; after = g.S.Source.left c.find_under.new.source }) c.in_ok-p.p) c.find_under.result)
     (c.in_ok-p.ensures.kept c.args.requests.now) c.find_under.ensures.finds)
+
+pub returns-clause-named : goal.returns-clause-named
+returns-clause-named g c =
+    policy_named (g.F.Shelf.file c.args.shelf.now c.args.policy.now) c.in_ok-p.p _ c.in_ok-p.ensures.policy

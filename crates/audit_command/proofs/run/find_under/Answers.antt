@@ -5,7 +5,7 @@ use Rattle.run_record.specs.declared.fault.RunFault.TheVariants.{NoMemory}
 use Rattle.transcript_audit.specs.Audits.{AuditShape}
 use Rattle.audit_command.specs.Auditing.{HasFound}
 use Rattle.audit_command.proofs.Loaded.{finds_under, jobs_there, no_jobs}
-use Rattle.audit_command.proofs.Runs.{file_ending, unread_after}
+use Rattle.audit_command.proofs.Runs.{unread_after}
 use Rattle.audit_command.proofs.run.find_under.Goals as goal
 
 pub returns-in_err-batch-clause-finds : goal.returns-in_err-batch-clause-finds
@@ -16,7 +16,7 @@ returns-in_err-batch-clause-finds g c =
 
 pub returns-in_err-batch-clause-input : goal.returns-in_err-batch-clause-input
 returns-in_err-batch-clause-input g c =
-    unread_after c.from_residual.result c.in_err-batch.field-0.0 (g.S.Source.left c.args.source.now) c.from_residual.ensures.1 (file_ending c.in_err-batch.field-0.0 c.in_err-batch.ensures.ending)
+    unread_after c.from_residual.result c.in_err-batch.field-0.0 (g.S.Source.left c.args.source.now) c.from_residual.ensures.1 c.in_err-batch.ensures.ending
 
 pub returns-in_err-auditor-clause-input : goal.returns-in_err-auditor-clause-input
 returns-in_err-auditor-clause-input g c =

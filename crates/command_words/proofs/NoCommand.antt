@@ -1,0 +1,17 @@
+-- A first word that names no command.
+use Rattle.std.proofs.Common.{◌≡◌, ◌≢◌, Bool, true, false, refl, List, None, codes}
+use Rattle.std.specs.Bool.{Decides}
+use Rattle.std.specs.Cmp.Lexicographic.{bytes_decides}
+use Rattle.clap.specs.Words.{Text}
+use Rattle.command_words.specs.Words.{command_at, is_word}
+
+not_word : (word other : Text) → word ≢ other → is_word word other ≡ false
+not_word word other apart = go (is_word word other) (bytes_decides word other)
+  where
+    go : (b : Bool) → Decides b (word ≡ other) → b ≡ false
+    go true is = absurd (apart (is.0 refl))
+    go false is = refl
+
+pub no_command : (word : Text) (words : List Text) → word ≢ codes "plan" → word ≢ codes "show" → word ≢ codes "solve"
+    → word ≢ codes "serve" → word ≢ codes "audit" → word ≢ codes "trial" → command_at word words ≡ None
+no_command word words plan show solve serve audit trial = rw (not_word word (codes "plan") plan, not_word word (codes "show") show, not_word word (codes "solve") solve, not_word word (codes "serve") serve, not_word word (codes "audit") audit, not_word word (codes "trial") trial)

@@ -1,0 +1,44 @@
+//! The words of `serve`.
+ghost use Rattle.std.specs.Prelude.{◌≡◌, IfOk, IfSome, map, option_map, string_bytes};
+ghost use Rattle.clap.specs.Words.{app_of};
+ghost use Rattle.command_words.specs.Words.{command_by, serve_form, serve_in};
+ghost use Rattle.command_words.specs.Asked.{CanServe, asked};
+ghost use Rattle.command_words.specs.Finding.{HasOptions, rows_in};
+
+use crate::Command;
+use crate::finding::{find, options_in, word_in};
+use crate::forms::{over_policy, with_options};
+use clap::ArgMatches;
+use std::alloc::{AllocError, Global};
+
+/// The command that the words are, if they are `serve` with its words.
+pub(crate) fn read<'a>(
+    alloc: Global,
+    words: &'a [String],
+) -> Result<Option<Command<'a>>, AllocError>
+    ensures command { IfOk result (λ c. option_map asked c
+        ≡ command_by serve_form serve_in (map string_bytes words.now)) }
+    ensures served { IfOk result (λ c. IfSome c CanServe) }
+{
+    match find(form(alloc)?, words)? {
+        Some(matches) => Ok(command_in(&matches)),
+        None => Ok(None),
+    }
+}
+
+fn form<'a>(alloc: Global) -> Result<clap::Command<'a>, AllocError>
+    ensures { IfOk result (λ c. app_of c ≡ serve_form) }
+{
+    with_options(alloc, over_policy(alloc, "serve")?)
+}
+
+// The command, by what was found.
+fn command_in<'a>(matches: &ArgMatches<'a>) -> Option<Command<'a>>
+    requires options { HasOptions (rows_in matches.now) }
+    ensures command { option_map asked result ≡ serve_in (rows_in matches.now) }
+    ensures served { IfSome result CanServe }
+{
+    let policy = word_in(matches, "POLICY")?;
+    let options = options_in(matches)?;
+    Some(Command::Serve { policy, options })
+}
