@@ -12,12 +12,13 @@ use std::marker::Model;
 use std::mem;
 use wf_names::{BATCH_LINE_LIMIT, LINE_LIMIT, SESSION_LINE_LIMIT};
 use wf_talk::{Ends, Job, Jobs, Line};
-use wire_json::{Asked, read_request};
+use wire_json::{Asked, RequestReader};
 
 /// What is cut of an input and not handed over yet: the jobs of a batch, and the line that is open.
 #[derive(Drop)]
 pub struct Cutter {
     alloc: Global,
+    requests: RequestReader,
     // How many lanes serve the jobs.
     lanes: u8,
     // The bytes of the open line.
@@ -49,6 +50,7 @@ impl Cutter {
     {
         Cutter {
             alloc,
+            requests: RequestReader::new(alloc),
             lanes,
             line: Line::new(alloc),
             number,
@@ -202,7 +204,7 @@ impl Cutter {
         if line.is_empty() {
             return self.end_empty_line();
         }
-        match read_request(self.alloc, line, self.lanes) {
+        match self.requests.read(line, self.lanes) {
             Ok(asked) => self.end_job_line(asked),
             Err(e) => Err(e),
         }
@@ -292,7 +294,7 @@ impl Cutter {
         if !ended || self.stop.is_some() || self.line.len() == 0 {
             return Ok(());
         }
-        match read_request(self.alloc, self.line.as_slice(), self.lanes) {
+        match self.requests.read(self.line.as_slice(), self.lanes) {
             Ok(asked) => self.add_job(asked),
             Err(e) => Err(e),
         }

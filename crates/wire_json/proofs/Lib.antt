@@ -5,3 +5,4 @@ pub mod Texts
 pub mod PlainLines
 pub mod Keys
 pub mod Lines
+pub mod Flats

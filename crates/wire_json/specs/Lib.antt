@@ -2,6 +2,7 @@ pub mod Values
 pub mod Requests
 pub mod RequestLaws
 pub mod Words
+pub mod Objects
 pub mod Plain
 pub mod Entries
 pub mod Trees

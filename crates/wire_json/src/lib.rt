@@ -5,6 +5,8 @@ mod change;
 mod denial;
 mod entry;
 mod finding;
+mod flat;
+mod object;
 mod plain;
 mod reply;
 mod request;
@@ -17,6 +19,6 @@ mod word;
 
 pub use finding::{write_plan, write_tree};
 pub use reply::write_entry;
-pub use request::{Asked, read_request};
+pub use request::{Asked, RequestReader, read_request};
 pub use tree::tree_value;
 pub use value::read_value;

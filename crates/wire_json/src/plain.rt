@@ -128,8 +128,8 @@ fn take_number(text: &[u8]) -> Option<(u16, &[u8])>
     Some((n, rest))
 }
 
-// Some number: that of the digits at the front of a text, where it is below 65,536.
-fn guess_number(text: &[u8]) -> u16 {
+/// Some number: that of the digits at the front of a text, where it is below 65,536.
+pub(crate) fn guess_number(text: &[u8]) -> u16 {
     let mut n: u16 = 0;
     'digits: for byte in text {
         if !byte.is_ascii_digit() {

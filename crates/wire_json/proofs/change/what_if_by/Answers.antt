@@ -1,8 +1,8 @@
 use Rattle.std.proofs.Common.{[], ◌∷◌}
 use Rattle.std.specs.Prelude.{codes}
-use Rattle.serde_json.specs.View.{view, members_view}
 use Rattle.wf_talk.specs.declared.request.Request.TheVariants.{WhatIf}
 use Rattle.wire_json.specs.Requests.{by, the_name}
+use Rattle.wire_json.specs.Objects.{data_of, members_in}
 use Rattle.wire_json.specs.Words.{row_of_edit}
 use Rattle.wire_json.proofs.Keys.{handed_on, edit_refused, key_refused}
 use Rattle.wire_json.proofs.change.what_if_by.Goals as goal
@@ -11,12 +11,12 @@ pub returns-in_err-edit : goal.returns-in_err-edit
 returns-in_err-edit c =
     let r = row_of_edit c.args.word in
     handed_on c.from_residual-in_err-edit.result _ c.in_err-edit.field-0.0 c.from_residual-in_err-edit.ensures.1
-    (edit_refused (codes "do" ∷ codes "lane" ∷ codes "edit" ∷ []) r (λ d. WhatIf (the_name by d) (r.is d)) (view c.args.value.now) (members_view c.args.members.now.entries) c.in_ok-by.by
+    (edit_refused (codes "do" ∷ codes "lane" ∷ codes "edit" ∷ []) r (λ d. WhatIf (the_name by d) (r.is d)) (data_of c.args.object.now) (members_in (data_of c.args.object.now)) c.in_ok-by.by
     c.in_err-edit.field-0.0 c.in_ok-by.ensures c.in_err-edit.ensures)
 
 pub returns-in_err-no_others : goal.returns-in_err-no_others
 returns-in_err-no_others c =
     let r = row_of_edit c.args.word in
     handed_on c.from_residual-in_err-no_others.result _ c.in_err-no_others.field-0.0 c.from_residual-in_err-no_others.ensures.1
-    (key_refused (codes "do" ∷ codes "lane" ∷ codes "edit" ∷ []) r (λ d. WhatIf (the_name by d) (r.is d)) (view c.args.value.now) (members_view c.args.members.now.entries) _ c.in_ok-by.by c.in_ok-edit.edit
+    (key_refused (codes "do" ∷ codes "lane" ∷ codes "edit" ∷ []) r (λ d. WhatIf (the_name by d) (r.is d)) (data_of c.args.object.now) (members_in (data_of c.args.object.now)) _ c.in_ok-by.by c.in_ok-edit.edit
     c.in_err-no_others.field-0.0 c.keys.ensures c.in_ok-by.ensures c.in_ok-edit.ensures c.in_err-no_others.ensures)

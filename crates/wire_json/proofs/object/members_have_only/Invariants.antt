@@ -1,7 +1,7 @@
 use Rattle.std.proofs.Common.{◌≡◌, ◌++◌, map}
 use Rattle.serde_json.specs.View.{members_view}
 use Rattle.wire_json.specs.Requests.{has_only}
-use Rattle.wire_json.proofs.request.no_others.Given as goal
+use Rattle.wire_json.proofs.object.members_have_only.Given as goal
 
 abbrev pub invariant-members : goal.invariant-members
 invariant-members l =
