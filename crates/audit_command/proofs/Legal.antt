@@ -9,6 +9,7 @@ use Rattle.wf_talk.specs.declared.job.Job.{Job}
 use Rattle.line_cutter.specs.Laws.{AreInOrder}
 use Rattle.line_reader.specs.Lines.{line_length, lines_of}
 use Rattle.transcript_audit.specs.Audits.{AuditShape, AreNext, IsNextLine, IsTranscript, audit_of, with_entry}
+use Rattle.transcript_audit.proofs.Exact.{next_pushed}
 use Rattle.transcript_audit.specs.Laws.{AreOfSession, AuditIsExact, FaultsExclude, NextIsOne}
 use Rattle.audit_command.specs.declared.finding.Finding.{Finding}
 use Rattle.audit_command.specs.declared.finding.Finding.TheVariants.{Legal, Fault, TooLong}
@@ -33,14 +34,6 @@ legal_lines exact p rounds jobs ends lines order found =
     (exact p rounds jobs ends lines order).0 (next.0, (next.1.0, omega (arith, size)))
 
 -- ---- what is such a text is found legal
-
-next_pushed : (a : AuditShape) (lines : List (List ℕ)) (es : List Entry) (line : List ℕ) (e : Entry) → AreNext a lines es → IsNextLine (record a { entries = a.entries ++ es }) line e →
-    AreNext a (lines ++ line ∷ []) (es ++ e ∷ [])
-next_pushed a [] [] line e next last = (subst (λ xs. IsNextLine (record a { entries = xs }) line e) (append-nil a.entries) last, tt)
-next_pushed a (l ∷ ls) (x ∷ xs) line e next last =
-    (next.0, next_pushed (with_entry a x) ls xs line e next.1 (subst (λ ys. IsNextLine (record a { entries = ys }) line e) (sym (append_assoc a.entries (x ∷ []) xs)) last))
-next_pushed a [] (x ∷ xs) line e next last = absurd next
-next_pushed a (l ∷ ls) [] line e next last = absurd next
 
 -- a line that is the text of an entry that comes next is no fault, and not too long
 not_stopped : FaultsExclude → (p : PolicyShape) (rounds : ℕ) (jobs : List Job) (ends : List ℕ) (done : List (List ℕ)) (es : List Entry) (line : List ℕ) (e : Entry) (f : Finding) →

@@ -6,7 +6,6 @@ use Rattle.wf_names.specs.declared.limits.TheConstants.{LANE_LIMIT, POLICY_FILE_
 use Rattle.wf_outside.specs.Outside.{Filed, told, missing, untold}
 use Rattle.policy_book.specs.Shapes.{PolicyShape}
 use Rattle.wf_talk.specs.declared.job.Job.{Job}
-use Rattle.wf_talk.specs.Jobs.{AreOfLanes}
 use Rattle.line_cutter.specs.Laws.{AreInOrder}
 use Rattle.line_cutter.specs.declared.whole.Batch.{Batch}
 use Rattle.line_reader.specs.Lines.{lines_of}
@@ -26,12 +25,6 @@ use Rattle.audit_command.specs.Loading.{GivesJobs, JobsOf}
 use Rattle.audit_command.specs.Running.{AuditOf, AuditsFile, AuditsPolicy, AuditsRequests, EndsWithout, Input, audit_for}
 use Rattle.audit_command.specs.Steps.{FindsAs, FindsFile, IsReadEnding}
 
-of_more_lanes : (lanes more : ℕ) (jobs : List Job) → lanes ≤ more → AreOfLanes lanes jobs → AreOfLanes more jobs
-of_more_lanes lanes more [] within all = tt
-of_more_lanes lanes more (j ∷ js) within all = (let h = all.0 in omega (arith, h, within), of_more_lanes lanes more js within all.1)
-
-pub order_within : (lanes : ℕ) (jobs : List Job) (batch_ends : List ℕ) → lanes ≤ LANE_LIMIT → AreInOrder lanes jobs batch_ends → AreInOrder LANE_LIMIT jobs batch_ends
-order_within lanes jobs batch_ends within h = record { few = h.few; lines = h.lines; below = h.below; of_lanes = of_more_lanes lanes LANE_LIMIT jobs within h.of_lanes; ends = h.ends }
 
 -- ---- what is found with them
 

@@ -6,7 +6,7 @@ use Rattle.std.proofs.lemmas.List.{length-append, append-nil, take-append-drop, 
 use Rattle.std.proofs.Math.Seq.{take-add}
 use Rattle.wf_names.specs.declared.limits.TheConstants.{SESSION_LINE_LIMIT}
 use Rattle.wf_talk.specs.declared.job.Job.{Job}
-use Rattle.line_cutter.specs.Jobs.{Cut, start, end_batch, end_full_batch, end_line, step, cut_all, flush, jobs_from, jobs_of_input}
+use Rattle.line_cutter.specs.Jobs.{Cut, start, end_batch, end_full_batch, end_line, step, cut_all, flush, jobs_from, jobs_of_input, next_input}
 use Rattle.line_cutter.specs.Cutter.{IsSound, IsEnded, Cuts, emptied, ends_after, after_handing}
 use Rattle.line_cutter.specs.CutLaws.{cut_all-append, handed_all, handed_finish, handed_over, stopped}
 use Rattle.line_cutter.specs.Laws.{AreInOrder, AreNamedJobs}
@@ -162,3 +162,20 @@ in_order lanes bytes jobs batch_ends same same_ends some = rw (same, same_ends) 
 
 pub named : (lanes : ℕ) (bytes : List ℕ) (jobs : List Job) → jobs ≡ (jobs_of_input bytes true lanes).jobs → AreNamedJobs jobs
 named lanes bytes jobs same = rw same (jobs_are_named lanes bytes true)
+
+pub whole_stop : (lanes : ℕ) (bytes : List ℕ) (jobs : List Job) (batch_ends : List ℕ) (c d : Cut) → HasCutUp lanes jobs batch_ends c bytes
+    → d ≡ end_batch (flush true c) → d.stop ≡ (jobs_of_input bytes true lanes).stop
+whole_stop lanes bytes jobs batch_ends c d before is = ap (λ (x : Cut). x.stop) (whole_cut lanes bytes jobs batch_ends c d before is)
+
+pub whole_lines : (lanes : ℕ) (bytes : List ℕ) (jobs : List Job) (batch_ends : List ℕ) (c d : Cut) → HasCutUp lanes jobs batch_ends c bytes
+    → d ≡ end_batch (flush true c) → (next_input d).number ≡ (next_input (jobs_of_input bytes true lanes)).number
+whole_lines lanes bytes jobs batch_ends c d before is = ap (λ (x : Cut). (next_input x).number) (whole_cut lanes bytes jobs batch_ends c d before is)
+
+next_few : (c : Cut) → AreFew c → (next_input (end_batch (flush true c))).number ≤ SESSION_LINE_LIMIT
+unfolding flush end_batch
+next_few c h = grind (arith, common_steps, h.number, h.within)
+
+-- the line behind a text is within the limit, or the first past it
+pub few_lines : (lanes : ℕ) (bytes : List ℕ) → (next_input (jobs_of_input bytes true lanes)).number ≤ SESSION_LINE_LIMIT
+unfolding jobs_from
+few_lines lanes bytes = next_few (cut_all (start lanes) bytes) (few_all (start lanes) bytes (few_start lanes))

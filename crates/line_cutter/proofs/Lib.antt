@@ -1,5 +1,5 @@
 pub mod Adding
-mod Order
+pub mod Order
 mod Named
 mod CutUp
 mod Batches

@@ -1,14 +1,16 @@
 -- The jobs of every input are in order.
 use Rattle.std.proofs.Common.{◌⊎◌, inl, inr, nat_eq, None, refl, sym, subst, ◌∙◌, arith}
-use Rattle.std.specs.Prelude.{◌≡◌, ℕ, ◌+◌, ◌==◌, ◌<◌, ◌≤◌, nat_lt, nat_le, Bool, true, false, List, [], ◌∷◌, ◌++◌, length, is_some, if◌then◌else◌}
+use Rattle.std.specs.Prelude.{◌≡◌, ℕ, ◌+◌, ◌==◌, ◌<◌, ◌≤◌, nat_lt, nat_le, Bool, true, false, List, [], ◌∷◌, ◌++◌, length, map, is_some, if◌then◌else◌}
 use Rattle.std.proofs.lemmas.Grind.{common_steps}
-use Rattle.std.proofs.lemmas.List.{length-append}
+use Rattle.std.proofs.lemmas.List.{append-nil, length-append}
 use Rattle.wf_names.specs.declared.limits.TheConstants.{LINE_LIMIT, SESSION_LINE_LIMIT, BATCH_LINE_LIMIT}
 use Rattle.wf_talk.specs.declared.job.Job.{Job}
 use Rattle.wf_talk.specs.Jobs.{AreOfLanes}
 use Rattle.wire_json.specs.RequestLaws.{lane_below}
-use Rattle.line_cutter.specs.Jobs.{Cut, start, without_cr, job_of, end_batch, end_full_batch, next_line, with_job, end_line, step, cut_all, flush, jobs_from, jobs_of_input, next_input}
-use Rattle.line_cutter.specs.Laws.{AreLinesBelow, AscendFrom, LeadTo, AreInOrder, JobsAreInOrder}
+use Rattle.line_cutter.specs.Jobs.{Cut, start, start_at, without_cr, job_of, end_batch, end_full_batch, next_line, with_job, end_line, step, cut_all, flush, jobs_from, jobs_of_input, last_or, next_input}
+use Rattle.line_cutter.specs.Cutter.{after_handing}
+use Rattle.line_cutter.specs.CutLaws.{finished_stop}
+use Rattle.line_cutter.specs.Laws.{AreLinesBelow, AscendFrom, LeadTo, AreInOrder, GoesOn, InputsGoOn, JobsAreInOrder}
 
 -- the line after the last of the jobs
 abbrev after_lines : ℕ → List Job → ℕ
@@ -329,3 +331,54 @@ in_order_from lanes c bytes ended some k =
 
 pub jobs_are_in_order : (lanes : ℕ) → 0 < lanes → JobsAreInOrder lanes
 jobs_are_in_order lanes some bytes ended = in_order_from lanes (start lanes) bytes ended some (keeps_start lanes)
+
+-- ---- behind a text
+
+-- where ends lead to a total, the last of them is the total
+lead_last : (before : ℕ) (ends : List ℕ) (total : ℕ) → LeadTo before ends total → last_or before ends ≡ total
+lead_last before [] total lead = lead
+lead_last before (e ∷ es) total lead = lead_last e es total lead.2
+
+-- no batch is open
+end_closes : (c : Cut) → c.from ≤ length c.jobs → (end_batch c).from ≡ length (end_batch c).jobs
+unfolding end_batch
+end_closes c begins = grind (arith, common_steps)
+
+goes_on : (lanes : ℕ) (c : Cut) → 0 < lanes → Keeps lanes 0 c → c.stop ≡ None → GoesOn lanes (end_batch (flush true c))
+goes_on lanes c some k going =
+    let file = end_batch (flush true c) in
+    let kept : Keeps lanes 0 (next_input file) = next_keeps lanes c some k going in
+    let done = done_flush lanes c true some k in
+    let from : file.from ≡ length file.jobs = end_closes (flush true c) done.begins in
+    let stop : file.stop ≡ None = finished_stop c true ∙ going in
+    let same : file.lanes ≡ lanes = kept.same in
+    let added : length file.jobs + 0 ≡ file.from = omega (arith, from) in
+    record {
+      begins = λ i. record {
+        lanes = (sym same) i;
+        line = [];
+        number = (next_input file).number;
+        jobs = (append-nil file.jobs) i;
+        from = added i;
+        ends = (append-nil file.ends) i;
+        stop = (sym stop) i;
+      };
+      closed = lead_last 0 file.ends file.from kept.ends ∙ from;
+      order = λ bytes ended. in_order_from lanes (next_input file) bytes ended some kept;
+    }
+
+pub inputs_go_on : (lanes : ℕ) → 0 < lanes → InputsGoOn lanes
+unfolding jobs_from
+inputs_go_on lanes some text going =
+    let c = cut_all (start lanes) text in
+    goes_on lanes c some (keeps_all lanes (start lanes) text some (keeps_start lanes)) (sym (finished_stop c true) ∙ going)
+
+-- ---- more lanes
+
+of_more_lanes : (lanes more : ℕ) (jobs : List Job) → lanes ≤ more → AreOfLanes lanes jobs → AreOfLanes more jobs
+of_more_lanes lanes more [] within all = tt
+of_more_lanes lanes more (j ∷ js) within all = (let h = all.0 in omega (arith, h, within), of_more_lanes lanes more js within all.1)
+
+-- jobs that are in order for some lanes are so for more
+pub order_within : (lanes more : ℕ) (jobs : List Job) (batch_ends : List ℕ) → lanes ≤ more → AreInOrder lanes jobs batch_ends → AreInOrder more jobs batch_ends
+order_within lanes more jobs batch_ends within h = record { few = h.few; lines = h.lines; below = h.below; of_lanes = of_more_lanes lanes more jobs within h.of_lanes; ends = h.ends }

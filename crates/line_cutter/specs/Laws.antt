@@ -1,5 +1,5 @@
 -- What the jobs of every input meet.
-use Rattle.std.specs.Prelude.{◌≡◌, ℕ, ◌+◌, ◌<◌, ◌≤◌, Bool, List, [], ◌∷◌, length, IsTrue}
+use Rattle.std.specs.Prelude.{◌≡◌, ℕ, ◌+◌, ◌<◌, ◌≤◌, Bool, true, List, [], ◌∷◌, length, None, IsTrue}
 use Rattle.wf_names.specs.declared.limits.TheConstants.{SESSION_LINE_LIMIT, BATCH_LINE_LIMIT}
 use Rattle.wf_names.specs.Names.{is_name}
 use Rattle.wf_talk.specs.declared.edit.Edit.{Edit}
@@ -9,7 +9,8 @@ use Rattle.wf_talk.specs.declared.request.Ask.{Ask}
 use Rattle.wf_talk.specs.declared.request.Ask.TheVariants as ask
 use Rattle.wf_talk.specs.declared.job.Job.{Job}
 use Rattle.wf_talk.specs.Jobs.{AreOfLanes, IsNamedAsk}
-use Rattle.line_cutter.specs.Jobs.{jobs_of_input}
+use Rattle.line_cutter.specs.Jobs.{Cut, jobs_from, jobs_of_input, last_or, next_input, start_at}
+use Rattle.line_cutter.specs.Cutter.{after_handing}
 
 -- the lines of the jobs ascend strictly, from this number on
 abbrev pub AscendFrom : ℕ → List Job → Type 0
@@ -38,6 +39,19 @@ pub record AreInOrder (lanes : ℕ) (jobs : List Job) (batch_ends : List ℕ) : 
 abbrev pub JobsAreInOrder : ℕ → Type 0
 JobsAreInOrder lanes =
     (bytes : List ℕ) (ended : Bool) → AreInOrder lanes (jobs_of_input bytes ended lanes).jobs (jobs_of_input bytes ended lanes).ends
+
+-- an input goes on behind what was cut: a cutting that begins at the next line's number goes on from there, where all jobs
+-- are handed over; they reach to the last end of a batch; and whatever is read, all jobs are in order
+pub record GoesOn (lanes : ℕ) (c : Cut) : Type 0 where
+  pub begins : after_handing c.jobs c.ends (start_at lanes (next_input c).number) ≡ next_input c
+  pub closed : last_or 0 c.ends ≡ length c.jobs
+  pub order : (bytes : List ℕ) (ended : Bool) →
+      AreInOrder lanes (jobs_from (next_input c) bytes ended).jobs (jobs_from (next_input c) bytes ended).ends
+
+-- behind every text that meets no limit an input goes on
+abbrev pub InputsGoOn : ℕ → Type 0
+InputsGoOn lanes =
+    (text : List ℕ) → (jobs_of_input text true lanes).stop ≡ None → GoesOn lanes (jobs_of_input text true lanes)
 
 -- the user whom an edit adds has a name of a name's form
 abbrev pub IsNamedEdit : Edit → Type 0

@@ -68,12 +68,25 @@ impl Cutter {
         self.stop
     }
 
+    /// The number of the first line of an input behind this one, where this one ends here.
+    pub fn next_number(&self) -> u32
+        requires { IsSound self.now }
+        ensures { result ≡ (jobs.next_input self.now).number }
+    {
+        if self.line.len() == 0 {
+            self.number
+        } else {
+            self.number + 1
+        }
+    }
+
     /// Whether a batch has ended that is not handed over yet.
     pub fn has_batch(&self) -> bool
         ensures { MatchBool result (self.now.ends ≢ []) (self.now.ends ≡ []) }
     {
         self.ends.len() != 0
     }
+
     /// Cuts the next bytes of a piece: a run of a line without its end, or one byte. Answers how many
     /// bytes were cut. No byte is cut after one that ends a batch, or at which the cutting stops.
     #[tactic(auto, using(crate::specs::CutLaws::one_cut, crate::specs::CutLaws::plain_cut, crate::specs::CutLaws::plain_sound))]

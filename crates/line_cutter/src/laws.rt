@@ -1,6 +1,6 @@
 //! Laws of the jobs of an input.
 ghost use Rattle.std.specs.Prelude.{◌<◌};
-ghost use Rattle.line_cutter.specs.Laws.{JobsAreInOrder, JobsAreNamed};
+ghost use Rattle.line_cutter.specs.Laws.{InputsGoOn, JobsAreInOrder, JobsAreNamed};
 
 /// The jobs of every input: at most as many as a session may have lines, of lines that ascend
 /// strictly, each of one of the lanes; the ends of their batches ascend by at most what a batch may
@@ -15,6 +15,15 @@ pub fn jobs_are_in_order(lanes: u8)
 /// The key that a bad line of an input lacks has the form of a name.
 pub fn jobs_are_named(lanes: u8)
     ensures { JobsAreNamed lanes }
+{
+    let _ = lanes;
+}
+
+/// Behind each text that meets no limit an input goes on: its lines are numbered on, its first line
+/// begins a batch, and the jobs of both are in order as those of one input are.
+pub fn inputs_go_on(lanes: u8)
+    requires { 0 < lanes }
+    ensures { InputsGoOn lanes }
 {
     let _ = lanes;
 }

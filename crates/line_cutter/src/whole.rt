@@ -1,12 +1,12 @@
 //! The jobs of a text that is there as a whole.
 ghost use Rattle.std.specs.Prelude.{◌≡◌, ◌<◌, ◌≤◌, ◌+◌, ℕ, List, true, [], ◌++◌, length, take, None, IfOk, OnOk};
 ghost use Rattle.wf_names.specs.declared.limits.TheConstants.{SESSION_LINE_LIMIT};
-ghost use Rattle.line_cutter.specs.Jobs.{jobs_of_input};
+ghost use Rattle.line_cutter.specs.Jobs.{jobs_of_input, next_input};
 ghost use Rattle.line_cutter.specs.Cutter.{ends_after};
 ghost use Rattle.line_cutter.specs.Laws.{AreInOrder, AreNamedJobs};
 ghost use Rattle.line_cutter.specs.Whole.{HasCutUp};
 
-use crate::Cutter;
+use crate::{Cutter, Stop};
 use std::alloc::{AllocError, Global};
 use wf_talk::{Ends, Job, Jobs};
 
@@ -17,6 +17,16 @@ pub struct Batch {
     pub ends: Ends,
 }
 
+/// A text that is cut as a whole.
+#[derive(Drop)]
+pub struct CutText {
+    pub batch: Batch,
+    /// Where the cutting stopped, if it met a limit.
+    pub stop: Option<Stop>,
+    /// The number of the line that comes next, behind the text.
+    pub lines: u32,
+}
+
 /// The jobs of a whole text, with the ends of their batches. Where the text meets a limit, the lines
 /// before it count alone.
 pub fn jobs_of(alloc: Global, bytes: &[u8], lanes: u8) -> Result<Batch, AllocError>
@@ -25,6 +35,27 @@ pub fn jobs_of(alloc: Global, bytes: &[u8], lanes: u8) -> Result<Batch, AllocErr
     ensures order { IfOk result (λ batch. 0 < lanes → AreInOrder lanes batch.jobs batch.ends) }
     ensures named { IfOk result (λ batch. AreNamedJobs batch.jobs) }
 {
+    match cut_text(alloc, bytes, lanes) {
+        Ok(text) => Ok(text.batch),
+        Err(e) => Err(e),
+    }
+}
+
+/// The same, with where the cutting stopped, and which line comes behind the text: the last line of
+/// the text has a number of its own, with its LF or without.
+pub fn cut_text(alloc: Global, bytes: &[u8], lanes: u8) -> Result<CutText, AllocError>
+    ensures jobs { IfOk result (λ text. text.batch.jobs
+        ≡ (jobs_of_input bytes.now true lanes).jobs) }
+    ensures ends { IfOk result (λ text. text.batch.ends
+        ≡ (jobs_of_input bytes.now true lanes).ends) }
+    ensures stop { IfOk result (λ text. text.stop ≡ (jobs_of_input bytes.now true lanes).stop) }
+    ensures lines { IfOk result (λ text. text.lines
+        ≡ (next_input (jobs_of_input bytes.now true lanes)).number) }
+    ensures few { IfOk result (λ text. text.lines ≤ SESSION_LINE_LIMIT) }
+    ensures order { IfOk result (λ text. 0 < lanes
+        → AreInOrder lanes text.batch.jobs text.batch.ends) }
+    ensures named { IfOk result (λ text. AreNamedJobs text.batch.jobs) }
+{
     let mut cutter = Cutter::new(alloc, lanes, 0);
     let mut whole = Batch {
         jobs: Jobs::new(alloc),
@@ -32,8 +63,14 @@ pub fn jobs_of(alloc: Global, bytes: &[u8], lanes: u8) -> Result<Batch, AllocErr
     };
     cut_bytes(&mut whole, &mut cutter, bytes)?;
     cutter.finish(true)?;
+    let stop = cutter.stop();
+    let lines = cutter.next_number();
     add_batch(&mut whole, cutter.take_batch().as_slice())?;
-    Ok(whole)
+    Ok(CutText {
+        batch: whole,
+        stop,
+        lines,
+    })
 }
 
 // Cuts all of the bytes, as far as they are within the limits.

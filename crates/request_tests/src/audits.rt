@@ -13,7 +13,7 @@ use wf_names::LANE_LIMIT;
 use wf_talk::Ask;
 
 // Finds no verdict for want of memory.
-struct Idle;
+pub(crate) struct Idle;
 
 impl Decider for Idle {
     fn decide(&self, alloc: Global, snap: &Snap, ask: &Ask) -> Verdict {
@@ -41,21 +41,22 @@ impl Decider for Idle {
     }
 }
 
-const REQUESTS: &str = r#"{"do":"open","flow":"pay"}
+pub(crate) const REQUESTS: &str = r#"{"do":"open","flow":"pay"}
 {"do":"claim","case":0,"step":"prepare","user":"ann"}
 {"do":"finish","case":0,"step":"prepare","user":"ann"}
 {"do":"claim","case":0,"step":"approve","user":"bob"}
 "#;
 
-const OPENED: &str =
+pub(crate) const OPENED: &str =
     r#"{"at":0,"lane":0,"line":0,"reply":{"opened":{"case":0,"plan":["bob","cyd","ann"]}}}"#;
 
-const GRANTED: &str =
+pub(crate) const GRANTED: &str =
     r#"{"at":1,"lane":0,"line":1,"reply":{"granted":{"plan":["ann","cyd","bob"]}}}"#;
 
-const FINISHED: &str = r#"{"at":2,"lane":0,"line":2,"reply":{"finished":{"done":false}}}"#;
+pub(crate) const FINISHED: &str =
+    r#"{"at":2,"lane":0,"line":2,"reply":{"finished":{"done":false}}}"#;
 
-const STRANDED: &str =
+pub(crate) const STRANDED: &str =
     r#"{"at":3,"lane":0,"line":3,"reply":{"denied":{"stranded":{"step":"pay","users":[["ann",{"rule":2}],["bob",{"rule":1}]]}}}}"#;
 
 type Ended = Result<(), AuditFault>;

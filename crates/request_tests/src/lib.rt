@@ -15,6 +15,8 @@ mod record;
 #[cfg(test)]
 mod requests;
 #[cfg(test)]
+mod resumes;
+#[cfg(test)]
 mod table;
 #[cfg(test)]
 mod talk;

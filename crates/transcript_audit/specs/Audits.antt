@@ -7,6 +7,7 @@ use Rattle.wf_talk.specs.declared.job.Job.{Job}
 use Rattle.wf_talk.specs.declared.reply.Reply.{Reply}
 use Rattle.wf_board.specs.States.{State, numbered_case, opening_state}
 use Rattle.wf_board.specs.Histories.{FillsJobs, IsLegal, IsRightAfter, RestsFrom, job_of_entry, lane_jobs, state_after}
+use Rattle.wf_desk.specs.Parts.{FillsPart}
 use Rattle.wire_json.specs.Replies.{entry_text}
 use Rattle.entry_reader.specs.declared.place.Place.{Place}
 use Rattle.entry_reader.specs.Places.{place_of_line}
@@ -118,4 +119,10 @@ pub record IsTranscript (p : PolicyShape) (rounds : ℕ) (jobs : List Job) (batc
   pub entries : List Entry
   pub legal : IsLegal (opening_state p) rounds entries
   pub fills : FillsJobs entries jobs batch_ends
+  pub written : lines ≡ texts_of (opening_state p) entries
+
+-- the lines are those of these entries, a legal history that answers a part of the jobs
+pub record IsTranscriptPart (p : PolicyShape) (rounds : ℕ) (jobs : List Job) (batch_ends : List ℕ) (lines : List (List ℕ)) (entries : List Entry) : Type 0 where
+  pub legal : IsLegal (opening_state p) rounds entries
+  pub part : FillsPart entries jobs batch_ends
   pub written : lines ≡ texts_of (opening_state p) entries

@@ -9,7 +9,7 @@ use Rattle.line_cutter.specs.Laws.{AreInOrder, AreNamedJobs}
 use Rattle.entry_reader.specs.Named.{HasNames}
 use Rattle.entry_laws.specs.Laws.{HasFewSteps}
 use Rattle.transcript_audit.specs.declared.fault.AuditKind.{AuditKind}
-use Rattle.transcript_audit.specs.Audits.{AreNext, HasFault, IsNextLine, IsTranscript, audit_of}
+use Rattle.transcript_audit.specs.Audits.{AreNext, HasFault, IsNextLine, IsTranscript, IsTranscriptPart, audit_of}
 
 -- a policy, jobs and rounds as those of a session are
 pub record AreOfSession (p : PolicyShape) (rounds : ℕ) (jobs : List Job) (batch_ends : List ℕ) : Type 0 where
@@ -46,3 +46,11 @@ AuditIsExact =
     AreInOrder LANE_LIMIT jobs batch_ends →
     ((es : List Entry) × (AreNext (audit_of p rounds jobs batch_ends) lines es × (length es ≡ length jobs)))
     ↔ IsTranscript p rounds jobs batch_ends lines
+
+-- lines are the texts of entries of which each comes next exactly where they are those of these entries, and these are a
+-- legal history that answers a part of the jobs
+abbrev pub PartIsExact : Type 0
+PartIsExact =
+    (p : PolicyShape) (rounds : ℕ) (jobs : List Job) (batch_ends : List ℕ) (lines : List (List ℕ)) (es : List Entry) →
+    AreInOrder LANE_LIMIT jobs batch_ends →
+    AreNext (audit_of p rounds jobs batch_ends) lines es ↔ IsTranscriptPart p rounds jobs batch_ends lines es

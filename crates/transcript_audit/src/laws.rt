@@ -1,5 +1,5 @@
 //! Laws of audits. Each function changes nothing; its contract is the law.
-ghost use Rattle.transcript_audit.specs.Laws.{AuditIsExact, FaultsExclude, NextIsOne};
+ghost use Rattle.transcript_audit.specs.Laws.{AuditIsExact, FaultsExclude, NextIsOne, PartIsExact};
 
 use entry_laws::{entries_are_lines, texts_are_lines};
 
@@ -24,4 +24,10 @@ pub fn next_is_one()
 /// those of a legal history that fills the jobs.
 pub fn audit_is_exact()
     ensures { AuditIsExact }
+{}
+
+/// Lines are the texts of entries of which each comes next exactly where these are a legal history
+/// that answers a part of the jobs, and the lines are its text.
+pub fn part_is_exact()
+    ensures { PartIsExact }
 {}

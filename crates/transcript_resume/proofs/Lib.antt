@@ -1,1 +1,3 @@
 pub mod Rests
+pub mod WholeLines
+pub mod LinesTaken

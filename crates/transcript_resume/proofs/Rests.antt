@@ -8,7 +8,8 @@ use Rattle.wf_talk.specs.declared.entry.Entry.{Entry}
 use Rattle.wf_talk.specs.declared.job.Job.{Job}
 use Rattle.wf_board.specs.Histories.{EachAfter, RestsFrom, batch_end, batch_start, job_of_entry, lane_jobs}
 use Rattle.line_cutter.specs.Laws.{LeadTo}
-use Rattle.wf_desk.specs.Desks.{AnswersPart, served_jobs}
+use Rattle.wf_desk.specs.Desks.{AnswersPart, AreOfLanes, served_jobs}
+use Rattle.wf_desk.specs.DocketLaws.{first_of_lanes}
 use Rattle.wf_desk.specs.Parts.{FillsPart, lane_answered}
 use Rattle.transcript_audit.specs.Keeping.{IsBatchOf, end_of}
 use Rattle.transcript_audit.proofs.Batches.{batch_there, end_is, end_read, ends_within, last_start, read_behind, slice_part, start_before_end, start_is}
@@ -147,6 +148,17 @@ answers_part es jobs ends lead part =
           let is : end_of ends k ≡ batch_start ends k = ap (λ m. slice_index_or ends m (batch_start ends k)) last ∙ read_behind ends (batch_start ends k) in
           subst (λ e. AnswersPart es (batch_start ends k) (jobs_between (batch_start ends k) e jobs)) (sym is) (behind_part es jobs (batch_start ends k) (at.here.behind last))
     ]))
+
+-- ---- lanes
+
+rest_of_lanes : (lanes n : ℕ) (jobs : List Job) → AreOfLanes lanes jobs → AreOfLanes lanes (drop n jobs)
+rest_of_lanes lanes zero jobs of_lanes = of_lanes
+rest_of_lanes lanes (suc n) [] of_lanes = tt
+rest_of_lanes lanes (suc n) (j ∷ js) of_lanes = rest_of_lanes lanes n js of_lanes.1
+
+-- each of the jobs between two places is of one of the lanes
+pub lanes_between : (lanes from end : ℕ) (jobs : List Job) → AreOfLanes lanes jobs → AreOfLanes lanes (jobs_between from end jobs)
+lanes_between lanes from end jobs of_lanes = rest_of_lanes lanes from (take end jobs) (first_of_lanes lanes end jobs of_lanes)
 
 -- ---- the bounds, end after end
 

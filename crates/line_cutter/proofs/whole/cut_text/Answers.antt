@@ -1,5 +1,7 @@
-use Rattle.line_cutter.proofs.CutUp.{cut_none, few_whole, whole_jobs, whole_ends, in_order, named}
-use Rattle.line_cutter.proofs.whole.jobs_of.Goals as goal
+use Rattle.std.proofs.Common.{◌≤◌, ◌∙◌, subst, sym}
+use Rattle.wf_names.specs.declared.limits.TheConstants.{SESSION_LINE_LIMIT}
+use Rattle.line_cutter.proofs.CutUp.{cut_none, few_lines, few_whole, whole_jobs, whole_ends, whole_lines, whole_stop, in_order, named}
+use Rattle.line_cutter.proofs.whole.cut_text.Goals as goal
 
 pub cut_bytes-requires : goal.cut_bytes-requires
 cut_bytes-requires c =
@@ -43,3 +45,20 @@ returns-clause-order c = in_order c.args.lanes c.args.bytes.now c.add_batch.new.
 
 pub returns-clause-named : goal.returns-clause-named
 returns-clause-named c = named c.args.lanes c.args.bytes.now c.add_batch.new.whole.jobs (returns-clause-jobs c)
+
+pub returns-clause-stop : goal.returns-clause-stop
+returns-clause-stop c =
+    let before = c.in_ok-cut_bytes.ensures c.args.lanes
+    (cut_none c.args.lanes c.new.result c.new-2.result c.new-cutter.result c.new.ensures c.new-2.ensures c.new-cutter.ensures.start c.new-cutter.ensures.sound) in
+    c.stop-stop.ensures
+    ∙ whole_stop c.args.lanes c.args.bytes.now c.cut_bytes.new.whole.jobs c.cut_bytes.new.whole.ends c.cut_bytes.new.cutter c.finish.new.self before c.in_ok-finish.ensures.finished
+
+pub returns-clause-lines : goal.returns-clause-lines
+returns-clause-lines c =
+    let before = c.in_ok-cut_bytes.ensures c.args.lanes
+    (cut_none c.args.lanes c.new.result c.new-2.result c.new-cutter.result c.new.ensures c.new-2.ensures c.new-cutter.ensures.start c.new-cutter.ensures.sound) in
+    c.next_number-lines.ensures
+    ∙ whole_lines c.args.lanes c.args.bytes.now c.cut_bytes.new.whole.jobs c.cut_bytes.new.whole.ends c.cut_bytes.new.cutter c.finish.new.self before c.in_ok-finish.ensures.finished
+
+pub returns-clause-few : goal.returns-clause-few
+returns-clause-few c = subst (λ n. n ≤ SESSION_LINE_LIMIT) (sym (returns-clause-lines c)) (few_lines c.args.lanes c.args.bytes.now)
