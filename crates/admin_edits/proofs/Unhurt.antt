@@ -14,7 +14,7 @@ use Rattle.pair_set.specs.PairLaws.{pair_cmp_total, pair_cmp-IsAntisymmetric}
 use Rattle.rbac_state.specs.Rosters.{has_role}
 use Rattle.user_relations.specs.Relations.{RelationKind, RelationShape, change_kind, complement, complement_of, complemented, is_related, kind_holds, kind_of, listed, listed_pairs, pairs_of, with_kind}
 use Rattle.constraint_forms.specs.declared.rule.Rule.{Rule}
-use Rattle.constraint_forms.specs.declared.rule.Rule.TheVariants.{Pair, SomeOf, AllOf}
+use Rattle.constraint_forms.specs.declared.rule.Rule.TheVariants.{Pair, SomeOf, AllOf, SomeTo, AllTo, AtMost, AtLeast}
 use Rattle.constraint_forms.specs.Assigned.{is_member, planned}
 use Rattle.constraint_forms.specs.Rules.{Relating, all_from, any_from, is_satisfied, reads}
 use Rattle.constraint_forms.proofs.Reading.{none_read}
@@ -156,6 +156,10 @@ satisfied_same : (a b : Relating) (rule : Rule) (f : ℕ → ℕ) → ((rho u v 
 satisfied_same a b (Pair rho first second) f same = same rho (f first) (f second) (eq_same rho)
 satisfied_same a b (SomeOf rho group step) f same = any_same 0 group _ _ (λ x. same rho (f x) (f step) (eq_same rho))
 satisfied_same a b (AllOf rho group step) f same = all_same 0 group _ _ (λ x. same rho (f x) (f step) (eq_same rho))
+satisfied_same a b (SomeTo rho step group) f same = any_same 0 group _ _ (λ x. same rho (f step) (f x) (eq_same rho))
+satisfied_same a b (AllTo rho step group) f same = all_same 0 group _ _ (λ x. same rho (f step) (f x) (eq_same rho))
+satisfied_same a b (AtMost limit group) f same = refl
+satisfied_same a b (AtLeast limit group) f same = refl
 
 none_passes : (test : Rule → Bool) (rules : List Rule) (k : ℕ) (rule : Rule) → list_any test rules ≡ false → slice_get rules k ≡ Some rule → test rule ≡ false
 none_passes test [] k rule none is = absurd (cc)

@@ -70,10 +70,9 @@ fn some_is_over(relations: &Relations, rho: RelId, rules: &Rules) -> bool
 fn is_over(relations: &Relations, rho: RelId, rule: &Rule) -> bool
     ensures { result ≡ is_over relations.now rho rule.now }
 {
-    match *rule {
-        Rule::Pair { rho: own, .. }
-        | Rule::SomeOf { rho: own, .. }
-        | Rule::AllOf { rho: own, .. } => is_or_complements(relations, rho, own),
+    match rule.relation() {
+        Some(own) => is_or_complements(relations, rho, own),
+        None => false,
     }
 }
 

@@ -107,10 +107,9 @@ fn are_read_alike(p: &Policy, f: FlowId, rule: &Rule, u: UserId, v: UserId) -> b
     ensures { result ≡ all_read rule.now (λ rho. treats_alike (problem_of p.now f).users
         ((problem_of p.now f).related rho) u v) }
 {
-    match *rule {
-        Rule::Pair { rho, .. } | Rule::SomeOf { rho, .. } | Rule::AllOf { rho, .. } => {
-            treats_alike(p, f, rho, u, v)
-        }
+    match rule.relation() {
+        Some(rho) => treats_alike(p, f, rho, u, v),
+        None => true,
     }
 }
 

@@ -2,7 +2,7 @@
 use Rattle.std.proofs.Common.{◌≡◌, ℕ, ◌+◌, ◌<◌, Bool, true, false, not, ◌&&◌, ◌||◌, List, ◌∷◌, length, drop, refl, sym, ◌∙◌, drop-cons, add-one}
 use Rattle.constraint_forms.specs.Rules.{any_from, all_from, is_member}
 
-next_flag : (group : List Bool) (x : ℕ) (b : Bool) → x < length group → is_member group x ≡ b → drop x group ≡ b ∷ drop (x + 1) group
+pub next_flag : (group : List Bool) (x : ℕ) (b : Bool) → x < length group → is_member group x ≡ b → drop x group ≡ b ∷ drop (x + 1) group
 next_flag group x b h e = rw (sym e, add-one) (drop-cons group x false h)
 
 one_less : (s p q : Bool) → ((s && not p) && not q) ≡ (s && not (p || q))

@@ -1,7 +1,9 @@
 pub mod Bits
 pub mod SamePlans
+pub mod Counting
 pub mod RuleLaws
 pub mod Exchanges
 pub mod Leaving
+pub mod Counted
 pub mod Members
 pub mod Reading

@@ -1,10 +1,11 @@
 -- What is true of the tests over a set's members, and of rules by their forms.
-use Rattle.std.proofs.Common.{◌≡◌, ℕ, zero, suc, ◌+◌, Bool, true, false, not, ◌&&◌, ◌||◌, List, [], ◌∷◌, Option, Some, None, is_some, refl, sym, subst, arith, add-zero, zero-add}
+use Rattle.std.proofs.Common.{◌≡◌, nat_le, nat_lt, ap, ◌∙◌, ℕ, zero, suc, ◌+◌, Bool, true, false, not, ◌&&◌, ◌||◌, List, [], ◌∷◌, Option, Some, None, is_some, refl, sym, subst, arith, add-zero, zero-add}
 use Rattle.std.specs.Bool.{IsTrue}
 use Rattle.basics.proofs.Booleans.{and_same, eq_same, or_left, or_right}
-use Rattle.constraint_forms.specs.declared.rule.Rule.TheVariants.{Pair, SomeOf, AllOf}
+use Rattle.constraint_forms.specs.declared.rule.Rule.TheVariants.{Pair, SomeOf, AllOf, SomeTo, AllTo, AtMost, AtLeast}
 use Rattle.constraint_forms.specs.Assigned.{is_member}
-use Rattle.constraint_forms.specs.Rules.{any_from, all_from, are_unrelated, names, Relating}
+use Rattle.constraint_forms.specs.Rules.{any_from, all_from, are_unrelated, different, free_from, names, turned, users_from, Relating}
+use Rattle.constraint_forms.proofs.Counting.{different-alike, different-le, free_from-same, free_from-total, from_zero, le_not, lt_less, lt_more, reach-le, users_from-more, users_from-same}
 use Rattle.constraint_forms.specs.Laws.{TotalsDecide, StaysFalsified, FalsifiedByNamed, SatisfiedByNamed, SeesRelatedness}
 
 -- ---- what a rule names
@@ -49,6 +50,13 @@ pub totals_decide : TotalsDecide
 totals_decide related (Pair rho first second) f = not_not _
 totals_decide related (SomeOf rho group step) f = any_from-not (λ x. related rho (f x) (f step)) 0 group
 totals_decide related (AllOf rho group step) f = all_from-not (λ x. related rho (f x) (f step)) 0 group
+totals_decide related (SomeTo rho step group) f = any_from-not (λ x. related rho (f step) (f x)) 0 group
+totals_decide related (AllTo rho step group) f = all_from-not (λ x. related rho (f step) (f x)) 0 group
+totals_decide related (AtMost limit group) f = le_not (different (users_from 0 group (λ s. Some (f s)))) limit
+totals_decide related (AtLeast limit group) f =
+    let d = different (users_from 0 group (λ s. Some (f s))) in
+    let none : d + free_from 0 group (λ s. Some (f s)) ≡ d = omega (arith, free_from-total f 0 group) in
+    le_not limit d ∙ ap (λ n. not (nat_lt n limit)) (sym none)
 
 -- ---- what stays falsified
 
@@ -92,6 +100,14 @@ stays_falsified related (SomeOf rho group step) a b h =
     and_more _ _ _ _ (some-more _ _ (h step)) (all_from-more _ _ (λ x. unrelated-more related rho _ _ _ _ (h x) (h step)) 0 group)
 stays_falsified related (AllOf rho group step) a b h =
     any_from-more _ _ (λ x. unrelated-more related rho _ _ _ _ (h x) (h step)) 0 group
+stays_falsified related (SomeTo rho step group) a b h =
+    and_more _ _ _ _ (some-more _ _ (h step)) (all_from-more _ _ (λ x. unrelated-more (turned true related) rho _ _ _ _ (h x) (h step)) 0 group)
+stays_falsified related (AllTo rho step group) a b h =
+    any_from-more _ _ (λ x. unrelated-more (turned true related) rho _ _ _ _ (h x) (h step)) 0 group
+stays_falsified related (AtMost limit group) a b h =
+    lt_more limit (different (users_from 0 group a)) (different (users_from 0 group b)) (different-le (users_from 0 group a) (users_from 0 group b) (users_from-more a b h 0 group))
+stays_falsified related (AtLeast limit group) a b h =
+    lt_less limit (different (users_from 0 group a) + free_from 0 group a) (different (users_from 0 group b) + free_from 0 group b) (reach-le a b h 0 group)
 
 -- ---- what rules do not see
 
@@ -140,6 +156,14 @@ falsified_by_named related (SomeOf rho group step) a b h =
     λ i. is_some (e i) && all-same _ _ group (λ x t j. are_unrelated related rho (h x (member-named rho group step x t) j) (e j)) i
 falsified_by_named related (AllOf rho group step) a b h =
     any-same _ _ group (λ x t j. are_unrelated related rho (h x (member-named rho group step x t) j) (h step (step-named rho group step) j))
+falsified_by_named related (SomeTo rho step group) a b h =
+    let e = h step (step-named rho group step) in
+    λ i. is_some (e i) && all-same _ _ group (λ x t j. are_unrelated (turned true related) rho (h x (member-named rho group step x t) j) (e j)) i
+falsified_by_named related (AllTo rho step group) a b h =
+    any-same _ _ group (λ x t j. are_unrelated (turned true related) rho (h x (member-named rho group step x t) j) (h step (step-named rho group step) j))
+falsified_by_named related (AtMost limit group) a b h = λ i. nat_lt limit (different (users_from-same a b 0 group (from_zero group a b h) i))
+falsified_by_named related (AtLeast limit group) a b h =
+    λ i. nat_lt (different (users_from-same a b 0 group (from_zero group a b h) i) + free_from-same a b 0 group (from_zero group a b h) i) limit
 
 pub satisfied_by_named : SatisfiedByNamed
 satisfied_by_named related (Pair rho first second) f g h =
@@ -148,6 +172,14 @@ satisfied_by_named related (SomeOf rho group step) f g h =
     any-same _ _ group (λ x t j. related rho (h x (member-named rho group step x t) j) (h step (step-named rho group step) j))
 satisfied_by_named related (AllOf rho group step) f g h =
     all-same _ _ group (λ x t j. related rho (h x (member-named rho group step x t) j) (h step (step-named rho group step) j))
+satisfied_by_named related (SomeTo rho step group) f g h =
+    any-same _ _ group (λ x t j. related rho (h step (step-named rho group step) j) (h x (member-named rho group step x t) j))
+satisfied_by_named related (AllTo rho step group) f g h =
+    all-same _ _ group (λ x t j. related rho (h step (step-named rho group step) j) (h x (member-named rho group step x t) j))
+satisfied_by_named related (AtMost limit group) f g h =
+    λ i. nat_le (different (users_from-same (λ s. Some (f s)) (λ s. Some (g s)) 0 group (from_zero group (λ s. Some (f s)) (λ s. Some (g s)) (λ s t. ap Some (h s t))) i)) limit
+satisfied_by_named related (AtLeast limit group) f g h =
+    λ i. nat_le limit (different (users_from-same (λ s. Some (f s)) (λ s. Some (g s)) 0 group (from_zero group (λ s. Some (f s)) (λ s. Some (g s)) (λ s t. ap Some (h s t))) i))
 
 pub sees_relatedness : SeesRelatedness
 sees_relatedness related (Pair rho first second) f g h = h.relate_same rho first second (eq_same rho) (first-named rho first second) (second-named rho first second)
@@ -155,3 +187,9 @@ sees_relatedness related (SomeOf rho group step) f g h =
     any-same _ _ group (λ x t. h.relate_same rho x step (eq_same rho) (member-named rho group step x t) (step-named rho group step))
 sees_relatedness related (AllOf rho group step) f g h =
     all-same _ _ group (λ x t. h.relate_same rho x step (eq_same rho) (member-named rho group step x t) (step-named rho group step))
+sees_relatedness related (SomeTo rho step group) f g h =
+    any-same _ _ group (λ x t. h.relate_same rho step x (eq_same rho) (step-named rho group step) (member-named rho group step x t))
+sees_relatedness related (AllTo rho step group) f g h =
+    all-same _ _ group (λ x t. h.relate_same rho step x (eq_same rho) (step-named rho group step) (member-named rho group step x t))
+sees_relatedness related (AtMost limit group) f g h = ap (λ n. nat_le n limit) (different-alike f g group h.join_same)
+sees_relatedness related (AtLeast limit group) f g h = ap (λ n. nat_le limit n) (different-alike f g group h.join_same)

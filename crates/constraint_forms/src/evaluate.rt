@@ -1,8 +1,9 @@
 //! Whether a partial assignment falsifies a rule, and whether a plan satisfies it.
-ghost use Rattle.std.specs.Prelude.{◌≡◌, ℕ, ◌<◌, IsTrue, length};
-ghost use Rattle.constraint_forms.specs.Rules.{all_from, any_from, are_unrelated, is_falsified, is_satisfied, IsRuleOf};
+ghost use Rattle.std.specs.Prelude.{◌≡◌, ℕ, ◌<◌, IsTrue, Some, length};
+ghost use Rattle.constraint_forms.specs.Rules.{all_from, any_from, are_unrelated, different, is_falsified, is_satisfied, turned, users_from, IsRuleOf};
 ghost use Rattle.constraint_forms.specs.Assigned.{is_member, planned, user_at};
 
+use crate::count::{assigned_by, count_free, count_users};
 use crate::{Assign, Holds, Plan, Rule, StepSet};
 use wf_names::{RelId, StepId, UserId};
 
@@ -11,10 +12,16 @@ pub fn falsified<H: Holds>(rule: &Rule, h: &H, a: &Assign) -> bool
     ensures { result ≡ is_falsified (H.related h.now) rule.now (user_at a.now) }
 {
     match *rule {
-        Rule::Pair { rho, first, second } => is_unrelated(h, rho, a.at(first), a.at(second)),
+        Rule::Pair { rho, first, second } => is_unrelated(h, rho, false, a.at(first), a.at(second)),
         Rule::SomeOf { rho, group, step } => a.at(step).is_some()
-            && all_unrelated(h, rho, a, &group, step),
-        Rule::AllOf { rho, group, step } => any_unrelated(h, rho, a, &group, step),
+            && all_unrelated(h, rho, false, a, &group, step),
+        Rule::AllOf { rho, group, step } => any_unrelated(h, rho, false, a, &group, step),
+        Rule::SomeTo { rho, step, group } => a.at(step).is_some()
+            && all_unrelated(h, rho, true, a, &group, step),
+        Rule::AllTo { rho, step, group } => any_unrelated(h, rho, true, a, &group, step),
+        Rule::AtMost { limit, group } => (limit as usize) < count_users(a, &group),
+        Rule::AtLeast { limit, group } => count_users(a, &group) + count_free(a, &group)
+            < limit as usize,
     }
 }
 
@@ -25,8 +32,30 @@ pub fn satisfied<H: Holds>(rule: &Rule, h: &H, plan: &Plan) -> bool
 {
     match *rule {
         Rule::Pair { rho, first, second } => h.holds(rho, plan.at(first), plan.at(second)),
-        Rule::SomeOf { rho, group, step } => any_related(h, rho, plan, &group, plan.at(step)),
-        Rule::AllOf { rho, group, step } => all_related(h, rho, plan, &group, plan.at(step)),
+        Rule::SomeOf { rho, group, step } => any_related(
+            h,
+            rho,
+            false,
+            plan,
+            &group,
+            plan.at(step),
+        ),
+        Rule::AllOf { rho, group, step } => all_related(h, rho, false, plan, &group, plan.at(step)),
+        Rule::SomeTo { rho, step, group } => any_related(h, rho, true, plan, &group, plan.at(step)),
+        Rule::AllTo { rho, step, group } => all_related(h, rho, true, plan, &group, plan.at(step)),
+        Rule::AtMost { limit, group } => count_planned(plan, &group) <= limit as usize,
+        Rule::AtLeast { limit, group } => limit as usize <= count_planned(plan, &group),
+    }
+}
+
+/// Whether a relation holds from one user to another; read back, from the other to the one.
+pub(crate) fn is_related<H: Holds>(h: &H, rho: RelId, back: bool, u: UserId, v: UserId) -> bool
+    ensures { result ≡ turned back (H.related h.now) rho u v }
+{
+    if back {
+        h.holds(rho, v, u)
+    } else {
+        h.holds(rho, u, v)
     }
 }
 
@@ -34,26 +63,43 @@ pub fn satisfied<H: Holds>(rule: &Rule, h: &H, plan: &Plan) -> bool
 pub(crate) fn is_unrelated<H: Holds>(
     h: &H,
     rho: RelId,
+    back: bool,
     u: Option<UserId>,
     v: Option<UserId>,
 ) -> bool
-    ensures { result ≡ are_unrelated (H.related h.now) rho u v }
+    ensures { result ≡ are_unrelated (turned back (H.related h.now)) rho u v }
 {
     match (u, v) {
-        (Some(u), Some(v)) => !h.holds(rho, u, v),
+        (Some(u), Some(v)) => !is_related(h, rho, back, u, v),
         _ => false,
     }
 }
 
+// How many users a plan gives to the members.
+fn count_planned(plan: &Plan, group: &StepSet) -> usize
+    requires { (x : ℕ) → IsTrue (is_member group.now x) → x < length plan.now }
+    ensures { result ≡ different (users_from 0 group.now (λ s. Some (planned plan.now s))) }
+{
+    count_users(&assigned_by(plan), group)
+}
+
 // Whether some member is assigned and unrelated to the step.
-fn any_unrelated<H: Holds>(h: &H, rho: RelId, a: &Assign, group: &StepSet, step: StepId) -> bool
+fn any_unrelated<H: Holds>(
+    h: &H,
+    rho: RelId,
+    back: bool,
+    a: &Assign,
+    group: &StepSet,
+    step: StepId,
+) -> bool
     ensures { result ≡ any_from 0 group.now
-        (λ x. are_unrelated (H.related h.now) rho (user_at a.now x) (user_at a.now step)) }
+        (λ x. are_unrelated (turned back (H.related h.now)) rho
+        (user_at a.now x) (user_at a.now step)) }
 {
     let limit = group.limit();
     'members: for x in 0..limit {
         let member = StepId(x as u8);
-        if group.has(member) && is_unrelated(h, rho, a.at(member), a.at(step)) {
+        if group.has(member) && is_unrelated(h, rho, back, a.at(member), a.at(step)) {
             return true;
         }
     }
@@ -61,14 +107,22 @@ fn any_unrelated<H: Holds>(h: &H, rho: RelId, a: &Assign, group: &StepSet, step:
 }
 
 // Whether every member is assigned and unrelated to the step.
-fn all_unrelated<H: Holds>(h: &H, rho: RelId, a: &Assign, group: &StepSet, step: StepId) -> bool
+fn all_unrelated<H: Holds>(
+    h: &H,
+    rho: RelId,
+    back: bool,
+    a: &Assign,
+    group: &StepSet,
+    step: StepId,
+) -> bool
     ensures { result ≡ all_from 0 group.now
-        (λ x. are_unrelated (H.related h.now) rho (user_at a.now x) (user_at a.now step)) }
+        (λ x. are_unrelated (turned back (H.related h.now)) rho
+        (user_at a.now x) (user_at a.now step)) }
 {
     let limit = group.limit();
     'members: for x in 0..limit {
         let member = StepId(x as u8);
-        if group.has(member) && !is_unrelated(h, rho, a.at(member), a.at(step)) {
+        if group.has(member) && !is_unrelated(h, rho, back, a.at(member), a.at(step)) {
             return false;
         }
     }
@@ -76,14 +130,22 @@ fn all_unrelated<H: Holds>(h: &H, rho: RelId, a: &Assign, group: &StepSet, step:
 }
 
 // Whether the user of some member is related to v.
-fn any_related<H: Holds>(h: &H, rho: RelId, plan: &Plan, group: &StepSet, v: UserId) -> bool
+fn any_related<H: Holds>(
+    h: &H,
+    rho: RelId,
+    back: bool,
+    plan: &Plan,
+    group: &StepSet,
+    v: UserId,
+) -> bool
     requires { (x : ℕ) → IsTrue (is_member group.now x) → x < length plan.now }
-    ensures { result ≡ any_from 0 group.now (λ x. H.related h.now rho (planned plan.now x) v) }
+    ensures { result ≡ any_from 0 group.now
+        (λ x. turned back (H.related h.now) rho (planned plan.now x) v) }
 {
     let limit = group.limit();
     'members: for x in 0..limit {
         let member = StepId(x as u8);
-        if group.has(member) && h.holds(rho, plan.at(member), v) {
+        if group.has(member) && is_related(h, rho, back, plan.at(member), v) {
             return true;
         }
     }
@@ -91,14 +153,22 @@ fn any_related<H: Holds>(h: &H, rho: RelId, plan: &Plan, group: &StepSet, v: Use
 }
 
 // Whether the user of every member is related to v.
-fn all_related<H: Holds>(h: &H, rho: RelId, plan: &Plan, group: &StepSet, v: UserId) -> bool
+fn all_related<H: Holds>(
+    h: &H,
+    rho: RelId,
+    back: bool,
+    plan: &Plan,
+    group: &StepSet,
+    v: UserId,
+) -> bool
     requires { (x : ℕ) → IsTrue (is_member group.now x) → x < length plan.now }
-    ensures { result ≡ all_from 0 group.now (λ x. H.related h.now rho (planned plan.now x) v) }
+    ensures { result ≡ all_from 0 group.now
+        (λ x. turned back (H.related h.now) rho (planned plan.now x) v) }
 {
     let limit = group.limit();
     'members: for x in 0..limit {
         let member = StepId(x as u8);
-        if group.has(member) && !h.holds(rho, plan.at(member), v) {
+        if group.has(member) && !is_related(h, rho, back, plan.at(member), v) {
             return false;
         }
     }

@@ -1,13 +1,13 @@
 //! What a rule leaves of a set of users who could be given a free step.
-ghost use Rattle.std.specs.Prelude.{◌≡◌, ◌&&◌, ℕ, ◌<◌, ◌≤◌, IsTrue, List, Option, Some, length, nat_lt, not, slice_set};
+ghost use Rattle.std.specs.Prelude.{◌≡◌, ◌&&◌, ℕ, ◌<◌, ◌≤◌, IsTrue, List, Option, Some, is_some, length, nat_lt, not, slice_set};
 ghost use Rattle.wf_names.specs.declared.limits.TheConstants.{STEP_LIMIT, USER_LIMIT};
 ghost use Rattle.wf_names.specs.UserSets.{has_user};
 ghost use Rattle.constraint_forms.specs.Assigned.{user_at};
-ghost use Rattle.constraint_forms.specs.Kept.{are_unrelated_with, IsBelow};
-ghost use Rattle.constraint_forms.specs.Rules.{all_from, any_from, are_unrelated, is_falsified};
-ghost use Rattle.constraint_forms.specs.declared.rule.Rule.TheVariants.{SomeOf};
+ghost use Rattle.constraint_forms.specs.Kept.{are_unrelated_with, too_few_with, too_many_with, IsBelow};
+ghost use Rattle.constraint_forms.specs.Rules.{all_from, any_from, are_unrelated, is_falsified, turned};
 
-use crate::evaluate::is_unrelated;
+use crate::count::{count_free, count_users, users_of};
+use crate::evaluate::{is_related, is_unrelated};
 use crate::{Assign, Holds, Rule, StepSet};
 use wf_names::{RelId, StepId, UserId, UserSet};
 
@@ -55,13 +55,23 @@ pub fn keep_unfalsified<R: RelatedRows>(
         users,
     };
     match *rule {
-        Rule::Pair { rho, first, second } => keep_related(rows, rho, asked, first, second, set),
+        Rule::Pair { rho, first, second } => {
+            keep_related(rows, rho, false, asked, first, second, set)
+        }
         Rule::SomeOf { rho, group, step } => {
-            keep_related_to_some(rows, rho, asked, &group, step, set)
+            keep_related_to_some(rows, rho, false, asked, &group, step, set)
         }
         Rule::AllOf { rho, group, step } => {
-            keep_related_to_all(rows, rho, asked, &group, step, set)
+            keep_related_to_all(rows, rho, false, asked, &group, step, set)
         }
+        Rule::SomeTo { rho, step, group } => {
+            keep_related_to_some(rows, rho, true, asked, &group, step, set)
+        }
+        Rule::AllTo { rho, step, group } => {
+            keep_related_to_all(rows, rho, true, asked, &group, step, set)
+        }
+        Rule::AtMost { limit, group } => keep_at_most(limit, asked, &group, set),
+        Rule::AtLeast { limit, group } => keep_at_least(limit, asked, &group, set),
     }
 }
 
@@ -69,6 +79,7 @@ pub fn keep_unfalsified<R: RelatedRows>(
 fn keep_related_to_some<R: RelatedRows>(
     rows: &R,
     rho: RelId,
+    back: bool,
     asked: &Asked,
     group: &StepSet,
     step: StepId,
@@ -78,11 +89,13 @@ fn keep_related_to_some<R: RelatedRows>(
     requires users { asked.now.users ≤ USER_LIMIT }
     requires below { IsBelow asked.now.users set.old }
     ensures { (u : ℕ) → has_user set.new u
-        ≡ (has_user set.old u && not (is_falsified (R.related rows.now) (SomeOf rho group.now step)
-        (user_at (slice_set asked.now.given asked.now.s (Some u))))) }
+        ≡ (has_user set.old u && not (is_some (user_at
+        (slice_set asked.now.given asked.now.s (Some u)) step) && all_from 0 group.now
+        (λ x. are_unrelated_with (turned back (R.related rows.now)) rho asked.now.given x step
+        asked.now.s u))) }
 {
     if asked.given.at(step).is_some() || asked.s == step {
-        keep_related_to_member(rows, rho, asked, group, step, set);
+        keep_related_to_member(rows, rho, back, asked, group, step, set);
     }
 }
 
@@ -90,6 +103,7 @@ fn keep_related_to_some<R: RelatedRows>(
 fn keep_related_to_member<R: RelatedRows>(
     rows: &R,
     rho: RelId,
+    back: bool,
     asked: &Asked,
     group: &StepSet,
     step: StepId,
@@ -100,7 +114,8 @@ fn keep_related_to_member<R: RelatedRows>(
     requires below { IsBelow asked.now.users set.old }
     ensures { (u : ℕ) → has_user set.new u
         ≡ (has_user set.old u && not (all_from 0 group.now
-        (λ x. are_unrelated_with (R.related rows.now) rho asked.now.given x step asked.now.s u))) }
+        (λ x. are_unrelated_with (turned back (R.related rows.now)) rho asked.now.given x step
+        asked.now.s u))) }
 {
     let limit = group.limit();
     let mut kept = UserSet::empty();
@@ -108,7 +123,7 @@ fn keep_related_to_member<R: RelatedRows>(
         let member = StepId(x as u8);
         if group.has(member) {
             let mut related = *set;
-            keep_related(rows, rho, asked, member, step, &mut related);
+            keep_related(rows, rho, back, asked, member, step, &mut related);
             kept.join(&related);
         }
     }
@@ -119,6 +134,7 @@ fn keep_related_to_member<R: RelatedRows>(
 fn keep_related_to_all<R: RelatedRows>(
     rows: &R,
     rho: RelId,
+    back: bool,
     asked: &Asked,
     group: &StepSet,
     step: StepId,
@@ -129,13 +145,14 @@ fn keep_related_to_all<R: RelatedRows>(
     requires below { IsBelow asked.now.users set.old }
     ensures { (u : ℕ) → has_user set.new u
         ≡ (has_user set.old u && not (any_from 0 group.now
-        (λ x. are_unrelated_with (R.related rows.now) rho asked.now.given x step asked.now.s u))) }
+        (λ x. are_unrelated_with (turned back (R.related rows.now)) rho asked.now.given x step
+        asked.now.s u))) }
 {
     let limit = group.limit();
     'members: for x in 0..limit {
         let member = StepId(x as u8);
         if group.has(member) {
-            keep_related(rows, rho, asked, member, step, set);
+            keep_related(rows, rho, back, asked, member, step, set);
         }
     }
 }
@@ -144,6 +161,7 @@ fn keep_related_to_all<R: RelatedRows>(
 fn keep_related<R: RelatedRows>(
     rows: &R,
     rho: RelId,
+    back: bool,
     asked: &Asked,
     x: StepId,
     y: StepId,
@@ -154,15 +172,16 @@ fn keep_related<R: RelatedRows>(
     requires below { IsBelow asked.now.users set.old }
     ensures { (u : ℕ) → has_user set.new u
         ≡ (has_user set.old u
-        && not (are_unrelated_with (R.related rows.now) rho asked.now.given x y asked.now.s u)) }
+        && not (are_unrelated_with (turned back (R.related rows.now)) rho asked.now.given x y
+        asked.now.s u)) }
 {
     let (u, v) = (asked.given.at(x), asked.given.at(y));
     match (x == asked.s, y == asked.s) {
         (true, true) => keep_related_to_self(rows, rho, asked.users, set),
-        (true, false) => keep_ahead(rows, rho, v, asked.users, set),
-        (false, true) => keep_after(rows, rho, u, asked.users, set),
+        (true, false) => keep_ahead(rows, rho, back, v, asked.users, set),
+        (false, true) => keep_after(rows, rho, back, u, asked.users, set),
         (false, false) => {
-            if is_unrelated(rows, rho, u, v) {
+            if is_unrelated(rows, rho, back, u, v) {
                 *set = UserSet::empty();
             }
         }
@@ -173,17 +192,18 @@ fn keep_related<R: RelatedRows>(
 fn keep_ahead<R: RelatedRows>(
     rows: &R,
     rho: RelId,
+    back: bool,
     v: Option<UserId>,
     users: u16,
     set: &mut UserSet,
 )
     requires users { users ≤ USER_LIMIT }
     requires below { IsBelow users set.old }
-    ensures { (u : ℕ) → has_user set.new u
-        ≡ (has_user set.old u && not (are_unrelated (R.related rows.now) rho (Some u) v)) }
+    ensures { (u : ℕ) → has_user set.new u ≡ (has_user set.old u
+        && not (are_unrelated (turned back (R.related rows.now)) rho (Some u) v)) }
 {
     if let Some(v) = v {
-        set.meet(&rows.ahead(rho, v, users));
+        set.meet(&related_to(rows, rho, back, v, users));
     }
 }
 
@@ -191,17 +211,31 @@ fn keep_ahead<R: RelatedRows>(
 fn keep_after<R: RelatedRows>(
     rows: &R,
     rho: RelId,
+    back: bool,
     v: Option<UserId>,
     users: u16,
     set: &mut UserSet,
 )
     requires users { users ≤ USER_LIMIT }
     requires below { IsBelow users set.old }
-    ensures { (u : ℕ) → has_user set.new u
-        ≡ (has_user set.old u && not (are_unrelated (R.related rows.now) rho v (Some u))) }
+    ensures { (u : ℕ) → has_user set.new u ≡ (has_user set.old u
+        && not (are_unrelated (turned back (R.related rows.now)) rho v (Some u))) }
 {
     if let Some(v) = v {
-        set.meet(&rows.after(rho, v, users));
+        set.meet(&related_to(rows, rho, !back, v, users));
+    }
+}
+
+// The users who are related to a user; read back, those to whom the user is related.
+fn related_to<R: RelatedRows>(rows: &R, rho: RelId, back: bool, v: UserId, users: u16) -> UserSet
+    requires { users ≤ USER_LIMIT }
+    ensures { (u : ℕ) → has_user result u
+        ≡ (nat_lt u users && turned back (R.related rows.now) rho u v) }
+{
+    if back {
+        rows.after(rho, v, users)
+    } else {
+        rows.ahead(rho, v, users)
     }
 }
 
@@ -215,5 +249,41 @@ fn keep_related_to_self<R: RelatedRows>(rows: &R, rho: RelId, users: u16, set: &
         if set.has(UserId(u)) && !rows.holds(rho, UserId(u), UserId(u)) {
             set.remove(UserId(u));
         }
+    }
+}
+
+// Keeps the users with whom the members have so many users at most.
+fn keep_at_most(limit: u8, asked: &Asked, group: &StepSet, set: &mut UserSet)
+    requires step { asked.now.s < STEP_LIMIT }
+    requires users { asked.now.users ≤ USER_LIMIT }
+    requires below { IsBelow asked.now.users set.old }
+    ensures { (u : ℕ) → has_user set.new u
+        ≡ (has_user set.old u && not (too_many_with limit group.now
+        asked.now.given asked.now.s u)) }
+{
+    let others = asked.given.without(asked.s);
+    let count = count_users(&others, group);
+    if count > limit as usize {
+        *set = UserSet::empty();
+    } else if count == limit as usize && group.has(asked.s) {
+        set.meet(&users_of(&others, group));
+    }
+}
+
+// Keeps the users with whom the members have so many users at least, once the free ones have some.
+fn keep_at_least(limit: u8, asked: &Asked, group: &StepSet, set: &mut UserSet)
+    requires step { asked.now.s < STEP_LIMIT }
+    requires users { asked.now.users ≤ USER_LIMIT }
+    requires below { IsBelow asked.now.users set.old }
+    ensures { (u : ℕ) → has_user set.new u
+        ≡ (has_user set.old u && not (too_few_with limit group.now
+        asked.now.given asked.now.s u)) }
+{
+    let others = asked.given.without(asked.s);
+    let count = count_users(&others, group) + count_free(&others, group);
+    if count < limit as usize {
+        *set = UserSet::empty();
+    } else if count == limit as usize && group.has(asked.s) {
+        set.strike(&users_of(&others, group));
     }
 }

@@ -3,6 +3,7 @@
 #![tactic(auto)]
 
 mod assign;
+mod count;
 mod evaluate;
 mod kept;
 pub mod laws;

@@ -1,6 +1,6 @@
 //! The forms of rules, and what relates users.
 ghost use Rattle.std.specs.Prelude.{◌≡◌, ℕ, Bool};
-ghost use Rattle.constraint_forms.specs.Rules.{names, reads};
+ghost use Rattle.constraint_forms.specs.Rules.{names, reads, relation_of};
 
 use crate::StepSet;
 use wf_names::{RelId, StepId, UserId};
@@ -26,6 +26,28 @@ pub enum Rule {
         group: StepSet,
         step: StepId,
     },
+    /// The user of the step is related to the user of some step of the group.
+    SomeTo {
+        rho: RelId,
+        step: StepId,
+        group: StepSet,
+    },
+    /// The user of the step is related to the user of every step of the group.
+    AllTo {
+        rho: RelId,
+        step: StepId,
+        group: StepSet,
+    },
+    /// The steps of the group have so many users at most.
+    AtMost {
+        limit: u8,
+        group: StepSet,
+    },
+    /// The steps of the group have so many users at least.
+    AtLeast {
+        limit: u8,
+        group: StepSet,
+    },
 }
 
 impl Rule {
@@ -37,6 +59,25 @@ impl Rule {
             Rule::Pair { first, second, .. } => s == first || s == second,
             Rule::SomeOf { group, step, .. } => s == step || group.has(s),
             Rule::AllOf { group, step, .. } => s == step || group.has(s),
+            Rule::SomeTo { group, step, .. } => s == step || group.has(s),
+            Rule::AllTo { group, step, .. } => s == step || group.has(s),
+            Rule::AtMost { group, .. } => group.has(s),
+            Rule::AtLeast { group, .. } => group.has(s),
+        }
+    }
+
+    /// The relation that the rule reads, if it reads one.
+    pub fn relation(&self) -> Option<RelId>
+        ensures { result ≡ relation_of self.now }
+    {
+        match *self {
+            Rule::Pair { rho, .. } => Some(rho),
+            Rule::SomeOf { rho, .. } => Some(rho),
+            Rule::AllOf { rho, .. } => Some(rho),
+            Rule::SomeTo { rho, .. } => Some(rho),
+            Rule::AllTo { rho, .. } => Some(rho),
+            Rule::AtMost { .. } => None,
+            Rule::AtLeast { .. } => None,
         }
     }
 
@@ -44,10 +85,9 @@ impl Rule {
     pub fn reads(&self, rho: RelId) -> bool
         ensures { result ≡ reads self.now rho }
     {
-        match *self {
-            Rule::Pair { rho: own, .. } => rho == own,
-            Rule::SomeOf { rho: own, .. } => rho == own,
-            Rule::AllOf { rho: own, .. } => rho == own,
+        match self.relation() {
+            Some(own) => rho == own,
+            None => false,
         }
     }
 }

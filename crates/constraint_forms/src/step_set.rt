@@ -2,6 +2,7 @@
 ghost use Rattle.std.specs.Prelude.{◌≡◌, ℕ, ◌<◌, false, true, length, slice_set};
 ghost use Rattle.wf_names.specs.declared.limits.TheConstants.{STEP_LIMIT};
 ghost use Rattle.constraint_forms.specs.Assigned.{is_member, no_steps};
+ghost use Rattle.constraint_forms.specs.Rules.{count_members};
 
 use std::marker::Model;
 use wf_names::{STEP_LIMIT, StepId};
@@ -55,6 +56,20 @@ impl StepSet {
         ensures len { length self.now ≡ STEP_LIMIT }
     {
         (s.0 as usize) < STEP_LIMIT && self.bits >> s.0 & 1 == 1
+    }
+
+    /// How many steps are in the set.
+    pub fn count(&self) -> u8
+        ensures { result ≡ count_members self.now }
+    {
+        let limit = self.limit();
+        let mut count = 0;
+        'steps: for s in 0..limit {
+            if self.has(StepId(s as u8)) {
+                count += 1;
+            }
+        }
+        count
     }
 
     /// How many steps have a flag, members or not.

@@ -1,8 +1,8 @@
 //! Which step of a case to try next.
 
 use crate::bits::{bit, has_bit, pop};
-use crate::problem::{Law, Over, Problem, Relation};
-use crate::rows::{add_user, clear, count, has_user, is_empty, join, meet, put, take_user};
+use crate::problem::{Demand, Law, Over, Problem};
+use crate::rows::{add_user, clear, count, has_user, is_empty, join, meet, put, strike, take_user};
 use crate::work::Work;
 use constraint_forms::Assign;
 use wf_names::{STEP_LIMIT, StepId};
@@ -110,13 +110,58 @@ fn count_candidates(problem: &Problem, work: &mut Work, a: &Assign, s: u8) -> u3
 
 /// Keeps in the spare row those whom a rule admits for a step.
 pub(crate) fn restrict(problem: &Problem, work: &mut Work, law: &Law, a: &Assign, s: u8) {
-    if law.some {
-        restrict_some(problem, work, law, a, s);
-    } else if law.step == s {
+    match law.demand {
+        Demand::Some => restrict_some(problem, work, law, a, s),
+        Demand::Each => restrict_each(problem, work, law, a, s),
+        Demand::AtMost(most) => restrict_at_most(work, law, a, s, most),
+        Demand::AtLeast(least) => restrict_at_least(work, law, a, s, least),
+    }
+}
+
+fn restrict_each(problem: &Problem, work: &mut Work, law: &Law, a: &Assign, s: u8) {
+    if law.step == s {
         restrict_last(problem, work, law, a);
     } else if let Some(v) = holder(a, law.step) {
         keep_back(problem, work, law.over, v);
     }
+}
+
+// Where the other members have as many users as there may be, one of them stays.
+fn restrict_at_most(work: &mut Work, law: &Law, a: &Assign, s: u8, most: u32) {
+    find_users(work, a, law.group & !bit(s));
+    let users = count(work.taken.row(0));
+    if users > most {
+        clear(work.spare.row_mut(0));
+    } else if users == most {
+        let _ = meet(work.spare.row_mut(0), work.taken.row(0));
+    }
+}
+
+// Where each free member is needed for one more user, those stay who have no other member.
+fn restrict_at_least(work: &mut Work, law: &Law, a: &Assign, s: u8, least: u32) {
+    let others = law.group & !bit(s);
+    let users = find_users(work, a, others);
+    let reach = count(work.taken.row(0)).saturating_add(users);
+    if reach.saturating_add(1) < least {
+        clear(work.spare.row_mut(0));
+    } else if reach < least {
+        strike(work.spare.row_mut(0), work.taken.row(0));
+    }
+}
+
+// Finds the users of some steps, and tells how many of the steps are free.
+fn find_users(work: &mut Work, a: &Assign, steps: u32) -> u32 {
+    clear(work.taken.row_mut(0));
+    let mut left = steps;
+    let mut free = 0u32;
+    for _ in 0..32u8 {
+        let Some(x) = pop(&mut left) else { break };
+        match holder(a, x) {
+            Some(u) => add_user(work.taken.row_mut(0), u),
+            None => free = free.saturating_add(1),
+        }
+    }
+    free
 }
 
 fn holder(a: &Assign, s: u8) -> Option<u16> {
@@ -124,10 +169,6 @@ fn holder(a: &Assign, s: u8) -> Option<u16> {
         Some(user) => Some(user.0),
         None => None,
     }
-}
-
-fn relation_at(problem: &Problem, at: u8) -> Option<&Relation> {
-    problem.relations.get(at as usize)
 }
 
 // Each member of the group that is assigned is to be related to the user of the rule's step.
@@ -148,9 +189,9 @@ fn keep_own(problem: &Problem, work: &mut Work, over: Over) {
     match over {
         Over::Same => {}
         Over::Other => clear(work.spare.row_mut(0)),
-        Over::Declared(at) => {
-            if let Some(relation) = relation_at(problem, at) {
-                let _ = meet(work.spare.row_mut(0), relation.own.row(0));
+        Over::Declared(at, back) => {
+            if let Some(link) = problem.link(at, back) {
+                let _ = meet(work.spare.row_mut(0), link.own.row(0));
             }
         }
     }
@@ -161,9 +202,9 @@ fn keep_ahead(problem: &Problem, work: &mut Work, over: Over, u: u16) {
     match over {
         Over::Same => keep_only(work, u),
         Over::Other => take_user(work.spare.row_mut(0), u),
-        Over::Declared(at) => {
-            if let Some(relation) = relation_at(problem, at) {
-                let _ = meet(work.spare.row_mut(0), relation.ahead.row(u as usize));
+        Over::Declared(at, back) => {
+            if let Some(link) = problem.link(at, back) {
+                let _ = meet(work.spare.row_mut(0), link.ahead.row(u as usize));
             }
         }
     }
@@ -174,9 +215,9 @@ fn keep_back(problem: &Problem, work: &mut Work, over: Over, v: u16) {
     match over {
         Over::Same => keep_only(work, v),
         Over::Other => take_user(work.spare.row_mut(0), v),
-        Over::Declared(at) => {
-            if let Some(relation) = relation_at(problem, at) {
-                let _ = meet(work.spare.row_mut(0), relation.back.row(v as usize));
+        Over::Declared(at, back) => {
+            if let Some(link) = problem.link(at, back) {
+                let _ = meet(work.spare.row_mut(0), link.back.row(v as usize));
             }
         }
     }
@@ -234,8 +275,8 @@ fn are_related(problem: &Problem, over: Over, u: u16, v: u16) -> bool {
     match over {
         Over::Same => u == v,
         Over::Other => u != v,
-        Over::Declared(at) => match relation_at(problem, at) {
-            Some(relation) => has_user(relation.ahead.row(u as usize), v),
+        Over::Declared(at, back) => match problem.link(at, back) {
+            Some(link) => has_user(link.ahead.row(u as usize), v),
             None => true,
         },
     }
@@ -260,9 +301,9 @@ fn add_own(problem: &Problem, work: &mut Work, over: Over) {
     match over {
         Over::Same => join(work.taken.row_mut(0), work.spare.row(0)),
         Over::Other => {}
-        Over::Declared(at) => {
-            if let Some(relation) = relation_at(problem, at) {
-                join(work.taken.row_mut(0), relation.own.row(0));
+        Over::Declared(at, back) => {
+            if let Some(link) = problem.link(at, back) {
+                join(work.taken.row_mut(0), link.own.row(0));
             }
         }
     }
@@ -278,9 +319,9 @@ fn add_ahead(problem: &Problem, work: &mut Work, over: Over, u: u16) {
                 take_user(work.taken.row_mut(0), u);
             }
         }
-        Over::Declared(at) => {
-            if let Some(relation) = relation_at(problem, at) {
-                join(work.taken.row_mut(0), relation.ahead.row(u as usize));
+        Over::Declared(at, back) => {
+            if let Some(link) = problem.link(at, back) {
+                join(work.taken.row_mut(0), link.ahead.row(u as usize));
             }
         }
     }

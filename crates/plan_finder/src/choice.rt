@@ -88,7 +88,7 @@ fn share_of_block(problem: &Problem, state: &State, work: &Work, b: u8) -> Share
 
 fn is_declared(over: Over) -> bool {
     match over {
-        Over::Declared(_) => true,
+        Over::Declared(..) => true,
         Over::Same | Over::Other => false,
     }
 }

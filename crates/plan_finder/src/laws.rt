@@ -5,7 +5,7 @@ use crate::links::{
     add_ahead, keep_block, keep_options, keep_step, make_other, make_related, make_same,
 };
 use crate::matching::can_match;
-use crate::problem::{Law, Over, Problem, Relation};
+use crate::problem::{Demand, Law, Link, Over, Problem};
 use crate::rows::{clear, count, has_user, is_empty, join, only_user, take_user};
 use crate::state::State;
 use crate::work::Work;
@@ -81,14 +81,54 @@ fn follow(
     law: &Law,
     todo: &mut u32,
 ) -> bool {
-    if !law.some {
-        return follow_each(problem, state, work, law, todo);
+    match law.demand {
+        Demand::Each => follow_each(problem, state, work, law, todo),
+        Demand::Some => follow_some(problem, state, work, law, todo),
+        Demand::AtMost(most) => follow_at_most(state, law, most),
+        Demand::AtLeast(least) => follow_at_least(state, law, least),
     }
+}
+
+// Where the closed members have as many users as there may be, the open ones have one of them.
+fn follow_at_most(state: &mut State, law: &Law, most: u32) -> bool {
+    let homes = homes_of(state, law.group & !state.open);
+    let count = homes.count_ones();
+    count <= most && (count < most || keep_options_of(state, law.group & state.open, homes))
+}
+
+// Where each open member is needed for one more user, none has a user of the closed ones.
+fn follow_at_least(state: &mut State, law: &Law, least: u32) -> bool {
+    let open = law.group & state.open;
+    let homes = homes_of(state, law.group & !state.open);
+    let count = homes.count_ones().saturating_add(open.count_ones());
+    count >= least && (count > least || keep_options_of(state, open, !homes))
+}
+
+// Keeps of the options of open steps those in a set, and tells whether each keeps one.
+fn keep_options_of(state: &mut State, steps: u32, set: u32) -> bool {
+    let mut left = steps;
+    for _ in 0..32u8 {
+        let Some(t) = pop(&mut left) else { break };
+        if !keep_options(state, t, set) {
+            return false;
+        }
+    }
+    true
+}
+
+// Some member of the group is to be related to the step.
+fn follow_some(
+    problem: &Problem,
+    state: &mut State,
+    work: &mut Work,
+    law: &Law,
+    todo: &mut u32,
+) -> bool {
     match law.over {
         Over::Same => follow_some_plain(state, law, true),
         Over::Other => follow_some_plain(state, law, false),
-        Over::Declared(at) => match problem.relations.get(at as usize) {
-            Some(relation) => follow_some(problem, relation, state, work, law, todo),
+        Over::Declared(at, back) => match problem.link(at, back) {
+            Some(link) => follow_some_related(problem, link, state, work, law, todo),
             None => true,
         },
     }
@@ -108,10 +148,8 @@ fn follow_each(
         let met = match law.over {
             Over::Same => make_same(state, x, law.step),
             Over::Other => make_other(state, x, law.step),
-            Over::Declared(at) => match problem.relations.get(at as usize) {
-                Some(relation) => {
-                    make_related(problem, relation, state, work, x, law.step, todo)
-                }
+            Over::Declared(at, back) => match problem.link(at, back) {
+                Some(link) => make_related(problem, link, state, work, x, law.step, todo),
                 None => true,
             },
         };
@@ -173,9 +211,9 @@ fn some_member(state: &State, law: &Law, steps: u32, same: bool) -> bool {
 }
 
 // Some member of the group is to be related to the step: looked at where no other step is open.
-fn follow_some(
+fn follow_some_related(
     problem: &Problem,
-    relation: &Relation,
+    link: Link<'_>,
     state: &mut State,
     work: &mut Work,
     law: &Law,
@@ -187,11 +225,11 @@ fn follow_some(
     }
     clear(work.spare.row_mut(0));
     if has_bit(law.group, law.step) {
-        join(work.spare.row_mut(0), relation.own.row(0));
+        join(work.spare.row_mut(0), link.own.row(0));
     }
     for _ in 0..32u8 {
         let Some(x) = pop(&mut group) else { break };
-        add_ahead(problem, relation, state, work, x);
+        add_ahead(problem, link, state, work, x);
     }
     if state.is_open(law.step) {
         keep_step(state, work, law.step)

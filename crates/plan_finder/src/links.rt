@@ -1,7 +1,7 @@
 //! What a rule between two steps leaves to their blocks.
 
 use crate::bits::bit;
-use crate::problem::{Problem, Relation};
+use crate::problem::{Link, Problem};
 use crate::rows::{clear, is_empty, meet, unite};
 use crate::state::State;
 use crate::work::Work;
@@ -43,7 +43,7 @@ pub(crate) fn keep_options(state: &mut State, s: u8, set: u32) -> bool {
 /// blocks that lose users go to `todo`.
 pub(crate) fn make_related(
     problem: &Problem,
-    relation: &Relation,
+    link: Link<'_>,
     state: &mut State,
     work: &mut Work,
     x: u8,
@@ -53,52 +53,52 @@ pub(crate) fn make_related(
     match (state.is_open(x), state.is_open(s)) {
         (true, true) => true,
         (true, false) => {
-            reach_back(problem, relation, state, work, s);
+            reach_back(problem, link, state, work, s);
             keep_step(state, work, x)
         }
         (false, true) => {
-            reach_ahead(problem, relation, state, work, x);
+            reach_ahead(problem, link, state, work, x);
             keep_step(state, work, s)
         }
         (false, false) if state.home(x) == state.home(s) => {
-            keep_own(relation, state, state.home(x), todo)
+            keep_own(link, state, state.home(x), todo)
         }
         (false, false) => {
-            reach_ahead(problem, relation, state, work, x);
+            reach_ahead(problem, link, state, work, x);
             if !keep_block(state, work, state.home(s), todo) {
                 return false;
             }
-            reach_back(problem, relation, state, work, s);
+            reach_back(problem, link, state, work, s);
             keep_block(state, work, state.home(x), todo)
         }
     }
 }
 
 // Into the spare row go those to whom some user of a step's block is related.
-fn reach_ahead(problem: &Problem, relation: &Relation, state: &State, work: &mut Work, x: u8) {
+fn reach_ahead(problem: &Problem, link: Link<'_>, state: &State, work: &mut Work, x: u8) {
     clear(work.spare.row_mut(0));
-    add_ahead(problem, relation, state, work, x);
+    add_ahead(problem, link, state, work, x);
 }
 
 /// To the spare row come those to whom some user of a step's block is related.
 pub(crate) fn add_ahead(
     problem: &Problem,
-    relation: &Relation,
+    link: Link<'_>,
     state: &State,
     work: &mut Work,
     x: u8,
 ) {
     let from = state.block(state.home(x));
     let _ = work.spend((crate::rows::count(from) as usize).saturating_mul(problem.width));
-    unite(work.spare.row_mut(0), from, &relation.ahead);
+    unite(work.spare.row_mut(0), from, &link.ahead);
 }
 
 // Into the spare row go those who are related to some user of a step's block.
-fn reach_back(problem: &Problem, relation: &Relation, state: &State, work: &mut Work, s: u8) {
+fn reach_back(problem: &Problem, link: Link<'_>, state: &State, work: &mut Work, s: u8) {
     let from = state.block(state.home(s));
     let _ = work.spend((crate::rows::count(from) as usize).saturating_mul(problem.width));
     clear(work.spare.row_mut(0));
-    unite(work.spare.row_mut(0), from, &relation.back);
+    unite(work.spare.row_mut(0), from, &link.back);
 }
 
 /// An open step keeps the users of the spare row. Tells whether one is left.
@@ -116,8 +116,8 @@ pub(crate) fn keep_block(state: &mut State, work: &Work, b: u8, todo: &mut u32) 
 }
 
 // A block keeps the users who are related to themselves. Tells whether one is left.
-fn keep_own(relation: &Relation, state: &mut State, b: u8, todo: &mut u32) -> bool {
-    if meet(state.block_mut(b), relation.own.row(0)) {
+fn keep_own(link: Link<'_>, state: &mut State, b: u8, todo: &mut u32) -> bool {
+    if meet(state.block_mut(b), link.own.row(0)) {
         *todo |= bit(b);
     }
     !is_empty(state.block(b))

@@ -16,19 +16,42 @@ pub(crate) enum Over {
     Same,
     /// Two users.
     Other,
-    /// A declared relation, by its place among those of the problem.
-    Declared(u8),
+    /// A declared relation, by its place among those of the problem; read from the member to the
+    /// step, or back.
+    Declared(u8, bool),
 }
 
-/// A rule: some member of the group, or each, is related to the step.
+/// What a law asks of its group.
+#[derive(Clone, Copy, PartialEq, Eq)]
+pub(crate) enum Demand {
+    /// Some member is related to the step.
+    Some,
+    /// Each member is related to the step.
+    Each,
+    /// The members have so many users at most.
+    AtMost(u32),
+    /// The members have so many users at least.
+    AtLeast(u32),
+}
+
+/// A rule, as the search sees it.
 #[derive(Clone, Copy)]
 pub(crate) struct Law {
-    pub(crate) some: bool,
+    pub(crate) demand: Demand,
     pub(crate) over: Over,
     pub(crate) group: u32,
+    /// The step; a member where the law has none.
     pub(crate) step: u8,
     /// The group and the step.
     pub(crate) scope: u32,
+}
+
+/// The rows of a relation as a law reads it.
+#[derive(Clone, Copy)]
+pub(crate) struct Link<'r> {
+    pub(crate) ahead: &'r Rows,
+    pub(crate) back: &'r Rows,
+    pub(crate) own: &'r Rows,
 }
 
 /// A declared relation: for each user those to whom they are related, and those who are related to
@@ -36,9 +59,9 @@ pub(crate) struct Law {
 #[derive(Drop)]
 pub(crate) struct Relation {
     rho: RelId,
-    pub(crate) ahead: Rows,
-    pub(crate) back: Rows,
-    pub(crate) own: Rows,
+    ahead: Rows,
+    back: Rows,
+    own: Rows,
 }
 
 /// A workflow's steps and rules over the users of its policy.
@@ -53,6 +76,21 @@ pub(crate) struct Problem {
 }
 
 impl Problem {
+    /// The rows of a relation, as they are or read back.
+    pub(crate) fn link(&self, at: u8, back: bool) -> Option<Link<'_>> {
+        let relation = self.relations.get(at as usize)?;
+        let (ahead, behind) = if back {
+            (&relation.back, &relation.ahead)
+        } else {
+            (&relation.ahead, &relation.back)
+        };
+        Some(Link {
+            ahead,
+            back: behind,
+            own: &relation.own,
+        })
+    }
+
     /// The problem of a workflow.
     pub(crate) fn new(alloc: Global, p: &Policy, f: FlowId) -> Result<Problem, AllocError>
         requires { f < length p.now.flows }
@@ -97,22 +135,56 @@ fn read_law(
     match rule {
         Rule::Pair { rho, first, second } => {
             let over = read_over(alloc, p, rho, width, relations)?;
-            Ok(make_law(false, over, bit(first.0), second.0))
+            Ok(make_law(Demand::Each, over, bit(first.0), second.0))
         }
         Rule::SomeOf { rho, group, step } => {
             let over = read_over(alloc, p, rho, width, relations)?;
-            Ok(make_law(true, over, bits_of(&group), step.0))
+            Ok(make_law(Demand::Some, over, bits_of(&group), step.0))
         }
         Rule::AllOf { rho, group, step } => {
             let over = read_over(alloc, p, rho, width, relations)?;
-            Ok(make_law(false, over, bits_of(&group), step.0))
+            Ok(make_law(Demand::Each, over, bits_of(&group), step.0))
         }
+        Rule::SomeTo { rho, step, group } => {
+            let over = turned(read_over(alloc, p, rho, width, relations)?);
+            Ok(make_law(Demand::Some, over, bits_of(&group), step.0))
+        }
+        Rule::AllTo { rho, step, group } => {
+            let over = turned(read_over(alloc, p, rho, width, relations)?);
+            Ok(make_law(Demand::Each, over, bits_of(&group), step.0))
+        }
+        Rule::AtMost { limit, group } => Ok(counting_law(
+            Demand::AtMost(limit as u32),
+            bits_of(&group),
+        )),
+        Rule::AtLeast { limit, group } => Ok(counting_law(
+            Demand::AtLeast(limit as u32),
+            bits_of(&group),
+        )),
     }
 }
 
-fn make_law(some: bool, over: Over, group: u32, step: u8) -> Law {
+// The same relation, read back.
+fn turned(over: Over) -> Over {
+    match over {
+        Over::Declared(at, back) => Over::Declared(at, !back),
+        _ => over,
+    }
+}
+
+fn counting_law(demand: Demand, group: u32) -> Law {
     Law {
-        some,
+        demand,
+        over: Over::Same,
+        group,
+        step: (group.trailing_zeros() & 31) as u8,
+        scope: group,
+    }
+}
+
+fn make_law(demand: Demand, over: Over, group: u32, step: u8) -> Law {
+    Law {
+        demand,
         over,
         group,
         step,
@@ -147,13 +219,13 @@ fn read_over(
     }
     for (at, known) in relations.as_slice().iter().enumerate() {
         if known.rho == rho {
-            return Ok(Over::Declared((at & 0xff) as u8));
+            return Ok(Over::Declared((at & 0xff) as u8, false));
         }
     }
     let place = relations.len();
     let relation = read_relation(alloc, p, rho, width)?;
     relations.push(relation)?;
-    Ok(Over::Declared((place & 0xff) as u8))
+    Ok(Over::Declared((place & 0xff) as u8, false))
 }
 
 fn read_relation(

@@ -131,7 +131,7 @@ pub struct Clue {
 fn found_clue(problem: &Problem, u: u16, v: u16) -> Option<Clue> {
     let mut seen = 0u32;
     for (k, law) in problem.laws.as_slice().iter().enumerate() {
-        if let Over::Declared(at) = law.over {
+        if let Over::Declared(at, _) = law.over {
             if !has_bit(seen, at) {
                 seen |= bit(at);
                 if let Some(user) = third_user(problem, at, u, v) {
@@ -147,17 +147,17 @@ fn found_clue(problem: &Problem, u: u16, v: u16) -> Option<Clue> {
 }
 
 fn third_user(problem: &Problem, at: u8, u: u16, v: u16) -> Option<u16> {
-    let relation = problem.relations.get(at as usize)?;
+    let link = problem.link(at, false)?;
     match first_apart(
-        relation.ahead.row(u as usize),
-        relation.ahead.row(v as usize),
+        link.ahead.row(u as usize),
+        link.ahead.row(v as usize),
         u,
         v,
     ) {
         Some(user) => Some(user),
         None => first_apart(
-            relation.back.row(u as usize),
-            relation.back.row(v as usize),
+            link.back.row(u as usize),
+            link.back.row(v as usize),
             u,
             v,
         ),

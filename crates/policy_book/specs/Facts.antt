@@ -1,13 +1,13 @@
 -- What every policy keeps.
-use Rattle.std.specs.Prelude.{◌≡◌, ℕ, ◌+◌, ◌<◌, ◌≤◌, true, List, length, Some, slice_get, IsTrue}
+use Rattle.std.specs.Prelude.{◌≡◌, ℕ, ◌+◌, ◌<◌, ◌≤◌, Bool, true, List, length, Some, slice_get, IsTrue}
 use Rattle.std.specs.FinSet as set
 use Rattle.wf_names.specs.declared.limits.TheConstants.{FLOW_LIMIT, ROLE_LIMIT, RULE_LIMIT, USER_LIMIT}
 use Rattle.workflow_schema.specs.Flows.{FlowShape}
 use Rattle.pair_set.specs.Pairs.{Pairs, AllPairs}
 use Rattle.user_relations.specs.Relations.{RelationShape, listed, kind_of}
 use Rattle.constraint_forms.specs.declared.rule.Rule.{Rule}
-use Rattle.constraint_forms.specs.declared.rule.Rule.TheVariants.{Pair, SomeOf, AllOf}
-use Rattle.constraint_forms.specs.Rules.{any_from, reads, IsRuleOf}
+use Rattle.constraint_forms.specs.declared.rule.Rule.TheVariants.{Pair, SomeOf, AllOf, SomeTo, AllTo, AtMost, AtLeast}
+use Rattle.constraint_forms.specs.Rules.{any_from, count_members, reads, IsRuleOf}
 use Rattle.policy_book.specs.Shapes.{PolicyShape, WorkflowShape}
 use Rattle.policy_book.specs.Policies.{flow_at}
 
@@ -15,11 +15,19 @@ use Rattle.policy_book.specs.Policies.{flow_at}
 abbrev pub AreOfUsers : ℕ → List RelationShape → Type 0
 AreOfUsers users relations = (rho : ℕ) (pairs : Pairs) → kind_of relations rho ≡ Some (listed pairs) → AllPairs (λ u v. (u < users) × (v < users)) pairs
 
--- a rule over a group of steps has some step in it
+-- a number of users that a group can have: from 1 to the number of its steps
+abbrev pub IsWithinGroup : ℕ → List Bool → Type 0
+IsWithinGroup limit group = (0 < limit) × (limit ≤ count_members group)
+
+-- a rule over a group of steps has some step in it, and a number is one that the group can have
 abbrev pub HasMembers : Rule → Type 0
 HasMembers (Pair rho first second) = Unit {0}
 HasMembers (SomeOf rho group step) = IsTrue (any_from 0 group (λ _. true))
 HasMembers (AllOf rho group step) = IsTrue (any_from 0 group (λ _. true))
+HasMembers (SomeTo rho step group) = IsTrue (any_from 0 group (λ _. true))
+HasMembers (AllTo rho step group) = IsTrue (any_from 0 group (λ _. true))
+HasMembers (AtMost limit group) = IsWithinGroup limit group
+HasMembers (AtLeast limit group) = IsWithinGroup limit group
 
 -- a rule of a workflow with so many steps, under so many declared relations
 pub record IsSoundRule (steps relations : ℕ) (rule : Rule) : Type 0 where

@@ -3,7 +3,7 @@ use Rattle.std.proofs.Common.{◌≡◌, ℕ, zero, suc, ◌+◌, ◌≤◌, Boo
 use Rattle.constraint_forms.specs.declared.rule.Rule.TheVariants as rule
 use Rattle.policy_printer.proofs.Words.{nat_cmp, match_ordering, slice_cmp, and_both, and_from, Data, string, integer, array, table, Members, no_members, member, depth, items_depth, members_depth, has_valid_dates, members_have_valid_dates, items_of, Rule, has_role, RelationShape, complement_of, PolicyShape, WorkflowShape, flow_at, format_number, written_format, first_declared, with_member, table_below, name_at, names_where, pair_data, pairs_data, relation_entry, rule_data, flow_entry, permit_entry, user_entry, Pairs}
 use Rattle.policy_reader.specs.declared.form.Form.{Form}
-use Rattle.policy_printer.specs.Documents.{kind_members, grouped_members, rule_members, workflow_members, document_of}
+use Rattle.policy_printer.specs.Documents.{kind_members, grouped_members, rule_members, workflow_members, document_of, counting_members}
 
 record IsPlain (n : ℕ) (d : Data) : Type 0 where
   levels : depth d ≤ n
@@ -76,11 +76,21 @@ grouped_plain : (form : Form) (relations : List RelationShape) (steps : List (Li
 unfolding grouped_members
 grouped_plain form relations steps rho group step = text 1 _ & names_plain 0 steps _ & text 1 _ & text 1 _ & none 1
 
+counting_plain : (form : Form) (steps : List (List ℕ)) (limit : ℕ) (group : List Bool) → ArePlain 1 (counting_members form steps limit group)
+unfolding counting_members
+counting_plain form steps limit group =
+    let number : IsPlain 1 (integer (pos limit)) = record { levels = omega arith; dates = refl } in
+    text 1 _ & names_plain 0 steps _ & number & none 1
+
 rule_plain : (relations : List RelationShape) (steps : List (List ℕ)) (r : Rule) → ArePlain 1 (rule_members relations steps r)
 unfolding rule_members
 rule_plain relations steps (rule.Pair rho s t) = text 1 _ & text 1 _ & text 1 _ & text 1 _ & none 1
 rule_plain relations steps (rule.SomeOf rho group s) = grouped_plain _ relations steps rho group s
 rule_plain relations steps (rule.AllOf rho group s) = grouped_plain _ relations steps rho group s
+rule_plain relations steps (rule.SomeTo rho s group) = grouped_plain _ relations steps rho group s
+rule_plain relations steps (rule.AllTo rho s group) = grouped_plain _ relations steps rho group s
+rule_plain relations steps (rule.AtMost limit group) = counting_plain _ steps limit group
+rule_plain relations steps (rule.AtLeast limit group) = counting_plain _ steps limit group
 
 workflow_plain : (roles : List (List ℕ)) (relations : List RelationShape) (w : WorkflowShape) → ArePlain 3 (workflow_members roles relations w)
 unfolding workflow_members
@@ -95,7 +105,7 @@ workflow_plain roles relations w =
 pub document_plain : (p : PolicyShape) → ArePlain 5 (document_of p)
 unfolding document_of
 document_plain p =
-    let format : IsPlain 5 (integer (pos (format_number written_format))) = record { levels = omega arith; dates = refl } in
+    let format : IsPlain 5 (integer (pos (format_number (written_format p)))) = record { levels = omega arith; dates = refl } in
     text 5 _
     & below_plain 4 (length p.flows) (flow_entry p) (λ f. plain_table 3 _ (workflow_plain p.roster.roles p.relations (flow_at p f)))
     & format

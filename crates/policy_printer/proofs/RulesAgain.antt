@@ -1,13 +1,17 @@
 -- The rules of a workflow are read from what they are written as.
 use Rattle.std.proofs.Common.{◌≡◌, ℕ, zero, suc, ◌+◌, ◌<◌, ◌≤◌, Bool, true, false, cond, nat_eq, List, [], ◌∷◌, ◌++◌, length, map, refl, sym, ap, ◌∙◌, arith, codes, Some, Ok, slice_set, slice_get, replicate}
 use Rattle.constraint_forms.specs.declared.rule.Rule.TheVariants as rule
-use Rattle.policy_printer.proofs.Words.{length-map, not_true, or_left, or_right, eq_same, each, string, Members, get_member, AreNames, STEP_LIMIT, RULE_LIMIT, RelationShape, known_names, is_member, Rule, IsSoundRule, AreSoundRules, Flows, name_at, names_where, chosen, rule_data, rules_data, HasFlags, HaveFlags}
+use Rattle.policy_printer.proofs.Words.{length-map, not_true, or_left, or_right, eq_same, each, string, Members, get_member, AreNames, STEP_LIMIT, RULE_LIMIT, RelationShape, known_names, is_member, Rule, IsSoundRule, AreSoundRules, Flows, name_at, names_where, chosen, rule_data, rules_data, HasFlags, HaveFlags, Format, form_of, has_form, le_yes}
 use Rattle.constraint_forms.specs.Assigned.{no_steps}
-use Rattle.constraint_forms.specs.Rules.{any_from}
+use Rattle.constraint_forms.specs.Rules.{any_from, count_members}
 use Rattle.policy_reader.specs.Parts.{value_at, array_in, table_in, text_in, named_in, once, no_others, known_key}
-use Rattle.policy_reader.specs.Rules.{relation_in, step_in, next_member, group_in, relation_at, step_at, group_at, key_in, keys_in, pair_in, grouped_in, form_in, rule_of_form, rule_in, next_rule, rules_in, rules_of}
-use Rattle.policy_printer.specs.Documents.{rule_members, grouped_members}
+use Rattle.policy_reader.specs.Rules.{relation_in, step_in, next_member, group_in, relation_at, step_at, group_at, limit_at, limit_in, key_in, keys_in, counting_keys_in, counting_in, pair_in, grouped_in, form_in, rule_of_form, rule_in, next_rule, rules_in, rules_of}
+use Rattle.policy_printer.specs.Documents.{rule_members, counting_members, grouped_members}
 use Rattle.policy_printer.proofs.Readings.{list_back, chosen_back, got_middle, items_back, text_at, number_back, at_least-ok, at_most-ok}
+
+-- a format has the forms of rules
+abbrev pub HaveForms : Format → List Rule → Type 0
+HaveForms format rules = (k : ℕ) (r : Rule) → slice_get rules k ≡ Some r → has_form format (form_of r) ≡ true
 
 -- ---- groups
 
@@ -82,6 +86,11 @@ module _ (f : ℕ) (steps : List (List ℕ)) (named : AreNames steps) where
 
   -- ---- rules
 
+  some_of_count : (k : ℕ) (g : List Bool) → 0 < count_members g → any_from k g (λ _. true) ≡ true
+  some_of_count k [] h = absurd (omega (arith, h))
+  some_of_count k (true ∷ g) h = refl
+  some_of_count k (false ∷ g) h = some_of_count (k + 1) g (omega (arith, h))
+
   module _ (relations : List RelationShape) (related : AreNames (known_names relations)) where
     relation_again : (rho : ℕ) → rho < length relations + 2 → relation_in f relations (string (name_at (known_names relations) rho)) ≡ Ok rho
     unfolding relation_in text_in
@@ -91,29 +100,40 @@ module _ (f : ℕ) (steps : List (List ℕ)) (named : AreNames steps) where
     unfolding step_in named_in text_in
     step_again s lt = number_back Flows f steps s named lt
 
-    rule_again : (r : Rule) → IsSoundRule (length steps) (length relations) r → HasFlags r → rule_in f relations steps (rule_data relations steps r) ≡ Ok r
-    unfolding rule_in form_in rule_of_form keys_in key_in relation_at step_at group_at pair_in grouped_in value_at table_in no_others known_key rule_members grouped_members
-    rule_again (rule.Pair rho s t) h flags = rw (relation_again rho (h.known rho (eq_same rho)), step_again s (h.names s (or_left (nat_eq s s) _ (eq_same s))), step_again t (h.names t (or_right (nat_eq t s) _ (eq_same t)))) refl
-    rule_again (rule.SomeOf rho g s) h flags =
-        rw (relation_again rho (h.known rho (eq_same rho)), step_again s (h.names s (or_left (nat_eq s s) _ (eq_same s))), group_again g flags (λ x here. h.names x (or_right (nat_eq x s) _ here)) h.members) refl
-    rule_again (rule.AllOf rho g s) h flags =
-        rw (relation_again rho (h.known rho (eq_same rho)), step_again s (h.names s (or_left (nat_eq s s) _ (eq_same s))), group_again g flags (λ x here. h.names x (or_right (nat_eq x s) _ here)) h.members) refl
+    rule_again : (format : Format) (r : Rule) → IsSoundRule (length steps) (length relations) r → HasFlags r → has_form format (form_of r) ≡ true → rule_in format f relations steps (rule_data relations steps r) ≡ Ok r
+    unfolding rule_in form_in rule_of_form keys_in key_in relation_at step_at group_at limit_at limit_in counting_keys_in counting_in pair_in grouped_in value_at table_in no_others known_key rule_members grouped_members counting_members
+    rule_again format (rule.Pair rho s t) h flags known = rw (known, relation_again rho (h.known rho (eq_same rho)), step_again s (h.names s (or_left (nat_eq s s) _ (eq_same s))), step_again t (h.names t (or_right (nat_eq t s) _ (eq_same t)))) refl
+    rule_again format (rule.SomeOf rho g s) h flags known =
+        rw (known, relation_again rho (h.known rho (eq_same rho)), step_again s (h.names s (or_left (nat_eq s s) _ (eq_same s))), group_again g flags (λ x here. h.names x (or_right (nat_eq x s) _ here)) h.members) refl
+    rule_again format (rule.AllOf rho g s) h flags known =
+        rw (known, relation_again rho (h.known rho (eq_same rho)), step_again s (h.names s (or_left (nat_eq s s) _ (eq_same s))), group_again g flags (λ x here. h.names x (or_right (nat_eq x s) _ here)) h.members) refl
 
-    rule_step : (rules : List Rule) → AreSoundRules (length steps) (length relations) rules → HaveFlags rules → (before : List Rule) (r : Rule) (after : List Rule) → rules ≡ before ++ r ∷ after
-        → next_rule f relations steps before (rule_data relations steps r) ≡ Ok (before ++ r ∷ [])
+    rule_again format (rule.SomeTo rho s g) h flags known =
+        rw (known, relation_again rho (h.known rho (eq_same rho)), step_again s (h.names s (or_left (nat_eq s s) _ (eq_same s))), group_again g flags (λ x here. h.names x (or_right (nat_eq x s) _ here)) h.members) refl
+
+    rule_again format (rule.AllTo rho s g) h flags known =
+        rw (known, relation_again rho (h.known rho (eq_same rho)), step_again s (h.names s (or_left (nat_eq s s) _ (eq_same s))), group_again g flags (λ x here. h.names x (or_right (nat_eq x s) _ here)) h.members) refl
+
+    rule_again format (rule.AtMost limit g) h flags known =
+        rw (known, group_again g flags h.names (some_of_count 0 g (omega (arith, h.members.0, h.members.1))), le_yes 1 limit (omega (arith, h.members.0)), le_yes limit (count_members g) h.members.1) refl
+    rule_again format (rule.AtLeast limit g) h flags known =
+        rw (known, group_again g flags h.names (some_of_count 0 g (omega (arith, h.members.0, h.members.1))), le_yes 1 limit (omega (arith, h.members.0)), le_yes limit (count_members g) h.members.1) refl
+
+    rule_step : (format : Format) (rules : List Rule) → AreSoundRules (length steps) (length relations) rules → HaveFlags rules → HaveForms format rules → (before : List Rule) (r : Rule) (after : List Rule) → rules ≡ before ++ r ∷ after
+        → next_rule format f relations steps before (rule_data relations steps r) ≡ Ok (before ++ r ∷ [])
     unfolding next_rule
-    rule_step rules sound flags before r after e =
+    rule_step format rules sound flags known before r after e =
         let at = ap (λ rs. slice_get rs (length before)) e ∙ got_middle before r after in
-        rw (rule_again r (sound (length before) r at) (flags (length before) r at)) refl
+        rw (rule_again format r (sound (length before) r at) (flags (length before) r at) (known (length before) r at)) refl
 
-    in_again : (rules : List Rule) → AreSoundRules (length steps) (length relations) rules → HaveFlags rules → length rules ≤ RULE_LIMIT → rules_in f relations steps (rules_data relations steps rules) ≡ Ok rules
+    in_again : (format : Format) (rules : List Rule) → AreSoundRules (length steps) (length relations) rules → HaveFlags rules → HaveForms format rules → length rules ≤ RULE_LIMIT → rules_in format f relations steps (rules_data relations steps rules) ≡ Ok rules
     unfolding rules_in array_in
-    in_again rules sound flags few =
+    in_again format rules sound flags known few =
         rw (items_back (map (rule_data relations steps) rules), length-map rules (rule_data relations steps), at_most-ok Flows f (length rules) RULE_LIMIT few)
-        (list_back (next_rule f relations steps) (rule_data relations steps) (λ rs. rs) rules (rule_step rules sound flags))
+        (list_back (next_rule format f relations steps) (rule_data relations steps) (λ rs. rs) rules (rule_step format rules sound flags known))
 
     -- the rules of a workflow are read from what they are written as
-    pub rules_back : (again : Members) (rules : List Rule) → AreSoundRules (length steps) (length relations) rules → HaveFlags rules → length rules ≤ RULE_LIMIT
-        → get_member (codes "rules") again ≡ Some (rules_data relations steps rules) → rules_of f relations steps again ≡ Ok rules
+    pub rules_back : (format : Format) (again : Members) (rules : List Rule) → AreSoundRules (length steps) (length relations) rules → HaveFlags rules → HaveForms format rules → length rules ≤ RULE_LIMIT
+        → get_member (codes "rules") again ≡ Some (rules_data relations steps rules) → rules_of format f relations steps again ≡ Ok rules
     unfolding rules_of
-    rules_back again rules sound flags few there = rw (rules_of, there) (in_again rules sound flags few)
+    rules_back format again rules sound flags known few there = rw (rules_of, there) (in_again format rules sound flags known few)

@@ -19,7 +19,10 @@ pub use Rattle.policy_printer.specs.Documents.{name_at, names_data, users_data, 
 pub use Rattle.policy_printer.specs.Named.{IsNamedPolicy, HasFlags, HaveFlags, IsNamedWorkflow}
 pub use Rattle.policy_reader.proofs.Fresh.{none_cons, among}
 pub use Rattle.policy_reader.proofs.Orders.{least_none, all_below}
-pub use Rattle.policy_reader.specs.Formats.{written_format, file_keys, format_number}
+pub use Rattle.policy_reader.specs.Formats.{file_keys, format_number}
+pub use Rattle.policy_printer.specs.Documents.{form_of, needs_second, written_format}
+pub use Rattle.policy_reader.specs.Forms.{has_form}
+pub use Rattle.policy_reader.specs.declared.format.Format.{Format}
 pub use Rattle.policy_reader.specs.Relations.{is_built_in}
 pub use Rattle.policy_reader.specs.declared.fault.PolicyPart.{PolicyPart}
 pub use Rattle.policy_reader.specs.declared.fault.PolicyPart.TheVariants.{File, Relations, Users, Roles, Flows}

@@ -1,5 +1,6 @@
 -- The TOML document that a policy is written as.
-use Rattle.std.specs.Prelude.{codes, ℕ, zero, suc, ◌+◌, pos, Bool, List, [], ◌∷◌, ◌++◌, length, map, Option, None, Some, if◌then◌else◌, slice_index_or}
+use Rattle.std.specs.Prelude.{codes, ℕ, zero, suc, ◌+◌, pos, Bool, not, List, [], ◌∷◌, ◌++◌, length, map, Option, None, Some, if◌then◌else◌, slice_index_or}
+use Rattle.std.specs.List.{list_any}
 use Rattle.std.specs.Ordering.{nat_cmp, match_ordering}
 use Rattle.std.specs.Cmp.Lexicographic.{slice_cmp}
 use Rattle.std.specs.FinSet as set
@@ -13,11 +14,13 @@ use Rattle.constraint_forms.specs.Assigned.{is_member}
 use Rattle.constraint_forms.specs.declared.rule.Rule.{Rule}
 use Rattle.constraint_forms.specs.declared.rule.Rule.TheVariants as rule
 use Rattle.policy_book.specs.Shapes.{PolicyShape, WorkflowShape}
-use Rattle.policy_book.specs.Policies.{flow_at}
+use Rattle.policy_book.specs.Policies.{any_below, flow_at}
 use Rattle.policy_reader.specs.declared.form.Form.{Form}
 use Rattle.policy_reader.specs.declared.form.Form.TheVariants as form
-use Rattle.policy_reader.specs.Formats.{format_number, written_format}
-use Rattle.policy_reader.specs.Forms.{form_word}
+use Rattle.policy_reader.specs.declared.format.Format.{Format}
+use Rattle.policy_reader.specs.declared.format.Format.TheVariants.{First, Second}
+use Rattle.policy_reader.specs.Formats.{format_number}
+use Rattle.policy_reader.specs.Forms.{form_word, is_first_form}
 use Rattle.policy_reader.specs.Relations.{first_declared}
 
 -- a table with one more key, at its place in the order of the keys
@@ -109,6 +112,32 @@ grouped_members rule_form relations steps rho group step = table_of (
     ∷ (codes "step", string (name_at steps step))
     ∷ [])
 
+-- a rule over the number of users of a group, of this form
+unfoldable pub counting_members : Form → List (List ℕ) → ℕ → List Bool → Members
+counting_members rule_form steps limit group = table_of (
+    (codes "form", string (form_word rule_form))
+    ∷ (codes "group", names_where steps (is_member group))
+    ∷ (codes "limit", integer (pos limit))
+    ∷ [])
+
+-- the form of a rule
+abbrev pub form_of : Rule → Form
+form_of (rule.Pair rho first second) = form.Pair
+form_of (rule.SomeOf rho group step) = form.SomeOf
+form_of (rule.AllOf rho group step) = form.AllOf
+form_of (rule.SomeTo rho step group) = form.SomeTo
+form_of (rule.AllTo rho step group) = form.AllTo
+form_of (rule.AtMost limit group) = form.AtMost
+form_of (rule.AtLeast limit group) = form.AtLeast
+
+-- the first format lacks the form of some rule
+abbrev pub needs_second : List Rule → Bool
+needs_second rules = list_any (λ r. not (is_first_form (form_of r))) rules
+
+-- the format that a policy is written in: the first one, where it has the forms of all rules
+abbrev pub written_format : PolicyShape → Format
+written_format p = if any_below (length p.flows) (λ f. needs_second (flow_at p f).rules) then Second else First
+
 unfoldable pub rule_members : List RelationShape → List (List ℕ) → Rule → Members
 rule_members relations steps (rule.Pair rho first second) = table_of (
     (codes "first", string (name_at steps first))
@@ -118,6 +147,10 @@ rule_members relations steps (rule.Pair rho first second) = table_of (
     ∷ [])
 rule_members relations steps (rule.SomeOf rho group step) = grouped_members form.SomeOf relations steps rho group step
 rule_members relations steps (rule.AllOf rho group step) = grouped_members form.AllOf relations steps rho group step
+rule_members relations steps (rule.SomeTo rho step group) = grouped_members form.SomeTo relations steps rho group step
+rule_members relations steps (rule.AllTo rho step group) = grouped_members form.AllTo relations steps rho group step
+rule_members relations steps (rule.AtMost limit group) = counting_members form.AtMost steps limit group
+rule_members relations steps (rule.AtLeast limit group) = counting_members form.AtLeast steps limit group
 
 abbrev pub rule_data : List RelationShape → List (List ℕ) → Rule → Data
 rule_data relations steps r = table (rule_members relations steps r)
@@ -145,7 +178,7 @@ unfoldable pub document_of : PolicyShape → Members
 document_of p = table_of (
     (codes "admin", string (name_at p.roster.roles p.admin))
     ∷ (codes "flows", flows_data p)
-    ∷ (codes "format", integer (pos (format_number written_format)))
+    ∷ (codes "format", integer (pos (format_number (written_format p))))
     ∷ (codes "relations", relations_data p.roster.users p.relations)
     ∷ (codes "roles", names_data p.roster.roles)
     ∷ (codes "users", users_data p.roster)

@@ -7,7 +7,7 @@ use Rattle.user_relations.specs.Relations.{known_names}
 use Rattle.user_relations.specs.Soundness.{AreSound}
 use Rattle.workflow_schema.specs.Flows.{IsFlow}
 use Rattle.constraint_forms.specs.declared.rule.Rule.{Rule}
-use Rattle.constraint_forms.specs.declared.rule.Rule.TheVariants.{Pair, SomeOf, AllOf}
+use Rattle.constraint_forms.specs.declared.rule.Rule.TheVariants.{Pair, SomeOf, AllOf, SomeTo, AllTo, AtMost, AtLeast}
 use Rattle.policy_book.specs.Shapes.{PolicyShape, WorkflowShape}
 use Rattle.policy_book.specs.Facts.{IsSoundPolicy}
 use Rattle.policy_book.specs.Policies.{flow_at}
@@ -17,6 +17,10 @@ abbrev pub HasFlags : Rule → Type 0
 HasFlags (Pair rho first second) = Unit {0}
 HasFlags (SomeOf rho group step) = length group ≡ STEP_LIMIT
 HasFlags (AllOf rho group step) = length group ≡ STEP_LIMIT
+HasFlags (SomeTo rho step group) = length group ≡ STEP_LIMIT
+HasFlags (AllTo rho step group) = length group ≡ STEP_LIMIT
+HasFlags (AtMost limit group) = length group ≡ STEP_LIMIT
+HasFlags (AtLeast limit group) = length group ≡ STEP_LIMIT
 
 abbrev pub HaveFlags : List Rule → Type 0
 HaveFlags rules = (k : ℕ) (rule : Rule) → slice_get rules k ≡ Some rule → HasFlags rule

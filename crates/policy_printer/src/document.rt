@@ -15,8 +15,8 @@ ghost use Rattle.policy_printer.specs.Named.{IsNamedPolicy, IsNamedWorkflow};
 use crate::flows::flows_value;
 use crate::parts::{put, put_name, put_names};
 use crate::rosters::{relations_value, users_value};
+use crate::written::written_format;
 use policy_book::Policy;
-use policy_reader::Format;
 use rbac_state::Roster;
 use std::alloc::{AllocError, Global};
 use toml::Value;
@@ -80,7 +80,7 @@ fn fill(alloc: Global, table: &mut Table, policy: &Policy) -> Result<(), AllocEr
         alloc,
         table,
         "format",
-        Value::Integer(Format::written().number()),
+        Value::Integer(written_format(policy).number()),
     )?;
     put_flows(alloc, table, policy)?;
     put_admin(alloc, table, policy)

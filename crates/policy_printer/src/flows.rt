@@ -192,6 +192,26 @@ fn put_grouped(
     put_word(alloc, table, "form", form.word())
 }
 
+#[tactic(auto, unfolding(crate::specs::Documents::counting_members))]
+fn put_counting(
+    alloc: Global,
+    table: &mut Table,
+    form: Form,
+    steps: &NameTable,
+    limit: u8,
+    group: &StepSet,
+) -> Result<(), AllocError>
+    requires none { table_view table.old ≡ no_members }
+    requires few { length steps.now.names ≤ STEP_LIMIT }
+    ensures table { OnOk result (table_view table.new
+        ≡ spec.counting_members form steps.now.names limit group.now) }
+    ensures flags { OnOk result (length group.now ≡ STEP_LIMIT) }
+{
+    put(alloc, table, "limit", Value::Integer(limit as i64))?;
+    put_group(alloc, table, steps, group)?;
+    put_word(alloc, table, "form", form.word())
+}
+
 /// Fills an empty table with a rule.
 #[tactic(auto, unfolding(crate::specs::Documents::rule_members))]
 fn put_rule(
@@ -213,28 +233,26 @@ fn put_rule(
             put_pair(alloc, table, relations, steps, rho, first, second)
         }
         Rule::SomeOf { rho, group, step } => {
-            put_grouped(
-                alloc,
-                table,
-                Form::SomeOf,
-                relations,
-                steps,
-                rho,
-                &group,
-                step,
-            )
+            let form = Form::SomeOf;
+            put_grouped(alloc, table, form, relations, steps, rho, &group, step)
         }
         Rule::AllOf { rho, group, step } => {
-            put_grouped(
-                alloc,
-                table,
-                Form::AllOf,
-                relations,
-                steps,
-                rho,
-                &group,
-                step,
-            )
+            let form = Form::AllOf;
+            put_grouped(alloc, table, form, relations, steps, rho, &group, step)
+        }
+        Rule::SomeTo { rho, step, group } => {
+            let form = Form::SomeTo;
+            put_grouped(alloc, table, form, relations, steps, rho, &group, step)
+        }
+        Rule::AllTo { rho, step, group } => {
+            let form = Form::AllTo;
+            put_grouped(alloc, table, form, relations, steps, rho, &group, step)
+        }
+        Rule::AtMost { limit, group } => {
+            put_counting(alloc, table, Form::AtMost, steps, limit, &group)
+        }
+        Rule::AtLeast { limit, group } => {
+            put_counting(alloc, table, Form::AtLeast, steps, limit, &group)
         }
     }
 }

@@ -5,5 +5,6 @@ mod document;
 mod flows;
 mod parts;
 mod rosters;
+mod written;
 
 pub use document::print;

@@ -1,3 +1,4 @@
+pub mod Alike
 pub mod Words
 pub mod Counts
 pub mod Fresh

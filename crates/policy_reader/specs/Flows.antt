@@ -2,21 +2,23 @@
 use Rattle.std.specs.Prelude.{codes, ℕ, zero, suc, Bool, true, false, List, [], ◌∷◌, ◌++◌, length, Option, None, Some, Ok, Err, slice_index_or}
 use Rattle.std.specs.FinSet as set
 use Rattle.toml.specs.Data.{Data, Members, get_member}
-use Rattle.wf_names.specs.declared.limits.TheConstants.{STEP_LIMIT, FLOW_LIMIT}
+use Rattle.wf_names.specs.declared.limits.TheConstants.{FLOW_LIMIT}
+use Rattle.policy_reader.specs.Grammars.{Grammar}
 use Rattle.pair_set.specs.Pairs.{Pairs}
 use Rattle.workflow_schema.specs.Flows.{FlowShape, is_before}
 use Rattle.policy_book.specs.Shapes.{PolicyShape, WorkflowShape}
 use Rattle.first_fault.specs.Reading.{◌>>=◌, each}
 use Rattle.policy_reader.specs.declared.fault.PolicyPart.TheVariants.{Flows}
 use Rattle.policy_reader.specs.declared.fault.PolicyKind.TheVariants as kind
+use Rattle.policy_reader.specs.declared.format.Format.{Format}
 use Rattle.policy_reader.specs.Faults.{Reading, fault_about}
 use Rattle.policy_reader.specs.Parts.{items, entries, array_in, table_in, table_at, items_at, entries_at, name_in, number_in, named_in, said, once, next_name, next_pair, no_others}
 use Rattle.policy_reader.specs.Rules.{rules_of}
 
 -- the steps of a workflow: an array of distinct names
-unfoldable pub steps_of : ℕ → Members → Reading (List (List ℕ))
-steps_of f ms = do
-  steps ← items_at Flows f STEP_LIMIT (codes "steps") ms
+unfoldable pub steps_of : Grammar → ℕ → Members → Reading (List (List ℕ))
+steps_of g f ms = do
+  steps ← items_at Flows f g.steps (codes "steps") ms
   each (next_name Flows f) [] (items steps)
 
 -- the pairs of the order in an array of them
@@ -80,40 +82,40 @@ ordered_in f steps ms = do
   Ok (record { steps = steps; order = order; permits = set.empty })
 
 -- the steps, the order and the permissions of a workflow
-unfoldable pub flow_in : ℕ → List (List ℕ) → Members → Reading FlowShape
-flow_in f roles ms = do
-  steps ← steps_of f ms
+unfoldable pub flow_in : Grammar → ℕ → List (List ℕ) → Members → Reading FlowShape
+flow_in g f roles ms = do
+  steps ← steps_of g f ms
   ordered ← ordered_in f steps ms
   permits_of f roles ordered ms
 
 -- a workflow with the rules of its table
-unfoldable pub ruled_in : PolicyShape → ℕ → FlowShape → Members → Reading WorkflowShape
-ruled_in p f flow ms = do
-  rules ← rules_of f p.relations flow.steps ms
+unfoldable pub ruled_in : Format → PolicyShape → ℕ → FlowShape → Members → Reading WorkflowShape
+ruled_in format p f flow ms = do
+  rules ← rules_of format f p.relations flow.steps ms
   Ok (record { flow = flow; rules = rules; retired = false })
 
 -- the workflow in a table: its steps, order, permissions and rules
-unfoldable pub workflow_in : PolicyShape → Members → Reading WorkflowShape
-workflow_in p ms = do
+unfoldable pub workflow_in : Grammar → Format → PolicyShape → Members → Reading WorkflowShape
+workflow_in g format p ms = do
   let f = length p.flows
   _ ← no_others Flows f (codes "order" ∷ codes "permit" ∷ codes "rules" ∷ codes "steps" ∷ []) ms
-  flow ← flow_in f p.roster.roles ms
-  ruled_in p f flow ms
+  flow ← flow_in g f p.roster.roles ms
+  ruled_in format p f flow ms
 
 -- the policy with a workflow that was read
 abbrev pub with_workflow : PolicyShape → List ℕ → Reading WorkflowShape → Reading PolicyShape
 with_workflow p name read = read >>= (λ workflow. Ok (record p { flow_names = p.flow_names ++ name ∷ []; flows = p.flows ++ workflow ∷ [] }))
 
 -- the next workflow: a name, and a table
-unfoldable pub next_flow : PolicyShape → List ℕ × Data → Reading PolicyShape
-next_flow p entry = do
+unfoldable pub next_flow : Grammar → Format → PolicyShape → List ℕ × Data → Reading PolicyShape
+next_flow g format p entry = do
   let f = length p.flows
   _ ← name_in Flows f entry.0
   ms ← table_in Flows f entry.1
-  with_workflow p entry.0 (workflow_in p ms)
+  with_workflow p entry.0 (workflow_in g format p ms)
 
 -- the workflows: a table of them by name
-unfoldable pub flows_of : PolicyShape → Members → Reading PolicyShape
-flows_of p file = do
+unfoldable pub flows_of : Grammar → Format → PolicyShape → Members → Reading PolicyShape
+flows_of g format p file = do
   flows ← entries_at Flows 0 FLOW_LIMIT (codes "flows") file
-  each next_flow p (entries flows)
+  each (next_flow g format) p (entries flows)

@@ -6,8 +6,10 @@ pub mod Kept
 pub mod Rosters
 pub mod Relations
 pub mod Kinds
+pub mod Laws
 pub mod Printable
 pub mod Formats
+pub mod Grammars
 pub mod Forms
 pub mod Rules
 pub mod Flows

@@ -2,7 +2,8 @@
 use Rattle.std.specs.Prelude.{codes, ℕ, List, [], ◌∷◌, ◌++◌, length, Bool, Ok}
 use Rattle.std.specs.FinSet as set
 use Rattle.toml.specs.Data.{Data, Members}
-use Rattle.wf_names.specs.declared.limits.TheConstants.{ROLE_LIMIT, USER_LIMIT}
+use Rattle.wf_names.specs.declared.limits.TheConstants.{ROLE_LIMIT}
+use Rattle.policy_reader.specs.Grammars.{Grammar}
 use Rattle.rbac_state.specs.Rosters.{RosterShape}
 use Rattle.policy_book.specs.Policies.{any_below}
 use Rattle.first_fault.specs.Reading.{◌>>=◌, each}
@@ -36,9 +37,9 @@ next_user so_far entry = do
   each (next_held u) (record so_far { users = so_far.users ++ entry.0 ∷ [] }) (items held)
 
 -- the users: a table of them by name
-unfoldable pub roster_of : List (List ℕ) → Members → Reading RosterShape
-roster_of roles file = do
-  users ← entries_at Users 0 USER_LIMIT (codes "users") file
+unfoldable pub roster_of : Grammar → List (List ℕ) → Members → Reading RosterShape
+roster_of g roles file = do
+  users ← entries_at Users 0 g.users (codes "users") file
   each next_user (record { users = []; roles = roles; members = set.empty }) (entries users)
 
 -- some user holds the role

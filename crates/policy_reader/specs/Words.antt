@@ -22,6 +22,7 @@ kind_word kind.Chain = codes "chain"
 kind_word kind.Extra = codes "extra"
 kind_word kind.Cycle = codes "cycle"
 kind_word kind.Form = codes "form"
+kind_word kind.Range = codes "range"
 
 abbrev pub part_word : PolicyPart → List ℕ
 part_word part.File = codes "file"

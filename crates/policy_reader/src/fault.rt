@@ -17,7 +17,7 @@ pub enum PolicyKind {
     Missing,
     /// A value is not of the type that is wanted.
     Shape,
-    /// The format is another than 1.
+    /// The format is no known one.
     Version,
     /// A text is not of a name's form.
     Name,
@@ -39,8 +39,10 @@ pub enum PolicyKind {
     Extra,
     /// A step is before itself.
     Cycle,
-    /// A rule has none of the known forms.
+    /// A rule has none of the format's forms.
     Form,
+    /// A number is too low or too high.
+    Range,
 }
 
 /// The part of the file that has the fault.
@@ -101,6 +103,7 @@ impl PolicyKind {
             PolicyKind::Extra => "extra",
             PolicyKind::Cycle => "cycle",
             PolicyKind::Form => "form",
+            PolicyKind::Range => "range",
         }
     }
 }

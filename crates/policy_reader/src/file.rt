@@ -5,6 +5,7 @@ ghost use Rattle.toml.specs.View.{table_view};
 ghost use Rattle.policy_reader.specs.declared.fault.ReadFault.TheVariants.{NoMemory};
 ghost use Rattle.policy_reader.specs.Faults.{fault_of};
 ghost use Rattle.policy_reader.specs.Files as spec;
+ghost use Rattle.policy_reader.specs.Grammars.{today};
 ghost use Rattle.policy_reader.specs.Kept.{IsBare};
 ghost use Rattle.policy_reader.specs.Printable.{Ascend, IsPrintable};
 ghost use Rattle.policy_book.specs.Facts.{AreOfUsers, IsSoundPolicy};
@@ -27,7 +28,7 @@ use user_relations::Relations;
 use wf_names::{Name, RoleId, UserId};
 
 /// Reads the policy in the bytes of a TOML file, or tells their first fault.
-#[tactic(auto, unfolding(crate::specs::Files::policy_of_file))]
+#[tactic(auto, unfolding(crate::specs::Files::policy_by))]
 pub fn read(alloc: Global, bytes: &[u8]) -> Result<Policy, ReadFault>
     ensures policy { Gives fault_of (λ p. p) result (spec.policy_of_file bytes.now) }
     ensures printable { IfOk result IsPrintable }
@@ -68,7 +69,7 @@ fn document_of_text(alloc: Global, text: &str) -> Result<Table, ReadFault>
 /// Reads the policy in a document.
 #[tactic(auto, unfolding(crate::specs::Files::policy_in))]
 fn policy_in(alloc: Global, file: &Table) -> Result<Policy, ReadFault>
-    ensures read { Gives fault_of (λ p. p) result (spec.policy_in (table_view file.now)) }
+    ensures read { Gives fault_of (λ p. p) result (spec.policy_in today (table_view file.now)) }
     ensures printable { IfOk result IsPrintable }
 {
     let format = read_format(file)?;
@@ -89,10 +90,10 @@ fn read_rest(
 ) -> Result<(), ReadFault>
     requires bare { IsBare policy.old }
     ensures read { Gives fault_of (λ _. policy.new) result
-        (spec.rest_of format policy.old (table_view file.now)) }
+        (spec.rest_of today format policy.old (table_view file.now)) }
     ensures printable { OnOk result (IsPrintable policy.new) }
 {
-    if let Err(fault) = read_flows(alloc, policy, file) {
+    if let Err(fault) = read_flows(alloc, format, policy, file) {
         return Err(fault);
     }
     if let Err(fault) = no_others(file, format.file_keys(), PolicyPart::File, 0) {
@@ -104,7 +105,7 @@ fn read_rest(
 /// Reads what a document says after its format and before its workflows.
 #[tactic(auto, unfolding(crate::specs::Files::start_of, crate::specs::Files::start_named))]
 fn read_start(alloc: Global, file: &Table) -> Result<Policy, ReadFault>
-    ensures read { Gives fault_of (λ p. p) result (spec.start_of (table_view file.now)) }
+    ensures read { Gives fault_of (λ p. p) result (spec.start_of today (table_view file.now)) }
     ensures bare { IfOk result IsBare }
 {
     let name = read_admin(file)?;
@@ -125,7 +126,7 @@ fn start_with(
     requires few { length roster.roles ≤ ROLE_LIMIT }
     requires none { roster ≡ record { users = []; roles = roster.roles; members = set.empty } }
     ensures read { Gives fault_of (λ p. p) result
-        (spec.start_with roster.roles name.now (table_view file.now)) }
+        (spec.start_with today roster.roles name.now (table_view file.now)) }
     ensures bare { IfOk result IsBare }
 {
     match read_staff(&mut roster, name, file) {
@@ -141,7 +142,7 @@ fn read_staff(roster: &mut Roster, name: &Name, file: &Table) -> Result<RoleId, 
     requires none { roster.old
         ≡ record { users = []; roles = roster.old.roles; members = set.empty } }
     ensures read { Gives fault_of (λ admin. (admin, roster.new)) result
-        (spec.staff_of roster.old.roles name.now (table_view file.now)) }
+        (spec.staff_of today roster.old.roles name.now (table_view file.now)) }
     ensures within { IfOk result (λ admin. admin < length roster.new.roles) }
     ensures ascend { OnOk result (Ascend roster.new.users) }
 {
@@ -195,7 +196,7 @@ fn start_over(
 
 #[tactic(auto, unfolding(crate::specs::Files::format_of))]
 fn read_format(file: &Table) -> Result<Format, ReadFault>
-    ensures { Gives fault_of (λ f. f) result (spec.format_of (table_view file.now)) }
+    ensures { Gives fault_of (λ f. f) result (spec.format_of today (table_view file.now)) }
 {
     let value = value_at(file, "format", PolicyPart::File, 0)?;
     let Some(number) = value.as_integer() else {

@@ -11,10 +11,12 @@ ghost use Rattle.policy_reader.specs.Printable.{IsPrintable};
 ghost use Rattle.policy_reader.specs.Faults.{fault_of};
 ghost use Rattle.policy_reader.specs.Parts.{entries};
 ghost use Rattle.policy_reader.specs.Flows as spec;
+ghost use Rattle.policy_reader.specs.Grammars.{today};
 ghost use Rattle.policy_reader.specs.declared.fault.ReadFault.TheVariants.{NoMemory};
 ghost use Rattle.first_fault.specs.Reading.{Gives, each};
 
 use crate::fault::{PolicyPart, ReadFault};
+use crate::format::Format;
 use crate::parts::{entries_at, name_of, no_others, table_of};
 use crate::rules::read_rules;
 use crate::workflows::{make_flow, read_order, read_permits, read_steps};
@@ -31,7 +33,7 @@ use workflow_schema::Flow;
 fn flow_of(alloc: Global, roles: &NameTable, table: &Table, number: u32) -> Result<Flow, ReadFault>
     requires few { length roles.now.names ≤ ROLE_LIMIT }
     ensures read { Gives fault_of (λ f. f) result
-        (spec.flow_in number roles.now.names (table_view table.now)) }
+        (spec.flow_in today number roles.now.names (table_view table.now)) }
     ensures roles { IfOk result (PermitsRolesBelow (length roles.now.names)) }
     ensures counted { IfOk result (λ f. is_count (length f.steps) ≡ true) }
 {
@@ -65,6 +67,7 @@ fn ordered_flow(
 #[tactic(auto, unfolding(crate::specs::Flows::workflow_in))]
 fn add_workflow(
     alloc: Global,
+    format: Format,
     policy: &mut Policy,
     name: Name,
     table: &Table,
@@ -72,7 +75,8 @@ fn add_workflow(
     requires fresh { is_some (place_of policy.old.flow_names name) ≡ false }
     requires room { length policy.old.flows < FLOW_LIMIT }
     ensures read { Gives fault_of (λ _. policy.new) result
-        (spec.with_workflow policy.old name (spec.workflow_in policy.old (table_view table.now))) }
+        (spec.with_workflow policy.old name
+        (spec.workflow_in today format policy.old (table_view table.now))) }
     ensures names { OnOk result (policy.new.flow_names ≡ policy.old.flow_names ++ name ∷ []) }
     ensures grown { OnOk result (IsGrown policy.old policy.new) }
 {
@@ -84,7 +88,7 @@ fn add_workflow(
         number,
     )?;
     match flow_of(alloc, policy.roster().roles(), table, number) {
-        Ok(made) => add_ruled(alloc, policy, name, made, table, number),
+        Ok(made) => add_ruled(alloc, format, policy, name, made, table, number),
         Err(fault) => Err(fault),
     }
 }
@@ -93,6 +97,7 @@ fn add_workflow(
 #[tactic(auto, unfolding(crate::specs::Flows::ruled_in), using(workflow_schema::proofs::Kept::few_steps))]
 fn add_ruled(
     alloc: Global,
+    format: Format,
     policy: &mut Policy,
     name: Name,
     made: Flow,
@@ -105,11 +110,18 @@ fn add_ruled(
     requires counted { is_count (length made.steps) ≡ true }
     ensures read { Gives fault_of (λ _. policy.new) result
         (spec.with_workflow policy.old name
-        (spec.ruled_in policy.old number made (table_view table.now))) }
+        (spec.ruled_in format policy.old number made (table_view table.now))) }
     ensures names { OnOk result (policy.new.flow_names ≡ policy.old.flow_names ++ name ∷ []) }
     ensures grown { OnOk result (IsGrown policy.old policy.new) }
 {
-    match read_rules(alloc, table, policy.relations(), made.steps(), number) {
+    match read_rules(
+        alloc,
+        format,
+        table,
+        policy.relations(),
+        made.steps(),
+        number,
+    ) {
         Ok(rules) => push_workflow(policy, name, made, rules),
         Err(fault) => Err(fault),
     }
@@ -138,30 +150,41 @@ fn push_workflow(policy: &mut Policy, name: Name, made: Flow, rules: Rules) -> R
 
 /// Reads the next workflow.
 #[tactic(auto, unfolding(crate::specs::Flows::next_flow))]
-fn next_flow(alloc: Global, policy: &mut Policy, key: &str, value: &Value) -> Result<(), ReadFault>
+fn next_flow(
+    alloc: Global,
+    format: Format,
+    policy: &mut Policy,
+    key: &str,
+    value: &Value,
+) -> Result<(), ReadFault>
     requires fresh { is_some (place_of policy.old.flow_names key.now) ≡ false }
     requires room { length policy.old.flow_names < FLOW_LIMIT }
     ensures read { Gives fault_of (λ _. policy.new) result
-        (spec.next_flow policy.old (key.now, view value.now)) }
+        (spec.next_flow today format policy.old (key.now, view value.now)) }
     ensures names { OnOk result (policy.new.flow_names ≡ policy.old.flow_names ++ key.now ∷ []) }
     ensures grown { OnOk result (IsGrown policy.old policy.new) }
 {
     let number = policy.flows().len() as u32;
     let name = name_of(key, PolicyPart::Flows, number)?;
     let table = table_of(value, PolicyPart::Flows, number)?;
-    add_workflow(alloc, policy, name, table)
+    add_workflow(alloc, format, policy, name, table)
 }
 
-fn all_flows(alloc: Global, policy: &mut Policy, flows: &Table) -> Result<(), ReadFault>
+fn all_flows(
+    alloc: Global,
+    format: Format,
+    policy: &mut Policy,
+    flows: &Table,
+) -> Result<(), ReadFault>
     requires bare { IsBare policy.old }
     requires room { length flows.now.entries ≤ FLOW_LIMIT }
     requires some { 0 < length flows.now.entries }
     ensures read { Gives fault_of (λ _. policy.new) result
-        (each spec.next_flow policy.old (entries (table_view flows.now))) }
+        (each (spec.next_flow today format) policy.old (entries (table_view flows.now))) }
     ensures printable { OnOk result (IsPrintable policy.new) }
 {
     'entries: for (key, value) in flows {
-        if let Err(fault) = next_flow(alloc, policy, key.as_str(), value) {
+        if let Err(fault) = next_flow(alloc, format, policy, key.as_str(), value) {
             return Err(fault);
         }
     }
@@ -170,14 +193,19 @@ fn all_flows(alloc: Global, policy: &mut Policy, flows: &Table) -> Result<(), Re
 
 /// Reads the workflows into a policy that has none.
 #[tactic(auto, unfolding(crate::specs::Flows::flows_of))]
-pub(crate) fn read_flows(alloc: Global, policy: &mut Policy, file: &Table) -> Result<(), ReadFault>
+pub(crate) fn read_flows(
+    alloc: Global,
+    format: Format,
+    policy: &mut Policy,
+    file: &Table,
+) -> Result<(), ReadFault>
     requires bare { IsBare policy.old }
     ensures read { Gives fault_of (λ _. policy.new) result
-        (spec.flows_of policy.old (table_view file.now)) }
+        (spec.flows_of today format policy.old (table_view file.now)) }
     ensures printable { OnOk result (IsPrintable policy.new) }
 {
     match entries_at(FLOW_LIMIT as usize, file, "flows", PolicyPart::Flows, 0) {
-        Ok(flows) => all_flows(alloc, policy, flows),
+        Ok(flows) => all_flows(alloc, format, policy, flows),
         Err(fault) => Err(fault),
     }
 }

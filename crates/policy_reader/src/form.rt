@@ -3,6 +3,8 @@
 ghost use Rattle.std.specs.Prelude.{◌≡◌, map};
 ghost use Rattle.policy_reader.specs.Forms as spec;
 
+use crate::Format;
+
 /// The form of a rule.
 #[derive(Clone, Copy)]
 pub enum Form {
@@ -12,6 +14,14 @@ pub enum Form {
     SomeOf,
     /// Over every step of a group.
     AllOf,
+    /// Over some step of a group, read the other way.
+    SomeTo,
+    /// Over every step of a group, read the other way.
+    AllTo,
+    /// So many users at most.
+    AtMost,
+    /// So many users at least.
+    AtLeast,
 }
 
 impl Form {
@@ -23,6 +33,10 @@ impl Form {
             Form::Pair => "pair",
             Form::SomeOf => "some",
             Form::AllOf => "all",
+            Form::SomeTo => "some_to",
+            Form::AllTo => "all_to",
+            Form::AtMost => "at_most",
+            Form::AtLeast => "at_least",
         }
     }
 
@@ -34,12 +48,46 @@ impl Form {
             Form::Pair => &["first", "form", "relation", "second"],
             Form::SomeOf => &["form", "group", "relation", "step"],
             Form::AllOf => &["form", "group", "relation", "step"],
+            Form::SomeTo => &["form", "group", "relation", "step"],
+            Form::AllTo => &["form", "group", "relation", "step"],
+            Form::AtMost => &["form", "group", "limit"],
+            Form::AtLeast => &["form", "group", "limit"],
         }
     }
 
-    /// The form with a word.
-    pub(crate) fn read(text: &str) -> Option<Form>
-        ensures { result ≡ spec.form_of_word text.now }
+    /// The form of a format with a word.
+    pub(crate) fn read(format: Format, text: &str) -> Option<Form>
+        ensures { result ≡ spec.form_of_word format text.now }
+    {
+        match Form::with(text) {
+            Some(form) if form.is_in(format) => Some(form),
+            _ => None,
+        }
+    }
+
+    // Whether a format has the form.
+    fn is_in(&self, format: Format) -> bool
+        ensures { result ≡ spec.has_form format self.now }
+    {
+        match format {
+            Format::First => self.is_first(),
+            Format::Second => true,
+        }
+    }
+
+    /// Whether the first format has the form.
+    pub fn is_first(&self) -> bool
+        ensures { result ≡ spec.is_first_form self.now }
+    {
+        match self {
+            Form::Pair | Form::SomeOf | Form::AllOf => true,
+            Form::SomeTo | Form::AllTo | Form::AtMost | Form::AtLeast => false,
+        }
+    }
+
+    // The form with a word.
+    fn with(text: &str) -> Option<Form>
+        ensures { result ≡ spec.any_form_of_word text.now }
     {
         if text == Form::Pair.word() {
             Some(Form::Pair)
@@ -47,6 +95,14 @@ impl Form {
             Some(Form::SomeOf)
         } else if text == Form::AllOf.word() {
             Some(Form::AllOf)
+        } else if text == Form::SomeTo.word() {
+            Some(Form::SomeTo)
+        } else if text == Form::AllTo.word() {
+            Some(Form::AllTo)
+        } else if text == Form::AtMost.word() {
+            Some(Form::AtMost)
+        } else if text == Form::AtLeast.word() {
+            Some(Form::AtLeast)
         } else {
             None
         }

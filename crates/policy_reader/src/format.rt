@@ -8,22 +8,18 @@ ghost use Rattle.policy_reader.specs.Formats as spec;
 pub enum Format {
     /// The first one.
     First,
+    /// The second one, which has more forms of rules.
+    Second,
 }
 
 impl Format {
-    /// The format that is written.
-    pub fn written() -> Format
-        ensures { result ≡ spec.written_format }
-    {
-        Format::First
-    }
-
     /// The number of the format in a policy file.
     pub fn number(&self) -> i64
         ensures { result ≡ pos (spec.format_number self.now) }
     {
         match self {
             Format::First => 1,
+            Format::Second => 2,
         }
     }
 
@@ -33,6 +29,8 @@ impl Format {
     {
         if number == 1 {
             Some(Format::First)
+        } else if number == 2 {
+            Some(Format::Second)
         } else {
             None
         }
@@ -44,6 +42,7 @@ impl Format {
     {
         match self {
             Format::First => &["admin", "flows", "format", "relations", "roles", "users"],
+            Format::Second => &["admin", "flows", "format", "relations", "roles", "users"],
         }
     }
 }

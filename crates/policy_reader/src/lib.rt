@@ -6,6 +6,7 @@ mod file;
 mod flows;
 mod form;
 mod format;
+pub mod laws;
 mod pairs;
 mod parts;
 mod relations;

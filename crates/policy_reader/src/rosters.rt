@@ -10,6 +10,7 @@ ghost use Rattle.policy_reader.specs.Parts as parts;
 ghost use Rattle.policy_reader.specs.Parts.{items as part_items, entries};
 ghost use Rattle.policy_reader.specs.Printable.{Ascend};
 ghost use Rattle.policy_reader.specs.Rosters as rosters;
+ghost use Rattle.policy_reader.specs.Grammars.{today};
 ghost use Rattle.first_fault.specs.Reading.{Gives, each};
 
 use crate::fault::{PolicyPart, ReadFault};
@@ -150,7 +151,7 @@ pub(crate) fn read_users(roster: &mut Roster, file: &Table) -> Result<(), ReadFa
     requires none { roster.old
         ≡ record { users = []; roles = roster.old.roles; members = set.empty } }
     ensures read { Gives fault_of (λ _. roster.new) result
-        (rosters.roster_of roster.old.roles (table_view file.now)) }
+        (rosters.roster_of today roster.old.roles (table_view file.now)) }
     ensures roles { OnOk result (roster.new.roles ≡ roster.old.roles) }
     ensures ascend { OnOk result (Ascend roster.new.users) }
 {

@@ -1,10 +1,10 @@
 //! Reads the rules of a workflow. Their faults carry the workflow's number.
-ghost use Rattle.std.specs.Prelude.{◌≡◌, ◌<◌, ◌≤◌, ◌+◌, ◌++◌, ◌∷◌, length, IfErr, map, IfOk, OnOk, IsTrue, true, []};
+ghost use Rattle.std.specs.Prelude.{◌≡◌, ◌<◌, ◌≤◌, ◌+◌, ◌++◌, ◌∷◌, length, IfErr, map, IfOk, IfSome, OnOk, IsTrue, true, []};
 ghost use Rattle.toml.specs.View.{view, items_view, table_view};
 ghost use Rattle.wf_names.specs.declared.limits.TheConstants.{STEP_LIMIT, RULE_LIMIT};
 ghost use Rattle.constraint_forms.specs.Rules.{any_from};
 ghost use Rattle.constraint_forms.specs.Assigned.{no_steps};
-ghost use Rattle.policy_book.specs.Facts.{IsSoundRule, AreSoundRules};
+ghost use Rattle.policy_book.specs.Facts.{IsSoundRule, AreSoundRules, IsWithinGroup};
 ghost use Rattle.policy_reader.specs.Faults.{fault_of};
 ghost use Rattle.policy_reader.specs.declared.fault.ReadFault.TheVariants.{NoMemory};
 ghost use Rattle.policy_reader.specs.Kept.{HasStepsBelow};
@@ -14,6 +14,7 @@ ghost use Rattle.first_fault.specs.Reading.{Gives, each};
 
 use crate::fault::{PolicyKind, PolicyPart, ReadFault, refuse, refuse_text};
 use crate::form::Form;
+use crate::format::Format;
 use crate::parts::{
     array_of, at_least_one, at_most, find, named_of, no_others, table_of, text_of, twice, value_at,
 };
@@ -188,6 +189,75 @@ fn grouped_of(
     }
 }
 
+/// What a rule over the number of users of a group has.
+#[derive(Clone, Copy)]
+struct Counting {
+    limit: u8,
+    group: StepSet,
+}
+
+/// Whether a rule of a form has a group and a number of users, and no other keys.
+#[tactic(auto, unfolding(crate::specs::Rules::counting_keys_in, crate::specs::Rules::key_in))]
+fn check_counting_keys(form: Form, table: &Table, flow: u32) -> Result<(), ReadFault>
+    ensures { Gives fault_of (λ u. u) result
+        (spec.counting_keys_in form flow (table_view table.now)) }
+{
+    value_at(table, "group", PolicyPart::Flows, flow)?;
+    value_at(table, "limit", PolicyPart::Flows, flow)?;
+    no_others(table, form.keys(), PolicyPart::Flows, flow)
+}
+
+/// The number of users and the group of steps in a table.
+#[tactic(auto, unfolding(crate::specs::Rules::counting_in))]
+fn counting_of(
+    form: Form,
+    table: &Table,
+    steps: &NameTable,
+    flow: u32,
+) -> Result<Counting, ReadFault>
+    requires few { length steps.now.names ≤ STEP_LIMIT }
+    ensures read { Gives fault_of (λ g. (g.limit, g.group)) result
+        (spec.counting_in form flow steps.now.names (table_view table.now)) }
+    ensures within { IfOk result (λ g. HasStepsBelow (length steps.now.names) g.group) }
+    ensures number { IfOk result (λ g. IsWithinGroup g.limit g.group) }
+{
+    check_counting_keys(form, table, flow)?;
+    let group = group_at(table, steps, flow)?;
+    match limit_at(table, group.count(), flow) {
+        Ok(limit) => Ok(Counting { limit, group }),
+        Err(fault) => Err(fault),
+    }
+}
+
+/// The number of users in a table, from 1 to another number.
+#[tactic(auto, unfolding(crate::specs::Rules::limit_at, crate::specs::Rules::limit_in))]
+fn limit_at(table: &Table, most: u8, flow: u32) -> Result<u8, ReadFault>
+    ensures read { Gives fault_of (λ n. n) result
+        (spec.limit_at flow most (table_view table.now)) }
+    ensures within { IfOk result (λ n. (0 < n) × (n ≤ most)) }
+{
+    let value = value_at(table, "limit", PolicyPart::Flows, flow)?;
+    let Some(number) = value.as_integer() else {
+        return Err(refuse(PolicyKind::Shape, PolicyPart::Flows, flow));
+    };
+    match number_up_to(most, number) {
+        Some(limit) => Ok(limit),
+        None => Err(refuse(PolicyKind::Range, PolicyPart::Flows, flow)),
+    }
+}
+
+// A number from 1 to another.
+fn number_up_to(most: u8, number: i64) -> Option<u8>
+    ensures is { result ≡ spec.number_up_to most number }
+    ensures within { IfSome result (λ n. (0 < n) × (n ≤ most)) }
+{
+    if 1 <= number && number <= most as i64 {
+        Some(number as u8)
+    } else {
+        None
+    }
+}
+
 /// The rule of a form in a table.
 #[tactic(auto, unfolding(crate::specs::Rules::rule_of_form))]
 fn rule_of_form(
@@ -212,18 +282,34 @@ fn rule_of_form(
             Ok(Grouped { rho, group, step }) => Ok(Rule::AllOf { rho, group, step }),
             Err(fault) => Err(fault),
         },
+        Form::SomeTo => match grouped_of(Form::SomeTo, table, relations, steps, flow) {
+            Ok(Grouped { rho, group, step }) => Ok(Rule::SomeTo { rho, step, group }),
+            Err(fault) => Err(fault),
+        },
+        Form::AllTo => match grouped_of(Form::AllTo, table, relations, steps, flow) {
+            Ok(Grouped { rho, group, step }) => Ok(Rule::AllTo { rho, step, group }),
+            Err(fault) => Err(fault),
+        },
+        Form::AtMost => match counting_of(Form::AtMost, table, steps, flow) {
+            Ok(Counting { limit, group }) => Ok(Rule::AtMost { limit, group }),
+            Err(fault) => Err(fault),
+        },
+        Form::AtLeast => match counting_of(Form::AtLeast, table, steps, flow) {
+            Ok(Counting { limit, group }) => Ok(Rule::AtLeast { limit, group }),
+            Err(fault) => Err(fault),
+        },
     }
 }
 
 /// The form that a value names.
 #[tactic(auto, unfolding(crate::specs::Rules::form_in))]
-fn form_of(value: &Value, flow: u32) -> Result<Form, ReadFault>
-    ensures { Gives fault_of (λ f. f) result (spec.form_in flow (view value.now)) }
+fn form_of(format: Format, value: &Value, flow: u32) -> Result<Form, ReadFault>
+    ensures { Gives fault_of (λ f. f) result (spec.form_in format flow (view value.now)) }
 {
     let Some(word) = value.as_str() else {
         return Err(refuse(PolicyKind::Form, PolicyPart::Flows, flow));
     };
-    match Form::read(word) {
+    match Form::read(format, word) {
         Some(form) => Ok(form),
         None => Err(refuse(PolicyKind::Form, PolicyPart::Flows, flow)),
     }
@@ -232,6 +318,7 @@ fn form_of(value: &Value, flow: u32) -> Result<Form, ReadFault>
 /// The rule that a value gives.
 #[tactic(auto, unfolding(crate::specs::Rules::rule_in))]
 fn rule_of(
+    format: Format,
     value: &Value,
     relations: &Relations,
     steps: &NameTable,
@@ -239,18 +326,19 @@ fn rule_of(
 ) -> Result<Rule, ReadFault>
     requires few { length steps.now.names ≤ STEP_LIMIT }
     ensures read { Gives fault_of (λ r. r) result
-        (spec.rule_in flow relations.now steps.now.names (view value.now)) }
+        (spec.rule_in format flow relations.now steps.now.names (view value.now)) }
     ensures sound { IfOk result (IsSoundRule (length steps.now.names) (length relations.now)) }
 {
     let table = table_of(value, PolicyPart::Flows, flow)?;
     let form = value_at(table, "form", PolicyPart::Flows, flow)?;
-    let form = form_of(form, flow)?;
+    let form = form_of(format, form, flow)?;
     rule_of_form(form, table, relations, steps, flow)
 }
 
 /// Adds the next rule.
 #[tactic(auto, unfolding(crate::specs::Rules::next_rule))]
 fn next_rule(
+    format: Format,
     rules: &mut Rules,
     value: &Value,
     relations: &Relations,
@@ -260,12 +348,12 @@ fn next_rule(
     requires few { length steps.now.names ≤ STEP_LIMIT }
     requires sound { AreSoundRules (length steps.now.names) (length relations.now) rules.old }
     ensures read { Gives fault_of (λ _. rules.new) result
-        (spec.next_rule flow relations.now steps.now.names rules.old (view value.now)) }
+        (spec.next_rule format flow relations.now steps.now.names rules.old (view value.now)) }
     ensures sound { OnOk result (AreSoundRules (length steps.now.names)
         (length relations.now) rules.new) }
     ensures count { OnOk result (length rules.new ≡ length rules.old + 1) }
 {
-    match rule_of(value, relations, steps, flow) {
+    match rule_of(format, value, relations, steps, flow) {
         Ok(rule) => push_rule(rules, rule),
         Err(fault) => Err(fault),
     }
@@ -283,6 +371,7 @@ fn push_rule(rules: &mut Rules, rule: Rule) -> Result<(), ReadFault>
 
 fn all_rules(
     alloc: Global,
+    format: Format,
     items: &[Value],
     relations: &Relations,
     steps: &NameTable,
@@ -290,14 +379,14 @@ fn all_rules(
 ) -> Result<Rules, ReadFault>
     requires few { length steps.now.names ≤ STEP_LIMIT }
     ensures read { Gives fault_of (λ r. r) result
-        (each (spec.next_rule flow relations.now steps.now.names) []
+        (each (spec.next_rule format flow relations.now steps.now.names) []
         (part_items (items_view items.now))) }
     ensures sound { IfOk result (AreSoundRules (length steps.now.names) (length relations.now)) }
     ensures count { IfOk result (λ r. length r ≤ length items.now) }
 {
     let mut rules = Rules::new(alloc);
     'items: for value in items {
-        if let Err(fault) = next_rule(&mut rules, value, relations, steps, flow) {
+        if let Err(fault) = next_rule(format, &mut rules, value, relations, steps, flow) {
             return Err(fault);
         }
     }
@@ -308,6 +397,7 @@ fn all_rules(
 #[tactic(auto, unfolding(crate::specs::Rules::rules_of, crate::specs::Rules::rules_in), using(crate::proofs::Counts::count_items))]
 pub(crate) fn read_rules(
     alloc: Global,
+    format: Format,
     table: &Table,
     relations: &Relations,
     steps: &NameTable,
@@ -315,7 +405,7 @@ pub(crate) fn read_rules(
 ) -> Result<Rules, ReadFault>
     requires few { length steps.now.names ≤ STEP_LIMIT }
     ensures read { Gives fault_of (λ r. r) result
-        (spec.rules_of flow relations.now steps.now.names (table_view table.now)) }
+        (spec.rules_of format flow relations.now steps.now.names (table_view table.now)) }
     ensures sound { IfOk result (AreSoundRules (length steps.now.names) (length relations.now)) }
     ensures few { IfOk result (λ r. length r ≤ RULE_LIMIT) }
 {
@@ -324,5 +414,5 @@ pub(crate) fn read_rules(
     };
     let items = array_of(value, PolicyPart::Flows, flow)?;
     at_most(RULE_LIMIT, items.len(), PolicyPart::Flows, flow)?;
-    all_rules(alloc, items, relations, steps, flow)
+    all_rules(alloc, format, items, relations, steps, flow)
 }

@@ -16,6 +16,7 @@ ghost use Rattle.policy_reader.specs.Parts as parts;
 ghost use Rattle.policy_reader.specs.Parts.{items as part_items, entries};
 ghost use Rattle.policy_reader.specs.declared.fault.PolicyPart.TheVariants.{Flows};
 ghost use Rattle.policy_reader.specs.Flows as spec;
+ghost use Rattle.policy_reader.specs.Grammars.{today};
 ghost use Rattle.first_fault.specs.Reading.{Gives, each};
 
 use crate::fault::{PolicyKind, PolicyPart, ReadFault, refuse_text};
@@ -34,7 +35,7 @@ use workflow_schema::{Flow, FlowFault};
 #[tactic(auto, unfolding(crate::specs::Flows::steps_of), using(crate::proofs::Counts::counted))]
 pub(crate) fn read_steps(alloc: Global, table: &Table, flow: u32) -> Result<NameTable, ReadFault>
     ensures read { Gives fault_of (λ t. t.names) result
-        (spec.steps_of flow (table_view table.now)) }
+        (spec.steps_of today flow (table_view table.now)) }
     ensures counted { IfOk result (λ t. is_count (length t.names) ≡ true) }
 {
     match items_at(STEP_LIMIT, table, "steps", PolicyPart::Flows, flow) {

@@ -1,5 +1,5 @@
 -- The set of pairs that rows of bits stand for, and how it changes with them.
-use Rattle.std.proofs.Common.{◌≡◌, ℕ, ◌+◌, ◌-◌, ◌<◌, ◌≤◌, ◌/◌, ◌%◌, ◌==◌, ◌&&◌, ◌||◌, not, cond, nat_lt, Bool, true, false, List, [], length, refl, sym, ap, ◌∙◌, ◌⊎◌, inl, inr, arith}
+use Rattle.std.proofs.Common.{◌≡◌, ℕ, ◌+◌, ◌-◌, ◌^◌, ◌<◌, ◌≤◌, ◌/◌, ◌%◌, ◌==◌, ◌&&◌, ◌||◌, not, cond, nat_lt, Bool, true, false, List, [], length, refl, sym, ap, ◌∙◌, ◌⊎◌, inl, inr, arith}
 use Rattle.std.specs.Prelude.{IsTrue}
 use Rattle.std.specs.FinSet as set
 use Rattle.std.proofs.lemmas.Bool.{cases_lt, lt-ltb, le-ltb, ltb-true, eqb-true, eq-eqb}
@@ -87,7 +87,7 @@ module _ (ahead behind new_ahead new_behind : List Block) (count u v : ℕ) (row
         ∙ ap (λ b. cond b (set.len (pairs_in ahead) - 1) (set.len (pairs_in ahead))) here);
   }
 
-pub few_pairs : (ahead behind : List Block) (count : ℕ) → AreRows ahead behind count → count ≤ 1_048_576
+pub few_pairs : (ahead behind : List Block) (count : ℕ) → AreRows ahead behind count → count < 2 ^ 32
 few_pairs ahead behind count rows = let most = len_set_of (row_bit ahead) USER_LIMIT USER_LIMIT in omega (arith, rows.counted, most)
 
 -- a set that has members is not empty

@@ -1,8 +1,9 @@
 -- Words whose lowest bits are set, and sets that begin with full words.
-use Rattle.std.proofs.Common.{◌≡◌, ℕ, ◌+◌, ◌-◌, ◌*◌, ◌/◌, ◌%◌, ◌^◌, ◌<◌, ◌≤◌, nat_eq, nat_lt, List, length, get_or, set, slice_index_or, slice_set, sym, ap, ◌∙◌, inl, inr, arith, get_or-set_same, get_or-set_other}
+use Rattle.std.proofs.Common.{◌≡◌, ℕ, ◌+◌, ◌-◌, ◌*◌, ◌/◌, ◌%◌, ◌^◌, ◌<◌, ◌≤◌, nat_eq, nat_lt, false, List, length, get_or, set, slice_index_or, slice_set, sym, ap, ◌∙◌, inl, inr, arith, get_or-set_same, get_or-set_other, refl, subst, replicate}
 use Rattle.std.specs.Int.{bit_at}
 use Rattle.std.proofs.lemmas.Nat.Bits.{bit_at_ones, bit_at_ones_above, bit_at-zero}
 use Rattle.std.proofs.lemmas.Bool.{cases_lt, cases_eq, lt-ltb, le-ltb}
+use Rattle.std.proofs.lemmas.List.{get_or_past, get_or-replicate, length-replicate}
 use Rattle.wf_names.specs.UserSets.{has_bit, has_user}
 
 pub lowest_bits : (n k : ℕ) → has_bit (2 ^ n - 1) k ≡ nat_lt k n
@@ -15,6 +16,19 @@ lowest_bits n k = elim (cases_lt k n) [
 pub record AreFull (n : ℕ) (words : List ℕ) : Type 0 where
   pub full : (i : ℕ) → i < n → slice_index_or words i 0 ≡ 2 ^ 64 - 1
   pub none : (i : ℕ) → n ≤ i → slice_index_or words i 0 ≡ 0
+
+-- words without a bit
+pub zero_in : (n i z : ℕ) → slice_index_or (replicate n z) i z ≡ z
+zero_in n i z = elim (cases_lt i n) [
+  | inl within ↦ get_or-replicate n i z z within
+  | inr past ↦ get_or_past (replicate n z) i z (omega (arith, length-replicate n z, past))
+]
+
+pub none_in : (n v : ℕ) → has_user (replicate n 0) v ≡ false
+none_in n v = ap (λ w. has_bit w (v % 64)) (zero_in n (v / 64) 0) ∙ ap (λ b. nat_eq b 1) (bit_at-zero (v % 64))
+
+pub none_full : (n : ℕ) → AreFull 0 (replicate n 0)
+none_full n = record { full = λ i lt. absurd (omega (arith, lt)); none = λ i ge. zero_in n i 0 }
 
 pub full_next : (n : ℕ) (words : List ℕ) → n < length words → AreFull n words → AreFull (n + 1) (slice_set words n (2 ^ 64 - 1))
 full_next n words within f = record {

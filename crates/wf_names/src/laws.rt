@@ -6,9 +6,9 @@ ghost use Rattle.wf_names.specs.declared.limits.TheConstants.{BATCH_LINE_LIMIT, 
 
 /// Each limit is this figure.
 pub fn limits_have_their_figures()
-    ensures policies { (USER_LIMIT ≡ 1024) × (ROLE_LIMIT ≡ 64) × (RELATION_LIMIT ≡ 32)
+    ensures policies { (USER_LIMIT ≡ 4096) × (ROLE_LIMIT ≡ 64) × (RELATION_LIMIT ≡ 32)
         × (PAIR_LIMIT ≡ 65536) }
-    ensures workflows { (FLOW_LIMIT ≡ 32) × (STEP_LIMIT ≡ 16) × (RULE_LIMIT ≡ 64) }
+    ensures workflows { (FLOW_LIMIT ≡ 32) × (STEP_LIMIT ≡ 24) × (RULE_LIMIT ≡ 64) }
     ensures cases { (OPEN_CASE_LIMIT ≡ 1024) × (CASE_LIMIT ≡ 65535) × (CASE_NUMBER_LIMIT ≡ 65535) }
     ensures files { (POLICY_FILE_LIMIT ≡ 4194304) × (REQUESTS_FILE_LIMIT ≡ 67108864) }
     ensures texts { (NAME_LIMIT ≡ 40) × (LINE_LIMIT ≡ 16384) × (TRANSCRIPT_LINE_LIMIT ≡ 16777216) }

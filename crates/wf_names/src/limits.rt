@@ -1,7 +1,7 @@
 //! Every limit of the server, each cited by its name wherever it counts.
 
 /// Most users in a policy.
-pub const USER_LIMIT: u16 = 1_024;
+pub const USER_LIMIT: u16 = 4_096;
 /// Most roles in a policy.
 pub const ROLE_LIMIT: u16 = 64;
 /// Most declared relations in a policy; the built-in `same` and `other` are not counted.
@@ -11,7 +11,7 @@ pub const PAIR_LIMIT: usize = 65_536;
 /// Most workflows in a policy.
 pub const FLOW_LIMIT: u16 = 32;
 /// Most steps in a workflow.
-pub const STEP_LIMIT: usize = 16;
+pub const STEP_LIMIT: usize = 24;
 /// Most rules in a workflow.
 pub const RULE_LIMIT: usize = 64;
 

@@ -1,6 +1,7 @@
 //! Sets of users, kept as one bit for each user up to the limit.
-ghost use Rattle.std.specs.Prelude.{◌≡◌, ℕ, length, ◌<◌, ◌≤◌, ◌==◌, ◌&&◌, ◌||◌, not, true, false, nat_lt, IsTrue, MatchOption};
+ghost use Rattle.std.specs.Prelude.{◌≡◌, ℕ, length, replicate, ◌<◌, ◌≤◌, ◌==◌, ◌&&◌, ◌||◌, not, true, false, nat_lt, IsTrue, MatchOption};
 ghost use Rattle.wf_names.specs.declared.limits.TheConstants.{USER_LIMIT};
+ghost use Rattle.wf_names.specs.declared.user_set.TheConstants.{USER_WORDS};
 ghost use Rattle.wf_names.specs.UserSets.{count_below, has_bit, has_user, IsBitFrom, IsNextIn};
 
 use crate::words::{count_words, join_words, meet_words, strike_words};
@@ -31,9 +32,7 @@ impl UserSet {
     pub fn empty() -> UserSet
         ensures none { (v : ℕ) → has_user result v ≡ false }
     {
-        UserSet {
-            words: [0; USER_WORDS],
-        }
+        UserSet { words: no_words() }
     }
 
     /// The set of all users below a number.
@@ -41,7 +40,7 @@ impl UserSet {
         requires { users ≤ USER_LIMIT }
         ensures { (v : ℕ) → has_user result v ≡ nat_lt v users }
     {
-        let mut words = [0; USER_WORDS];
+        let mut words = no_words();
         let whole = users as usize / 64;
         'words: for i in 0..whole {
             words[i] = u64::MAX;
@@ -126,6 +125,13 @@ impl UserSet {
     }
 }
 
+// Words without a bit.
+fn no_words() -> [u64; USER_WORDS]
+    ensures { result ≡ replicate USER_WORDS 0 }
+{
+    [0; USER_WORDS]
+}
+
 // The word whose lowest bits are set, so many of them.
 fn low_bits(count: u16) -> u64
     requires { count < 64 }
@@ -135,7 +141,7 @@ fn low_bits(count: u16) -> u64
 }
 
 fn count_users(words: &[u64]) -> u32
-    requires { length words.now ≡ 16 }
+    requires { length words.now ≡ USER_WORDS }
     ensures { result ≡ count_below USER_LIMIT (has_user words.now) }
 {
     count_words(words) as u32
@@ -143,7 +149,7 @@ fn count_users(words: &[u64]) -> u32
 
 // The least user of some words whose number is not below `from`.
 fn next_in(words: &[u64], from: usize) -> Option<UserId>
-    requires { length words.now ≡ 16 }
+    requires { length words.now ≡ USER_WORDS }
     ensures { MatchOption result ((v : ℕ) → from ≤ v → has_user words.now v ≡ false)
         (IsNextIn words.now from) }
 {

@@ -215,10 +215,9 @@ fn reads_all_of(p: &Policy, f: FlowId, rule: &Rule, k: usize) -> bool
 fn reads_all(rule: &Rule, other: &Rule) -> bool
     ensures { result ≡ all_read other.now (reads rule.now) }
 {
-    match *other {
-        Rule::Pair { rho, .. } | Rule::SomeOf { rho, .. } | Rule::AllOf { rho, .. } => {
-            rule.reads(rho)
-        }
+    match other.relation() {
+        Some(rho) => rule.reads(rho),
+        None => true,
     }
 }
 
@@ -237,10 +236,9 @@ fn are_read_alike(p: &Policy, f: FlowId, rule: &Rule, u: UserId, v: UserId) -> b
     ensures { result ≡ all_read rule.now (λ rho. treats_alike (problem_of p.now f).users
         ((problem_of p.now f).related rho) u v) }
 {
-    match *rule {
-        Rule::Pair { rho, .. } | Rule::SomeOf { rho, .. } | Rule::AllOf { rho, .. } => {
-            treats_alike(p, f, rho, u, v)
-        }
+    match rule.relation() {
+        Some(rho) => treats_alike(p, f, rho, u, v),
+        None => true,
     }
 }
 
@@ -302,10 +300,9 @@ fn is_read_apart(p: &Policy, f: FlowId, rule: &Rule, u: UserId, v: UserId, w: Us
     ensures { result ≡ any_read rule.now
         (λ rho. tells_apart ((problem_of p.now f).related rho) u v w) }
 {
-    match *rule {
-        Rule::Pair { rho, .. } | Rule::SomeOf { rho, .. } | Rule::AllOf { rho, .. } => {
-            is_treated_apart(p, f, rho, u, v, w)
-        }
+    match rule.relation() {
+        Some(rho) => is_treated_apart(p, f, rho, u, v, w),
+        None => false,
     }
 }
 

@@ -21,3 +21,15 @@ put_grouped-requires-clause-relation c = (subst (IsSoundRule (length c.args.step
 
 pub put_grouped-requires-in-AllOf-clause-relation : goal.put_grouped-requires-in-AllOf-clause-relation
 put_grouped-requires-in-AllOf-clause-relation c = (subst (IsSoundRule (length c.args.steps.now.names) (length c.args.relations.now)) c.in-AllOf.is c.requires.sound).known c.in-AllOf.rho (eq_same c.in-AllOf.rho)
+
+pub put_grouped-requires-in-SomeTo-clause-step : goal.put_grouped-requires-in-SomeTo-clause-step
+put_grouped-requires-in-SomeTo-clause-step c = let s = c.in-SomeTo.step in (subst (IsSoundRule (length c.args.steps.now.names) (length c.args.relations.now)) c.in-SomeTo.is c.requires.sound).names s (or_left (nat_eq s s) _ (eq_same s))
+
+pub put_grouped-requires-in-SomeTo-clause-relation : goal.put_grouped-requires-in-SomeTo-clause-relation
+put_grouped-requires-in-SomeTo-clause-relation c = (subst (IsSoundRule (length c.args.steps.now.names) (length c.args.relations.now)) c.in-SomeTo.is c.requires.sound).known c.in-SomeTo.rho (eq_same c.in-SomeTo.rho)
+
+pub put_grouped-requires-in-AllTo-clause-step : goal.put_grouped-requires-in-AllTo-clause-step
+put_grouped-requires-in-AllTo-clause-step c = let s = c.in-AllTo.step in (subst (IsSoundRule (length c.args.steps.now.names) (length c.args.relations.now)) c.in-AllTo.is c.requires.sound).names s (or_left (nat_eq s s) _ (eq_same s))
+
+pub put_grouped-requires-in-AllTo-clause-relation : goal.put_grouped-requires-in-AllTo-clause-relation
+put_grouped-requires-in-AllTo-clause-relation c = (subst (IsSoundRule (length c.args.steps.now.names) (length c.args.relations.now)) c.in-AllTo.is c.requires.sound).known c.in-AllTo.rho (eq_same c.in-AllTo.rho)

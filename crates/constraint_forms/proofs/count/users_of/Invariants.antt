@@ -1,0 +1,10 @@
+use Rattle.std.proofs.Common.{◌≡◌, ℕ, ◌<◌, ◌||◌, drop}
+use Rattle.wf_names.specs.declared.limits.TheConstants.{USER_LIMIT}
+use Rattle.wf_names.specs.UserSets.{has_user}
+use Rattle.constraint_forms.specs.Assigned.{user_at}
+use Rattle.constraint_forms.specs.Rules.{is_among, users_from}
+use Rattle.constraint_forms.proofs.count.users_of.Given as goal
+
+abbrev pub invariant-members : goal.invariant-members
+invariant-members l =
+    (u : ℕ) → u < USER_LIMIT → (is_among (users_from l.x (drop l.x l.group) (user_at l.a)) u || has_user l.users u) ≡ is_among (users_from 0 l.group (user_at l.a)) u
