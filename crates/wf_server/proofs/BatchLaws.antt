@@ -1,7 +1,7 @@
 -- How the entries of a batch follow those before.
 use Rattle.std.proofs.Common.{◌≡◌, ℕ, zero, suc, ◌+◌, ◌-◌, ◌<◌, ◌≤◌, max, List, [], ◌∷◌, ◌++◌, length, take, drop, get_or, Option, Result, Ok, Err, OnOk, OnErr, IfErr, inl, inr, refl, sym, ◌∙◌, ap, subst, arith, append_assoc}
 use Rattle.std.proofs.lemmas.Grind.{common_steps}
-use Rattle.std.proofs.lemmas.List.{take-append-drop, take-take, append-nil, drop_more, take_more, length-append, get_or_append_left}
+use Rattle.std.proofs.lemmas.List.{take-append-drop, take-append-le, take-take, take_all, append-nil, drop_more, take_more, length-append, length-drop, length-take-le, get_or_append_left}
 use Rattle.std.proofs.Math.Seq.{drop-append_seam, take-append_seam}
 use Rattle.wf_outside.specs.Outside.{with_bytes, HasPart}
 use Rattle.wf_outside.proofs.OutsideLaws.{more_put, part_first, part_second, part_all}
@@ -27,7 +27,7 @@ use Rattle.wf_server.specs.Names.{KeepsTexts}
 use Rattle.wf_server.specs.Ways.{setting_of}
 use Rattle.wf_server.specs.declared.batch.Answered.{Answered}
 use Rattle.wf_server.proofs.Names.{transcript_more}
-use Rattle.wf_server.specs.Batches.{entries_text, told_of, HasAnswered, HasAnsweredPart, IsAdded, AnswersTo, IsWriteEnding}
+use Rattle.wf_server.specs.Batches.{entries_text, told_of, HasAnswered, HasAnsweredPart, HasLoaded, IsAdded, AnswersTo, LoadedTo, IsWriteEnding}
 
 text_append : (p : PolicyShape) (xs ys : List Entry) → entries_text p (xs ++ ys) ≡ entries_text p xs ++ entries_text p ys
 text_append p [] ys = refl
@@ -61,13 +61,11 @@ pub end_added : (before after : List ℕ) (jobs batch : List Job) → (length ba
     → after ≡ ends_after before (length jobs) batch
 end_added before after jobs batch none some = grind (arith, common_steps)
 
--- the last of more ends begins at the last of those before
-last_begins : (m : ℕ) (ends : List ℕ) (x : ℕ) → m ≤ batch_start ends (length ends) → last_start m (ends ++ x ∷ []) ≡ batch_start ends (length ends)
-last_begins m ends x within =
+-- the last of more ends begins at the last of those before, or behind what was taken up
+last_begins : (m : ℕ) (ends : List ℕ) (x : ℕ) → last_start m (ends ++ x ∷ []) ≡ max m (batch_start ends (length ends))
+last_begins m ends x =
     let one_more : length (ends ++ x ∷ []) - 1 ≡ length ends = omega (arith, length-append ends (x ∷ [])) in
-    let begins : batch_start (ends ++ x ∷ []) (length (ends ++ x ∷ []) - 1) ≡ batch_start ends (length ends) =
-    ap (batch_start (ends ++ x ∷ [])) one_more ∙ get_or_append_left (0 ∷ ends) (x ∷ []) 0 (length ends) (omega arith) in
-    omega (arith, begins, within)
+    ap (max m) (ap (batch_start (ends ++ x ∷ [])) one_more ∙ get_or_append_left (0 ∷ ends) (x ∷ []) 0 (length ends) (omega arith))
 
 -- a batch with a job has an end
 pub ends_some : (ends : List ℕ) (n : ℕ) (m : Job) (more : List Job) → ends_after ends n (m ∷ more) ≡ ends ++ (n + length (m ∷ more)) ∷ []
@@ -123,63 +121,82 @@ writes_whole set held after told written =
     let whole : text_from set.policy set.restored told.entries ≡ front ++ rest = text_split set.policy set.restored n told.entries (omega arith) in
     subst (λ a. HasPart (with_bytes held front) a rest) (sym (written ∙ ap (with_bytes held) whole ∙ sym (more_put held front rest))) (part_all (with_bytes held front) rest)
 
--- a batch was answered at a desk
-pub record HasAnsweredBatch (held mid : Option (List ℕ)) (old d : DeskShape) (before : Told) (batch : List Job) (after : Told) : Type 0 where
-  pub answered : HasAnswered held mid old before
+setting_grown : (b c : DeskShape) → HasGrown b c → setting_of c ≡ setting_of b
+setting_grown b c grown = rw (grown.opening, grown.lanes, grown.rounds, grown.restored) refl
+
+-- the first entries stay
+pub begins_grown : (b c : DeskShape) → HasGrown b c → b.restored ≤ length b.entries → take b.restored c.entries ≡ take b.restored b.entries
+begins_grown b c grown kept = ap (take b.restored) grown.extends ∙ take-append-le b.restored b.entries grown.more kept
+
+-- the jobs at a desk were answered
+pub record HasServedLoaded (held mid : Option (List ℕ)) (l d : DeskShape) (before after : Told) : Type 0 where
+  pub loaded : HasLoaded held mid l before
+  pub added : IsAdded before l.jobs after
+  pub same : after.entries ≡ d.entries
+  pub grown : HasGrown l d
   pub sound : IsSoundDesk d
   pub done : IsDone d
-  pub setting : setting_of d ≡ setting_of old
-  pub jobs : d.jobs ≡ batch
-  pub start : d.start ≡ length before.entries
-  pub new : List Entry
-  pub entries : after.entries ≡ before.entries ++ new
-  pub same : d.entries ≡ after.entries
-  pub added : IsAdded before batch after
 
-the_batch : (held mid : Option (List ℕ)) (old d : DeskShape) (before : Told) (batch : List Job) (after : Told) → (h : HasAnsweredBatch held mid old d before batch after)
-    → AnswersBatch before.entries h.new batch
-the_batch held mid old d before batch after h =
-    let all : d.entries ≡ before.entries ++ h.new = h.same ∙ h.entries in
-    let first : take d.start d.entries ≡ before.entries = ap (λ n. take n d.entries) h.start ∙ ap (take (length before.entries)) all ∙ take-append_seam before.entries h.new in
-    let rest : drop d.start d.entries ≡ h.new = ap (λ n. drop n d.entries) h.start ∙ ap (drop (length before.entries)) all ∙ drop-append_seam before.entries h.new in
-    subst (λ es. AnswersBatch es h.new batch) first (subst (λ es. AnswersBatch (take d.start d.entries) es batch) rest (subst (AnswersBatch (take d.start d.entries) (drop d.start d.entries)) h.jobs (batch_done d h.sound h.done)))
+first_taken : (held mid : Option (List ℕ)) (l d : DeskShape) (before after : Told) → HasServedLoaded held mid l d before after → take l.start d.entries ≡ before.entries
+first_taken held mid l d before after h =
+    let here = h.loaded.here in
+    ap (take l.start) h.grown.extends ∙ take-append-le l.start l.entries h.grown.more (omega (arith, here)) ∙ h.loaded.front
 
-batch_filled : (held mid : Option (List ℕ)) (old d : DeskShape) (before : Told) (batch : List Job) (after : Told) → HasAnsweredBatch held mid old d before batch after
+the_batch : (held mid : Option (List ℕ)) (l d : DeskShape) (before after : Told) → HasServedLoaded held mid l d before after
+    → AnswersBatch before.entries (drop l.start d.entries) l.jobs
+the_batch held mid l d before after h =
+    subst (λ es. AnswersBatch es (drop l.start d.entries) l.jobs) (first_taken held mid l d before after h)
+    (subst (λ n. AnswersBatch (take n d.entries) (drop n d.entries) l.jobs) h.grown.start
+    (subst (AnswersBatch (take d.start d.entries) (drop d.start d.entries)) h.grown.jobs (batch_done d h.sound h.done)))
+
+batch_filled : (held mid : Option (List ℕ)) (l d : DeskShape) (before after : Told) → HasServedLoaded held mid l d before after
     → FillsJobs after.entries after.jobs after.batch_ends
-batch_filled held mid old d before batch after h =
-    rw (h.added.jobs, h.added.ends, h.entries)
-    (fills_more before.entries h.new before.jobs batch before.batch_ends
-    record { fills = h.answered.fills; at_end = h.answered.ends; answers = the_batch held mid old d before batch after h })
+batch_filled held mid l d before after h =
+    let new = drop l.start d.entries in
+    let all : after.entries ≡ before.entries ++ new = h.same ∙ sym (take-append-drop l.start d.entries) ∙ ap (λ es. es ++ new) (first_taken held mid l d before after h) in
+    rw (h.added.jobs, h.added.ends, all)
+    (fills_more before.entries new before.jobs l.jobs before.batch_ends
+    record { fills = h.loaded.fills; at_end = h.loaded.ends; answers = the_batch held mid l d before after h })
 
--- what is written of the entries of the batch
-abbrev batch_text : DeskShape → Told → List Entry → List ℕ
-batch_text old before new = transcript_text (state_after (opening_state old.opening) before.entries) new
+-- what is written of the entries that came
+abbrev batch_text : DeskShape → List Entry → List ℕ
+batch_text l new = transcript_text (state_after (opening_state l.opening) l.entries) new
 
--- a part of the entries of the batch is a part of the last batch
-part_last : (held mid aft : Option (List ℕ)) (old d : DeskShape) (before : Told) (batch : List Job) (after : Told) → (h : HasAnsweredBatch held mid old d before batch after)
-    → HasPart mid aft (batch_text old before h.new) → 0 < length h.new → WritesPart (setting_of old) held aft (last_start old.restored after.batch_ends) after.entries
-part_last held mid aft old d before batch after h part some =
-    let p = old.opening in
-    let m = old.restored in
-    let size : length h.new ≡ length batch = (the_batch held mid old d before batch after h).whole in
-    let more : 0 < length batch = omega (arith, some, size) in
-    let ends : after.batch_ends ≡ before.batch_ends ++ (length before.jobs + length batch) ∷ [] = h.added.ends ∙ grind (arith, common_steps) in
-    let whole : batch_start before.batch_ends (length before.batch_ends) ≡ length before.entries = h.answered.ends.closed ∙ sym h.answered.fills.whole in
-    let kept = h.answered.kept in
-    let begins : last_start m after.batch_ends ≡ length before.entries =
-    ap (last_start m) ends ∙ last_begins m before.batch_ends (length before.jobs + length batch) (omega (arith, whole, kept)) ∙ whole in
-    let front : take (length before.entries) after.entries ≡ before.entries = ap (take (length before.entries)) h.entries ∙ take-append_seam before.entries h.new in
-    let rest : drop (length before.entries) after.entries ≡ h.new = ap (drop (length before.entries)) h.entries ∙ drop-append_seam before.entries h.new in
-    subst (λ n. WritesPart (setting_of old) held aft n after.entries) (sym begins)
-    (subst (λ es. HasPart (with_bytes held (text_from p m es)) aft (transcript_text (state_after (opening_state p) es) (drop (length before.entries) after.entries))) (sym front)
-    (subst (λ es. HasPart (with_bytes held (text_from p m before.entries)) aft (transcript_text (state_after (opening_state p) before.entries) es)) (sym rest)
-    (subst (λ x. HasPart x aft (batch_text old before h.new)) h.answered.written part)))
+-- the entries of the batch begin, or those that were taken up end, where the new ones begin
+last_here : (held mid : Option (List ℕ)) (l d : DeskShape) (before after : Told) → HasServedLoaded held mid l d before after → 0 < length l.jobs
+    → last_start l.restored after.batch_ends ≡ length l.entries
+last_here held mid l d before after h jobs =
+    let here = h.loaded.here in
+    let ends : after.batch_ends ≡ before.batch_ends ++ (length before.jobs + length l.jobs) ∷ [] = h.added.ends ∙ grind (arith, common_steps) in
+    let size : length before.entries ≡ l.start = sym (ap length h.loaded.front) ∙ length-take-le l.start l.entries (omega (arith, here)) in
+    let whole : batch_start before.batch_ends (length before.batch_ends) ≡ l.start = h.loaded.ends.closed ∙ sym h.loaded.fills.whole ∙ size in
+    ap (last_start l.restored) ends ∙ last_begins l.restored before.batch_ends (length before.jobs + length l.jobs) ∙ ap (max l.restored) whole ∙ sym here
 
-part_answered : (held mid aft : Option (List ℕ)) (old d : DeskShape) (before : Told) (batch : List Job) (after : Told) → (h : HasAnsweredBatch held mid old d before batch after)
-    → HasPart mid aft (batch_text old before h.new) → 0 < length h.new → HasAnsweredPart (setting_of d) held aft after
-part_answered held mid aft old d before batch after h part some = record {
-  fills = batch_filled held mid old d before batch after h;
-  written = subst (λ (s : Setting). WritesPart s held aft (last_start s.restored after.batch_ends) after.entries) (sym h.setting) (part_last held mid aft old d before batch after h part some);
+-- a part of the entries that came is a part of the last batch
+part_last : (held mid aft : Option (List ℕ)) (l d : DeskShape) (before after : Told) → (h : HasServedLoaded held mid l d before after)
+    → HasPart mid aft (batch_text l h.grown.more) → 0 < length h.grown.more → WritesPart (setting_of l) held aft (last_start l.restored after.batch_ends) after.entries
+part_last held mid aft l d before after h part some =
+    let p = l.opening in
+    let m = l.restored in
+    let new = h.grown.more in
+    let here = h.loaded.here in
+    let size : length (drop l.start d.entries) ≡ length l.jobs = (the_batch held mid l d before after h).whole in
+    let grown : length d.entries ≡ length l.entries + length new = ap length h.grown.extends ∙ length-append l.entries new in
+    let left = length-drop l.start d.entries in
+    let begins = last_here held mid l d before after h (omega (arith, some, size, grown, left, here)) in
+    let all : after.entries ≡ l.entries ++ new = h.same ∙ h.grown.extends in
+    let front : take (length l.entries) after.entries ≡ l.entries = ap (take (length l.entries)) all ∙ take-append_seam l.entries new in
+    let rest : drop (length l.entries) after.entries ≡ new = ap (drop (length l.entries)) all ∙ drop-append_seam l.entries new in
+    subst (λ n. WritesPart (setting_of l) held aft n after.entries) (sym begins)
+    (subst (λ es. HasPart (with_bytes held (text_from p m es)) aft (transcript_text (state_after (opening_state p) es) (drop (length l.entries) after.entries))) (sym front)
+    (subst (λ es. HasPart (with_bytes held (text_from p m l.entries)) aft (transcript_text (state_after (opening_state p) l.entries) es)) (sym rest)
+    (subst (λ x. HasPart x aft (batch_text l new)) h.loaded.written part)))
+
+part_answered : (held mid aft : Option (List ℕ)) (l d : DeskShape) (before after : Told) → (h : HasServedLoaded held mid l d before after)
+    → HasPart mid aft (batch_text l h.grown.more) → 0 < length h.grown.more → HasAnsweredPart (setting_of d) held aft after
+part_answered held mid aft l d before after h part some = record {
+  fills = batch_filled held mid l d before after h;
+  written = subst (λ (s : Setting). WritesPart s held aft (last_start s.restored after.batch_ends) after.entries) (sym (setting_grown l d h.grown)) (part_last held mid aft l d before after h part some);
 }
 
 -- the entries of one more batch are written behind those before
@@ -191,32 +208,28 @@ text_more p m es new within =
     text_split p m n (es ++ new) within ∙ ap (λ xs. text_from p m xs ++ transcript_text (state_after (opening_state p) xs) (drop n (es ++ new))) first
     ∙ ap (λ xs. text_from p m es ++ transcript_text (state_after (opening_state p) es) xs) rest
 
--- what came of answering a batch, by how its entries were written
-pub answers_to : (held mid aft : Option (List ℕ)) (old d : DeskShape) (before : Told) (batch : List Job) (after : Told) (text : List ℕ) (es : List Entry) (result : Result (Unit {0}) RunFault)
-    → (h : HasAnsweredBatch held mid old d before batch after) → text ≡ transcript_text (state_after (opening_state old.opening) before.entries) h.new → es ≡ h.new
-    → OnOk result (aft ≡ with_bytes mid text) → HasPart mid aft text → OnErr result (0 < length es) → IfErr result IsWriteEnding
-    → AnswersTo held aft before batch d after result
-answers_to held mid aft old d before batch after text es (Ok done) h is new all part some ending =
-    let kept = h.answered.kept in
-    let restored : d.restored ≡ old.restored = ap (λ (s : Setting). s.restored) h.setting in (
-      h.added,
-      record {
-        done = h.done;
-        fills = batch_filled held mid old d before batch after h;
-        ends = rw (h.added.jobs, h.added.ends) (ends_more before.jobs batch before.batch_ends h.answered.ends);
-        kept = let size = ap length h.entries in omega (arith, kept, restored, size, length-append before.entries h.new);
-        written =
-            all ∙ ap (with_bytes mid) is ∙ ap (λ m. with_bytes m (batch_text old before h.new)) h.answered.written
-            ∙ more_put held (text_from old.opening old.restored before.entries) (batch_text old before h.new)
-            ∙ ap (with_bytes held) (sym (ap (text_from old.opening old.restored) h.entries ∙ text_more old.opening old.restored before.entries h.new kept)
-            ∙ ap (λ (s : Setting). text_from s.policy s.restored after.entries) (sym h.setting));
-      },
-    )
-answers_to held mid aft old d before batch after text es (Err fault.NoMemory) h is new all part some ending =
-    (inr h.added, part_answered held mid aft old d before batch after h (subst (HasPart mid aft) is part) (subst (λ xs. 0 < length xs) new some))
-answers_to held mid aft old d before batch after text es (Err fault.Write) h is new all part some ending =
-    (h.added, part_answered held mid aft old d before batch after h (subst (HasPart mid aft) is part) (subst (λ xs. 0 < length xs) new some))
-answers_to held mid aft old d before batch after text es (Err other) h is new all part some ending = absurd ending
+-- what came of answering the jobs at a desk, by how the entries were written
+loaded_to : (held mid aft : Option (List ℕ)) (l d : DeskShape) (before after : Told) (text : List ℕ) (es : List Entry) (result : Result (Unit {0}) RunFault)
+    → (h : HasServedLoaded held mid l d before after) → text ≡ batch_text l h.grown.more → es ≡ h.grown.more
+    → OnOk result (aft ≡ with_bytes mid text) → HasPart mid aft text → OnErr result (0 < length es) → LoadedTo held aft d after result
+loaded_to held mid aft l d before after text es (Ok done) h is new all part some =
+    let here = h.loaded.here in
+    let kept : l.restored ≤ length l.entries = omega (arith, here) in
+    let restored = h.grown.restored in
+    let whole : after.entries ≡ l.entries ++ h.grown.more = h.same ∙ h.grown.extends in
+    record {
+      done = h.done;
+      fills = batch_filled held mid l d before after h;
+      ends = rw (h.added.jobs, h.added.ends) (ends_more before.jobs l.jobs before.batch_ends h.loaded.ends);
+      kept = let size = ap length whole in omega (arith, kept, restored, size, length-append l.entries h.grown.more);
+      written =
+          all ∙ ap (with_bytes mid) is ∙ ap (λ m. with_bytes m (batch_text l h.grown.more)) h.loaded.written
+          ∙ more_put held (text_from l.opening l.restored l.entries) (batch_text l h.grown.more)
+          ∙ ap (with_bytes held) (sym (ap (text_from l.opening l.restored) whole ∙ text_more l.opening l.restored l.entries h.grown.more kept)
+          ∙ ap (λ (s : Setting). text_from s.policy s.restored after.entries) (sym (setting_grown l d h.grown)));
+    }
+loaded_to held mid aft l d before after text es (Err fault) h is new all part some =
+    part_answered held mid aft l d before after h (subst (HasPart mid aft) is part) (subst (λ xs. 0 < length xs) new some)
 
 -- the same is told
 pub same_told : (old d : DeskShape) (before after : Answered) → d.entries ≡ old.entries → after.jobs ≡ before.jobs → after.batch_ends ≡ before.batch_ends → told_of d after ≡ told_of old before
@@ -245,44 +258,54 @@ text_on old d q new texts sound setting entries found =
     ∙ ap (λ (s : Setting). (state_after (opening_state s.policy) (old.entries ++ new)).book.policy) setting in
     ap (λ x. entries_text x new) after ∙ sym (texts new legal)
 
-setting_grown : (b c : DeskShape) → HasGrown b c → setting_of c ≡ setting_of b
-setting_grown b c grown = rw (grown.opening, grown.lanes, grown.rounds, grown.restored) refl
+-- the jobs at a desk were answered, and the entries that came written
+pub loaded_answers : (held mid aft : Option (List ℕ)) (l d : DeskShape) (q : PolicyShape) (before after : Told) (n : ℕ) (es : List Entry) (result : Result (Unit {0}) RunFault)
+    → HasServedLoaded held mid l d before after → KeepsTexts l → n ≡ length l.entries → es ≡ drop n d.entries → q ≡ d.board.policy
+    → OnOk result (aft ≡ with_bytes mid (entries_text q es)) → HasPart mid aft (entries_text q es) → OnErr result (0 < length es) → LoadedTo held aft d after result
+loaded_answers held mid aft l d q before after n es result h texts count behind found all part some =
+    let new : es ≡ h.grown.more =
+    behind ∙ ap (λ k. drop k d.entries) count ∙ ap (drop (length l.entries)) h.grown.extends ∙ drop-append_seam l.entries h.grown.more in
+    let text = ap (entries_text q) new ∙ text_on l d q h.grown.more texts h.sound (setting_grown l d h.grown) h.grown.extends found in
+    loaded_to held mid aft l d before after _ es result h text new all part some
 
--- a batch was taken to a desk, and each of its jobs is answered
-pub record HasServedBatch (old loaded d : DeskShape) (a b : Answered) (batch : List Job) : Type 0 where
-  pub setting : setting_of loaded ≡ setting_of old
-  pub entries : loaded.entries ≡ old.entries
-  pub loads : loaded.jobs ≡ batch
-  pub start : loaded.start ≡ length old.entries
-  pub grown : HasGrown loaded d
-  pub sound : IsSoundDesk d
-  pub done : IsDone d
+-- a batch was taken to a desk
+pub record HasLoadedBatch (old l : DeskShape) (a b : Answered) (batch : List Job) : Type 0 where
+  pub setting : setting_of l ≡ setting_of old
+  pub entries : l.entries ≡ old.entries
+  pub loads : l.jobs ≡ batch
+  pub start : l.start ≡ length old.entries
   pub jobs : b.jobs ≡ a.jobs ++ batch
   pub ends : b.batch_ends ≡ ends_after a.batch_ends (length a.jobs) batch
 
-abbrev served_batch : (held mid : Option (List ℕ)) (old loaded d : DeskShape) (a b : Answered) (batch : List Job) → HasServedBatch old loaded d a b batch
-    → HasAnswered held mid old (told_of old a) → HasAnsweredBatch held mid old d (told_of old a) batch (told_of d b)
-served_batch held mid old loaded d a b batch h answered = record {
-  answered = answered;
-  sound = h.sound;
-  done = h.done;
-  setting = setting_grown loaded d h.grown ∙ h.setting;
-  jobs = h.grown.jobs ∙ h.loads;
-  start = h.grown.start ∙ h.start;
-  new = h.grown.more;
-  entries = h.grown.extends ∙ ap (λ es. es ++ h.grown.more) h.entries;
-  same = refl;
-  added = record { jobs = h.jobs; ends = h.ends };
-}
+loaded_batch : (held mid : Option (List ℕ)) (old l : DeskShape) (a b : Answered) (batch : List Job) → HasLoadedBatch old l a b batch → HasAnswered held mid old (told_of old a)
+    → HasLoaded held mid l (told_of old a)
+loaded_batch held mid old l a b batch h answered =
+    let kept = answered.kept in
+    let restored : l.restored ≡ old.restored = ap (λ (s : Setting). s.restored) h.setting in
+    let size = ap length h.entries in
+    let start = h.start in
+    record {
+      fills = answered.fills;
+      ends = answered.ends;
+      front = (λ i. take (h.start i) (h.entries i)) ∙ take_all (length old.entries) old.entries (omega arith);
+      here = omega (arith, kept, restored, size, start);
+      written = answered.written ∙ ap (λ (s : Setting). with_bytes held (text_from s.policy s.restored old.entries)) (sym h.setting)
+          ∙ ap (λ es. with_bytes held (text_from l.opening l.restored es)) (sym h.entries);
+    }
 
--- and its entries were written
-pub batch_answers : (held mid aft : Option (List ℕ)) (old loaded d : DeskShape) (q : PolicyShape) (a b : Answered) (batch : List Job) (n : ℕ) (es : List Entry) (result : Result (Unit {0}) RunFault)
-    → HasServedBatch old loaded d a b batch → HasAnswered held mid old (told_of old a) → KeepsTexts old → n ≡ length old.entries → es ≡ drop n d.entries → q ≡ d.board.policy
-    → OnOk result (aft ≡ with_bytes mid (entries_text q es)) → HasPart mid aft (entries_text q es) → OnErr result (0 < length es) → IfErr result IsWriteEnding
-    → AnswersTo held aft (told_of old a) batch d (told_of d b) result
-batch_answers held mid aft old loaded d q a b batch n es result h answered texts count behind found all part some ending =
-    let served = served_batch held mid old loaded d a b batch h answered in
-    let new : es ≡ h.grown.more =
-    behind ∙ ap (λ k. drop k d.entries) count ∙ ap (drop (length old.entries)) served.entries ∙ drop-append_seam old.entries h.grown.more in
-    let text = ap (entries_text q) new ∙ text_on old d q h.grown.more texts h.sound served.setting served.entries found in
-    answers_to held mid aft old d (told_of old a) batch (told_of d b) _ es result served text new all part some ending
+-- and its jobs were answered
+pub batch_answers : (held mid aft : Option (List ℕ)) (old l d : DeskShape) (a b : Answered) (batch : List Job) (result : Result (Unit {0}) RunFault)
+    → HasLoadedBatch old l a b batch → HasAnswered held mid old (told_of old a)
+    → ((before after : Told) → HasLoaded held mid l before → IsAdded before l.jobs after → after.entries ≡ d.entries → LoadedTo held aft d after result)
+    → IfErr result IsWriteEnding → AnswersTo held aft (told_of old a) batch d (told_of d b) result
+batch_answers held mid aft old l d a b batch result h answered answers ending =
+    by_result result (answers (told_of old a) (told_of d b) (loaded_batch held mid old l a b batch h answered) (record { jobs = h.jobs ∙ ap (λ js. a.jobs ++ js) (sym h.loads); ends = h.ends ∙ ap (ends_after a.batch_ends (length a.jobs)) (sym h.loads) }) refl) ending
+  where
+    added : IsAdded (told_of old a) batch (told_of d b)
+    added = record { jobs = h.jobs; ends = h.ends }
+
+    by_result : (r : Result (Unit {0}) RunFault) → LoadedTo held aft d (told_of d b) r → IfErr r IsWriteEnding → AnswersTo held aft (told_of old a) batch d (told_of d b) r
+    by_result (Ok done) all end = (added, all)
+    by_result (Err fault.NoMemory) part end = (inr added, part)
+    by_result (Err fault.Write) part end = (added, part)
+    by_result (Err other) part end = absurd end

@@ -1,5 +1,5 @@
 -- Inside: where a session stands between its batches.
-use Rattle.std.specs.Prelude.{◌≡◌, ℕ, Bool, ◌+◌, ◌≤◌, List, [], ◌∷◌, ◌++◌, length, Option, None, Some, Result, Ok, Err}
+use Rattle.std.specs.Prelude.{◌≡◌, ℕ, Bool, ◌+◌, ◌≤◌, max, List, [], ◌∷◌, ◌++◌, length, take, Option, None, Some, Result, Ok, Err}
 use Rattle.std.proofs.Common.{◌⊎◌}
 use Rattle.wf_names.specs.declared.limits.TheConstants.{BATCH_LINE_LIMIT, SESSION_LINE_LIMIT}
 use Rattle.wf_outside.specs.Outside.{with_bytes}
@@ -66,6 +66,20 @@ pub record HasAnsweredPart (set : Setting) (held held-after : Option (List ℕ))
 pub record IsAdded (before : Told) (batch : List Job) (after : Told) : Type 0 where
   pub jobs : after.jobs ≡ before.jobs ++ batch
   pub ends : after.batch_ends ≡ ends_after before.batch_ends (length before.jobs) batch
+
+-- a batch is at a desk behind those that are told: their jobs are answered; of the entries of the batch those alone are there
+-- that were taken up; and what was not taken up is written
+pub record HasLoaded (held held-after : Option (List ℕ)) (d : DeskShape) (told : Told) : Type 0 where
+  pub fills : FillsJobs told.entries told.jobs told.batch_ends
+  pub ends : EndAt told.batch_ends (length told.jobs)
+  pub front : take d.start d.entries ≡ told.entries
+  pub here : length d.entries ≡ max d.restored d.start
+  pub written : held-after ≡ with_bytes held (text_from d.opening d.restored d.entries)
+
+-- what came of answering the jobs at a desk, where all told jobs are answered then
+abbrev pub LoadedTo : Option (List ℕ) → Option (List ℕ) → DeskShape → Told → Result (Unit {0}) RunFault → Type 0
+LoadedTo held held-after d after (Ok done) = HasAnswered held held-after d after
+LoadedTo held held-after d after (Err fault) = HasAnsweredPart (setting_of d) held held-after after
 
 -- what came of answering a batch
 abbrev pub AnswersTo : Option (List ℕ) → Option (List ℕ) → Told → List Job → DeskShape → Told → Result (Unit {0}) RunFault → Type 0

@@ -1,5 +1,5 @@
 //! Answering the jobs of a batch, and writing the entries.
-ghost use Rattle.std.specs.Prelude.{◌≡◌, ◌≢◌, ◌≤◌, ◌<◌, ◌+◌, ℕ, List, [], ◌∷◌, ◌++◌, length, drop, Option, Err, IfErr, OnOk, OnErr};
+ghost use Rattle.std.specs.Prelude.{◌≡◌, ◌≢◌, ◌≤◌, ◌<◌, ◌+◌, ℕ, List, [], ◌∷◌, ◌++◌, length, take, drop, Option, Err, IfErr, OnOk, OnErr};
 ghost use Rattle.wf_outside.specs.Outside.{HasPart, with_bytes};
 ghost use Rattle.wf_names.specs.declared.limits.TheConstants.{SESSION_LINE_LIMIT};
 ghost use Rattle.line_cutter.specs.Cutter.{ends_after};
@@ -8,7 +8,8 @@ ghost use Rattle.wf_desk.specs.Desks.{AreOfLanes, IsDone, IsSoundDesk};
 ghost use Rattle.wf_desk.specs.Schedules.{HasGrown};
 ghost use Rattle.wire_json.specs.Replies.{entry_text};
 ghost use Rattle.run_record.specs.Fault.{fault_in, CountsWrites};
-ghost use Rattle.wf_server.specs.Batches.{entries_text, told_of, HasAnswered, IsBatch, AnswersTo, IsWriteEnding};
+ghost use Rattle.run_record.specs.Report.{Told};
+ghost use Rattle.wf_server.specs.Batches.{entries_text, told_of, HasAnswered, HasLoaded, IsAdded, IsBatch, AnswersTo, LoadedTo, IsWriteEnding};
 ghost use Rattle.wf_server.specs.Ways.{IsWay, ServesOnce, setting_of};
 
 use crate::texts::texts_stay;
@@ -56,6 +57,7 @@ pub(crate) fn answer_batch<K: Sink, W: Fn(Desk) -> Desk>(
     requires whole { length desk.entries ≡ length told.old.jobs }
     requires batch { IsBatch desk.lanes (length told.old.jobs) batch.now }
     ensures setting { setting_of result.0 ≡ setting_of desk }
+    ensures begins { take desk.restored result.0.entries ≡ take desk.restored desk.entries }
     ensures answers { (held : Option (List ℕ)) →
         HasAnswered held (K.held sink.old) desk (told_of desk told.old) →
         AnswersTo held (K.held sink.new) (told_of desk told.old) batch.now result.0 (told_of result.0 told.new) result.1 }
@@ -66,21 +68,45 @@ pub(crate) fn answer_batch<K: Sink, W: Fn(Desk) -> Desk>(
     ensures flushed { K.is_flushed sink.old → result.1 ≢ Err RunFault.Write
         → K.is_flushed sink.new }
 {
-    let done = desk.journal().len();
-    texts_stay(&desk);
     match take_batch(alloc, &mut desk, told, batch) {
-        Ok(()) => {
-            let served = serve_jobs(way, desk);
-            let written = write_entries(
-                alloc,
-                served.board().policy(),
-                entries_after(served.journal(), done),
-                sink,
-            );
-            (served, written)
-        }
+        Ok(()) => answer_loaded(alloc, way, desk, sink),
         Err(refused) => (desk, Err(RunFault::from(refused))),
     }
+}
+
+/// Answers the jobs that a desk has in a way of serving, and writes the entries that come of it. The
+/// desk comes back.
+pub(crate) fn answer_loaded<K: Sink, W: Fn(Desk) -> Desk>(
+    alloc: Global,
+    way: &W,
+    desk: Desk,
+    sink: &mut K,
+) -> (Desk, Result<(), RunFault>)
+    requires way { IsWay (W.pre way.now) (W.post way.now) }
+    requires some { 0 < desk.lanes }
+    requires lanes { AreOfLanes desk.lanes desk.jobs }
+    ensures setting { setting_of result.0 ≡ setting_of desk }
+    ensures begins { take desk.restored result.0.entries ≡ take desk.restored desk.entries }
+    ensures answers { (held : Option (List ℕ)) (before after : Told) →
+        HasLoaded held (K.held sink.old) desk before → IsAdded before desk.jobs after →
+        after.entries ≡ result.0.entries → LoadedTo held (K.held sink.new) result.0 after result.1 }
+    ensures once { ServesOnce (W.post way.now) → AreAnsweredOnce (drop desk.restored desk.entries)
+        → AreAnsweredOnce (drop desk.restored result.0.entries) }
+    ensures ending { IfErr result.1 IsWriteEnding }
+    ensures counts { CountsWrites (fault_in result.1) (K.faults sink.old) (K.faults sink.new) }
+    ensures flushed { K.is_flushed sink.old → result.1 ≢ Err RunFault.Write
+        → K.is_flushed sink.new }
+{
+    let done = desk.journal().len();
+    texts_stay(&desk);
+    let served = serve_jobs(way, desk);
+    let written = write_entries(
+        alloc,
+        served.board().policy(),
+        entries_after(served.journal(), done),
+        sink,
+    );
+    (served, written)
 }
 
 // Takes the jobs of a batch to the desk, and tells them.

@@ -1,5 +1,5 @@
 //! The session: batch after batch is read, answered and written.
-ghost use Rattle.std.specs.Prelude.{◌≡◌, ◌<◌, drop, None};
+ghost use Rattle.std.specs.Prelude.{◌≡◌, ◌<◌, take, drop, None};
 ghost use Rattle.wf_board.specs.States.{opening_state};
 ghost use Rattle.wf_board.specs.Histories.{AreAnsweredOnce, AreWantsRightful, IsLegal};
 ghost use Rattle.wf_desk.specs.Desks.{IsSoundDesk};
@@ -78,18 +78,17 @@ fn serve_batches<S: Source, K: Sink, W: Fn(Desk) -> Desk>(
     requires way { IsWay (W.pre way.now) (W.post way.now) }
     requires ready { IsReady reader.old }
     requires lanes { 0 < desk.lanes }
-    requires serving { (first : Cut) × IsServing first
+    requires serving { (first : Cut) × ((before : Streams) × IsServing first before
         (streams_of S.left S.faults K.held K.faults source.old sink.old)
-        (streams_of S.left S.faults K.held K.faults source.old sink.old)
-        reader.old desk (told_of desk told) }
-    ensures serves { (first : Cut) → IsServing first
-        (streams_of S.left S.faults K.held K.faults source.old sink.old)
+        reader.old desk (told_of desk told)) }
+    ensures serves { (first : Cut) (before : Streams) → IsServing first before
         (streams_of S.left S.faults K.held K.faults source.old sink.old)
         reader.old desk (told_of desk told) →
-        Serves (setting_of desk) first reader.old.room
-        (streams_of S.left S.faults K.held K.faults source.old sink.old)
+        Serves (setting_of desk) first reader.old.room before
         (streams_of S.left S.faults K.held K.faults source.new sink.new)
         (told_by result) result.fault }
+    ensures begins { take desk.restored (told_by result).entries
+        ≡ take desk.restored desk.entries }
     ensures legal { IsLegal (opening_state desk.opening) desk.rounds (told_by result).entries }
     ensures once { ServesOnce (W.post way.now) → AreAnsweredOnce (drop desk.restored desk.entries)
         → AreAnsweredOnce (drop desk.restored (told_by result).entries) }
@@ -130,6 +129,7 @@ fn serve_batch<S: Source, K: Sink, W: Fn(Desk) -> Desk>(
     ensures once { ServesOnce (W.post way.now) → AreAnsweredOnce (drop desk.restored desk.entries)
         → AreAnsweredOnce (drop desk.restored result.0.entries) }
     ensures setting { setting_of result.0 ≡ setting_of desk }
+    ensures begins { take desk.restored result.0.entries ≡ take desk.restored desk.entries }
     ensures ready { result.1 ≡ None → IsReady reader.new }
     ensures less { result.1 ≡ None → left_to_read reader.new < left_to_read reader.old }
     ensures room { reader.new.room ≡ reader.old.room }

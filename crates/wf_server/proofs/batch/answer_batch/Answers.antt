@@ -6,21 +6,17 @@ use Rattle.wf_server.proofs.batch.answer_batch.Goals as goal
 
 pub returns-in-Ok-clause-answers : goal.returns-in-Ok-clause-answers
 returns-in-Ok-clause-answers g c held answered =
-    batch_answers held _ _ c.args.desk c.take_batch.new.desk c.serve_jobs-served.result c.policy.result.now c.args.told.now c.take_batch.new.told c.args.batch.now
-    c.len-done.result c.entries_after.result.now c.write_entries-written.result
+    batch_answers held (g.K.Sink.held c.args.sink.now) (g.K.Sink.held c.answer_loaded.new.sink) c.args.desk c.take_batch.new.desk c.answer_loaded.result.0 c.args.told.now c.take_batch.new.told
+    c.args.batch.now c.answer_loaded.result.1
     (record {
       setting = c.take_batch.ensures.setting;
       entries = c.take_batch.ensures.entries;
       loads = c.in-Ok.ensures.loaded;
       start = c.in-Ok.ensures.start;
-      grown = c.serve_jobs-served.ensures.grown;
-      sound = c.serve_jobs-served.ensures.sound;
-      done = c.serve_jobs-served.ensures.done;
       jobs = c.in-Ok.ensures.jobs;
       ends = c.in-Ok.ensures.ends;
     })
-    answered c.texts_stay.ensures (grind (arith, common_steps)) (grind (arith, common_steps)) (grind (arith, common_steps))
-    c.write_entries-written.ensures.all c.write_entries-written.ensures.part c.write_entries-written.ensures.some c.write_entries-written.ensures.ending
+    answered (c.answer_loaded.ensures.answers held) c.answer_loaded.ensures.ending
 
 pub returns-in-Err-clause-answers : goal.returns-in-Err-clause-answers
 returns-in-Err-clause-answers g c held answered =

@@ -27,8 +27,11 @@ serve_batches-requires-clause-serving g c =
     let d = c.in-Ok.desk in
     let new = c.in-Ok.ensures in (
       start d.lanes,
-      session_begins streams c.in-Ok-new.reader d c.new-3.result c.args.options.lanes c.args.room c.jobs_are_in_order.ensures new.lanes new.jobs new.entries new.restored
-          c.new-3.ensures.jobs c.new-3.ensures.ends c.in-Ok-new.ensures,
+      (
+        streams,
+        session_begins streams c.in-Ok-new.reader d c.new-3.result c.args.options.lanes c.args.room c.jobs_are_in_order.ensures new.lanes new.jobs new.entries new.restored
+            c.new-3.ensures.jobs c.new-3.ensures.ends c.in-Ok-new.ensures,
+      ),
     )
 
 pub returns-clause-serves : goal.returns-clause-serves
@@ -45,4 +48,4 @@ returns-clause-serves g c =
     c.new-3.ensures.jobs c.new-3.ensures.ends c.in-Ok-new.ensures in
     subst (λ (n : ℕ). Serves set (start n) c.args.room streams after told fault) new.lanes
     (subst (λ (m : ℕ). Serves set (start d.lanes) m streams after told fault) (ap (λ (r : ReaderShape). r.room) c.in-Ok-new.ensures)
-    (subst (λ (s : Setting). Serves s (start d.lanes) c.in-Ok-new.reader.room streams after told fault) same (c.serve_batches.ensures.serves (start d.lanes) begun)))
+    (subst (λ (s : Setting). Serves s (start d.lanes) c.in-Ok-new.reader.room streams after told fault) same (c.serve_batches.ensures.serves (start d.lanes) streams begun)))

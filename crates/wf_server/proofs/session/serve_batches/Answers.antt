@@ -1,4 +1,4 @@
-use Rattle.std.proofs.Common.{◌≡◌, ℕ, ◌<◌, ◌∙◌, drop, refl, sym, ap, subst}
+use Rattle.std.proofs.Common.{◌≡◌, ℕ, ◌<◌, ◌∙◌, drop, take, refl, sym, ap, subst}
 use Rattle.line_cutter.specs.Jobs.{Cut}
 use Rattle.run_record.specs.Report.{Told}
 use Rattle.run_record.specs.Run.{Streams}
@@ -16,7 +16,8 @@ serving-init g c = record {
   room = refl;
   setting = refl;
   once = λ serves once. once;
-  serving = λ first serving. serving;
+  begins = refl;
+  serving = λ first before serving. serving;
 }
 
 pub serve_batch-next-requires-clause-lanes : goal.serve_batch-next-requires-clause-lanes
@@ -24,12 +25,12 @@ serve_batch-next-requires-clause-lanes g c = subst (λ n. 0 < n) (sym (lanes_of 
 
 pub serve_batch-next-requires-clause-serving : goal.serve_batch-next-requires-clause-serving
 serve_batch-next-requires-clause-serving g c =
-    let streams : Streams = record { input = g.S.Source.left c.args.source.now; output = g.K.Sink.held c.args.sink.now; read_faults = g.S.Source.faults c.args.source.now; write_faults = g.K.Sink.faults c.args.sink.now } in
-    (c.requires.serving.0, (streams, c.serving.invariant.serving c.requires.serving.0 c.requires.serving.1))
+    let first = c.requires.serving.0 in
+    let before = c.requires.serving.1.0 in
+    (first, (before, c.serving.invariant.serving first before c.requires.serving.1.1))
 
 pub serving-preserved : goal.serving-preserved
 serving-preserved g c =
-    let streams : Streams = record { input = g.S.Source.left c.args.source.now; output = g.K.Sink.held c.args.sink.now; read_faults = g.S.Source.faults c.args.source.now; write_faults = g.K.Sink.faults c.args.sink.now } in
     let restored : c.serving.desk.restored ≡ c.args.desk.restored = ap (λ (s : Setting). s.restored) c.serving.invariant.setting in
     record {
       ready = c.serve_batch-next.ensures.ready c.in-None.is;
@@ -38,19 +39,19 @@ serving-preserved g c =
       once = λ serves before.
           subst (λ n. AreAnsweredOnce (drop n c.serve_batch-next.result.0.entries)) restored
           (c.serve_batch-next.ensures.once serves (subst (λ n. AreAnsweredOnce (drop n c.serving.desk.entries)) (sym restored) (c.serving.invariant.once serves before)));
-      serving = λ first begun. rw c.in-None.is at c.serve_batch-next.ensures.batch first streams (c.serving.invariant.serving first begun);
+      begins = subst (λ n. take n c.serve_batch-next.result.0.entries ≡ take n c.serving.desk.entries) restored c.serve_batch-next.ensures.begins ∙ c.serving.invariant.begins;
+      serving = λ first before begun. rw c.in-None.is at c.serve_batch-next.ensures.batch first before (c.serving.invariant.serving first before begun);
     }
 
 pub returns-in-Some-clause-serves : goal.returns-in-Some-clause-serves
-returns-in-Some-clause-serves g c first begun =
-    let streams : Streams = record { input = g.S.Source.left c.args.source.now; output = g.K.Sink.held c.args.sink.now; read_faults = g.S.Source.faults c.args.source.now; write_faults = g.K.Sink.faults c.args.sink.now } in
+returns-in-Some-clause-serves g c first before begun =
     let after : Streams = record { input = g.S.Source.left c.serve_batch-next.new.source; output = g.K.Sink.held c.serve_batch-next.new.sink; read_faults = g.S.Source.faults c.serve_batch-next.new.source; write_faults = g.K.Sink.faults c.serve_batch-next.new.sink } in
     let told = told_of c.serve_batch-next.result.0 c.serve_batch-next.new.told in
     let same = c.serve_batch-next.ensures.setting ∙ c.serving.invariant.setting in
-    let served = rw c.in-Some.is at c.serve_batch-next.ensures.batch first streams (c.serving.invariant.serving first begun) in
+    let served = rw c.in-Some.is at c.serve_batch-next.ensures.batch first before (c.serving.invariant.serving first before begun) in
     rw (c.report_of.ensures.told, c.report_of.ensures.fault)
-    (subst (λ (set : Setting). Serves set first c.args.reader.now.room streams after told c.in-Some.fault) same
-    (subst (λ (n : ℕ). Serves (setting_of c.serve_batch-next.result.0) first n streams after told c.in-Some.fault) (c.serve_batch-next.ensures.room ∙ c.serving.invariant.room) served))
+    (subst (λ (set : Setting). Serves set first c.args.reader.now.room before after told c.in-Some.fault) same
+    (subst (λ (n : ℕ). Serves (setting_of c.serve_batch-next.result.0) first n before after told c.in-Some.fault) (c.serve_batch-next.ensures.room ∙ c.serving.invariant.room) served))
 
 pub returns-in-Some-clause-legal : goal.returns-in-Some-clause-legal
 returns-in-Some-clause-legal g c =
@@ -63,6 +64,12 @@ returns-in-Some-clause-wants g c =
     let same = c.serve_batch-next.ensures.setting ∙ c.serving.invariant.setting in
     subst (λ (t : Told). AreWantsRightful (drop c.args.desk.restored t.entries)) (sym c.report_of.ensures.told)
     (subst (λ (set : Setting). AreWantsRightful (drop set.restored c.serve_batch-next.result.0.entries)) same c.report_of.ensures.sound.wants)
+
+pub returns-in-Some-clause-begins : goal.returns-in-Some-clause-begins
+returns-in-Some-clause-begins g c =
+    let restored : c.serving.desk.restored ≡ c.args.desk.restored = ap (λ (s : Setting). s.restored) c.serving.invariant.setting in
+    subst (λ (t : Told). take c.args.desk.restored t.entries ≡ take c.args.desk.restored c.args.desk.entries) (sym c.report_of.ensures.told)
+    (subst (λ n. take n c.serve_batch-next.result.0.entries ≡ take n c.serving.desk.entries) restored c.serve_batch-next.ensures.begins ∙ c.serving.invariant.begins)
 
 pub returns-in-Some-clause-once : goal.returns-in-Some-clause-once
 returns-in-Some-clause-once g c serves before =

@@ -1,0 +1,22 @@
+use Rattle.std.proofs.Common.{arith}
+use Rattle.std.proofs.lemmas.Grind.{common_steps}
+use Rattle.wf_server.proofs.BatchLaws.{begins_grown, loaded_answers}
+use Rattle.wf_server.proofs.batch.answer_loaded.Goals as goal
+
+pub returns-clause-begins : goal.returns-clause-begins
+returns-clause-begins g c = begins_grown c.args.desk c.serve_jobs-served.result c.serve_jobs-served.ensures.grown c.journal.ensures.sound.kept
+
+pub returns-clause-answers : goal.returns-clause-answers
+returns-clause-answers g c held before after loaded added same =
+    loaded_answers held (g.K.Sink.held c.args.sink.now) (g.K.Sink.held c.write_entries-written.new.sink) c.args.desk c.serve_jobs-served.result c.policy.result.now before after
+    c.len-done.result c.entries_after.result.now c.write_entries-written.result
+    (record {
+      loaded = loaded;
+      added = added;
+      same = same;
+      grown = c.serve_jobs-served.ensures.grown;
+      sound = c.serve_jobs-served.ensures.sound;
+      done = c.serve_jobs-served.ensures.done;
+    })
+    c.texts_stay.ensures (grind (arith, common_steps)) (grind (arith, common_steps)) (grind (arith, common_steps))
+    c.write_entries-written.ensures.all c.write_entries-written.ensures.part c.write_entries-written.ensures.some
