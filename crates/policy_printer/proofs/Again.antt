@@ -1,8 +1,9 @@
 -- A policy is read from the document that it is written as.
 use Rattle.std.proofs.Common.{◌≡◌, ℕ, zero, suc, ◌<◌, Bool, true, false, List, [], ◌∷◌, length, refl, sym, ap, ◌∙◌, ◌⊎◌, inl, inr, arith, codes, Some, Ok, slice_index_or}
 use Rattle.policy_printer.proofs.Words.{AllByRecursion, Members, get_member, IsDecided, PolicyShape, WorkflowShape, no_workflow, any_below, ◌>>=◌, File, written_format, needs_second, form_of, flow_at, file_keys, IsPrintable, name_at, names_data, users_data, relations_data, flows_data, IsNamedPolicy, Format, format_number, string, integer}
+use Rattle.policy_reader.specs.Grammars.{today}
 use Rattle.policy_reader.specs.Parts.{value_at, text_in, name_in, text_name_in, no_others, known_key}
-use Rattle.policy_reader.specs.Files.{document_in, format_of, admin_of, start_over, related_over, staff_of, start_with, start_named, start_of, rest_of, policy_in, policy_of_file}
+use Rattle.policy_reader.specs.Files.{document_in, format_of, admin_of, start_over, related_over, staff_of, start_with, start_named, start_of, rest_of, policy_by, policy_in, policy_of_file}
 use Rattle.policy_printer.specs.Documents.{document_of, table_of}
 use Rattle.std.specs.Prelude.{pos}
 use Rattle.policy_printer.proofs.Readings.{form_at, number_back}
@@ -64,18 +65,18 @@ module _ (decided : IsDecided) (p : PolicyShape) (h : IsNamedPolicy p) (is : IsP
       ∷ (codes "users", users_data p.roster)
       ∷ [])
 
-  format_back : (format : Format) → (format_of (doc_with format) ≡ Ok format) × (no_others File 0 (file_keys format) (doc_with format) ≡ Ok tt)
+  format_back : (format : Format) → (format_of today (doc_with format) ≡ Ok format) × (no_others File 0 (file_keys format) (doc_with format) ≡ Ok tt)
   unfolding format_of value_at no_others known_key
   format_back First = (refl, refl)
   format_back Second = (refl, refl)
 
   -- what stands at the keys
-  written : (format_of doc ≡ Ok (written_format p)) × (no_others File 0 (file_keys (written_format p)) doc ≡ Ok tt) × (get_member (codes "users") doc ≡ Some (users_data p.roster))
+  written : (format_of today doc ≡ Ok (written_format p)) × (no_others File 0 (file_keys (written_format p)) doc ≡ Ok tt) × (get_member (codes "users") doc ≡ Some (users_data p.roster))
       × (get_member (codes "roles") doc ≡ Some (names_data p.roster.roles)) × (get_member (codes "relations") doc ≡ Some (relations_data p.roster.users p.relations)) × (get_member (codes "flows") doc ≡ Some (flows_data p))
   unfolding document_of
   written = let known = format_back (written_format p) in (known.0, known.1, refl, refl, refl, refl)
 
-  start_back : start_of doc ≡ Ok (record p { flow_names = []; flows = [] })
+  start_back : start_of today doc ≡ Ok (record p { flow_names = []; flows = [] })
   unfolding start_of start_named start_with staff_of start_over related_over
   start_back = rw (
     admin_back,
@@ -86,7 +87,7 @@ module _ (decided : IsDecided) (p : PolicyShape) (h : IsNamedPolicy p) (is : IsP
     relations_back p.roster.users p.relations h.users h.relations h.sound.related h.related doc is.begun.relations written.4,
   ) refl
 
-  policy_back : policy_in doc ≡ Ok p
+  policy_back : policy_in today doc ≡ Ok p
   unfolding policy_in rest_of
   policy_back = rw (
     written.0,
@@ -97,5 +98,5 @@ module _ (decided : IsDecided) (p : PolicyShape) (h : IsNamedPolicy p) (is : IsP
 
   -- a policy that can be printed is read from what it is written as
   pub file_back : (text : List ℕ) → document_in text ≡ Ok doc → policy_of_file text ≡ Ok p
-  unfolding policy_of_file
-  file_back text written = ap (λ r. r >>= policy_in) written ∙ policy_back
+  unfolding policy_by
+  file_back text written = ap (λ r. r >>= policy_in today) written ∙ policy_back

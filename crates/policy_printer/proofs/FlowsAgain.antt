@@ -2,6 +2,7 @@
 use Rattle.std.proofs.Common.{◌≡◌, ℕ, suc, ◌<◌, ◌≤◌, false, List, [], ◌∷◌, length, map, take, refl, sym, ap, ◌∙◌, arith, codes, Some, Ok}
 use Rattle.std.specs.FinSet as set
 use Rattle.policy_printer.proofs.Words.{length-map, each, take_all, not_true, and_both, lt_back, le_back, AreNames, Members, get_member, STEP_LIMIT, FLOW_LIMIT, AllPairs, RelationShape, known_names, is_before, IsDecided, PolicyShape, WorkflowShape, IsSoundWorkflow, flow_at, no_workflow, Flows, Ascend, names_data, pair_data, pairs_data, permits_data, rules_data, rows, flow_entry, flows_data, IsNamedWorkflow, least_none, Format}
+use Rattle.policy_reader.specs.Grammars.{today}
 use Rattle.policy_reader.specs.Parts.{value_at, array_in, table_in, table_at, count_in, entries_at, name_in, no_others, known_key}
 use Rattle.policy_reader.specs.Rules.{rules_of}
 use Rattle.policy_reader.specs.Flows.{order_in, order_pairs, cycle_at, no_cycle, ordered_in, flow_in, ruled_in, workflow_in, next_flow, flows_of}
@@ -46,7 +47,7 @@ module _ (decided : IsDecided) (f : ℕ) (roles : List (List ℕ)) (relations : 
   permitted : AllPairs (λ r s. (r < length roles) × (s < length steps)) w.flow.permits
   permitted = record { each = λ r s k. (sound.permitted r s k, (h.kept.permitted.each r s k).1) }
 
-  flow_again : flow_in f roles written ≡ Ok w.flow
+  flow_again : flow_in today f roles written ≡ Ok w.flow
   unfolding flow_in
   flow_again = rw (steps_back f written steps h.steps (lt_back 0 (length steps) (and_both _ _ h.kept.counted).0) few there.0, ordered_again) (permits_back f roles w.flow named h.steps permitted written there.1)
 
@@ -54,7 +55,7 @@ module _ (decided : IsDecided) (f : ℕ) (roles : List (List ℕ)) (relations : 
   rules_again = rules_back f steps h.steps relations related format written w.rules sound.ruled h.flags known sound.few there.2
 
 workflow_again : IsDecided → (p : PolicyShape) → AreNames p.roster.roles → AreNames (known_names p.relations) → (w : WorkflowShape) → IsNamedWorkflow w
-    → IsSoundWorkflow (length p.roster.roles) (length p.relations) w → (format : Format) → HaveForms format w.rules → w.retired ≡ false → workflow_in format p (workflow_members p.roster.roles p.relations w) ≡ Ok w
+    → IsSoundWorkflow (length p.roster.roles) (length p.relations) w → (format : Format) → HaveForms format w.rules → w.retired ≡ false → workflow_in today format p (workflow_members p.roster.roles p.relations w) ≡ Ok w
 unfolding workflow_in ruled_in
 workflow_again decided p named related w h sound format known active =
     let f = length p.flows in
@@ -70,7 +71,7 @@ module _ (decided : IsDecided) (p : PolicyShape) (named : AreNames p.roster.role
   abbrev state : ℕ → PolicyShape
   state f = record p { flow_names = take f p.flow_names; flows = take f p.flows }
 
-  step : (f : ℕ) → f < length p.flows → next_flow format (state f) (flow_entry p f) ≡ Ok (state (suc f))
+  step : (f : ℕ) → f < length p.flows → next_flow today format (state f) (flow_entry p f) ≡ Ok (state (suc f))
   unfolding next_flow name_in table_in
   step f lt =
       let lt' : f < length p.flow_names = omega (arith, lt, count) in
@@ -79,10 +80,10 @@ module _ (decided : IsDecided) (p : PolicyShape) (named : AreNames p.roster.role
 
   -- the workflows are read from what they are written as
   pub flows_back : (again : Members) → Ascend p.flow_names → 0 < length p.flow_names → length p.flows ≤ FLOW_LIMIT → get_member (codes "flows") again ≡ Some (flows_data p)
-      → flows_of format (record p { flow_names = []; flows = [] }) again ≡ Ok p
+      → flows_of today format (record p { flow_names = []; flows = [] }) again ≡ Ok p
   unfolding flows_of entries_at table_at count_in value_at table_in
   flows_back again ascend some few there =
       let n = length p.flows in
       let tabled = tabled_in_order (flow_entry p) p.flow_names n ascend (λ f. refl) (omega (arith, count)) in
       rw (there, tabled, length-map (upto n) (flow_entry p), upto_length n, at_least-ok Flows 0 n (omega (arith, some, count)), at_most-ok Flows 0 n FLOW_LIMIT few)
-      (ap (each (next_flow format) (state 0)) tabled ∙ count_back (next_flow format) (flow_entry p) state n step ∙ (λ i. Ok (record p { flow_names = take_all n p.flow_names (omega (arith, count)) i; flows = take_all n p.flows (omega arith) i })))
+      (ap (each (next_flow today format) (state 0)) tabled ∙ count_back (next_flow today format) (flow_entry p) state n step ∙ (λ i. Ok (record p { flow_names = take_all n p.flow_names (omega (arith, count)) i; flows = take_all n p.flows (omega arith) i })))

@@ -2,6 +2,7 @@
 use Rattle.std.proofs.Common.{◌≡◌, ℕ, suc, ◌<◌, false, nat_lt, List, [], length, map, take, refl, ap, ◌∙◌, arith, ◌≤◌, Bool, nat_eq, ◌∷◌, ◌++◌, get_or, sym, codes, Some, Ok, is_some, position, slice_get}
 use Rattle.std.specs.FinSet as set
 use Rattle.policy_printer.proofs.Words.{length-map, length-take-le, take_all, lt_yes, lt_no, Members, get_member, string, AreNames, place_of, USER_LIMIT, ROLE_LIMIT, STEP_LIMIT, Pairs, RosterShape, has_role, IsSoundRoster, each, Users, Roles, Flows, Ascend, chosen, user_entry, users_data, names_data, pointwise, none_cons, PolicyPart}
+use Rattle.policy_reader.specs.Grammars.{today}
 use Rattle.policy_reader.specs.Parts.{value_at, array_in, table_in, array_at, table_at, count_in, items_at, entries_at, text_in, name_in, text_name_in, named_in, once, next_name}
 use Rattle.policy_reader.specs.Rosters.{roster_of, next_user, next_held, roles_of, next_role}
 use Rattle.policy_printer.proofs.Readings.{count_back, upto, upto_length, take_next, items_back, text_at, form_at, number_back, at_least-ok, at_most-ok, list_back, got_middle}
@@ -37,7 +38,7 @@ module _ (whole : RosterShape) (sound : IsSoundRoster whole) (roles : AreNames w
   total = length whole.users
 
   -- the roster is read from what its users are written as
-  pub roster_back : (again : Members) → Ascend whole.users → 0 < total → get_member (codes "users") again ≡ Some (users_data whole) → roster_of whole.roles again ≡ Ok whole
+  pub roster_back : (again : Members) → Ascend whole.users → 0 < total → get_member (codes "users") again ≡ Some (users_data whole) → roster_of today whole.roles again ≡ Ok whole
   unfolding roster_of entries_at table_at count_in value_at table_in
   roster_back again ascend some there =
       let tabled = tabled_in_order (user_entry whole) whole.users total ascend (λ n. refl) (omega arith) in
@@ -72,7 +73,7 @@ roles_back again roles named some few there =
     (list_back next_role string (λ ns. ns) roles (λ before x after e. name_again roles named Roles (length before) before x after e))
 
 -- the steps of a workflow are read from what they are written as
-pub steps_back : (f : ℕ) (again : Members) (steps : List (List ℕ)) → AreNames steps → 0 < length steps → length steps ≤ STEP_LIMIT → get_member (codes "steps") again ≡ Some (names_data steps) → steps_of f again ≡ Ok steps
+pub steps_back : (f : ℕ) (again : Members) (steps : List (List ℕ)) → AreNames steps → 0 < length steps → length steps ≤ STEP_LIMIT → get_member (codes "steps") again ≡ Some (names_data steps) → steps_of today f again ≡ Ok steps
 unfolding steps_of items_at array_at count_in value_at array_in
 steps_back f again steps named some few there =
     rw (there, items_back (map string steps), length-map steps string, at_least-ok Flows f (length steps) some, at_most-ok Flows f (length steps) STEP_LIMIT few, items_back (map string steps))

@@ -107,13 +107,10 @@ module _ (f : ℕ) (steps : List (List ℕ)) (named : AreNames steps) where
         rw (known, relation_again rho (h.known rho (eq_same rho)), step_again s (h.names s (or_left (nat_eq s s) _ (eq_same s))), group_again g flags (λ x here. h.names x (or_right (nat_eq x s) _ here)) h.members) refl
     rule_again format (rule.AllOf rho g s) h flags known =
         rw (known, relation_again rho (h.known rho (eq_same rho)), step_again s (h.names s (or_left (nat_eq s s) _ (eq_same s))), group_again g flags (λ x here. h.names x (or_right (nat_eq x s) _ here)) h.members) refl
-
     rule_again format (rule.SomeTo rho s g) h flags known =
         rw (known, relation_again rho (h.known rho (eq_same rho)), step_again s (h.names s (or_left (nat_eq s s) _ (eq_same s))), group_again g flags (λ x here. h.names x (or_right (nat_eq x s) _ here)) h.members) refl
-
     rule_again format (rule.AllTo rho s g) h flags known =
         rw (known, relation_again rho (h.known rho (eq_same rho)), step_again s (h.names s (or_left (nat_eq s s) _ (eq_same s))), group_again g flags (λ x here. h.names x (or_right (nat_eq x s) _ here)) h.members) refl
-
     rule_again format (rule.AtMost limit g) h flags known =
         rw (known, group_again g flags h.names (some_of_count 0 g (omega (arith, h.members.0, h.members.1))), le_yes 1 limit (omega (arith, h.members.0)), le_yes limit (count_members g) h.members.1) refl
     rule_again format (rule.AtLeast limit g) h flags known =
