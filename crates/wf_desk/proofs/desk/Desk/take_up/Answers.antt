@@ -1,7 +1,4 @@
-use Rattle.std.proofs.Common.{◌≡◌, ◌<◌, Some, Ok, true, sym, subst, ◌∙◌}
-use Rattle.wf_board.specs.Boards.{state_on}
-use Rattle.wf_board.specs.Decisions.{decision_of}
-use Rattle.wf_desk.specs.Commits.{HasTakenUp}
+use Rattle.std.proofs.Common.{◌≡◌, ◌<◌, Some, sym, subst, ◌∙◌}
 use Rattle.wf_desk.specs.Desks.{next_job}
 use Rattle.wf_desk.specs.DocketLaws.{next_lane}
 use Rattle.wf_desk.proofs.desk.Desk.take_up.Goals as goal
