@@ -18,7 +18,7 @@ mod views;
 mod word;
 
 pub use finding::{write_plan, write_tree};
-pub use reply::write_entry;
+pub use reply::{push_line, write_entry};
 pub use request::{Asked, RequestReader, read_request};
 pub use tree::tree_value;
 pub use value::read_value;

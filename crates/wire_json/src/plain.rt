@@ -2,8 +2,9 @@
 ghost use Rattle.std.specs.Prelude.{◌≡◌, ◌<◌, ◌+◌, ◌∷◌, [], ◌++◌, length, take, drop, decimal, IfSome, IsTrue, true};
 ghost use Rattle.std.specs.Str.{IsUtf8};
 ghost use Rattle.wf_names.specs.Names.{is_name};
+ghost use Rattle.wire_json.specs.declared.plain.Style.TheVariants as Style;
 ghost use Rattle.wire_json.specs.Requests as read;
-ghost use Rattle.wire_json.specs.Plain.{front, request_of, EndsWithLane};
+ghost use Rattle.wire_json.specs.Plain.{front, to_step, to_user, to_lane, request_of, EndsWithLane};
 
 use crate::Asked;
 use itoa::Buffer;
@@ -20,24 +21,73 @@ pub(crate) enum Act {
     GiveBack,
 }
 
-/// What a line asks that is a claim, a finish or a return as most are written: without blanks, its
-/// keys in the order in which they are checked, and its lane last or left out. None says nothing.
+/// Which blanks a line has.
+#[derive(Clone, Copy)]
+pub(crate) enum Style {
+    Tight,
+    /// One behind each colon and comma.
+    Spaced,
+}
+
+/// What a line asks that is a claim, a finish or a return as most are written: without blanks or
+/// with one behind each colon and comma, its keys in the order in which they are checked, and its
+/// lane last or left out. None says nothing.
 pub(crate) fn read_plain(line: &[u8], lanes: u8) -> Option<Asked>
     ensures { IfSome result (λ asked. asked ≡ read.asked_of lanes line.now) }
 {
-    let (act, rest) = take_front(line)?;
+    if let Some((act, rest)) = take_tight(line) {
+        return read_rest(line, Style::Tight, act, rest, lanes);
+    }
+    let (act, rest) = take_spaced(line)?;
+    read_rest(line, Style::Spaced, act, rest, lanes)
+}
+
+// What a line asks, of which what it asks of a step is read.
+fn read_rest(line: &[u8], style: Style, act: Act, rest: &[u8], lanes: u8) -> Option<Asked>
+    requires { line.now ≡ front style act ++ rest.now }
+    ensures { IfSome result (λ asked. asked ≡ read.asked_of lanes line.now) }
+{
     let (case, rest) = take_number(rest)?;
-    let rest = take(rest, b",\"step\":\"")?;
+    let rest = take(rest, style.to_step())?;
     let end = name_len(rest)?;
     let step = name_of(&rest[..end])?;
-    let rest = take(past(rest, end), b",\"user\":\"")?;
+    let rest = take(past(rest, end), style.to_user())?;
     let end = name_len(rest)?;
     let user = name_of(&rest[..end])?;
-    let lane = lane_of(past(rest, end), lanes)?;
+    let lane = lane_of(style, past(rest, end), lanes)?;
     Some(Asked {
         lane,
         ask: Ask::Request(act.request(CaseId(case), step, user)),
     })
+}
+
+impl Style {
+    fn to_step(self) -> &'static [u8]
+        ensures { result.now ≡ to_step self }
+    {
+        match self {
+            Style::Tight => b",\"step\":\"",
+            Style::Spaced => b", \"step\": \"",
+        }
+    }
+
+    fn to_user(self) -> &'static [u8]
+        ensures { result.now ≡ to_user self }
+    {
+        match self {
+            Style::Tight => b",\"user\":\"",
+            Style::Spaced => b", \"user\": \"",
+        }
+    }
+
+    fn to_lane(self) -> &'static [u8]
+        ensures { result.now ≡ to_lane self }
+    {
+        match self {
+            Style::Tight => b",\"lane\":",
+            Style::Spaced => b", \"lane\": ",
+        }
+    }
 }
 
 impl Act {
@@ -53,9 +103,9 @@ impl Act {
     }
 }
 
-// What is asked, at the front of a text, and what follows up to the number of the case.
-fn take_front(text: &[u8]) -> Option<(Act, &[u8])>
-    ensures { IfSome result (λ p. text.now ≡ front p.0 ++ p.1.now) }
+// What is asked, at the front of a text without blanks, and what follows up to the number of the case.
+fn take_tight(text: &[u8]) -> Option<(Act, &[u8])>
+    ensures { IfSome result (λ p. text.now ≡ front Style.Tight p.0 ++ p.1.now) }
 {
     if let Some(rest) = take(text, b"{\"do\":\"claim\",\"case\":") {
         return Some((Act::Claim, rest));
@@ -67,14 +117,28 @@ fn take_front(text: &[u8]) -> Option<(Act, &[u8])>
     Some((Act::GiveBack, rest))
 }
 
+// The same of a text with blanks.
+fn take_spaced(text: &[u8]) -> Option<(Act, &[u8])>
+    ensures { IfSome result (λ p. text.now ≡ front Style.Spaced p.0 ++ p.1.now) }
+{
+    if let Some(rest) = take(text, b"{\"do\": \"claim\", \"case\": ") {
+        return Some((Act::Claim, rest));
+    }
+    if let Some(rest) = take(text, b"{\"do\": \"finish\", \"case\": ") {
+        return Some((Act::Finish, rest));
+    }
+    let rest = take(text, b"{\"do\": \"give_back\", \"case\": ")?;
+    Some((Act::GiveBack, rest))
+}
+
 // The lane at the end of a text: the first one where none is named.
-fn lane_of(text: &[u8], lanes: u8) -> Option<u8>
-    ensures { IfSome result (λ lane. EndsWithLane lanes lane text.now) }
+fn lane_of(style: Style, text: &[u8], lanes: u8) -> Option<u8>
+    ensures { IfSome result (λ lane. EndsWithLane style lanes lane text.now) }
 {
     if is_end(text) {
         return Some(0);
     }
-    let (lane, rest) = take_number(take(text, b",\"lane\":")?)?;
+    let (lane, rest) = take_number(take(text, style.to_lane())?)?;
     if is_end(rest) && lane < lanes as u16 {
         Some(lane as u8)
     } else {

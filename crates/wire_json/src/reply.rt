@@ -21,14 +21,22 @@ const LINE_ROOM: usize = 256;
 
 /// The line that is written for an entry, with its line end. A number that names no user or step
 /// of the policy is written as an empty text.
-#[tactic(auto, unfolding(crate::specs::Replies::entry_text))]
 pub fn write_entry(alloc: Global, p: &Policy, e: &Entry) -> Result<Line, AllocError>
     ensures { IfOk result (λ line. line ≡ entry_text p.now e.now) }
 {
     let mut out = Vec::with_capacity(alloc, LINE_ROOM)?;
-    push_entry(&mut out, p, e)?;
-    push(&mut out, b"\n")?;
+    push_line(&mut out, p, e)?;
     Ok(Line::from_vec(out))
+}
+
+/// Adds the line that is written for an entry.
+#[tactic(auto, unfolding(crate::specs::Replies::entry_text))]
+pub fn push_line(out: &mut Vec<u8>, p: &Policy, e: &Entry) -> Result<(), AllocError>
+    ensures { OnOk result (out.new.items ≡ out.old.items ++ entry_text p.now e.now) }
+{
+    push_entry(out, p, e)?;
+    push(out, b"\n")?;
+    Ok(())
 }
 
 fn push_entry(out: &mut Vec<u8>, p: &Policy, e: &Entry) -> Result<(), AllocError>
