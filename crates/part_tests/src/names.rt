@@ -69,32 +69,32 @@ fn users_are_put_in_and_taken_out(rt: HostRuntime) {
     set.insert(UserId(0));
     set.insert(UserId(63));
     set.insert(UserId(64));
-    set.insert(UserId(1_023));
+    set.insert(UserId(4_095));
     set.remove(UserId(64));
     assert!(rt; set.count() == 3 && set.has(UserId(63)) && !set.has(UserId(64)));
-    assert!(rt; !set.has(UserId(62)) && !set.has(UserId(1_024)) && !set.has(UserId(65_535)));
+    assert!(rt; !set.has(UserId(62)) && !set.has(UserId(4_096)) && !set.has(UserId(65_535)));
     assert!(rt; set.next(0) == Some(UserId(0)) && set.next(1) == Some(UserId(63)));
-    assert!(rt; set.next(64) == Some(UserId(1_023)) && set.next(1_024).is_none());
+    assert!(rt; set.next(64) == Some(UserId(4_095)) && set.next(4_096).is_none());
     assert!(rt; UserSet::empty().next(0).is_none());
 }
 
 #[test]
 fn sets_are_met_struck_and_joined(rt: HostRuntime) {
-    let (low, high) = (UserSet::up_to(700), of(&[3, 699, 700, 1_023]));
+    let (low, high) = (UserSet::up_to(700), of(&[3, 699, 700, 4_095]));
     let (mut both, mut some, mut rest) = (high, high, high);
     both.meet(&low);
     some.join(&low);
     rest.strike(&low);
-    assert!(rt; low.count() == 700 && UserSet::up_to(1_024).count() == 1_024);
-    assert!(rt; both == of(&[3, 699]) && rest == of(&[700, 1_023]));
-    assert!(rt; some.count() == 702 && some.has(UserId(1_023)) && !some.has(UserId(701)));
+    assert!(rt; low.count() == 700 && UserSet::up_to(4_096).count() == 4_096);
+    assert!(rt; both == of(&[3, 699]) && rest == of(&[700, 4_095]));
+    assert!(rt; some.count() == 702 && some.has(UserId(4_095)) && !some.has(UserId(701)));
 }
 
 // The set of these users.
 fn of(users: &[u16]) -> UserSet {
     let mut set = UserSet::empty();
     for u in users {
-        if *u < 1_024 {
+        if *u < 4_096 {
             set.insert(UserId(*u));
         }
     }

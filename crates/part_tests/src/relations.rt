@@ -9,7 +9,7 @@ use std::alloc::{AllocError, Global};
 use std::process::Abort;
 use std::test::Fail;
 use user_relations::{RelationFault, Relations, UserPairs};
-use wf_names::{Name, NameFault, RelId, UserId, UserSet};
+use wf_names::{Name, NameFault, RelId, USER_LIMIT, UserId, UserSet};
 
 const ANN: UserId = UserId(0);
 
@@ -22,6 +22,8 @@ const FIRST: RelId = RelId(2);
 const SECOND: RelId = RelId(3);
 
 const LAST: RelId = RelId(33);
+
+const USERS: u32 = USER_LIMIT as u32;
 
 #[test]
 fn pairs_are_related(rt: HostRuntime) -> Result<(), Fail> {
@@ -172,24 +174,24 @@ fn numbered(alloc: Global, n: u8) -> Result<Name, Fail> {
 
 fn relate_all(rt: &impl Abort, relations: &mut Relations) {
     for n in 0..65_536u32 {
-        let (u, v) = ((n / 1_024) as u16, (n % 1_024) as u16);
+        let (u, v) = ((n / USERS) as u16, (n % USERS) as u16);
         assert!(rt; relations.relate(LAST, UserId(u), UserId(v)) == Ok(()));
     }
 }
 
 fn change_when_full(rt: &impl Abort, relations: &mut Relations) {
-    let (last, next) = (UserId(1_023), UserId(64));
-    assert!(rt; relations.relate(LAST, UserId(63), last) == Err(RelationFault::Already));
+    let (last, next) = (UserId(USER_LIMIT - 1), UserId(16));
+    assert!(rt; relations.relate(LAST, UserId(15), last) == Err(RelationFault::Already));
     assert!(rt; relations.relate(LAST, next, ANN) == Err(RelationFault::Full));
     assert!(rt; relations.unrelate(LAST, ANN, ANN) == Ok(()));
     assert!(rt; relations.relate(LAST, next, ANN) == Ok(()));
-    assert!(rt; counts_of(relations) == (64, 999));
+    assert!(rt; counts_of(relations) == (16, 999));
 }
 
 // How many users come before ann, and how many of the first 1,000 after her.
 fn counts_of(relations: &Relations) -> (u32, u32) {
     (
-        relations.ahead(LAST, ANN, 1_024).count(),
+        relations.ahead(LAST, ANN, USER_LIMIT).count(),
         relations.after(LAST, ANN, 1_000).count(),
     )
 }
@@ -229,8 +231,8 @@ fn change_agrees(
     list: &mut Vec<(u16, u16)>,
     drawn: u64,
 ) -> Result<bool, AllocError> {
-    let u = ((drawn >> 24) % 39 * 26 + 3) as u16;
-    let v = ((drawn >> 40) % 39 * 26 + 29) as u16;
+    let u = ((drawn >> 24) % 39 * 105 + 3) as u16;
+    let v = ((drawn >> 40) % 39 * 105 + 29) as u16;
     if drawn >> 63 == 0 {
         inserted_alike(pairs, list, u, v)
     } else {
@@ -278,9 +280,9 @@ fn lists_agree(pairs: &UserPairs, list: &mut Vec<(u16, u16)>) -> Result<bool, Al
 
 fn rows_agree(pairs: &UserPairs, list: &[(u16, u16)]) -> bool {
     let mut agree = true;
-    for u in 0..1_024 {
-        agree &= pairs.after(UserId(u), 700) == seconds_of(list, u);
-        agree &= pairs.ahead(UserId(u), 700) == firsts_of(list, u);
+    for u in 0..USER_LIMIT {
+        agree &= pairs.after(UserId(u), 2_800) == seconds_of(list, u);
+        agree &= pairs.ahead(UserId(u), 2_800) == firsts_of(list, u);
     }
     agree
 }
@@ -288,7 +290,7 @@ fn rows_agree(pairs: &UserPairs, list: &[(u16, u16)]) -> bool {
 fn seconds_of(list: &[(u16, u16)], u: u16) -> UserSet {
     let mut users = UserSet::empty();
     for (first, second) in list {
-        if *first == u && *second < 700 {
+        if *first == u && *second < 2_800 {
             users.insert(UserId(*second));
         }
     }
@@ -298,7 +300,7 @@ fn seconds_of(list: &[(u16, u16)], u: u16) -> UserSet {
 fn firsts_of(list: &[(u16, u16)], v: u16) -> UserSet {
     let mut users = UserSet::empty();
     for (first, second) in list {
-        if *second == v && *first < 700 {
+        if *second == v && *first < 2_800 {
             users.insert(UserId(*first));
         }
     }
@@ -309,7 +311,7 @@ fn firsts_of(list: &[(u16, u16)], v: u16) -> UserSet {
 fn of(users: &[u16]) -> UserSet {
     let mut set = UserSet::empty();
     for u in users {
-        if *u < 1_024 {
+        if *u < USER_LIMIT {
             set.insert(UserId(*u));
         }
     }

@@ -8,7 +8,7 @@ use constraint_forms::{
     Assign, Holds, Plan, RelatedRows, Rule, Rules, StepSet, falsified, keep_unfalsified, satisfied,
 };
 use std::test::Fail;
-use wf_names::{RelId, StepId, UserId, UserSet};
+use wf_names::{RelId, STEP_LIMIT, StepId, UserId, UserSet};
 
 const KIM: UserId = UserId(0);
 
@@ -167,12 +167,98 @@ fn trio_mentor_falsifies_some_once_all_are_assigned(rt: HostRuntime) {
 }
 
 #[test]
+fn trio_mentor_read_back_falsifies_some_once_all_are_assigned(rt: HostRuntime) {
+    let (rho, group, step) = (LISTED, StepSet::empty().with(A).with(B), C);
+    let some = Rule::SomeTo { rho, step, group };
+    let all = Rule::AllTo { rho, step, group };
+    let rows = [
+        ("---", false, false),
+        ("--k", false, false),
+        ("l-k", false, false),
+        ("m-k", false, true),
+        ("mmk", true, true),
+        ("lmk", false, true),
+        ("llk", false, false),
+        ("--l", false, false),
+        ("-kl", false, true),
+        ("lkl", true, true),
+        ("lk-", false, false),
+    ];
+    for (row, breaks_some, breaks_all) in rows {
+        assert!(rt;
+            broken_by(&some, &all, row) == (breaks_some, breaks_all),
+            "{row}"
+        );
+    }
+}
+
+#[test]
+fn counts_are_of_users_and_free_steps_may_get_others(rt: HostRuntime) {
+    let (limit, group) = (2, StepSet::empty().with(A).with(B).with(C));
+    let least = Rule::AtLeast { limit, group };
+    let most = Rule::AtMost { limit, group };
+    let rows = [
+        ("---", false, false),
+        ("k--", false, false),
+        ("kk-", false, false),
+        ("kkk", true, false),
+        ("kl-", false, false),
+        ("klk", false, false),
+        ("klm", false, true),
+    ];
+    for (row, breaks_least, breaks_most) in rows {
+        assert!(rt;
+            broken_by(&least, &most, row) == (breaks_least, breaks_most),
+            "{row}"
+        );
+    }
+}
+
+#[test]
+fn steps_outside_a_group_are_not_counted(rt: HostRuntime) {
+    let group = StepSet::empty().with(A).with(C);
+    let least = Rule::AtLeast { limit: 2, group };
+    let most = Rule::AtMost { limit: 1, group };
+    let rows = [
+        ("kl-", false, false),
+        ("klk", true, false),
+        ("kkl", false, true),
+        ("-kl", false, false),
+    ];
+    for (row, breaks_least, breaks_most) in rows {
+        assert!(rt;
+            broken_by(&least, &most, row) == (breaks_least, breaks_most),
+            "{row}"
+        );
+    }
+}
+
+#[test]
 fn trio_plans_satisfy_or_not(rt: HostRuntime) {
     let (rho, group, step) = (LISTED, StepSet::empty().with(A).with(B), C);
     let some = Rule::SomeOf { rho, group, step };
     let all = Rule::AllOf { rho, group, step };
     assert!(rt; satisfies(&some, &[KIM, MAX, LEE]) && !satisfies(&some, &[MAX, MAX, LEE]));
     assert!(rt; !satisfies(&all, &[KIM, MAX, LEE]) && satisfies(&all, &[KIM, KIM, LEE]));
+}
+
+#[test]
+fn trio_plans_satisfy_what_is_read_back_or_not(rt: HostRuntime) {
+    let (rho, group, step) = (LISTED, StepSet::empty().with(A).with(B), C);
+    let some = Rule::SomeTo { rho, step, group };
+    let all = Rule::AllTo { rho, step, group };
+    assert!(rt; satisfies(&some, &[LEE, MAX, KIM]) && !satisfies(&some, &[KIM, MAX, LEE]));
+    assert!(rt; !satisfies(&all, &[LEE, MAX, KIM]) && satisfies(&all, &[LEE, LEE, KIM]));
+}
+
+#[test]
+fn trio_plans_have_so_many_users_or_not(rt: HostRuntime) {
+    let (limit, group) = (2, StepSet::empty().with(A).with(B).with(C));
+    let least = Rule::AtLeast { limit, group };
+    let most = Rule::AtMost { limit, group };
+    assert!(rt; !satisfies(&least, &[KIM, KIM, KIM]) && satisfies(&most, &[KIM, KIM, KIM]));
+    assert!(rt; satisfies(&least, &[KIM, LEE, KIM]) && satisfies(&most, &[KIM, LEE, KIM]));
+    assert!(rt; satisfies(&least, &[KIM, LEE, MAX]) && !satisfies(&most, &[KIM, LEE, MAX]));
 }
 
 fn satisfies(rule: &Rule, users: &[UserId]) -> bool
@@ -211,6 +297,16 @@ fn rules_know_their_steps(rt: HostRuntime) {
     assert!(rt; pair().reads(RelId::OTHER) && !pair().reads(LISTED) && some().reads(LISTED));
 }
 
+#[test]
+fn rules_over_counts_read_no_relation(rt: HostRuntime) {
+    let (rho, step, group) = (LISTED, C, StepSet::empty().with(A).with(B));
+    let most = Rule::AtMost { limit: 1, group };
+    let back = Rule::SomeTo { rho, step, group };
+    assert!(rt; names_of(&most) == [true, true, false] && names_of(&back) == [true, true, true]);
+    assert!(rt; most.relation().is_none() && !most.reads(RelId::SAME) && !most.reads(LISTED));
+    assert!(rt; back.relation() == Some(LISTED) && back.reads(LISTED));
+}
+
 // A pair over the first and the last step.
 fn pair() -> Rule {
     Rule::Pair {
@@ -247,7 +343,7 @@ fn cells_hold_what_is_put_in(rt: HostRuntime) {
 
 fn a_set_holds_its_step() -> bool {
     let group = StepSet::empty().with(B);
-    !group.has(A) && group.has(B) && group.limit() == 16
+    !group.has(A) && group.has(B) && group.count() == 1 && group.limit() == STEP_LIMIT
 }
 
 fn an_assignment_holds_its_user() -> bool {
@@ -357,8 +453,9 @@ fn left(rule: &Rule, a: &Assign, s: StepId) -> [bool; 3]
 fn every_form_leaves_those_by_whom_it_is_not_falsified(rt: HostRuntime) {
     for row in 0..64u8 {
         for groups in 0..8u8 {
+            let (a, group) = (row_of(row), group_of(groups));
             assert!(rt;
-                leaves_as_falsified(&row_of(row), &group_of(groups)),
+                leaves_as_falsified(&a, &group) && counts_leave_right(&a, &group),
                 "{row} {groups}"
             );
         }
@@ -398,9 +495,28 @@ fn leaves_as_falsified(a: &Assign, group: &StepSet) -> bool {
             if !leaves_right(&some, a)
                 || !leaves_right(&all, a)
                 || !pairs_leave_right(rho, step, a)
+                || !backs_leave_right(rho, step, &group, a)
             {
                 return false;
             }
+        }
+    }
+    true
+}
+
+fn backs_leave_right(rho: RelId, step: StepId, group: &StepSet, a: &Assign) -> bool {
+    let group = *group;
+    leaves_right(&Rule::SomeTo { rho, step, group }, a)
+        && leaves_right(&Rule::AllTo { rho, step, group }, a)
+}
+
+fn counts_leave_right(a: &Assign, group: &StepSet) -> bool {
+    let group = *group;
+    for limit in 0..4u8 {
+        if !leaves_right(&Rule::AtMost { limit, group }, a)
+            || !leaves_right(&Rule::AtLeast { limit, group }, a)
+        {
+            return false;
         }
     }
     true

@@ -270,7 +270,7 @@ fn add_users(alloc: Global, p: &mut Policy) -> Result<bool, AllocError> {
     Ok(true)
 }
 
-// Relates the first 64 users to everybody, which makes 65,536 pairs with the one that was there.
+// Relates the first 16 users to everybody, which makes 65,536 pairs with the one that was there.
 fn relate_users(p: &mut Policy) -> bool {
     let Some(mentor) = Name::read("mentor") else {
         return false;
@@ -278,7 +278,7 @@ fn relate_users(p: &mut Policy) -> bool {
     let Some(rho) = p.relations().find(&mentor) else {
         return false;
     };
-    for u in 0..64 {
+    for u in 0..16 {
         for v in 0..USER_LIMIT {
             relate_two(p, rho, UserId(u), UserId(v));
         }
@@ -296,7 +296,7 @@ fn relate_two(p: &mut Policy, rho: RelId, u: UserId, v: UserId) {
 fn limits_are_checked(p: &Policy) -> bool {
     one(p, "add_user", "kim") == Some(Some(EditFault::Already))
         && one(p, "add_user", "pat") == Some(Some(EditFault::Full))
-        && three(p, "relate", "u63", "mentor", "u1023") == Some(Some(EditFault::Already))
-        && three(p, "relate", "u64", "mentor", "kim") == Some(Some(EditFault::Full))
-        && three(p, "unrelate", "u63", "mentor", "u1023") == Some(None)
+        && three(p, "relate", "u15", "mentor", "u4095") == Some(Some(EditFault::Already))
+        && three(p, "relate", "u16", "mentor", "kim") == Some(Some(EditFault::Full))
+        && three(p, "unrelate", "u15", "mentor", "u4095") == Some(None)
 }

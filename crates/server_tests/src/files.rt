@@ -1,15 +1,16 @@
 //! A policy file that is read, and a policy that is printed and read again.
 
+use constraint_forms::{Rule, Rules, StepSet};
 use policy_book::{Policy, Relations, Roster};
 use policy_printer::print;
 use policy_reader::read;
 use std::alloc::Global;
 use std::test::Fail;
-use wf_names::{RelId, RoleId, UserId};
+use wf_names::{FlowId, RelId, RoleId, StepId, UserId};
 
 // Pairs, members and permissions out of order, each form of a rule, steps that are not in the
 // order of their names, and a step without roles.
-const WHOLE: &str = "format = 1\nadmin = \"chief\"\nroles = [\"chief\", \"clerk\", \"boss\"]\n\
+const WHOLE: &str = "format = 2\nadmin = \"chief\"\nroles = [\"chief\", \"clerk\", \"boss\"]\n\
     [users]\nkim = [\"clerk\"]\nlee = [\"boss\", \"clerk\"]\nzoe = [\"chief\"]\n\
     [relations]\nconflict = { pairs = [[\"lee\", \"kim\"], [\"kim\", \"zoe\"]] }\nclear = { complement = \"conflict\" }\n\
     [flows.trio]\nsteps = [\"c\", \"a\", \"b\"]\norder = [[\"c\", \"b\"], [\"c\", \"a\"]]\n\
@@ -18,6 +19,10 @@ const WHOLE: &str = "format = 1\nadmin = \"chief\"\nroles = [\"chief\", \"clerk\
     { form = \"pair\", relation = \"clear\", first = \"c\", second = \"a\" },\n\
     { form = \"some\", relation = \"conflict\", group = [\"b\", \"c\"], step = \"a\" },\n\
     { form = \"all\", relation = \"other\", group = [\"a\"], step = \"b\" },\n\
+    { form = \"some_to\", relation = \"conflict\", group = [\"a\", \"c\"], step = \"b\" },\n\
+    { form = \"all_to\", relation = \"clear\", group = [\"b\"], step = \"c\" },\n\
+    { form = \"at_most\", group = [\"b\", \"a\"], limit = 1 },\n\
+    { form = \"at_least\", group = [\"c\", \"a\"], limit = 2 },\n\
     ]\n\
     [flows.early]\nsteps = [\"x\"]\npermit = {}\n";
 
@@ -57,6 +62,72 @@ fn users_and_relations_are_as_before(rt: HostRuntime) -> Result<(), Fail> {
 
 fn is_as_before(policy: &Policy) -> bool {
     roster_is_as_before(policy.roster()) && relations_are_as_before(policy.relations())
+}
+
+#[test]
+fn rules_are_as_before(rt: HostRuntime) -> Result<(), Fail> {
+    let policy = again(rt.alloc())?;
+    assert!(rt; trio_has_its_rules(&policy));
+    Ok(())
+}
+
+// The trio is the second workflow by name.
+fn trio_has_its_rules(policy: &Policy) -> bool {
+    policy.flows().len() == 2 && are_the_rules(policy.rules(FlowId(1)))
+}
+
+fn are_the_rules(rules: &Rules) -> bool {
+    match rules.as_slice() {
+        [pair, some, all, some_to, all_to, most, least] => {
+            are_over_relations([pair, some, all], [some_to, all_to]) && are_over_counts(most, least)
+        }
+        _ => false,
+    }
+}
+
+// Steps are c, a and b, and the relations that the file declares clear and conflict.
+fn are_over_relations(rules: [&Rule; 3], back: [&Rule; 2]) -> bool {
+    let (c, a, b) = (StepId(0), StepId(1), StepId(2));
+    let [pair, some, all] = rules;
+    let (rho, group, step) = (RelId(3), StepSet::empty().with(b).with(c), a);
+    *some == Rule::SomeOf { rho, group, step }
+        && is_pair(pair)
+        && *all == all_of(StepSet::empty().with(a))
+        && are_back(back)
+}
+
+fn is_pair(rule: &Rule) -> bool {
+    let (rho, first, second) = (RelId(2), StepId(0), StepId(1));
+    *rule == Rule::Pair { rho, first, second }
+}
+
+fn all_of(group: StepSet) -> Rule {
+    let (rho, step) = (RelId::OTHER, StepId(2));
+    Rule::AllOf { rho, group, step }
+}
+
+fn are_back(rules: [&Rule; 2]) -> bool {
+    let (c, a, b) = (StepId(0), StepId(1), StepId(2));
+    let [some, all] = rules;
+    let (rho, step, group) = (RelId(3), b, StepSet::empty().with(a).with(c));
+    let whole = StepSet::empty().with(b);
+    *some == Rule::SomeTo { rho, step, group } && *all == all_back(c, whole)
+}
+
+fn all_back(step: StepId, group: StepSet) -> Rule {
+    let rho = RelId(2);
+    Rule::AllTo { rho, step, group }
+}
+
+fn are_over_counts(most: &Rule, least: &Rule) -> bool {
+    let (c, a, b) = (StepId(0), StepId(1), StepId(2));
+    let (limit, group) = (1, StepSet::empty().with(b).with(a));
+    *most == Rule::AtMost { limit, group }
+        && *least == at_least(2, StepSet::empty().with(c).with(a))
+}
+
+fn at_least(limit: u8, group: StepSet) -> Rule {
+    Rule::AtLeast { limit, group }
 }
 
 const TRIO: &str = "format = 1\nadmin = \"chief\"\nroles = [\"chief\", \"clerk\"]\n\

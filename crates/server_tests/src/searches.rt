@@ -34,7 +34,7 @@ rules = [
 "#;
 
 const TRIO: &str = r#"
-format = 1
+format = 2
 admin = "chief"
 roles = ["boss", "chief", "clerk"]
 
@@ -83,6 +83,39 @@ const NO_ALL_MENTORS: &str = r#"
   { form = "pair", relation = "other", first = "a", second = "b" },
 "#;
 
+const SOME_MENTORED: &str = r#"
+  { form = "some_to", relation = "mentor", group = ["a", "b"], step = "c" },
+"#;
+
+const NO_SOME_MENTORED: &str = r#"
+  { form = "some_to", relation = "mentor", group = ["a", "b"], step = "c" },
+  { form = "some", relation = "mentor", group = ["a", "b"], step = "c" },
+"#;
+
+const ALL_MENTORED: &str = r#"
+  { form = "all_to", relation = "mentor", group = ["a", "b"], step = "c" },
+"#;
+
+const NO_ALL_MENTORED: &str = r#"
+  { form = "all_to", relation = "mentor", group = ["a", "b"], step = "c" },
+  { form = "pair", relation = "other", first = "a", second = "b" },
+"#;
+
+const TWO_USERS: &str = r#"
+  { form = "at_least", limit = 2, group = ["a", "b", "c"] },
+  { form = "at_most", limit = 2, group = ["a", "b", "c"] },
+"#;
+
+const NO_THIRD_USER: &str = r#"
+  { form = "at_least", limit = 3, group = ["a", "b", "c"] },
+  { form = "pair", relation = "same", first = "a", second = "c" },
+"#;
+
+const NO_SECOND_USER: &str = r#"
+  { form = "at_most", limit = 1, group = ["a", "b", "c"] },
+  { form = "all", relation = "mentor", group = ["a"], step = "b" },
+"#;
+
 #[test]
 fn two_of_the_64_plans_are_valid(rt: HostRuntime) -> Result<(), Fail> {
     let p = policy_reader::read(rt.alloc(), PAY.as_bytes())?;
@@ -117,6 +150,13 @@ fn search_agrees_with_all_assignments(rt: HostRuntime) -> Result<(), Fail> {
         (NO_SOME_MENTOR, false),
         (ALL_MENTORS, true),
         (NO_ALL_MENTORS, false),
+        (SOME_MENTORED, true),
+        (NO_SOME_MENTORED, false),
+        (ALL_MENTORED, true),
+        (NO_ALL_MENTORED, false),
+        (TWO_USERS, true),
+        (NO_THIRD_USER, false),
+        (NO_SECOND_USER, false),
     ];
     for (rules, solvable) in rows {
         let answers = answers_for(rt.alloc(), rules)?;

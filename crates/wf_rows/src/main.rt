@@ -17,9 +17,15 @@ use toml::{Table, Value};
 use wf_outside::{MemShelf, MemSink, MemSource};
 use wf_server::{Report, run_alone};
 
-// The files: commands with what comes of them, faulty policies, devices that fail with texts made to
-// break it, and limits.
-const FILES: [&str; 4] = ["rows.toml", "policies.toml", "hostile.toml", "limits.toml"];
+// The files: commands with what comes of them, faulty policies, the forms of rules that the first
+// format lacks, devices that fail with texts made to break it, and limits.
+const FILES: [&str; 5] = [
+    "rows.toml",
+    "policies.toml",
+    "forms.toml",
+    "hostile.toml",
+    "limits.toml",
+];
 
 // Whole sessions.
 const SESSIONS: &str = "sessions.toml";

@@ -47,14 +47,15 @@ fn put_files(
     Ok(())
 }
 
-/// Adds the text of a key as a file under the key's name.
+/// Adds the text of a key as a file under the key's name, with the pieces of another key behind it.
 pub fn put_text(
     alloc: Global,
     row: &Value,
     key: &str,
+    more: &str,
     files: &mut Vec<MemFile>,
 ) -> Result<(), AllocError> {
-    put_file(alloc, key, text(row.get(key)), &[], files)
+    put_file(alloc, key, text(row.get(key)), list(row.get(more)), files)
 }
 
 // Adds a file of this name, of a text and pieces behind it.

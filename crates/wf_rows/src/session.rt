@@ -9,7 +9,8 @@ use wf_server::run_alone;
 
 /// Whether each request of a session is answered, and its transcript is legal. A session has the words
 /// that serve it, `serve`, and those that audit its transcript, `audit`, over a policy file and
-/// requests, which stand under the names `policy` and `requests`, and the number of its `entries`.
+/// requests, which stand under the names `policy` and `requests`, with the pieces of `more_policy`
+/// behind the policy, and the number of its `entries`.
 pub fn is_legal(alloc: Global, session: &Value) -> Result<bool, AllocError> {
     let mut transcript = sink_of(alloc, session)?;
     Ok(is_served(alloc, session, &mut transcript)? && is_found_legal(alloc, session, &transcript)?)
@@ -70,7 +71,7 @@ fn entries_over(
 
 fn shelf_of(alloc: Global, session: &Value) -> Result<MemShelf, AllocError> {
     let mut files = Vec::new(alloc);
-    put_text(alloc, session, "policy", &mut files)?;
-    put_text(alloc, session, "requests", &mut files)?;
+    put_text(alloc, session, "policy", "more_policy", &mut files)?;
+    put_text(alloc, session, "requests", "more_requests", &mut files)?;
     Ok(MemShelf::new(files, Vec::new(alloc)))
 }
