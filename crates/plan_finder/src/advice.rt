@@ -87,7 +87,7 @@ fn weight_of(problem: &Problem, work: &Work, open: u32, s: u8) -> u32 {
     let mut weight = 1u32;
     for (k, law) in problem.laws.as_slice().iter().enumerate() {
         if has_bit(law.scope, s) && law.scope & open & !bit(s) != 0 {
-            weight = weight.saturating_add(work.rule(k));
+            weight = weight.saturating_add(work.tree_rule(k));
         }
     }
     weight
@@ -100,7 +100,7 @@ fn count_candidates(problem: &Problem, work: &mut Work, a: &Assign, s: u8) -> u3
         if has_bit(law.scope, s) {
             restrict(problem, work, law, a, s);
             if is_empty(work.spare.row(0)) {
-                work.blame(k);
+                work.blame_tried(k);
                 return 0;
             }
         }
@@ -204,7 +204,7 @@ fn keep_ahead(problem: &Problem, work: &mut Work, over: Over, u: u16) {
         Over::Other => take_user(work.spare.row_mut(0), u),
         Over::Declared(at, back) => {
             if let Some(link) = problem.link(at, back) {
-                let _ = meet(work.spare.row_mut(0), link.ahead.row(u as usize));
+                let _ = meet(work.spare.row_mut(0), link.ahead(u));
             }
         }
     }
@@ -217,7 +217,7 @@ fn keep_back(problem: &Problem, work: &mut Work, over: Over, v: u16) {
         Over::Other => take_user(work.spare.row_mut(0), v),
         Over::Declared(at, back) => {
             if let Some(link) = problem.link(at, back) {
-                let _ = meet(work.spare.row_mut(0), link.back.row(v as usize));
+                let _ = meet(work.spare.row_mut(0), link.back(v));
             }
         }
     }
@@ -276,7 +276,7 @@ fn are_related(problem: &Problem, over: Over, u: u16, v: u16) -> bool {
         Over::Same => u == v,
         Over::Other => u != v,
         Over::Declared(at, back) => match problem.link(at, back) {
-            Some(link) => has_user(link.ahead.row(u as usize), v),
+            Some(link) => has_user(link.ahead(u), v),
             None => true,
         },
     }
@@ -321,7 +321,7 @@ fn add_ahead(problem: &Problem, work: &mut Work, over: Over, u: u16) {
         }
         Over::Declared(at, back) => {
             if let Some(link) = problem.link(at, back) {
-                join(work.taken.row_mut(0), link.ahead.row(u as usize));
+                join(work.taken.row_mut(0), link.ahead(u));
             }
         }
     }

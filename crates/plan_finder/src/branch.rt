@@ -20,12 +20,12 @@ pub(crate) struct Node {
 
 impl Node {
     /// A node to be used.
-    pub(crate) fn new(alloc: Global, width: usize) -> Result<Node, AllocError> {
+    pub(crate) fn new(alloc: Global, problem: &Problem) -> Result<Node, AllocError> {
         Ok(Node {
-            state: State::new(alloc, width)?,
+            state: State::new(alloc, problem.steps, problem.width)?,
             choice: Choice::Nothing,
             options: 0,
-            users: Rows::new(alloc, 1, width)?,
+            users: Rows::new(alloc, 1, problem.width)?,
         })
     }
 

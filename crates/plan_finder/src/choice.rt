@@ -1,7 +1,7 @@
 //! Where the search branches next.
 
 use crate::bits::bit;
-use crate::problem::{Over, Problem};
+use crate::problem::{Problem, is_declared};
 use crate::rows::count;
 use crate::state::State;
 use crate::work::Work;
@@ -83,12 +83,5 @@ fn share_of_block(problem: &Problem, state: &State, work: &Work, b: u8) -> Share
     Share {
         branches: count(state.block(b)),
         weight,
-    }
-}
-
-fn is_declared(over: Over) -> bool {
-    match over {
-        Over::Declared(..) => true,
-        Over::Same | Over::Other => false,
     }
 }

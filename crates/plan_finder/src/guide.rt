@@ -18,6 +18,10 @@ const WHOLE: u64 = 1 << 20;
 /// What is counted in a run, and what is known of each step as a root.
 #[derive(Drop)]
 pub(crate) struct Guide {
+    /// The most branches that may be kept.
+    most: u32,
+    /// How many branches are kept.
+    kept: u32,
     run: u32,
     limit: u32,
     spent: u32,
@@ -38,8 +42,10 @@ pub(crate) struct Guide {
 
 impl Guide {
     /// Nothing is known yet.
-    pub(crate) fn new() -> Guide {
+    pub(crate) fn new(most: u32) -> Guide {
         Guide {
+            most,
+            kept: 0,
             run: 0,
             limit: FIRST_LIMIT,
             spent: 0,
@@ -59,6 +65,31 @@ impl Guide {
         self.root
     }
 
+    /// How many branches are kept.
+    pub(crate) fn kept(&self) -> u32 {
+        self.kept
+    }
+
+    /// Counts one more branch that is kept.
+    pub(crate) fn keep(&mut self) {
+        self.kept = self.kept.saturating_add(1);
+    }
+
+    /// Of the branches that are kept now only so many are kept on.
+    pub(crate) fn drop_to(&mut self, kept: u32) {
+        self.kept = kept;
+    }
+
+    /// Whether more branches were to be kept than may be.
+    pub(crate) fn is_spent(&self) -> bool {
+        self.kept > self.most
+    }
+
+    /// The bound of this run.
+    pub(crate) fn limit(&self) -> u32 {
+        self.limit
+    }
+
     /// Begins the next run, where these are the steps that seem best as roots. Each of them is the
     /// root of a short run first; then the one whose tree seems to become smallest is.
     pub(crate) fn begin(&mut self, best: u32) {
@@ -76,6 +107,7 @@ impl Guide {
         }
         self.run = self.run.saturating_add(1);
         self.spent = 0;
+        self.kept = 0;
         self.depth = 0;
         self.users = Cells::all(0);
         self.tried = Cells::all(0);
@@ -115,7 +147,7 @@ impl Guide {
         self.depth = depth;
         self.tried.raise(depth);
         self.spent = self.spent.saturating_add(1);
-        self.spent <= self.limit
+        self.spent <= self.limit && self.kept <= self.most
     }
 
     // Notes how large the tree of the last run seems to become. Where that is more than a shorter run

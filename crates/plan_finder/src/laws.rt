@@ -4,9 +4,9 @@ use crate::bits::{bit, has_bit, pop};
 use crate::links::{
     add_ahead, keep_block, keep_options, keep_step, make_other, make_related, make_same,
 };
-use crate::matching::can_match;
+use crate::matching::{can_match, can_reach};
 use crate::problem::{Demand, Law, Link, Over, Problem};
-use crate::rows::{clear, count, has_user, is_empty, join, only_user, take_user};
+use crate::rows::{clear, has_user, is_empty, join, only_user, take_user};
 use crate::state::State;
 use crate::work::Work;
 
@@ -22,14 +22,17 @@ pub(crate) fn settle(problem: &Problem, state: &mut State, work: &mut Work, chan
             return false;
         }
     }
-    state.refresh(problem, work) && has_users_enough(state)
+    state.refresh(problem, work) && can_match(state) && can_reach_all(problem, state, work)
 }
 
-// Whether the blocks can have different users; looked at where one has fewer than there are blocks.
-fn has_users_enough(state: &State) -> bool {
-    for b in 0..state.blocks {
-        if count(state.block(b)) < state.blocks as u32 {
-            return can_match(state);
+// Whether each rule that wants so many users can have them.
+fn can_reach_all(problem: &Problem, state: &State, work: &mut Work) -> bool {
+    for (k, law) in problem.laws.as_slice().iter().enumerate() {
+        if let Demand::AtLeast(least) = law.demand {
+            if !can_reach(state, law.group, least) {
+                work.blame(k);
+                return false;
+            }
         }
     }
     true

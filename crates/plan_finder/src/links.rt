@@ -2,7 +2,7 @@
 
 use crate::bits::bit;
 use crate::problem::{Link, Problem};
-use crate::rows::{clear, is_empty, meet, unite};
+use crate::rows::{clear, is_empty, join, meet, user_at};
 use crate::state::State;
 use crate::work::Work;
 
@@ -81,16 +81,10 @@ fn reach_ahead(problem: &Problem, link: Link<'_>, state: &State, work: &mut Work
 }
 
 /// To the spare row come those to whom some user of a step's block is related.
-pub(crate) fn add_ahead(
-    problem: &Problem,
-    link: Link<'_>,
-    state: &State,
-    work: &mut Work,
-    x: u8,
-) {
+pub(crate) fn add_ahead(problem: &Problem, link: Link<'_>, state: &State, work: &mut Work, x: u8) {
     let from = state.block(state.home(x));
     let _ = work.spend((crate::rows::count(from) as usize).saturating_mul(problem.width));
-    unite(work.spare.row_mut(0), from, &link.ahead);
+    unite(work.spare.row_mut(0), from, link, false);
 }
 
 // Into the spare row go those who are related to some user of a step's block.
@@ -98,7 +92,26 @@ fn reach_back(problem: &Problem, link: Link<'_>, state: &State, work: &mut Work,
     let from = state.block(state.home(s));
     let _ = work.spend((crate::rows::count(from) as usize).saturating_mul(problem.width));
     clear(work.spare.row_mut(0));
-    unite(work.spare.row_mut(0), from, &link.back);
+    unite(work.spare.row_mut(0), from, link, true);
+}
+
+// Puts in those to whom some user of a row is related, or those who are related to one.
+fn unite(into: &mut [u64], from: &[u64], link: Link<'_>, back: bool) {
+    for (at, word) in from.iter().enumerate() {
+        let mut left = *word;
+        for _ in 0..64u8 {
+            if left == 0 {
+                break;
+            }
+            let user = user_at(at, left.trailing_zeros());
+            left &= left.wrapping_sub(1);
+            if back {
+                join(into, link.back(user));
+            } else {
+                join(into, link.ahead(user));
+            }
+        }
+    }
 }
 
 /// An open step keeps the users of the spare row. Tells whether one is left.

@@ -1,31 +1,42 @@
-//! Different users for the blocks.
+//! Different users for steps and blocks.
 
-use crate::bits::{Cells, bit, has_bit, pop};
-use crate::rows::{has_user, nth_user};
+use crate::bits::{Cells, bit, pop};
+use crate::rows::{count, has_user, nth_user};
 use crate::state::State;
 use constraint_forms::Plan;
 use wf_names::{STEP_LIMIT, UserId};
 
-/// Users who were given to blocks.
+/// Users who were given to seats. A seat is a step that is open, or that stands for its block.
 #[derive(Clone, Copy)]
 struct Given {
     users: Cells,
-    /// The blocks that have a user.
-    blocks: u32,
+    /// The seats that have a user.
+    seats: u32,
 }
 
-/// Whether the blocks can have different users.
+/// Whether the blocks can have different users; looked at where one has fewer than there are blocks.
 pub(crate) fn can_match(state: &State) -> bool {
-    give_all(state).is_some()
+    let seats = block_seats(state);
+    are_wide(state, seats) || reach(state, seats) == seats.count_ones()
+}
+
+/// Whether some steps can have so many different users between them. Steps of one block have one.
+pub(crate) fn can_reach(state: &State, steps: u32, least: u32) -> bool {
+    let seats = steps & (state.open | block_seats_of(state, steps));
+    (seats.count_ones() >= least && are_wide(state, seats)) || reach(state, seats) >= least
 }
 
 /// The plan that gives each step a user of its block, all blocks different ones, where there is one.
 pub(crate) fn matched(state: &State, steps: u8) -> Option<Plan> {
-    let given = give_all(state)?;
+    let seats = block_seats(state);
+    let given = give_all(state, seats);
+    if given.seats != seats {
+        return None;
+    }
     let mut users = [UserId(0); STEP_LIMIT];
     for s in 0..STEP_LIMIT {
-        let home = state.home((s & 31) as u8);
-        users[s] = UserId((given.users.at(home) & 0xffff) as u16);
+        let seat = seat_of(state, state.home((s & 31) as u8));
+        users[s] = UserId((given.users.at(seat) & 0xffff) as u16);
     }
     let count = steps as usize;
     if count <= STEP_LIMIT {
@@ -35,78 +46,132 @@ pub(crate) fn matched(state: &State, steps: u8) -> Option<Plan> {
     }
 }
 
-fn give_all(state: &State) -> Option<Given> {
-    let mut given = Given {
-        users: Cells::all(0),
-        blocks: 0,
-    };
-    for b in 0..state.blocks {
-        if !give_one(state, &mut given, b) {
-            return None;
-        }
-    }
-    Some(given)
+// The step that stands for a block: its first one.
+fn seat_of(state: &State, b: u8) -> u8 {
+    (state.members.at(b).trailing_zeros() & 31) as u8
 }
 
-// Gives a block a user, if need be by giving others a new one. The way back from each block that was met leads to the
-// block that wants its user.
-fn give_one(state: &State, given: &mut Given, start: u8) -> bool {
+// The steps that stand for the blocks.
+fn block_seats(state: &State) -> u32 {
+    let mut seats = 0;
+    for b in 0..state.blocks {
+        seats |= bit(seat_of(state, b));
+    }
+    seats
+}
+
+// Of each block with some of these steps the first one of them.
+fn block_seats_of(state: &State, steps: u32) -> u32 {
+    let mut seats = 0;
+    for b in 0..state.blocks {
+        let members = state.members.at(b) & steps;
+        seats |= members & members.wrapping_neg();
+    }
+    seats
+}
+
+// The users of a seat.
+fn users_of(state: &State, seat: u8) -> &[u64] {
+    if state.is_open(seat) {
+        state.step(seat)
+    } else {
+        state.block(state.home(seat))
+    }
+}
+
+// Whether each seat has as many users as there are seats, so that they can have different ones.
+fn are_wide(state: &State, seats: u32) -> bool {
+    let mut left = seats;
+    for _ in 0..32u8 {
+        let Some(seat) = pop(&mut left) else { break };
+        if count(users_of(state, seat)) < seats.count_ones() {
+            return false;
+        }
+    }
+    true
+}
+
+// How many of the seats can have different users.
+fn reach(state: &State, seats: u32) -> u32 {
+    give_all(state, seats).seats.count_ones()
+}
+
+fn give_all(state: &State, seats: u32) -> Given {
+    let mut given = Given {
+        users: Cells::all(0),
+        seats: 0,
+    };
+    let mut left = seats;
+    for _ in 0..32u8 {
+        let Some(seat) = pop(&mut left) else { break };
+        give_one(state, &mut given, seat);
+    }
+    given
+}
+
+// Gives a seat a user, if need be by giving others a new one. The way back from each seat that was
+// met leads to the seat that wants its user.
+fn give_one(state: &State, given: &mut Given, start: u8) {
     let mut todo = bit(start);
     let mut met = bit(start);
     let mut back = Cells::all(0);
     for _ in 0..STEP_LIMIT {
-        let Some(b) = pop(&mut todo) else { break };
-        if let Some(user) = free_user(state, given, b) {
-            hand_on(given, &back, start, b, user);
-            return true;
+        let Some(seat) = pop(&mut todo) else { break };
+        if let Some(user) = free_user(state, given, seat) {
+            hand_on(given, &back, start, seat, user);
+            return;
         }
-        for c in 0..state.blocks {
-            if has_bit(given.blocks, c)
-                && !has_bit(met, c)
-                && has_user(state.block(b), (given.users.at(c) & 0xffff) as u16)
-            {
-                met |= bit(c);
-                todo |= bit(c);
-                back.set(c, b as u32);
+        let mut others = given.seats & !met;
+        for _ in 0..32u8 {
+            let Some(other) = pop(&mut others) else { break };
+            if has_user(users_of(state, seat), user_of(given, other)) {
+                met |= bit(other);
+                todo |= bit(other);
+                back.set(other, seat as u32);
             }
         }
     }
-    false
 }
 
-// A user of a block who was given to none. A block before it can have taken one user each, so one of the first so many
-// is free, if any is.
-fn free_user(state: &State, given: &Given, b: u8) -> Option<u16> {
-    for place in 0..state.blocks as u32 {
-        let user = nth_user(state.block(b), place)?;
-        if !is_given(state, given, user) {
+// A user of a seat who was given to none. Each seat before it can have taken one user, so one of the
+// first so many is free, if any is.
+fn free_user(state: &State, given: &Given, seat: u8) -> Option<u16> {
+    for place in 0..33u32 {
+        let user = nth_user(users_of(state, seat), place)?;
+        if !is_given(given, user) {
             return Some(user);
         }
     }
     None
 }
 
-fn is_given(state: &State, given: &Given, user: u16) -> bool {
-    for c in 0..state.blocks {
-        if has_bit(given.blocks, c) && given.users.at(c) == user as u32 {
+fn is_given(given: &Given, user: u16) -> bool {
+    let mut left = given.seats;
+    for _ in 0..32u8 {
+        let Some(seat) = pop(&mut left) else { break };
+        if user_of(given, seat) == user {
             return true;
         }
     }
     false
 }
 
-// Each block on the way back gets the user whom the next one had.
+fn user_of(given: &Given, seat: u8) -> u16 {
+    (given.users.at(seat) & 0xffff) as u16
+}
+
+// Each seat on the way back gets the user whom the next one had.
 fn hand_on(given: &mut Given, back: &Cells, start: u8, last: u8, free: u16) {
-    let mut block = last;
+    let mut seat = last;
     let mut user = free as u32;
     for _ in 0..STEP_LIMIT {
-        let own = given.users.at(block);
-        given.users.set(block, user);
-        given.blocks |= bit(block);
-        if block == start {
+        let own = given.users.at(seat);
+        given.users.set(seat, user);
+        given.seats |= bit(seat);
+        if seat == start {
             break;
         }
-        block = back.block(block);
+        seat = back.block(seat);
         user = own;
     }
 }

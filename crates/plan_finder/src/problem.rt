@@ -2,9 +2,9 @@
 ghost use Rattle.std.specs.Prelude.{◌<◌, ◌≤◌, length};
 ghost use Rattle.wf_names.specs.declared.limits.TheConstants.{USER_LIMIT};
 
-use crate::bits::bit;
+use crate::bits::{bit, has_bit};
 use crate::rows::{Rows, add_user, has_user, put};
-use constraint_forms::{Rule, Rules, StepSet};
+use constraint_forms::{Assign, Rule, Rules, StepSet};
 use policy_book::Policy;
 use std::alloc::{AllocError, Global};
 use wf_names::{FlowId, RelId, STEP_LIMIT, StepId, UserId};
@@ -49,16 +49,35 @@ pub(crate) struct Law {
 /// The rows of a relation as a law reads it.
 #[derive(Clone, Copy)]
 pub(crate) struct Link<'r> {
-    pub(crate) ahead: &'r Rows,
-    pub(crate) back: &'r Rows,
+    places: &'r [u16],
+    ahead: &'r Rows,
+    back: &'r Rows,
     pub(crate) own: &'r Rows,
 }
 
-/// A declared relation: for each user those to whom they are related, and those who are related to
-/// them; and the users who are related to themselves.
+impl<'r> Link<'r> {
+    /// Those to whom a user is related.
+    pub(crate) fn ahead(&self, u: u16) -> &[u64] {
+        self.ahead.row(place_of(self.places, u))
+    }
+
+    /// Those who are related to a user.
+    pub(crate) fn back(&self, u: u16) -> &[u64] {
+        self.back.row(place_of(self.places, u))
+    }
+}
+
+/// A declared relation: for each user whose rows were read those to whom they are related, and those
+/// who are related to them; and which of these users are related to themselves.
 #[derive(Drop)]
 pub(crate) struct Relation {
     rho: RelId,
+    /// The steps of the laws over it.
+    steps: u32,
+    /// The place of each user's rows; 0 where they were not read, and nobody's rows are there.
+    places: Vec<u16>,
+    /// The last place that was given.
+    last: u16,
     ahead: Rows,
     back: Rows,
     own: Rows,
@@ -73,6 +92,8 @@ pub(crate) struct Problem {
     pub(crate) relations: Vec<Relation>,
     /// The users who are authorised for each step.
     pub(crate) allowed: Rows,
+    /// Whether the rows of all who may have a step were read.
+    full: bool,
 }
 
 impl Problem {
@@ -85,6 +106,7 @@ impl Problem {
             (&relation.ahead, &relation.back)
         };
         Some(Link {
+            places: &relation.places,
             ahead,
             back: behind,
             own: &relation.own,
@@ -99,13 +121,115 @@ impl Problem {
         let width = (users as usize).saturating_add(63) / 64;
         let mut relations = Vec::new(alloc);
         let laws = read_laws(alloc, p, p.rules(f), width, &mut relations)?;
-        Ok(Problem {
+        let mut problem = Problem {
             steps: (p.flow(f).steps().len() & 0xff) as u8,
             width,
             laws,
             relations,
             allowed: read_allowed(alloc, p, f, width)?,
-        })
+            full: false,
+        };
+        problem.note_steps();
+        if reads_own(&problem) {
+            problem.learn_all(p)?;
+        }
+        Ok(problem)
+    }
+
+    // Notes for each relation the steps of the laws over it.
+    fn note_steps(&mut self) {
+        for law in self.laws.as_slice().iter() {
+            if let Over::Declared(at, _) = law.over {
+                if (at as usize) < self.relations.len() {
+                    self.relations[at as usize].steps |= law.scope;
+                }
+            }
+        }
+    }
+
+    /// Reads the rows of a user.
+    pub(crate) fn learn(&mut self, p: &Policy, u: UserId) -> Result<(), AllocError> {
+        self.learn_over(p, u, u32::MAX)
+    }
+
+    // Reads the rows of a user, of the relations with laws over some step of a set.
+    fn learn_over(&mut self, p: &Policy, u: UserId, steps: u32) -> Result<(), AllocError> {
+        let users = p.roster().users().len();
+        for relation in self.relations.iter_mut() {
+            if relation.steps & steps != 0 {
+                learn_row(p, relation, u.0, users)?;
+            }
+        }
+        Ok(())
+    }
+
+    /// Reads the rows of those who have a step.
+    pub(crate) fn learn_assigned(&mut self, p: &Policy, a: &Assign) -> Result<(), AllocError> {
+        for s in 0..self.steps {
+            if let Some(u) = a.at(StepId(s)) {
+                self.learn(p, u)?;
+            }
+        }
+        Ok(())
+    }
+
+    /// The same, unless the rows of all who may have a step were read.
+    pub(crate) fn learn_given(&mut self, p: &Policy, a: &Assign) -> Result<(), AllocError> {
+        if self.full {
+            Ok(())
+        } else {
+            self.learn_assigned(p, a)
+        }
+    }
+
+    /// Reads the rows of all who may have a step.
+    pub(crate) fn learn_all(&mut self, p: &Policy) -> Result<(), AllocError> {
+        if self.full {
+            return Ok(());
+        }
+        for u in 0..p.roster().users().len() {
+            let steps = self.steps_of(u);
+            self.learn_over(p, UserId(u), steps)?;
+        }
+        self.full = true;
+        Ok(())
+    }
+
+    // The steps for which a user is authorised.
+    fn steps_of(&self, u: u16) -> u32 {
+        let mut steps = 0;
+        for s in 0..self.steps {
+            if has_user(self.allowed.row(s as usize), u) {
+                steps |= bit(s);
+            }
+        }
+        steps
+    }
+}
+
+// The place of a user's rows.
+fn place_of(places: &[u16], u: u16) -> usize {
+    match places.get(u as usize) {
+        Some(place) => *place as usize,
+        None => 0,
+    }
+}
+
+// Whether a law asks who is related to themselves.
+fn reads_own(problem: &Problem) -> bool {
+    for law in problem.laws.as_slice().iter() {
+        if is_declared(law.over) && has_bit(law.group, law.step) {
+            return true;
+        }
+    }
+    false
+}
+
+/// Whether a law is over a declared relation.
+pub(crate) fn is_declared(over: Over) -> bool {
+    match over {
+        Over::Declared(..) => true,
+        Over::Same | Over::Other => false,
     }
 }
 
@@ -235,35 +359,36 @@ fn read_relation(
     width: usize,
 ) -> Result<Relation, AllocError> {
     let users = p.roster().users().len();
-    let mut relation = Relation {
+    Ok(Relation {
         rho,
-        ahead: Rows::new(alloc, users as usize, width)?,
-        back: Rows::new(alloc, users as usize, width)?,
+        steps: 0,
+        places: vec![in alloc; 0u16; users as usize]?,
+        last: 0,
+        ahead: Rows::new(alloc, 1, width)?,
+        back: Rows::new(alloc, 1, width)?,
         own: Rows::new(alloc, 1, width)?,
-    };
-    read_rows(p, &mut relation, users);
-    add_own(&mut relation, users);
-    Ok(relation)
+    })
 }
 
-fn read_rows(p: &Policy, relation: &mut Relation, users: u16)
+// Reads the rows of a user, where they were not read before.
+fn learn_row(p: &Policy, relation: &mut Relation, u: u16, users: u16) -> Result<(), AllocError>
     requires { users ≤ USER_LIMIT }
 {
-    let rho = relation.rho;
-    for u in 0..users {
-        let after = p.relations().after(rho, UserId(u), users);
-        put(relation.ahead.row_mut(u as usize), after.as_words());
-        let ahead = p.relations().ahead(rho, UserId(u), users);
-        put(relation.back.row_mut(u as usize), ahead.as_words());
+    let at = u as usize;
+    if at >= relation.places.len() || relation.places[at] != 0 {
+        return Ok(());
     }
-}
-
-fn add_own(relation: &mut Relation, users: u16) {
-    for u in 0..users {
-        if has_user(relation.ahead.row(u as usize), u) {
-            add_user(relation.own.row_mut(0), u);
-        }
+    let place = relation.last.saturating_add(1);
+    let after = p.relations().after(relation.rho, UserId(u), users);
+    relation.ahead.put_at(place as usize, after.as_words())?;
+    let before = p.relations().ahead(relation.rho, UserId(u), users);
+    relation.back.put_at(place as usize, before.as_words())?;
+    if has_user(after.as_words(), u) {
+        add_user(relation.own.row_mut(0), u);
     }
+    relation.last = place;
+    relation.places[at] = place;
+    Ok(())
 }
 
 // The users who are authorised for each step.

@@ -39,14 +39,32 @@ impl Rows {
         }
     }
 
-    /// All rows, one behind the other.
-    pub(crate) fn all(&self) -> &[u64] {
-        &self.words
+    /// Puts a row at a place, which comes to be behind the others where it is not there yet.
+    pub(crate) fn put_at(&mut self, at: usize, row: &[u64]) -> Result<(), AllocError> {
+        if self.row(at).len() > 0 {
+            put(self.row_mut(at), row);
+        } else if let Some(words) = row.get(0..self.width) {
+            self.words.extend_from_slice(words)?;
+        }
+        Ok(())
     }
 
-    /// All rows to be changed, one behind the other.
-    pub(crate) fn all_mut(&mut self) -> &mut [u64] {
-        &mut self.words
+    /// The first rows, one behind the other; none where there are not so many.
+    pub(crate) fn front(&self, count: usize) -> &[u64] {
+        match self.words.get(0..count.saturating_mul(self.width)) {
+            Some(rows) => rows,
+            None => &[],
+        }
+    }
+
+    /// The first rows to be changed, one behind the other; none where there are not so many.
+    pub(crate) fn front_mut(&mut self, count: usize) -> &mut [u64] {
+        let to = count.saturating_mul(self.width);
+        if to <= self.words.len() {
+            &mut self.words[0..to]
+        } else {
+            &mut []
+        }
     }
 }
 
@@ -222,24 +240,8 @@ pub(crate) fn only_user(row: &[u64]) -> Option<u16> {
     }
 }
 
-/// Unites the rows of the users of a row: into the first one goes, of all rows, each whose number is
-/// a user of the second.
-pub(crate) fn unite(into: &mut [u64], from: &[u64], rows: &Rows) {
-    for (at, word) in from.iter().enumerate() {
-        let mut left = *word;
-        for _ in 0..64u8 {
-            if left == 0 {
-                break;
-            }
-            let user = user_at(at, left.trailing_zeros());
-            left &= left.wrapping_sub(1);
-            join(into, rows.row(user as usize));
-        }
-    }
-}
-
-// The number of the user whom a bit of a word stands for.
-fn user_at(at: usize, place: u32) -> u16 {
+/// The number of the user whom a bit of a word stands for.
+pub(crate) fn user_at(at: usize, place: u32) -> u16 {
     (at.wrapping_mul(64).wrapping_add((place & 63) as usize) & 0xffff) as u16
 }
 

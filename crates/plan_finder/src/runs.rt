@@ -8,7 +8,7 @@ use crate::choice::{Choice, choose};
 use crate::guide::{Guide, few};
 use crate::laws::settle;
 use crate::matching::matched;
-use crate::problem::{Over, Problem};
+use crate::problem::{Demand, Over, Problem};
 use crate::reasons::Reasons;
 use crate::rows::{add_user, clear, count, first_apart, has_user, is_empty, put};
 use crate::state::State;
@@ -18,8 +18,14 @@ use policy_book::Policy;
 use std::alloc::{AllocError, Global};
 use wf_names::{FlowId, STEP_LIMIT, StepId, UserId};
 
-/// The work of the first run; each later one has half as much again.
-const FIRST_WORK: u64 = 1_000_000;
+/// The work of the start.
+const FIRST_WORK: u64 = 100_000;
+
+/// The work of a run for each try of the search for a tree before it.
+const WORK_A_TRY: u64 = 100;
+
+/// The same where a rule counts users, which leaves much open until late.
+const WORK_A_TRY_COUNTING: u64 = 200;
 
 /// Most nodes of a run, whatever work they take.
 const NODE_LIMIT: u32 = 1_000_000;
@@ -41,42 +47,78 @@ pub struct Finder {
     work: Work,
     reasons: Reasons,
     guide: Guide,
+    space: Option<Space>,
+    run: u8,
+    // Whether there is nothing to be found.
+    over: bool,
 }
 
 impl Finder {
-    /// A finder for a workflow, which has learned nothing yet.
-    pub fn new(alloc: Global, p: &Policy, f: FlowId) -> Result<Finder, AllocError>
+    /// A finder for a workflow, which has learned nothing yet. A run keeps at most so many branches.
+    pub fn new(alloc: Global, p: &Policy, f: FlowId, most: u32) -> Result<Finder, AllocError>
         requires { f < length p.now.flows }
     {
         let problem = Problem::new(alloc, p, f)?;
-        let work = Work::new(alloc, problem.width)?;
+        let mut work = Work::new(alloc, problem.width)?;
+        if counts_users(&problem) {
+            work.blame_in_tree();
+        }
         let reasons = Reasons::new(alloc);
         Ok(Finder {
             problem,
             work,
             reasons,
-            guide: Guide::new(),
+            guide: Guide::new(most),
+            space: None,
+            run: 0,
+            over: false,
         })
     }
 
     /// Looks for a plan that extends an assignment, where the finished steps need no authorised
-    /// user any more, in at most so many runs. The plan is to be checked; where none is found there
-    /// may be one all the same.
+    /// user any more, in one more run, which may go further than the one before. The plan is to be
+    /// checked; where none is found there may be one all the same. Each call is to be about the same
+    /// policy, workflow, assignment and finished steps.
     pub fn find(
         &mut self,
         alloc: Global,
+        p: &Policy,
         a: &Assign,
         done: &StepSet,
-        runs: u8,
     ) -> Result<Option<Plan>, AllocError> {
-        let mut space = Space::new(alloc, self.problem.width)?;
-        Ok(search(&self.problem, &mut self.work, &mut space, a, done, runs))
+        if self.over {
+            return Ok(None);
+        }
+        if self.space.is_none() {
+            self.problem.learn_all(p)?;
+            let mut space = Space::new(alloc, &self.problem)?;
+            self.work.begin(0, FIRST_WORK);
+            if !start(&self.problem, &mut space.root, &mut self.work, a, done) {
+                self.over = true;
+                return Ok(None);
+            }
+            self.space = Some(space);
+        }
+        let mut found = None;
+        if let Some(space) = &mut self.space {
+            let limit = (self.guide.limit() as u64).saturating_mul(work_a_try(&self.problem));
+            self.work.begin(self.run, limit);
+            match run_once(alloc, &self.problem, space, &mut self.work, self.run)? {
+                Ending::Found(plan) => found = Some(plan),
+                Ending::Exhausted => self.over = true,
+                Ending::Stopped => {}
+            }
+        }
+        self.run = self.run.saturating_add(1);
+        Ok(found)
     }
 
     /// Begins a run of a search for a tree, which may go further than the run before.
-    pub fn begin_run(&mut self, a: &Assign) {
+    pub fn begin_run(&mut self, p: &Policy, a: &Assign) -> Result<(), AllocError> {
+        self.problem.learn_assigned(p, a)?;
         let best = best_roots(&self.problem, &mut self.work, a, few());
         self.guide.begin(best);
+        Ok(())
     }
 
     /// Counts a try at a depth of a search, and tells whether it is within the bound of the run.
@@ -84,9 +126,32 @@ impl Finder {
         self.guide.try_at(depth)
     }
 
+    /// How many branches a run keeps.
+    pub fn kept(&self) -> u32 {
+        self.guide.kept()
+    }
+
+    /// Counts one more branch that a run keeps.
+    pub fn keep(&mut self) {
+        self.guide.keep();
+    }
+
+    /// Counts on with so many branches, where others were dropped.
+    pub fn drop_to(&mut self, kept: u32) {
+        self.guide.drop_to(kept);
+    }
+
+    /// Whether a run was to keep more branches than it may.
+    pub fn is_spent(&self) -> bool {
+        self.guide.is_spent()
+    }
+
     /// A step that is not assigned, which is a good one to try next at a depth of a search; it may be
-    /// another one all the same.
-    pub fn next_step(&mut self, a: &Assign, depth: u8) -> Option<StepId> {
+    /// another one all the same. None is advised where memory is wanted.
+    pub fn next_step(&mut self, p: &Policy, a: &Assign, depth: u8) -> Option<StepId> {
+        if self.problem.learn_given(p, a).is_err() {
+            return None;
+        }
         match self.guide.root() {
             Some(root) if depth == 0 => Some(StepId(root)),
             _ => advised(&self.problem, &mut self.work, a),
@@ -113,7 +178,10 @@ impl Finder {
     }
 
     /// Where to look for what tells two users apart; they may differ elsewhere all the same.
-    pub fn clue(&self, u: UserId, v: UserId) -> Option<Clue> {
+    pub fn clue(&mut self, p: &Policy, u: UserId, v: UserId) -> Option<Clue> {
+        if self.problem.learn(p, u).is_err() || self.problem.learn(p, v).is_err() {
+            return None;
+        }
         found_clue(&self.problem, u.0, v.0)
     }
 }
@@ -148,20 +216,29 @@ fn found_clue(problem: &Problem, u: u16, v: u16) -> Option<Clue> {
 
 fn third_user(problem: &Problem, at: u8, u: u16, v: u16) -> Option<u16> {
     let link = problem.link(at, false)?;
-    match first_apart(
-        link.ahead.row(u as usize),
-        link.ahead.row(v as usize),
-        u,
-        v,
-    ) {
+    match first_apart(link.ahead(u), link.ahead(v), u, v) {
         Some(user) => Some(user),
-        None => first_apart(
-            link.back.row(u as usize),
-            link.back.row(v as usize),
-            u,
-            v,
-        ),
+        None => first_apart(link.back(u), link.back(v), u, v),
     }
+}
+
+fn work_a_try(problem: &Problem) -> u64 {
+    if counts_users(problem) {
+        WORK_A_TRY_COUNTING
+    } else {
+        WORK_A_TRY
+    }
+}
+
+// Whether a rule counts users.
+fn counts_users(problem: &Problem) -> bool {
+    for law in problem.laws.as_slice().iter() {
+        match law.demand {
+            Demand::AtMost(_) | Demand::AtLeast(_) => return true,
+            Demand::Some | Demand::Each => {}
+        }
+    }
+    false
 }
 
 // Where a search stands.
@@ -173,50 +250,34 @@ struct Space {
 }
 
 impl Space {
-    fn new(alloc: Global, width: usize) -> Result<Space, AllocError> {
+    fn new(alloc: Global, problem: &Problem) -> Result<Space, AllocError> {
         Ok(Space {
-            root: State::new(alloc, width)?,
-            now: State::new(alloc, width)?,
-            nodes: new_nodes(alloc, width)?,
+            root: State::new(alloc, problem.steps, problem.width)?,
+            now: State::new(alloc, problem.steps, problem.width)?,
+            nodes: Vec::new(alloc),
         })
     }
-}
 
-fn search(
-    problem: &Problem,
-    work: &mut Work,
-    space: &mut Space,
-    a: &Assign,
-    done: &StepSet,
-    runs: u8,
-) -> Option<Plan> {
-    work.begin(0, FIRST_WORK);
-    if !start(problem, &mut space.root, work, a, done) {
-        return None;
-    }
-    let mut limit = FIRST_WORK;
-    for run in 0..runs {
-        work.begin(run, limit);
-        space.now.become_same(&space.root);
-        let nodes = space.nodes.as_mut_slice();
-        match run_once(problem, nodes, &mut space.now, work, run) {
-            Ending::Found(plan) => return Some(plan),
-            Ending::Exhausted => return None,
-            Ending::Stopped => {}
+    // Makes the state a node at a depth, where there is a place for one, and tells the depth below
+    // it. A search reaches no depth from twice the number of steps on, since each branch closes a
+    // step or fixes a block.
+    fn enter(
+        &mut self,
+        alloc: Global,
+        problem: &Problem,
+        depth: usize,
+        choice: Choice,
+    ) -> Result<usize, AllocError> {
+        if depth == self.nodes.len() && depth < STEP_LIMIT * 2 {
+            let node = Node::new(alloc, problem)?;
+            self.nodes.push(node)?;
         }
-        limit = limit.saturating_add(limit / 2);
+        if depth < self.nodes.len() {
+            self.nodes[depth].become_node(&self.now, choice);
+            return Ok(depth + 1);
+        }
+        Ok(depth)
     }
-    None
-}
-
-// A node for each depth that a search can reach: each branch closes a step or fixes a block.
-fn new_nodes(alloc: Global, width: usize) -> Result<Vec<Node>, AllocError> {
-    let mut nodes = Vec::new(alloc);
-    for _ in 0..STEP_LIMIT.saturating_mul(2) {
-        let node = Node::new(alloc, width)?;
-        nodes.push(node)?;
-    }
-    Ok(nodes)
 }
 
 // Where every run starts: a block for each user who has a step already. Tells whether everything can still be met.
@@ -268,12 +329,13 @@ fn seat(root: &mut State, s: u8, user: u16) {
 
 // One run, from the state that it starts in.
 fn run_once(
+    alloc: Global,
     problem: &Problem,
-    nodes: &mut [Node],
-    now: &mut State,
+    space: &mut Space,
     work: &mut Work,
     run: u8,
-) -> Ending {
+) -> Result<Ending, AllocError> {
+    space.now.become_same(&space.root);
     let mut depth = 0;
     let mut met = true;
     let cost = problem
@@ -282,26 +344,25 @@ fn run_once(
         .saturating_mul(3);
     for _ in 0..NODE_LIMIT {
         if !work.spend(cost.saturating_add(200)) {
-            return Ending::Stopped;
+            return Ok(Ending::Stopped);
         }
         if met {
-            let choice = choose(problem, now, work);
+            let choice = choose(problem, &space.now, work);
             if choice == Choice::Nothing {
-                if let Some(plan) = matched(now, problem.steps) {
-                    return Ending::Found(plan);
+                if let Some(plan) = matched(&space.now, problem.steps) {
+                    return Ok(Ending::Found(plan));
                 }
-            } else if depth < nodes.len() {
-                nodes[depth].become_node(now, choice);
-                depth += 1;
+            } else {
+                depth = space.enter(alloc, problem, depth, choice)?;
             }
         }
         let Some(top) = depth.checked_sub(1) else {
-            return Ending::Exhausted;
+            return Ok(Ending::Exhausted);
         };
-        if top >= nodes.len() {
-            return Ending::Stopped;
+        if top >= space.nodes.len() {
+            return Ok(Ending::Stopped);
         }
-        match nodes[top].take_branch(problem, now, work, run) {
+        match space.nodes[top].take_branch(problem, &mut space.now, work, run) {
             Some(can) => met = can,
             None => {
                 met = false;
@@ -309,5 +370,5 @@ fn run_once(
             }
         }
     }
-    Ending::Stopped
+    Ok(Ending::Stopped)
 }

@@ -7,13 +7,14 @@ use crate::rows::{
 };
 use crate::work::Work;
 use std::alloc::{AllocError, Global};
-use wf_names::STEP_LIMIT;
 
 /// A state of the search.
 #[derive(Drop)]
 pub(crate) struct State {
     /// The users who may still have each step, and behind them those who may still stand for each block.
     rows: Rows,
+    /// How many steps there are.
+    steps: u8,
     /// The steps that stand in no block.
     pub(crate) open: u32,
     /// How many blocks there are.
@@ -27,10 +28,11 @@ pub(crate) struct State {
 }
 
 impl State {
-    /// A state with no steps and no blocks.
-    pub(crate) fn new(alloc: Global, width: usize) -> Result<State, AllocError> {
+    /// A state in which no step is open yet, and without blocks.
+    pub(crate) fn new(alloc: Global, steps: u8, width: usize) -> Result<State, AllocError> {
         Ok(State {
-            rows: Rows::new(alloc, STEP_LIMIT.saturating_mul(2), width)?,
+            rows: Rows::new(alloc, (steps as usize).saturating_mul(2), width)?,
+            steps,
             open: 0,
             blocks: 0,
             members: Cells::all(0),
@@ -39,9 +41,10 @@ impl State {
         })
     }
 
-    /// Makes this state the same as another.
+    /// Makes this state the same as another one with as many steps.
     pub(crate) fn become_same(&mut self, other: &State) {
-        put(self.rows.all_mut(), other.rows.all());
+        let count = (other.steps as usize).saturating_add(other.blocks as usize);
+        put(self.rows.front_mut(count), other.rows.front(count));
         self.open = other.open;
         self.blocks = other.blocks;
         self.members = other.members;
@@ -61,12 +64,14 @@ impl State {
 
     /// The users who may still stand for a block.
     pub(crate) fn block(&self, b: u8) -> &[u64] {
-        self.rows.row((b as usize).saturating_add(STEP_LIMIT))
+        self.rows
+            .row((b as usize).saturating_add(self.steps as usize))
     }
 
     /// The users who may still stand for a block, to be changed.
     pub(crate) fn block_mut(&mut self, b: u8) -> &mut [u64] {
-        self.rows.row_mut((b as usize).saturating_add(STEP_LIMIT))
+        let at = (b as usize).saturating_add(self.steps as usize);
+        self.rows.row_mut(at)
     }
 
     /// Whether a step stands in no block.
@@ -94,7 +99,7 @@ impl State {
     /// Opens a block for those who may have a step and stand for no other block; None where there is no room.
     pub(crate) fn open_block(&mut self, s: u8, work: &mut Work) -> Option<u8> {
         let b = self.blocks;
-        if b as usize >= STEP_LIMIT {
+        if b >= self.steps {
             return None;
         }
         self.find_taken(work);
@@ -102,12 +107,19 @@ impl State {
         strike(work.spare.row_mut(0), work.taken.row(0));
         put(self.block_mut(b), work.spare.row(0));
         self.blocks = b.saturating_add(1);
-        for t in 0..STEP_LIMIT {
-            let step = (t & 31) as u8;
-            self.options.set(step, self.options.at(step) | bit(b));
-        }
+        self.offer(b);
         self.place(s, b);
         Some(b)
+    }
+
+    // Gives a new block to the options of the steps that may have one.
+    fn offer(&mut self, b: u8) {
+        for s in 0..self.steps {
+            let options = self.options.at(s);
+            if options & NEW != 0 {
+                self.options.set(s, options | bit(b));
+            }
+        }
     }
 
     /// The block whose one user is this one, if there is one.

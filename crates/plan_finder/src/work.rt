@@ -10,6 +10,9 @@ use wf_names::RULE_LIMIT;
 pub(crate) struct Work {
     left: u64,
     rules: [u32; RULE_LIMIT],
+    /// What the search for a tree adds to the weights of rules, where it blames any.
+    tried: [u32; RULE_LIMIT],
+    blames: bool,
     pub(crate) steps: Cells,
     seed: u64,
     /// A row to work on.
@@ -26,6 +29,8 @@ impl Work {
         Ok(Work {
             left: 0,
             rules: [1; RULE_LIMIT],
+            tried: [0; RULE_LIMIT],
+            blames: false,
             steps: Cells::all(1),
             seed: 1,
             spare: Rows::new(alloc, 1, width)?,
@@ -58,6 +63,26 @@ impl Work {
     pub(crate) fn blame(&mut self, k: usize) {
         if k < RULE_LIMIT {
             self.rules[k] = self.rules[k].saturating_add(1);
+        }
+    }
+
+    /// From now on the search for a tree blames rules.
+    pub(crate) fn blame_in_tree(&mut self) {
+        self.blames = true;
+    }
+
+    /// The weight of a rule for the search for a tree.
+    pub(crate) fn tree_rule(&self, k: usize) -> u32 {
+        match self.tried.get(k) {
+            Some(more) => self.rule(k).saturating_add(*more),
+            None => self.rule(k),
+        }
+    }
+
+    /// One more for a rule that left nobody for a step, where the search for a tree blames rules.
+    pub(crate) fn blame_tried(&mut self, k: usize) {
+        if self.blames && k < RULE_LIMIT {
+            self.tried[k] = self.tried[k].saturating_add(1);
         }
     }
 

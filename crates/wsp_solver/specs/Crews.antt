@@ -6,6 +6,8 @@ use Rattle.constraint_forms.specs.Assigned.{no_steps}
 use Rattle.constraint_forms.specs.Rules.{all_read, any_read, reads}
 use Rattle.policy_book.specs.Plans.{Problem}
 use Rattle.policy_book.specs.Twins.{are_twins, is_alike_to}
+use Rattle.wf_names.specs.UserSets.{has_user}
+use Rattle.wsp_solver.specs.Searches.{AreNamed}
 use Rattle.wsp_solver.specs.declared.crew.Crew.{Crew}
 
 -- the steps below n for which a user is authorised
@@ -20,6 +22,10 @@ duties_of duties u = slice_index_or duties u no_steps
 -- a table has the steps for which each user is authorised
 abbrev pub AreDuties : Problem → List (List Bool) → Type 0
 AreDuties p duties = (u : ℕ) → u < p.users → duties_of duties u ≡ duties_below p u p.steps
+
+-- rows have the users who are authorised for each step
+abbrev pub AreAllowed : Problem → List (List ℕ) → Type 0
+AreAllowed p rows = (s : ℕ) → s < length rows → (u : ℕ) → has_user (slice_index_or rows s []) u ≡ p.authorised s u
 
 -- the class of a user in a table
 abbrev pub class_of : List ℕ → ℕ → ℕ
@@ -37,6 +43,7 @@ pub record IsCrewOf (p : Problem) (crew : Crew) : Type 0 where
   pub few : p.steps ≤ STEP_LIMIT
   pub duties : AreDuties p crew.duties.items
   pub classes : AreClassesBelow p p.users crew.classes.items
+  pub named : AreNamed p crew.named.items
 
 -- a relation treats two users differently at a third one
 abbrev pub tells_apart : (ℕ → ℕ → Bool) → ℕ → ℕ → ℕ → Bool

@@ -1,7 +1,7 @@
 -- What a search answers, and how far it has come.
-use Rattle.std.specs.Prelude.{◌≡◌, ℕ, zero, suc, ◌+◌, ◌-◌, ◌<◌, Bool, false, List, Option, Some, is_some, if◌then◌else◌, IsTrue, length, slice_get}
-use Rattle.constraint_forms.specs.Assigned.{user_at, planned, is_member}
-use Rattle.refutation_tree.specs.Shapes.{Shape, Kids, holder, rule, joined}
+use Rattle.std.specs.Prelude.{◌≡◌, ℕ, zero, suc, ◌+◌, ◌-◌, ◌<◌, ◌≤◌, Bool, false, List, Option, Some, is_some, if◌then◌else◌, IsTrue, length, slice_get, slice_index_or}
+use Rattle.constraint_forms.specs.Assigned.{user_at, planned, is_member, no_steps}
+use Rattle.refutation_tree.specs.Shapes.{Shape, Kids, holder, rule, joined, nodes_of}
 use Rattle.refutation_tree.specs.Views.{shape_of}
 use Rattle.policy_book.specs.Plans.{Problem, IsValidPlan}
 use Rattle.policy_book.specs.Refuting.{refutes, have_users, is_rule_naming, passing, mentions, any_mentions}
@@ -24,9 +24,18 @@ abbrev pub HasSolved : Problem → List (Option ℕ) → List Bool → Outcome �
 HasSolved p assigned finished (Plan plan) = IsValidPlan p assigned finished plan
 HasSolved p assigned finished (Refuted tree) = IsLeanRefutation p assigned finished tree
 
+-- a tree has at most so many leaves and nodes
+abbrev pub HasRoom : ℕ → Outcome → Type 0
+HasRoom most (Plan plan) = Unit {0}
+HasRoom most (Refuted tree) = nodes_of (shape_of tree) ≤ most
+
 -- a set has the steps that a tree mentions, and no other
 abbrev pub AreMentioned : List Rule → Shape → List Bool → Type 0
 AreMentioned rules tree steps = (s : ℕ) → mentions rules s tree ≡ is_member steps s
+
+-- a table has the steps that each rule names
+abbrev pub AreNamed : Problem → List (List Bool) → Type 0
+AreNamed p named = (k : ℕ) → k < length named → AreMentioned p.rules (rule k) (slice_index_or named k no_steps)
 
 -- a set has the steps that some branch mentions, and no other
 abbrev pub AreMentionedIn : List Rule → Kids → List Bool → Type 0
@@ -43,6 +52,12 @@ abbrev pub HasSearched : Problem → List (Option ℕ) → List Bool → Bool �
 HasSearched p assigned finished bounded (searched.Plan plan) = IsValidPlan p assigned finished plan
 HasSearched p assigned finished bounded (searched.Refuted r) = IsRefutation p assigned finished r
 HasSearched p assigned finished bounded searched.Stopped = IsTrue bounded
+
+-- a plan that is valid, or a lean tree that refutes; or neither, where the search is limited
+abbrev pub HasDecided : Problem → List (Option ℕ) → List Bool → Bool → Searched → Type 0
+HasDecided p assigned finished limited (searched.Plan plan) = IsValidPlan p assigned finished plan
+HasDecided p assigned finished limited (searched.Refuted r) = IsLeanRefutation p assigned finished r.tree
+HasDecided p assigned finished limited searched.Stopped = IsTrue limited
 
 -- no step is held by a user who is not authorised for it, and no rule is falsified
 pub record NoLeafRefutes (p : Problem) (assigned : List (Option ℕ)) (finished : List Bool) : Type 0 where

@@ -4,14 +4,16 @@ ghost use Rattle.std.specs.Prelude.{◌≡◌, ◌<◌, ◌+◌, ◌||◌, ◌==
 ghost use Rattle.policy_book.specs.Policies.{problem_of};
 ghost use Rattle.constraint_forms.specs.Rules.{all_read, any_read, reads};
 ghost use Rattle.policy_book.specs.Twins.{agree, all_below, are_related_alike, are_twins, is_alike_to, is_rule_alike, treats_alike};
-ghost use Rattle.wsp_solver.specs.Crews.{AreClassesBelow, AreDuties, IsCrewOf, class_of, duties_below, duties_of, is_told_apart, reads_as, tells_apart};
+ghost use Rattle.wsp_solver.specs.Crews.{AreAllowed, AreClassesBelow, AreDuties, IsCrewOf, class_of, duties_below, duties_of, is_told_apart, reads_as, tells_apart};
+ghost use Rattle.wsp_solver.specs.Searches.{AreNamed};
 
+use crate::leaf::steps_of_rule;
 use crate::steps::{step_count, with_if};
 use constraint_forms::{Holds, Rule};
 use plan_finder::Finder;
 use policy_book::{Policy, StepSet};
 use std::alloc::{AllocError, Global};
-use wf_names::{FlowId, RelId, STEP_LIMIT, StepId, UserId};
+use wf_names::{FlowId, RelId, STEP_LIMIT, StepId, UserId, UserSet};
 
 /// The users of a policy, as the search for a tree sees them.
 #[derive(Drop)]
@@ -20,6 +22,8 @@ pub(crate) struct Crew {
     pub(crate) duties: Vec<StepSet>,
     /// The class of each user: twins where nothing is assigned, and no others, have one class.
     pub(crate) classes: Vec<UserId>,
+    /// The steps that each rule names.
+    pub(crate) named: Vec<StepSet>,
 }
 
 impl Crew {
@@ -28,7 +32,7 @@ impl Crew {
         alloc: Global,
         p: &Policy,
         f: FlowId,
-        finder: &Finder,
+        finder: &mut Finder,
     ) -> Result<Crew, AllocError>
         requires flow { f < length p.now.flows }
         ensures { IfOk result (IsCrewOf (problem_of p.now f)) }
@@ -36,7 +40,49 @@ impl Crew {
         prove!(step_count(p, f) <= STEP_LIMIT);
         let duties = all_duties(alloc, p, f)?;
         let classes = all_classes(alloc, p, f, finder, &duties)?;
-        Ok(Crew { duties, classes })
+        let named = all_named(alloc, p, f)?;
+        Ok(Crew {
+            duties,
+            classes,
+            named,
+        })
+    }
+}
+
+fn all_named(alloc: Global, p: &Policy, f: FlowId) -> Result<Vec<StepSet>, AllocError>
+    requires flow { f < length p.now.flows }
+    ensures { IfOk result (λ named. AreNamed (problem_of p.now f) named.items) }
+{
+    let mut named = Vec::new(alloc);
+    'rules: for k in 0..p.rules(f).len() {
+        named.push(steps_of_rule(p, f, k as u8))?;
+    }
+    Ok(named)
+}
+
+// The users who are authorised for each step.
+fn all_allowed(alloc: Global, p: &Policy, f: FlowId) -> Result<Vec<UserSet>, AllocError>
+    requires flow { f < length p.now.flows }
+    ensures { IfOk result (λ rows. AreAllowed (problem_of p.now f) rows.items) }
+{
+    let mut rows = Vec::new(alloc);
+    'steps: for s in 0..p.flow(f).steps().len() {
+        rows.push(p.authorised_users(f, StepId(s as u8)))?;
+    }
+    Ok(rows)
+}
+
+// Whether a user is authorised for a step, by the rows of some steps.
+fn may_do(p: &Policy, f: FlowId, allowed: &[UserSet], s: StepId, u: UserId) -> bool
+    requires flow { f < length p.now.flows }
+    requires allowed { AreAllowed (problem_of p.now f) allowed.now }
+    requires step { s < (problem_of p.now f).steps }
+    requires user { u < (problem_of p.now f).users }
+    ensures { result ≡ (problem_of p.now f).authorised s u }
+{
+    match allowed.get(s.0 as usize) {
+        Some(row) => row.has(u),
+        None => p.authorised(f, s, u),
     }
 }
 
@@ -44,23 +90,25 @@ fn all_duties(alloc: Global, p: &Policy, f: FlowId) -> Result<Vec<StepSet>, Allo
     requires flow { f < length p.now.flows }
     ensures { IfOk result (λ rows. AreDuties (problem_of p.now f) rows.items) }
 {
+    let allowed = all_allowed(alloc, p, f)?;
     let mut rows = Vec::new(alloc);
     'users: for u in 0..p.roster().users().len() {
-        rows.push(duties(p, f, UserId(u)))?;
+        rows.push(duties(p, f, &allowed, UserId(u)))?;
     }
     Ok(rows)
 }
 
 // The steps for which a user is authorised.
-fn duties(p: &Policy, f: FlowId, u: UserId) -> StepSet
+fn duties(p: &Policy, f: FlowId, allowed: &[UserSet], u: UserId) -> StepSet
     requires flow { f < length p.now.flows }
+    requires allowed { AreAllowed (problem_of p.now f) allowed.now }
     requires user { u < (problem_of p.now f).users }
     ensures { result ≡ duties_below (problem_of p.now f) u (problem_of p.now f).steps }
 {
     let mut set = StepSet::empty();
     'steps: for s in 0..p.flow(f).steps().len() {
         let step = StepId(s as u8);
-        set = with_if(&set, step, p.authorised(f, step, u));
+        set = with_if(&set, step, may_do(p, f, allowed, step, u));
     }
     set
 }
@@ -69,7 +117,7 @@ fn all_classes(
     alloc: Global,
     p: &Policy,
     f: FlowId,
-    finder: &Finder,
+    finder: &mut Finder,
     duties: &[StepSet],
 ) -> Result<Vec<UserId>, AllocError>
     requires flow { f < length p.now.flows }
@@ -89,7 +137,7 @@ fn all_classes(
 fn next_class(
     p: &Policy,
     f: FlowId,
-    finder: &Finder,
+    finder: &mut Finder,
     duties: &[StepSet],
     classes: &[UserId],
     u: UserId,
@@ -135,7 +183,7 @@ pub(crate) fn duties_at(duties: &[StepSet], u: UserId) -> StepSet
 fn are_alike(
     p: &Policy,
     f: FlowId,
-    finder: &Finder,
+    finder: &mut Finder,
     duties: &[StepSet],
     u: UserId,
     v: UserId,
@@ -274,11 +322,11 @@ fn agree(one: bool, other: bool) -> bool
 }
 
 // Whether some relation that a rule reads is known to tell two users apart.
-fn are_told_apart(p: &Policy, f: FlowId, finder: &Finder, u: UserId, v: UserId) -> bool
+fn are_told_apart(p: &Policy, f: FlowId, finder: &mut Finder, u: UserId, v: UserId) -> bool
     requires flow { f < length p.now.flows }
     ensures { IsTrue result → are_related_alike (problem_of p.now f) u v ≡ false }
 {
-    match finder.clue(u, v) {
+    match finder.clue(p, u, v) {
         Some(clue) => tells_apart(p, f, clue.rule, u, v, clue.user),
         None => false,
     }

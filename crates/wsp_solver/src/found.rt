@@ -9,10 +9,8 @@ use policy_book::{Assign, Plan, Policy, StepSet};
 use std::alloc::{AllocError, Global};
 use wf_names::FlowId;
 
-/// The most runs of the plan finder in one search.
-const RUNS: u8 = 8;
-
-/// A valid plan, where the plan finder finds one. Where it finds none, there may be one all the same.
+/// A valid plan, where one more run of the plan finder finds one. Where it finds none, there may be one
+/// all the same.
 pub(crate) fn found(
     alloc: Global,
     p: &Policy,
@@ -26,7 +24,7 @@ pub(crate) fn found(
     ensures { IfOk result (λ found. IfSome found
         (IsValidPlan (problem_of p.now f) a.now done.now)) }
 {
-    match finder.find(alloc, a, done, RUNS)? {
+    match finder.find(alloc, p, a, done)? {
         Some(plan) => Ok(checked(p, f, a, done, plan)),
         None => Ok(None),
     }

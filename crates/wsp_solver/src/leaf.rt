@@ -9,8 +9,10 @@ ghost use Rattle.policy_book.specs.Plans.{IsWellFormed, IsWithin};
 ghost use Rattle.policy_book.specs.Policies.{problem_of};
 ghost use Rattle.policy_book.specs.Refuting.{is_rule_naming, refutes};
 ghost use Rattle.policy_book.specs.Lean.{is_lean};
-ghost use Rattle.wsp_solver.specs.Searches.{AreMentioned, IsRefutation, NoLeafRefutes, NoLeafRefutesWithout};
+ghost use Rattle.wsp_solver.specs.Crews.{IsCrewOf};
+ghost use Rattle.wsp_solver.specs.Searches.{AreMentioned, AreNamed, IsRefutation, NoLeafRefutes, NoLeafRefutesWithout};
 
+use crate::crew::Crew;
 use crate::steps::{steps_named, with_if};
 use certificate_check::check_tree;
 use policy_book::{Assign, Policy, StepSet};
@@ -55,6 +57,31 @@ pub(crate) fn held_wrongly(s: StepId) -> Refutation
     }
 }
 
+/// The leaf of a rule, by what a crew knows of it.
+pub(crate) fn leaf_of_rule(p: &Policy, f: FlowId, crew: &Crew, k: u8) -> Refutation
+    requires flow { f < length p.now.flows }
+    requires crew { IsCrewOf (problem_of p.now f) crew.now }
+    ensures tree { shape_of result.tree ≡ rule k }
+    ensures steps { AreMentioned (problem_of p.now f).rules (rule k) result.steps }
+{
+    Refutation {
+        tree: Tree::Rule(k),
+        steps: named_by(p, f, &crew.named, k),
+    }
+}
+
+// The steps that a rule names, by a table.
+fn named_by(p: &Policy, f: FlowId, named: &[StepSet], k: u8) -> StepSet
+    requires flow { f < length p.now.flows }
+    requires named { AreNamed (problem_of p.now f) named.now }
+    ensures { AreMentioned (problem_of p.now f).rules (rule k) result }
+{
+    match named.get(k as usize) {
+        Some(steps) => *steps,
+        None => steps_of_rule(p, f, k),
+    }
+}
+
 /// The leaf of a rule.
 pub(crate) fn falsified_rule(p: &Policy, f: FlowId, k: u8) -> Refutation
     requires { f < length p.now.flows }
@@ -67,8 +94,8 @@ pub(crate) fn falsified_rule(p: &Policy, f: FlowId, k: u8) -> Refutation
     }
 }
 
-// The steps that a rule names; none where there is no such rule.
-fn steps_of_rule(p: &Policy, f: FlowId, k: u8) -> StepSet
+/// The steps that a rule names; none where there is no such rule.
+pub(crate) fn steps_of_rule(p: &Policy, f: FlowId, k: u8) -> StepSet
     requires { f < length p.now.flows }
     ensures { AreMentioned (problem_of p.now f).rules (rule k) result }
 {
@@ -122,15 +149,17 @@ pub(crate) fn broken_rule(
     done: &StepSet,
     s: StepId,
     first: u8,
+    crew: &Crew,
 ) -> Refutation
     requires flow { f < length p.now.flows }
+    requires crew { IsCrewOf (problem_of p.now f) crew.now }
     requires within { IsWithin (problem_of p.now f) a.now }
     requires others { NoLeafRefutesWithout (problem_of p.now f) a.now done.now s }
     requires broken { breaks_none (problem_of p.now f) a.now ≡ false }
     ensures { IsRefutation (problem_of p.now f) a.now done.now result }
 {
     match falsified_with(p, f, a, done, s, first) {
-        Some(k) => falsified_rule(p, f, k),
+        Some(k) => leaf_of_rule(p, f, crew, k),
         None => unreachable!(),
     }
 }

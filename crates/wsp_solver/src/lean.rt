@@ -10,7 +10,7 @@ ghost use Rattle.wsp_solver.specs.Crews.{IsCrewOf};
 ghost use Rattle.wsp_solver.specs.Trims.{IsTrimmed, IsTrimming};
 
 use crate::crew::Crew;
-use crate::leaf::{Refutation, falsified_rule, held_wrongly};
+use crate::leaf::{Refutation, held_wrongly, leaf_of_rule};
 use crate::steps::{step_count, united};
 use crate::twin::twin_among;
 use plan_finder::Finder;
@@ -34,8 +34,8 @@ pub fn trim(
     requires refutes { IsTrue (refutes (problem_of p.now f) a.now done.now (shape_of tree)) }
     ensures { IfOk result (IsTrimmed (problem_of p.now f) a.now done.now (shape_of tree)) }
 {
-    let finder = Finder::new(alloc, p, f)?;
-    let crew = Crew::new(alloc, p, f, &finder)?;
+    let mut finder = Finder::new(alloc, p, f, u32::MAX)?;
+    let crew = Crew::new(alloc, p, f, &mut finder)?;
     Ok(trim_tree(alloc, p, f, a, done, &crew, &tree)?.tree)
 }
 
@@ -59,7 +59,7 @@ pub(crate) fn trim_tree(
     prove!(step_count(p, f) <= STEP_LIMIT);
     match tree {
         Tree::Holder(s) => Ok(held_wrongly(*s)),
-        Tree::Rule(k) => Ok(falsified_rule(p, f, *k)),
+        Tree::Rule(k) => Ok(leaf_of_rule(p, f, crew, *k)),
         Tree::Step(s, branches) => {
             let branches = branches.as_slice();
             trim_node(alloc, p, f, a, done, crew, *s, branches)

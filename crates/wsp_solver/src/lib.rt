@@ -13,4 +13,4 @@ mod twin;
 
 pub use lean::trim;
 pub use near::plan_near;
-pub use search::{Outcome, solve};
+pub use search::{Outcome, Unsolved, solve, solve_within};

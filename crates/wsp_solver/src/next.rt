@@ -23,7 +23,7 @@ pub(crate) fn next_step(
         → is_some (user_at a.now s) ≡ true)
         (λ s. (s < STEP_LIMIT) × IsTrue (is_unassigned (problem_of p.now f) a.now s)) }
 {
-    match finder.next_step(a, depth) {
+    match finder.next_step(p, a, depth) {
         Some(s) if is_unassigned(p, f, a, s) => Some(s),
         _ => first_free(p, f, a),
     }

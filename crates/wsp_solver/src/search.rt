@@ -1,12 +1,12 @@
 //! The search over the users of the steps that are not assigned yet.
-ghost use Rattle.std.specs.Prelude.{◌≡◌, ◌<◌, ◌≤◌, length, false, IfOk, IsTrue};
+ghost use Rattle.std.specs.Prelude.{◌≡◌, ◌<◌, ◌≤◌, length, IfOk, IsTrue};
 ghost use Rattle.wf_names.specs.declared.limits.TheConstants.{STEP_LIMIT};
 ghost use Rattle.policy_book.specs.Candidates.{breaks_none};
 ghost use Rattle.policy_book.specs.Plans.{AreAssigned, IsWithin};
 ghost use Rattle.policy_book.specs.Policies.{problem_of};
 ghost use Rattle.policy_book.specs.Refuting.{is_unassigned};
 ghost use Rattle.wsp_solver.specs.Crews.{IsCrewOf};
-ghost use Rattle.wsp_solver.specs.Searches.{HasSolved, HasSearched, NoLeafRefutes, NoLeafRefutesWithout};
+ghost use Rattle.wsp_solver.specs.Searches.{HasDecided, HasRoom, HasSolved, HasSearched, NoLeafRefutes, NoLeafRefutesWithout};
 
 use crate::crew::{Crew, duties_at};
 use crate::found::found;
@@ -33,6 +33,14 @@ pub enum Outcome {
     Refuted(Tree),
 }
 
+/// Why a search that keeps at most so many branches has no answer.
+pub enum Unsolved {
+    /// An allocation was refused.
+    NoMemory,
+    /// The tree would have more branches than the search may keep.
+    OverBudget,
+}
+
 // The same, with the steps that the tree mentions; or that a bounded search has come to its bound.
 #[derive(Drop)]
 pub(crate) enum Searched {
@@ -54,26 +62,78 @@ pub fn solve(
     requires assigned { AreAssigned done.now a.now }
     ensures { IfOk result (HasSolved (problem_of p.now f) a.now done.now) }
 {
-    let mut finder = Finder::new(alloc, p, f)?;
-    if let Some(plan) = found(alloc, p, f, a, done, &mut finder)? {
-        return Ok(Outcome::Plan(plan));
-    }
-    if let Some(leaf) = refuting_leaf(p, f, a, done) {
-        return Ok(Outcome::Refuted(leaf.tree));
-    }
-    let crew = Crew::new(alloc, p, f, &finder)?;
-    finder.make_room(alloc)?;
-    match search(alloc, p, f, a, done, &crew, &mut finder)? {
+    match decided(alloc, p, f, a, done, u32::MAX, false)? {
         Searched::Plan(plan) => Ok(Outcome::Plan(plan)),
-        Searched::Refuted(found) => {
-            let lean = trim_tree(alloc, p, f, a, done, &crew, &found.tree)?;
-            Ok(Outcome::Refuted(lean.tree))
-        }
+        Searched::Refuted(found) => Ok(Outcome::Refuted(found.tree)),
         Searched::Stopped => unreachable!(),
     }
 }
 
-// A search in runs that go further and further, so that a small tree is found where there is one.
+/// The same, with a budget: a search that would keep more branches than that, those of twins among
+/// them, is given up, and a tree has at most so many leaves and nodes.
+pub fn solve_within(
+    alloc: Global,
+    p: &Policy,
+    f: FlowId,
+    a: &Assign,
+    done: &StepSet,
+    branches: u32,
+) -> Result<Outcome, Unsolved>
+    requires flow { f < length p.now.flows }
+    requires within { IsWithin (problem_of p.now f) a.now }
+    requires assigned { AreAssigned done.now a.now }
+    ensures solved { IfOk result (HasSolved (problem_of p.now f) a.now done.now) }
+    ensures room { IfOk result (HasRoom branches) }
+{
+    let searched = match decided(alloc, p, f, a, done, branches, true) {
+        Ok(searched) => searched,
+        Err(_) => return Err(Unsolved::NoMemory),
+    };
+    match searched {
+        Searched::Plan(plan) => Ok(Outcome::Plan(plan)),
+        Searched::Refuted(found) => {
+            if found.tree.nodes() > branches as u64 {
+                return Err(Unsolved::OverBudget);
+            }
+            Ok(Outcome::Refuted(found.tree))
+        }
+        Searched::Stopped => Err(Unsolved::OverBudget),
+    }
+}
+
+// A plan or a lean tree; or neither, where a limited search would keep more branches than that.
+fn decided(
+    alloc: Global,
+    p: &Policy,
+    f: FlowId,
+    a: &Assign,
+    done: &StepSet,
+    branches: u32,
+    limited: bool,
+) -> Result<Searched, AllocError>
+    requires flow { f < length p.now.flows }
+    requires within { IsWithin (problem_of p.now f) a.now }
+    requires assigned { AreAssigned done.now a.now }
+    ensures { IfOk result (HasDecided (problem_of p.now f) a.now done.now limited) }
+{
+    if let Some(leaf) = refuting_leaf(p, f, a, done) {
+        return Ok(Searched::Refuted(leaf));
+    }
+    let mut finder = Finder::new(alloc, p, f, branches)?;
+    let crew = Crew::new(alloc, p, f, &mut finder)?;
+    finder.make_room(alloc)?;
+    match search(alloc, p, f, a, done, &crew, &mut finder, limited)? {
+        Searched::Plan(plan) => Ok(Searched::Plan(plan)),
+        Searched::Refuted(found) => {
+            let lean = trim_tree(alloc, p, f, a, done, &crew, &found.tree)?;
+            Ok(Searched::Refuted(lean))
+        }
+        Searched::Stopped => Ok(Searched::Stopped),
+    }
+}
+
+// A search for a tree and one for a plan, in turns that go further and further, so that a small tree is
+// found where there is one, and a plan soon.
 fn search(
     alloc: Global,
     p: &Policy,
@@ -82,23 +142,30 @@ fn search(
     done: &StepSet,
     crew: &Crew,
     finder: &mut Finder,
+    limited: bool,
 ) -> Result<Searched, AllocError>
     requires flow { f < length p.now.flows }
     requires within { IsWithin (problem_of p.now f) a.now }
     requires assigned { AreAssigned done.now a.now }
     requires crew { IsCrewOf (problem_of p.now f) crew.now }
     requires quiet { NoLeafRefutes (problem_of p.now f) a.now done.now }
-    ensures { IfOk result (HasSearched (problem_of p.now f) a.now done.now false) }
+    ensures { IfOk result (HasSearched (problem_of p.now f) a.now done.now limited) }
 {
     'runs: for _ in 0..RUNS {
-        finder.begin_run(a);
+        finder.begin_run(p, a)?;
         match decide(alloc, p, f, a, done, crew, finder, 0, true)? {
             Searched::Plan(found) => return Ok(Searched::Plan(found)),
             Searched::Refuted(found) => return Ok(Searched::Refuted(found)),
             Searched::Stopped => {}
         }
+        if let Some(plan) = found(alloc, p, f, a, done, finder)? {
+            return Ok(Searched::Plan(plan));
+        }
+        if limited && finder.is_spent() {
+            return Ok(Searched::Stopped);
+        }
     }
-    decide(alloc, p, f, a, done, crew, finder, 0, false)
+    decide(alloc, p, f, a, done, crew, finder, 0, limited)
 }
 
 // Tries everything, one free step after the other, where no leaf refutes.
@@ -157,12 +224,14 @@ fn try_users(
     let mut steps = StepSet::empty();
     let candidates = p.candidates(f, s, a);
     finder.find_reasons(a, depth, s);
+    let before = finder.kept();
     'users: for u in 0..p.roster().users().len() {
         let user = UserId(u);
         if !is_authorised_user(p, f, crew, s, user) {
             continue;
         }
         if let Some(twin) = twin_among(p, f, a, crew, &branches, user) {
+            finder.keep();
             branches.push(Branch {
                 user,
                 kid: Kid::Twin(twin),
@@ -172,6 +241,7 @@ fn try_users(
         if !finder.may_try(depth) && bounded {
             return Ok(Searched::Stopped);
         }
+        let here = finder.kept();
         let fits = candidates.has(user);
         let reason = finder.reason(depth, user);
         let given = a.with(s, user);
@@ -183,8 +253,11 @@ fn try_users(
             Searched::Stopped => return Ok(Searched::Stopped),
             Searched::Refuted(kid) => {
                 if !kid.steps.has(s) {
+                    let more = finder.kept().saturating_sub(here);
+                    finder.drop_to(before.saturating_add(more));
                     return Ok(Searched::Refuted(kid));
                 }
+                finder.keep();
                 steps = united(&steps, &kid.steps);
                 branches.push(Branch {
                     user,
@@ -227,7 +300,7 @@ fn try_user(
     if fits {
         decide(alloc, p, f, a, done, crew, finder, depth, bounded)
     } else {
-        Ok(Searched::Refuted(broken_rule(p, f, a, done, s, reason)))
+        Ok(Searched::Refuted(broken_rule(p, f, a, done, s, reason, crew)))
     }
 }
 
