@@ -7,6 +7,7 @@ ghost use Rattle.serde_json.specs.Read.{read, of_json, of_members, converted};
 ghost use Rattle.serde_json.specs.Find.{get_member};
 ghost use Rattle.wire_json.specs.Objects.{worth_json, worth_data, members_of};
 
+use crate::object::is_same;
 use crate::plain::guess_number;
 use arrayvec::ArrayVec;
 use itoa::Buffer;
@@ -123,7 +124,7 @@ pub(crate) fn worth_at<'t>(parts: &[Part<'t>], key: &str) -> Option<Worth<'t>>
 {
     let mut found = None;
     'parts: for part in parts {
-        if part.key == key {
+        if is_same(part.key, key) {
             found = Some(part.worth);
         }
     }

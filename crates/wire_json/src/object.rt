@@ -142,9 +142,31 @@ fn is_among(texts: &[&str], text: &str) -> bool
     ensures { result ≡ list_any (pointwise nat_eq text.now) (map (λ t. t.now) texts.now) }
 {
     'texts: for word in texts {
-        if text == *word {
+        if is_same(text, word) {
             return true;
         }
     }
     false
+}
+
+/// Whether two texts are the same. Keys are short, and most differ in their first byte.
+pub(crate) fn is_same(a: &str, b: &str) -> bool
+    ensures { result ≡ pointwise nat_eq a.now b.now }
+{
+    are_same(a.as_bytes(), b.as_bytes())
+}
+
+#[inline(always)]
+fn are_same(a: &[u8], b: &[u8]) -> bool
+    ensures { result ≡ pointwise nat_eq a.now b.now }
+{
+    if a.len() != b.len() {
+        return false;
+    }
+    'bytes: for i in 0..a.len() {
+        if a[i] != b[i] {
+            return false;
+        }
+    }
+    true
 }
