@@ -1,0 +1,7 @@
+use Rattle.std.proofs.Common.{◌≡◌, ◌-◌, ◌++◌, ◌==◌, suc, nat_le, nat_lt, map, drop}
+use Rattle.std.specs.List.{flat_map}
+use Rattle.cnf_export.specs.Encodings.{numbers}
+use Rattle.cnf_models.proofs.saying.say_below.Given as goal
+
+abbrev pub invariant-numbers : goal.invariant-numbers
+invariant-numbers l = l.into ++ map (λ j. nat_lt j l.count) (numbers l.j (l.high - l.j)) ≡ l.fn.into ++ map (λ j. nat_lt j l.count) (numbers 0 l.high)
