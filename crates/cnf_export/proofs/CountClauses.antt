@@ -109,24 +109,24 @@ is_counter e m block most limit h =
     let high = height most limit in
     record {
       first = λ some more.
-      let here = row_holds e m block most limit h 0 0 some more in
-      as_first (m (takes e block 0)) (m (counts e block high 0 0)) (said m (item_clause e block most limit 0 0 1 (omega arith)) here.0) (said m (item_clause e block most limit 0 0 2 (omega arith)) here.1.0);
+          let here = row_holds e m block most limit h 0 0 some more in
+          as_first (m (takes e block 0)) (m (counts e block high 0 0)) (said m (item_clause e block most limit 0 0 1 (omega arith)) here.0) (said m (item_clause e block most limit 0 0 2 (omega arith)) here.1.0);
       first_more = λ j some more.
-      let here = subst (Every (λ row. Holds m (clause e (Counting block most limit) 0 (4 * suc j + row)))) (first_more_rows j) (row_holds e m block most limit h 0 (suc j) some more) in
-      one_no m (counts e block high 0 (suc j)) (said m (item_clause e block most limit 0 (suc j) 3 (omega arith)) here.1.0);
+          let here = subst (Every (λ row. Holds m (clause e (Counting block most limit) 0 (4 * suc j + row)))) (first_more_rows j) (row_holds e m block most limit h 0 (suc j) some more) in
+          one_no m (counts e block high 0 (suc j)) (said m (item_clause e block most limit 0 (suc j) 3 (omega arith)) here.1.0);
       next = λ u below more.
-      let here = subst (Every (λ row. Holds m (clause e (Counting block most limit) (suc u) (4 * 0 + row)))) (next_rows u) (row_holds e m block most limit h (suc u) 0 below more) in
-      as_next (m (counts e block high u 0)) (m (takes e block (suc u))) (m (counts e block high (suc u) 0))
-      (said m (item_clause e block most limit (suc u) 0 0 (omega arith) ∙ climbs e block high u 0) here.0)
-      (said m (item_clause e block most limit (suc u) 0 1 (omega arith)) here.1.0)
-      (said m (item_clause e block most limit (suc u) 0 2 (omega arith) ∙ owes e block high u 0) here.1.1.0);
+          let here = subst (Every (λ row. Holds m (clause e (Counting block most limit) (suc u) (4 * 0 + row)))) (next_rows u) (row_holds e m block most limit h (suc u) 0 below more) in
+          as_next (m (counts e block high u 0)) (m (takes e block (suc u))) (m (counts e block high (suc u) 0))
+          (said m (item_clause e block most limit (suc u) 0 0 (omega arith) ∙ climbs e block high u 0) here.0)
+          (said m (item_clause e block most limit (suc u) 0 1 (omega arith)) here.1.0)
+          (said m (item_clause e block most limit (suc u) 0 2 (omega arith) ∙ owes e block high u 0) here.1.1.0);
       next_more = λ u j below more.
-      let here = subst (Every (λ row. Holds m (clause e (Counting block most limit) (suc u) (4 * suc j + row)))) (more_rows u j) (row_holds e m block most limit h (suc u) (suc j) below more) in
-      as_more (m (counts e block high u (suc j))) (m (takes e block (suc u))) (m (counts e block high u j)) (m (counts e block high (suc u) (suc j)))
-      (said m (item_clause e block most limit (suc u) (suc j) 0 (omega arith) ∙ climbs e block high u (suc j)) here.0)
-      (said m (item_clause e block most limit (suc u) (suc j) 1 (omega arith) ∙ meets e block high u j) here.1.0)
-      (said m (item_clause e block most limit (suc u) (suc j) 2 (omega arith) ∙ owes e block high u (suc j)) here.1.1.0)
-      (said m (item_clause e block most limit (suc u) (suc j) 3 (omega arith) ∙ follows e block high u j) here.1.1.1.0);
+          let here = subst (Every (λ row. Holds m (clause e (Counting block most limit) (suc u) (4 * suc j + row)))) (more_rows u j) (row_holds e m block most limit h (suc u) (suc j) below more) in
+          as_more (m (counts e block high u (suc j))) (m (takes e block (suc u))) (m (counts e block high u j)) (m (counts e block high (suc u) (suc j)))
+          (said m (item_clause e block most limit (suc u) (suc j) 0 (omega arith) ∙ climbs e block high u (suc j)) here.0)
+          (said m (item_clause e block most limit (suc u) (suc j) 1 (omega arith) ∙ meets e block high u j) here.1.0)
+          (said m (item_clause e block most limit (suc u) (suc j) 2 (omega arith) ∙ owes e block high u (suc j)) here.1.1.0)
+          (said m (item_clause e block most limit (suc u) (suc j) 3 (omega arith) ∙ follows e block high u j) here.1.1.1.0);
     }
 
 -- ---- what is asked

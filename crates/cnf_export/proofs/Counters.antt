@@ -58,7 +58,7 @@ same_counter t z c n high taken counted =
       first = λ some more. counted 0 0 some more ∙ is.first some more ∙ sym (taken 0 some);
       first_more = λ j some more. counted 0 (suc j) some more ∙ is.first_more j some more;
       next = λ u below more. counted (suc u) 0 below more ∙ is.next u below more
-      ∙ (λ i. sym (counted u 0 (omega (arith, below)) more) i || sym (taken (suc u) below) i);
+          ∙ (λ i. sym (counted u 0 (omega (arith, below)) more) i || sym (taken (suc u) below) i);
       next_more = λ u j below more. counted (suc u) (suc j) below more ∙ is.next_more u j below more
-      ∙ (λ i. sym (counted u (suc j) (omega (arith, below)) more) i || (sym (taken (suc u) below) i && sym (counted u j (omega (arith, below)) (omega (arith, more))) i));
+          ∙ (λ i. sym (counted u (suc j) (omega (arith, below)) more) i || (sym (taken (suc u) below) i && sym (counted u j (omega (arith, below)) (omega (arith, more))) i));
     }

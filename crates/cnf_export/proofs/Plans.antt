@@ -199,9 +199,9 @@ group_counted e m block most limit group h within holds u j last less =
     ∙ ap (λ n. nat_lt j (count_below n z)) last
     ∙ ap (nat_lt j) (count_same e.users z (has_some group (plan_in e m)) (group_taken e m block group h within holds.0)
     ∙ sym (different_counted e.users (users_from 0 group (λ s. Some (planned (plan_in e m) s))) (λ w one.
-      let member = member_among 0 group (planned (plan_in e m)) w one in
-      let same : member.at ≡ member.place = let place = member.same in omega (arith, place) in
-      subst (λ v. v < e.users) (ap (planned (plan_in e m)) same ∙ member.user) (plan_user e m h member.at (within member.at member.member)).below)))
+    let member = member_among 0 group (planned (plan_in e m)) w one in
+    let same : member.at ≡ member.place = let place = member.same in omega (arith, place) in
+    subst (λ v. v < e.users) (ap (planned (plan_in e m)) same ∙ member.user) (plan_user e m h member.at (within member.at member.member)).below)))
 
 -- a group with members has a user, and so there is a last one
 last_user : (e : Encoding) (m : ℕ → Bool) (group : List Bool) (limit : ℕ) → ((t : ℕ) → t < e.steps → StepHolds e m t) → ((x : ℕ) → is_member group x ≡ true → x < e.steps) → IsWithinGroup limit group → (u : ℕ) × (suc u ≡ e.users)
@@ -219,7 +219,7 @@ most_obeyed e m block limit group h within some holds =
     let last = last_user e m group limit h within some in
     let ended : m (counts e block (limit + 1) last.0 limit) ≡ false = ended_most e m block limit last.0 last.1 holds.1.1.0 in
     let few = lt_back_no limit (different (users_from 0 group (λ s. Some (planned (plan_in e m) s))))
-      (sym (group_counted e m block true limit group h within holds last.0 limit last.1 (omega arith)) ∙ ended) in
+    (sym (group_counted e m block true limit group h within holds last.0 limit last.1 (omega arith)) ∙ ended) in
     le_yes _ limit few
 
 least_obeyed : (e : Encoding) (m : ℕ → Bool) (block limit : ℕ) (group : List Bool) → ((t : ℕ) → t < e.steps → StepHolds e m t) → ((x : ℕ) → is_member group x ≡ true → x < e.steps) → IsWithinGroup limit group →
@@ -229,7 +229,7 @@ least_obeyed e m block limit group h within some holds =
     let low : 0 < limit = some.0 in
     let ended : m (counts e block limit last.0 (limit - 1)) ≡ true = ended_least e m block limit last.0 last.1 holds.1.1.0 in
     let many = lt_back (limit - 1) (different (users_from 0 group (λ s. Some (planned (plan_in e m) s))))
-      (sym (group_counted e m block false limit group h within holds last.0 (limit - 1) last.1 (omega (arith, low))) ∙ ended) in
+    (sym (group_counted e m block false limit group h within holds last.0 (limit - 1) last.1 (omega (arith, low))) ∙ ended) in
     le_yes limit _ (omega (arith, many, low))
 
 rule_obeyed : (e : Encoding) (m : ℕ → Bool) (block : ℕ) (r : Rule) → ((s : ℕ) → s < e.steps → StepHolds e m s) → ((s : ℕ) → names r s ≡ true → s < e.steps) → HasMembers r → Every (GroupHolds e m) (rule_groups block r) →
@@ -293,6 +293,6 @@ models_are_plans p assigned finished m sound within model =
       keeps = λ s u is. ap Some (kept_user p finished s (planned (plan_in e m) s) u (user_at assigned s) is (may s (within.steps s u is)));
       allowed = λ s below open_. may_authorised p finished s (planned (plan_in e m) s) (user_at assigned s) open_ (may s below);
       obeyed = λ k r is.
-      let here = rule_at (GroupHolds e m) (step_blocks e.steps) p.rules k r is (every_right (GroupHolds e m) (flat_map step_groups (numbers 0 e.steps)) (rules_groups (step_blocks e.steps) p.rules) holds) in
-      rule_obeyed e m here.0 r steps (sound.named k r is) (sound.members k r is) here.1;
+          let here = rule_at (GroupHolds e m) (step_blocks e.steps) p.rules k r is (every_right (GroupHolds e m) (flat_map step_groups (numbers 0 e.steps)) (rules_groups (step_blocks e.steps) p.rules) holds) in
+          rule_obeyed e m here.0 r steps (sound.named k r is) (sound.members k r is) here.1;
     }

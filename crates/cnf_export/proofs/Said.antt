@@ -157,19 +157,23 @@ counter_rows e m block most limit is zero zero below less =
 counter_rows e m block most limit is zero (suc j) below less =
     let none = is.first_more j below less in
     let c = counts e block (height most limit) 0 (suc j) in
-    subst (Every (λ row. Holds m (clause e (Counting block most limit) 0 (4 * suc j + row)))) (sym (first_more_rows j))
-    (from_said m (item_clause e block most limit 0 (suc j) 2 (omega arith)) (or_left (not (m c)) (m (takes e block 0) || false) (ap not none)),
-    (from_said m (item_clause e block most limit 0 (suc j) 3 (omega arith)) (none_is m c none), tt))
+    subst (Every (λ row. Holds m (clause e (Counting block most limit) 0 (4 * suc j + row)))) (sym (first_more_rows j)) (
+      from_said m (item_clause e block most limit 0 (suc j) 2 (omega arith)) (or_left (not (m c)) (m (takes e block 0) || false) (ap not none)),
+      (from_said m (item_clause e block most limit 0 (suc j) 3 (omega arith)) (none_is m c none), tt),
+    )
 counter_rows e m block most limit is (suc u) zero below less =
     let high = height most limit in
     let b = m (counts e block high u 0) in
     let z = m (takes e block (suc u)) in
     let c = m (counts e block high (suc u) 0) in
     let same = is.next u below less in
-    subst (Every (λ row. Holds m (clause e (Counting block most limit) (suc u) (4 * 0 + row)))) (sym (next_rows u))
-    (from_said m (item_clause e block most limit (suc u) 0 0 (omega arith) ∙ climbs e block high u 0) (back_on b z c same),
-    (from_said m (item_clause e block most limit (suc u) 0 1 (omega arith)) (back_up b z c same),
-    (from_said m (item_clause e block most limit (suc u) 0 2 (omega arith) ∙ owes e block high u 0) (back_owes b z c same), tt)))
+    subst (Every (λ row. Holds m (clause e (Counting block most limit) (suc u) (4 * 0 + row)))) (sym (next_rows u)) (
+      from_said m (item_clause e block most limit (suc u) 0 0 (omega arith) ∙ climbs e block high u 0) (back_on b z c same),
+      (
+        from_said m (item_clause e block most limit (suc u) 0 1 (omega arith)) (back_up b z c same),
+        (from_said m (item_clause e block most limit (suc u) 0 2 (omega arith) ∙ owes e block high u 0) (back_owes b z c same), tt),
+      ),
+    )
 counter_rows e m block most limit is (suc u) (suc j) below less =
     let high = height most limit in
     let b = m (counts e block high u (suc j)) in
@@ -177,11 +181,16 @@ counter_rows e m block most limit is (suc u) (suc j) below less =
     let d = m (counts e block high u j) in
     let c = m (counts e block high (suc u) (suc j)) in
     let same = is.next_more u j below less in
-    subst (Every (λ row. Holds m (clause e (Counting block most limit) (suc u) (4 * suc j + row)))) (sym (more_rows u j))
-    (from_said m (item_clause e block most limit (suc u) (suc j) 0 (omega arith) ∙ climbs e block high u (suc j)) (back_on b (z && d) c same),
-    (from_said m (item_clause e block most limit (suc u) (suc j) 1 (omega arith) ∙ meets e block high u j) (back_meets b z d c same),
-    (from_said m (item_clause e block most limit (suc u) (suc j) 2 (omega arith) ∙ owes e block high u (suc j)) (back_more b z d c same).0,
-    (from_said m (item_clause e block most limit (suc u) (suc j) 3 (omega arith) ∙ follows e block high u j) (back_more b z d c same).1, tt))))
+    subst (Every (λ row. Holds m (clause e (Counting block most limit) (suc u) (4 * suc j + row)))) (sym (more_rows u j)) (
+      from_said m (item_clause e block most limit (suc u) (suc j) 0 (omega arith) ∙ climbs e block high u (suc j)) (back_on b (z && d) c same),
+      (
+        from_said m (item_clause e block most limit (suc u) (suc j) 1 (omega arith) ∙ meets e block high u j) (back_meets b z d c same),
+        (
+          from_said m (item_clause e block most limit (suc u) (suc j) 2 (omega arith) ∙ owes e block high u (suc j)) (back_more b z d c same).0,
+          (from_said m (item_clause e block most limit (suc u) (suc j) 3 (omega arith) ∙ follows e block high u j) (back_more b z d c same).1, tt),
+        ),
+      ),
+    )
 
 counter_holds : (e : Encoding) (m : ℕ → Bool) (block : ℕ) (most : Bool) (limit : ℕ) → IsCounter (λ w. m (takes e block w)) (λ v j. m (counts e block (height most limit) v j)) e.users (height most limit) → GroupHolds e m (Counting block most limit)
 counter_holds e m block most limit is = parts_from e m (Counting block most limit) (λ u below.
@@ -206,8 +215,11 @@ module _ (e : Encoding) (rules : List Rule) (m : ℕ → Bool) (plan : List ℕ)
       none_is m (has e s u) (nobody s u within (omega (arith, high)) (λ same. differ (e.may_have s u) (subst (λ w. e.may_have s w ≡ true) same (fits.may s within)) (not_yes (e.may_have s u) no_one)))))
 
   someone : (s : ℕ) → s < e.steps → GroupHolds e m (Someone s)
-  someone s within = parts_from e m (Someone s) (λ i only. (listed_from m (has e s) (e.may_have s) 0 e.users (planned plan s) (omega arith) (let below = fits.below s within in omega (arith, below)) (fits.may s within)
-      (says.has_it s (planned plan s) within (fits.below s within) ∙ eq_same (planned plan s)), tt))
+  someone s within = parts_from e m (Someone s) (λ i only. (
+    listed_from m (has e s) (e.may_have s) 0 e.users (planned plan s) (omega arith) (let below = fits.below s within in omega (arith, below)) (fits.may s within)
+        (says.has_it s (planned plan s) within (fits.below s within) ∙ eq_same (planned plan s)),
+    tt,
+  ))
 
   has_then : (s u : ℕ) → s < e.steps → u < e.users → satisfies m (no_to (has e s u) ∷ yes_to (has_by e s u) ∷ []) ≡ true
   has_then s u within below = unless m (has e s u) (yes_to (has_by e s u) ∷ []) (λ one. one_is m (has_by e s u)
@@ -262,8 +274,8 @@ module _ (e : Encoding) (rules : List Rule) (m : ℕ → Bool) (plan : List ℕ)
   taking block high group within count = parts_from e m (Taking block group) (λ u below.
       joined (λ k. Holds m (taking_clause e block group u k)) (map (λ t. suc t) (members group)) (0 ∷ [])
       (map_from (λ k. Holds m (taking_clause e block group u k)) (λ t. suc t) (members group) (passing_from (λ t. Holds m (taking_clause e block group u (suc t))) (is_member group) 0 (length group) (λ t low high_t member.
-        unless m (has e t u) (yes_to (takes e block u) ∷ []) (λ one. one_is m (takes e block u)
-        (count.taken u below ∙ among_from 0 group (planned plan) t t u member (omega arith) (whose t u (within t member) below one))))))
+      unless m (has e t u) (yes_to (takes e block u) ∷ []) (λ one. one_is m (takes e block u)
+      (count.taken u below ∙ among_from 0 group (planned plan) t t u member (omega arith) (whose t u (within t member) below one))))))
       (closed u below, tt))
     where
       closed : (u : ℕ) → u < e.users → Holds m (taking_clause e block group u 0)
@@ -296,17 +308,21 @@ module _ (e : Encoding) (rules : List Rule) (m : ℕ → Bool) (plan : List ℕ)
   most_ends : (block limit : ℕ) (group : List Bool) → ((x : ℕ) → is_member group x ≡ true → x < e.steps) → SaysCount e m plan block (height true limit) group → nat_le (different (users_from 0 group (λ s. Some (planned plan s)))) limit ≡ true → GroupHolds e m (Ending block true limit)
   most_ends block limit group within count obeyed = parts_from e m (Ending block true limit) (λ i only.
       let users = some_part e.users i only in
-      let few = le_back _ limit obeyed in
-      (none_is m (counts e block (limit + 1) (e.users - 1) (limit + 1 - 1))
-      (counted_last block (limit + 1) group within count (omega arith) users ∙ lt_no (limit + 1 - 1) _ (omega (arith, few))), tt))
+      let few = le_back _ limit obeyed in (
+        none_is m (counts e block (limit + 1) (e.users - 1) (limit + 1 - 1))
+            (counted_last block (limit + 1) group within count (omega arith) users ∙ lt_no (limit + 1 - 1) _ (omega (arith, few))),
+        tt,
+      ))
 
   least_ends : (block limit : ℕ) (group : List Bool) → ((x : ℕ) → is_member group x ≡ true → x < e.steps) → IsWithinGroup limit group → SaysCount e m plan block (height false limit) group → nat_le limit (different (users_from 0 group (λ s. Some (planned plan s)))) ≡ true → GroupHolds e m (Ending block false limit)
   least_ends block limit group within some count obeyed = parts_from e m (Ending block false limit) (λ i only.
       let users = some_part e.users i only in
       let low : 0 < limit = some.0 in
-      let many = le_back limit _ obeyed in
-      (one_is m (counts e block limit (e.users - 1) (limit - 1))
-      (counted_last block limit group within count low users ∙ lt_yes (limit - 1) _ (omega (arith, many, low))), tt))
+      let many = le_back limit _ obeyed in (
+        one_is m (counts e block limit (e.users - 1) (limit - 1))
+            (counted_last block limit group within count low users ∙ lt_yes (limit - 1) _ (omega (arith, many, low))),
+        tt,
+      ))
 
 -- ---- members
 
@@ -396,7 +412,7 @@ plans_are_models p assigned finished plan m sound all valid says =
       may = λ s within. and_from (nat_lt s p.steps) (may_be p finished s (user_at assigned s) (planned plan s)) (lt_yes s p.steps within) (planned_may p assigned finished plan all valid s within (user_at assigned s) refl);
     } in
     let steps = flat_from (GroupHolds e m) step_groups (numbers 0 e.steps) (numbers_from (λ s. Every (GroupHolds e m) (step_groups s)) 0 e.steps (λ s low high.
-      let within : s < e.steps = omega (arith, high) in
-      (outside e p.rules m plan fits says s within, (someone e p.rules m plan fits says s within, (once e p.rules m plan fits says s within, tt))))) in
+    let within : s < e.steps = omega (arith, high) in
+    (outside e p.rules m plan fits says s within, (someone e p.rules m plan fits says s within, (once e p.rules m plan fits says s within, tt))))) in
     let rules = rules_hold e p.rules m plan fits says (step_blocks e.steps) p.rules (λ k r is. (sound.named k r is, (sound.members k r is, valid.obeyed k r is))) says.counted in
     All-from_recursion (Holds m) (clauses_of p assigned finished) (flat_from (Holds m) (group_clauses e) (groups p.steps p.rules) (joined (GroupHolds e m) (flat_map step_groups (numbers 0 e.steps)) (rules_groups (step_blocks e.steps) p.rules) steps rules))

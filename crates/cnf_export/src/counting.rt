@@ -130,7 +130,13 @@ fn write_two(v: u32, w: u32, into: &mut Literals) -> Result<(), AllocError>
     add_yes(into, w)
 }
 
-fn write_met(taken: u32, first: bool, before: u32, so_many: u32, into: &mut Literals) -> Result<(), AllocError>
+fn write_met(
+    taken: u32,
+    first: bool,
+    before: u32,
+    so_many: u32,
+    into: &mut Literals,
+) -> Result<(), AllocError>
     requires taken { taken < 2 ^ 30 }
     requires before { before < 2 ^ 30 }
     requires so_many { so_many < 2 ^ 30 }
@@ -143,7 +149,13 @@ fn write_met(taken: u32, first: bool, before: u32, so_many: u32, into: &mut Lite
     add_yes(into, so_many)
 }
 
-fn write_owed(so_many: u32, first: bool, above: u32, taken: u32, into: &mut Literals) -> Result<(), AllocError>
+fn write_owed(
+    so_many: u32,
+    first: bool,
+    above: u32,
+    taken: u32,
+    into: &mut Literals,
+) -> Result<(), AllocError>
     requires so_many { so_many < 2 ^ 30 }
     requires above { above < 2 ^ 30 }
     requires taken { taken < 2 ^ 30 }
@@ -156,7 +168,13 @@ fn write_owed(so_many: u32, first: bool, above: u32, taken: u32, into: &mut Lite
     add_yes(into, taken)
 }
 
-fn write_followed(so_many: u32, first: bool, above: u32, before: u32, into: &mut Literals) -> Result<(), AllocError>
+fn write_followed(
+    so_many: u32,
+    first: bool,
+    above: u32,
+    before: u32,
+    into: &mut Literals,
+) -> Result<(), AllocError>
     requires so_many { so_many < 2 ^ 30 }
     requires above { above < 2 ^ 30 }
     requires before { before < 2 ^ 30 }
@@ -181,6 +199,15 @@ pub(crate) fn write_ending(
     requires { high ≤ 256 }
     ensures { OnOk result (into.new ≡ into.old ++ ending_clause (encoding_in terms.now) block most high) }
 {
-    let all = terms.counts(block, high, terms.users().saturating_sub(1), high.saturating_sub(1));
-    if most { add_no(into, all) } else { add_yes(into, all) }
+    let all = terms.counts(
+        block,
+        high,
+        terms.users().saturating_sub(1),
+        high.saturating_sub(1),
+    );
+    if most {
+        add_no(into, all)
+    } else {
+        add_yes(into, all)
+    }
 }

@@ -7,13 +7,13 @@ ghost use Rattle.cnf_export.specs.Positions.{HasGiven};
 ghost use Rattle.cnf_export.specs.declared.fault.CnfFault.TheVariants.{TooLarge};
 ghost use Rattle.cnf_export.specs.declared.tally.TheConstants.{LITERAL_LIMIT};
 
-use crate::{CnfFault, Literals};
 use crate::group::Group;
 use crate::grouping::{all_blocks, groups_of};
 use crate::making::terms_of;
 use crate::position::{Position, give, start};
 use crate::tally::count;
 use crate::terms::Terms;
+use crate::{CnfFault, Literals};
 use constraint_forms::{Assign, StepSet};
 use policy_book::Policy;
 use std::alloc::{AllocError, Global};
@@ -69,7 +69,13 @@ impl Encoder {
         let mut one = Literals::new(alloc);
         let clauses = count(&terms, &groups, &mut at, &mut one)?;
         start(&mut at);
-        Ok(Encoder { terms, groups, at, clauses, variables })
+        Ok(Encoder {
+            terms,
+            groups,
+            at,
+            clauses,
+            variables,
+        })
     }
 
     /// How many variables there are; they are numbered from 1.

@@ -26,9 +26,20 @@ pub(crate) enum Group {
         step: StepId,
     },
     /// Which users have some step of the group.
-    Taking { block: u16, group: StepSet },
+    Taking {
+        block: u16,
+        group: StepSet,
+    },
     /// How many users have some step of a group, up to each user.
-    Counting { block: u16, most: bool, limit: u8 },
+    Counting {
+        block: u16,
+        most: bool,
+        limit: u8,
+    },
     /// That not more have, or not fewer.
-    Ending { block: u16, most: bool, limit: u8 },
+    Ending {
+        block: u16,
+        most: bool,
+        limit: u8,
+    },
 }

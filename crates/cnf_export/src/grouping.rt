@@ -9,7 +9,7 @@ use crate::counting::height;
 use crate::group::Group;
 use constraint_forms::{Rule, Rules, StepSet};
 use std::alloc::{AllocError, Global};
-use wf_names::{RelId, RULE_LIMIT, STEP_LIMIT, StepId};
+use wf_names::{RULE_LIMIT, RelId, STEP_LIMIT, StepId};
 
 /// The groups of a workflow with so many steps and these rules.
 pub(crate) fn groups_of(alloc: Global, steps: u8, rules: &Rules) -> Result<Vec<Group>, AllocError>
@@ -64,11 +64,27 @@ fn add_rule(made: &mut Vec<Group>, block: u16, rule: &Rule) -> Result<(), AllocE
     match *rule {
         Rule::Pair { rho, first, second } => add_group(made, Group::Pair { rho, first, second }),
         Rule::SomeOf { rho, group, step } => {
-            add_group(made, Group::SomeOf { rho, back: false, group, step })
+            add_group(
+                made,
+                Group::SomeOf {
+                    rho,
+                    back: false,
+                    group,
+                    step,
+                },
+            )
         }
         Rule::AllOf { rho, group, step } => add_pairs(made, false, rho, &group, step),
         Rule::SomeTo { rho, step, group } => {
-            add_group(made, Group::SomeOf { rho, back: true, group, step })
+            add_group(
+                made,
+                Group::SomeOf {
+                    rho,
+                    back: true,
+                    group,
+                    step,
+                },
+            )
         }
         Rule::AllTo { rho, step, group } => add_pairs(made, true, rho, &group, step),
         Rule::AtMost { limit, group } => add_count(made, block, true, limit, group),
@@ -106,9 +122,17 @@ fn pair_of(back: bool, rho: RelId, x: StepId, step: StepId) -> Group
     ensures { result ≡ pair_group_at back rho step x }
 {
     if back {
-        Group::Pair { rho, first: step, second: x }
+        Group::Pair {
+            rho,
+            first: step,
+            second: x,
+        }
     } else {
-        Group::Pair { rho, first: x, second: step }
+        Group::Pair {
+            rho,
+            first: x,
+            second: step,
+        }
     }
 }
 

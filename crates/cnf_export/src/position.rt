@@ -27,7 +27,12 @@ pub(crate) struct Position {
 }
 
 /// Gives the next clause, if there is one.
-pub(crate) fn give(terms: &Terms, groups: &[Group], at: &mut Position, into: &mut Literals) -> Result<bool, AllocError>
+pub(crate) fn give(
+    terms: &Terms,
+    groups: &[Group],
+    at: &mut Position,
+    into: &mut Literals,
+) -> Result<bool, AllocError>
     ensures given { IfOk result (λ more. HasGiven (left_at (encoding_in terms.now) groups.now at.old) more into.new
         (left_at (encoding_in terms.now) groups.now at.new)) }
     ensures unchanged { OnErr result (left_at (encoding_in terms.now) groups.now at.new

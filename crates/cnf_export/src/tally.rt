@@ -8,8 +8,8 @@ ghost use Rattle.cnf_export.specs.Terms.{encoding_in};
 ghost use Rattle.cnf_export.specs.declared.fault.CnfFault.TheVariants.{TooLarge};
 ghost use Rattle.cnf_export.specs.declared.tally.TheConstants.{LITERAL_LIMIT};
 
-use crate::fault::CnfFault;
 use crate::Literals;
+use crate::fault::CnfFault;
 use crate::group::Group;
 use crate::position::{Position, give};
 use crate::terms::Terms;

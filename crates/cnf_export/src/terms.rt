@@ -11,11 +11,13 @@ ghost use Rattle.cnf_export.specs.Terms.{TermsShape, AreTerms, encoding_in};
 ghost use Rattle.cnf_export.specs.declared.group.Group.TheVariants as groups;
 
 use crate::Literals;
-use crate::counting::{height, list_members, list_rows, write_counting, write_ending, write_taking};
+use crate::counting::{
+    height, list_members, list_rows, write_counting, write_ending, write_taking,
+};
 use crate::group::Group;
-use constraint_forms::StepSet;
 use crate::listed::{Items, list_users};
 use crate::literals::{add_no, add_yes, no_to, yes_to};
+use constraint_forms::StepSet;
 use std::alloc::AllocError;
 use std::marker::Model;
 use user_relations::Relations;
@@ -49,7 +51,12 @@ impl Terms {
         requires { AreTerms (record { users = users; steps = steps; domains = domains.items; relations = relations }) }
         ensures { result ≡ record { users = users; steps = steps; domains = domains.items; relations = relations } }
     {
-        Terms { users, steps, domains, relations }
+        Terms {
+            users,
+            steps,
+            domains,
+            relations,
+        }
     }
 
     /// The variable that says that a step has a user.
@@ -185,13 +192,7 @@ impl Terms {
             Group::SomeOf { .. } => 1,
             Group::Taking { .. } => self.users,
             Group::Counting { .. } => self.users,
-            Group::Ending { .. } => {
-                if self.users == 0 {
-                    0
-                } else {
-                    1
-                }
-            }
+            Group::Ending { .. } => { if self.users == 0 { 0 } else { 1 } }
         }
     }
 
@@ -203,7 +204,13 @@ impl Terms {
             Group::Outside(s) => self.list_outside(s, into),
             Group::Someone(_) => list_first(into),
             Group::Once(_) => list_once(i, into),
-            Group::Pair { rho, first, second } => self.list_unrelated(rho, first, second, UserId(i), into),
+            Group::Pair { rho, first, second } => self.list_unrelated(
+                rho,
+                first,
+                second,
+                UserId(i),
+                into,
+            ),
             Group::SomeOf { step, .. } => self.list(&self.domain(step), into),
             Group::Taking { group, .. } => list_members(&group, into),
             Group::Counting { most, limit, .. } => list_rows(i, height(most, limit), into),
@@ -212,7 +219,13 @@ impl Terms {
     }
 
     /// The clause of an item.
-    pub(crate) fn write_clause(&self, g: &Group, i: u16, k: u16, into: &mut Literals) -> Result<(), AllocError>
+    pub(crate) fn write_clause(
+        &self,
+        g: &Group,
+        i: u16,
+        k: u16,
+        into: &mut Literals,
+    ) -> Result<(), AllocError>
         ensures { OnOk result (into.new ≡ clause (encoding_in self.now) g.now i k) }
     {
         into.truncate(0);
@@ -221,13 +234,24 @@ impl Terms {
             Group::Someone(s) => self.add_users(s, &self.domain(s), into),
             Group::Once(s) => self.write_once(s, i, k, into),
             Group::Pair { first, second, .. } => self.write_pair(first, second, i, k, into),
-            Group::SomeOf { rho, back, group, step } => self.write_some(rho, back, &group, step, UserId(k), into),
+            Group::SomeOf {
+                rho,
+                back,
+                group,
+                step,
+            } => self.write_some(rho, back, &group, step, UserId(k), into),
             Group::Taking { block, group } => write_taking(self, block, &group, i, k, into),
             Group::Counting { block, most, limit } => {
                 let high = height(most, limit);
                 write_counting(self, block, high, i, k / 4, k % 4, into)
             }
-            Group::Ending { block, most, limit } => write_ending(self, block, most, height(most, limit), into),
+            Group::Ending { block, most, limit } => write_ending(
+                self,
+                block,
+                most,
+                height(most, limit),
+                into,
+            ),
         }
     }
 
@@ -304,7 +328,14 @@ impl Terms {
     }
 
     // That some member of a group has a user who is related to v, behind other literals.
-    fn add_members(&self, rho: RelId, back: bool, group: &StepSet, v: UserId, into: &mut Literals) -> Result<(), AllocError>
+    fn add_members(
+        &self,
+        rho: RelId,
+        back: bool,
+        group: &StepSet,
+        v: UserId,
+        into: &mut Literals,
+    ) -> Result<(), AllocError>
         ensures { OnOk result (into.new ≡ into.old ++ flat_map (λ t. map (λ u. yes_to (has (encoding_in self.now) t u))
             (users_who (encoding_in self.now) (λ u. (encoding_in self.now).may_have t u && turned back (encoding_in self.now).related rho u v)))
             (members group.now)) }
@@ -318,7 +349,14 @@ impl Terms {
         Ok(())
     }
 
-    fn add_member(&self, rho: RelId, back: bool, t: StepId, v: UserId, into: &mut Literals) -> Result<(), AllocError>
+    fn add_member(
+        &self,
+        rho: RelId,
+        back: bool,
+        t: StepId,
+        v: UserId,
+        into: &mut Literals,
+    ) -> Result<(), AllocError>
         ensures { OnOk result (into.new ≡ into.old ++ map (λ u. yes_to (has (encoding_in self.now) t u))
             (users_who (encoding_in self.now) (λ u. (encoding_in self.now).may_have t u && turned back (encoding_in self.now).related rho u v))) }
     {

@@ -137,15 +137,15 @@ says_count : (e : Encoding) (plan : List ℕ) (before rest : List Bool) (block h
     SaysCount e (has_variable (before ++ (count_flags e.users plan high group ++ rest))) plan block high group
 says_count e plan before rest block high group len = record {
   taken = λ u below.
-  behind before (count_flags e.users plan high group ++ rest) (takes e block u) u (omega (arith, len))
-  ∙ ap (λ xs. slice_index_or xs u false) (append_assoc row more rest)
-  ∙ row_at (has_some group plan) 0 e.users u (more ++ rest) below
-  ∙ (let same : 0 + u ≡ u = omega arith in ap (has_some group plan) same);
+      behind before (count_flags e.users plan high group ++ rest) (takes e block u) u (omega (arith, len))
+      ∙ ap (λ xs. slice_index_or xs u false) (append_assoc row more rest)
+      ∙ row_at (has_some group plan) 0 e.users u (more ++ rest) below
+      ∙ (let same : 0 + u ≡ u = omega arith in ap (has_some group plan) same);
   counted = λ u j below less.
-  behind before (count_flags e.users plan high group ++ rest) (counts e block high u j) (e.users + (u * high + j)) (omega (arith, len))
-  ∙ ap (λ xs. slice_index_or xs (e.users + (u * high + j)) false) (append_assoc row more rest)
-  ∙ behind row (more ++ rest) (e.users + (u * high + j)) (u * high + j) (let one = length-row (has_some group plan) 0 e.users in omega (arith, one))
-  ∙ grid_at (λ v i. nat_lt i (count_below (suc v) (has_some group plan))) e.users high u j (u * high + j) rest below less refl;
+      behind before (count_flags e.users plan high group ++ rest) (counts e block high u j) (e.users + (u * high + j)) (omega (arith, len))
+      ∙ ap (λ xs. slice_index_or xs (e.users + (u * high + j)) false) (append_assoc row more rest)
+      ∙ behind row (more ++ rest) (e.users + (u * high + j)) (u * high + j) (let one = length-row (has_some group plan) 0 e.users in omega (arith, one))
+      ∙ grid_at (λ v i. nat_lt i (count_below (suc v) (has_some group plan))) e.users high u j (u * high + j) rest below less refl;
 }
   where
     row : List Bool
@@ -157,8 +157,11 @@ says_count e plan before rest block high group len = record {
 says_rules : (e : Encoding) (plan : List ℕ) (before : List Bool) (block : ℕ) (rules : List Rule) → length before ≡ block * e.users →
     SaysRules e (has_variable (before ++ rules_flags e.users plan rules)) plan block rules
 says_rules e plan before block [] len = tt
-says_rules e plan before block (r ∷ rules) len = (at r, subst (λ flags. SaysRules e (has_variable flags) plan (block + blocks r) rules) (append_assoc before (rule_flags e.users plan r) (rules_flags e.users plan rules))
-    (says_rules e plan (before ++ rule_flags e.users plan r) (block + blocks r) rules longer))
+says_rules e plan before block (r ∷ rules) len = (
+  at r,
+  subst (λ flags. SaysRules e (has_variable flags) plan (block + blocks r) rules) (append_assoc before (rule_flags e.users plan r) (rules_flags e.users plan rules))
+      (says_rules e plan (before ++ rule_flags e.users plan r) (block + blocks r) rules longer),
+)
   where
     longer : length (before ++ rule_flags e.users plan r) ≡ (block + blocks r) * e.users
     longer =
@@ -190,10 +193,10 @@ says_plan p plan assigned finished =
     record {
       has_it = λ s u high low. grid_at (λ t v. planned plan t == v) p.steps p.users s u (has e s u) (until ++ rest) high low refl;
       by_then = λ s u high low.
-      behind users (until ++ rest) (has_by e s u) (s * p.users + u) (omega (arith, first))
-      ∙ grid_at (λ t v. nat_le (planned plan t) v) p.steps p.users s u (s * p.users + u) rest high low refl;
+          behind users (until ++ rest) (has_by e s u) (s * p.users + u) (omega (arith, first))
+          ∙ grid_at (λ t v. nat_le (planned plan t) v) p.steps p.users s u (s * p.users + u) rest high low refl;
       counted = subst (λ flags. SaysRules e (has_variable flags) plan (step_blocks p.steps) p.rules) (append_assoc users until rest)
-      (says_rules e plan (users ++ until) (step_blocks p.steps) p.rules (omega (arith, first, second, sum, more)));
+          (says_rules e plan (users ++ until) (step_blocks p.steps) p.rules (omega (arith, first, second, sum, more)));
     }
 
 -- ---- reading back

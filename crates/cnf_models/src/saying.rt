@@ -20,7 +20,12 @@ fn user_of(plan: &Plan, s: StepId) -> u16
 }
 
 /// Of each step and user, whether the step has the user.
-pub(crate) fn say_users(plan: &Plan, steps: u8, users: u16, into: &mut Model) -> Result<(), AllocError>
+pub(crate) fn say_users(
+    plan: &Plan,
+    steps: u8,
+    users: u16,
+    into: &mut Model,
+) -> Result<(), AllocError>
     ensures { OnOk result (into.new ≡ into.old ++ grid (λ s u. planned plan.now s == u) steps users) }
 {
     'steps: for s in 0..steps {
@@ -39,7 +44,12 @@ fn say_user(v: u16, users: u16, into: &mut Model) -> Result<(), AllocError>
 }
 
 /// Of each step and user, whether the step has the user or one before.
-pub(crate) fn say_until(plan: &Plan, steps: u8, users: u16, into: &mut Model) -> Result<(), AllocError>
+pub(crate) fn say_until(
+    plan: &Plan,
+    steps: u8,
+    users: u16,
+    into: &mut Model,
+) -> Result<(), AllocError>
     ensures { OnOk result (into.new ≡ into.old ++ grid (λ s u. nat_le (planned plan.now s) u) steps users) }
 {
     'steps: for s in 0..steps {
@@ -58,7 +68,12 @@ fn say_from(v: u16, users: u16, into: &mut Model) -> Result<(), AllocError>
 }
 
 /// What the rules that count are asked.
-pub(crate) fn say_rules(plan: &Plan, users: u16, rules: &Rules, into: &mut Model) -> Result<(), AllocError>
+pub(crate) fn say_rules(
+    plan: &Plan,
+    users: u16,
+    rules: &Rules,
+    into: &mut Model,
+) -> Result<(), AllocError>
     ensures { OnOk result (into.new ≡ into.old ++ rules_flags users plan.now rules.now) }
 {
     'rules: for k in 0..rules.len() {

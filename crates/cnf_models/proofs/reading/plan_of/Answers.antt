@@ -15,6 +15,11 @@ returns-clause-reading c =
     let clauses = clauses_of problem c.args.a.now c.args.done.now in
     let none = sym (c.in_ok-i.ensures ∙ ap (first_false 0 m) c.in_ok-encoder.ensures.all) ∙ c.in-None.is in
     let plan = c.in_ok-plan_said-in-None.ensures in
-    let sound : AreSound problem = record { named = c.rules-ruled.ensures.well_formed; members = λ k r is. (c.rules-ruled.ensures.ruled k r is).members } in
-    (none, (plan, subst (λ q. IsValidPlan problem c.args.a.now c.args.done.now q) (sym plan)
-    (c.models_are_plans.ensures problem c.args.a.now c.args.done.now m sound c.requires.within (all_true m clauses none))))
+    let sound : AreSound problem = record { named = c.rules-ruled.ensures.well_formed; members = λ k r is. (c.rules-ruled.ensures.ruled k r is).members } in (
+      none,
+      (
+        plan,
+        subst (λ q. IsValidPlan problem c.args.a.now c.args.done.now q) (sym plan)
+            (c.models_are_plans.ensures problem c.args.a.now c.args.done.now m sound c.requires.within (all_true m clauses none)),
+      ),
+    )

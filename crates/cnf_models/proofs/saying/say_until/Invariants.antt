@@ -5,6 +5,6 @@ use Rattle.constraint_forms.specs.Assigned.{planned}
 use Rattle.cnf_models.proofs.saying.say_until.Given as goal
 
 abbrev pub invariant-steps : goal.invariant-steps
-invariant-steps l = 
+invariant-steps l =
     l.into ++ flat_map (λ s. map (λ u. nat_le (planned l.plan s) u) (numbers 0 l.users)) (numbers l.s (l.steps - l.s))
     ≡ l.fn.into ++ flat_map (λ s. map (λ u. nat_le (planned l.plan s) u) (numbers 0 l.users)) (numbers 0 l.steps)
