@@ -74,8 +74,8 @@ adds-after k i u f g h =
       given = subst (λ n. f n ≡ Some u) e h.given;
       free = subst (λ n. g n ≡ None) e h.free;
       others = λ j ne.
-      let d : k + suc j ≡ (k + 1) + j = omega arith in
-      subst (λ n. f n ≡ g n) d (h.others (suc j) (λ is. ne (omega (arith, is))));
+          let d : k + suc j ≡ (k + 1) + j = omega arith in
+          subst (λ n. f n ≡ g n) d (h.others (suc j) (λ is. ne (omega (arith, is))));
     }
 
 one_more : (k i u : ℕ) (bs : List Bool) (f g : ℕ → Option ℕ) → AddsOne k i u f g → is_member bs i ≡ true →
@@ -86,8 +86,8 @@ one_more k zero u (true ∷ bs) f g h is =
     let given : f k ≡ Some u = subst (λ n. f n ≡ Some u) (add-zero k) h.given in
     let free : g k ≡ None = subst (λ n. g n ≡ None) (add-zero k) h.free in
     let agree : AgreeFrom (k + 1) bs f g = λ j t.
-      let d : k + suc j ≡ (k + 1) + j = omega arith in
-      subst (λ n. f n ≡ g n) d (h.others (suc j) (λ e. absurd (omega (arith, e)))) in
+    let d : k + suc j ≡ (k + 1) + j = omega arith in
+    subst (λ n. f n ≡ g n) d (h.others (suc j) (λ e. absurd (omega (arith, e)))) in
     let same = users_from-same f g (k + 1) bs agree in
     let same_free = free_from-same f g (k + 1) bs agree in
     rw (given, free) (record {

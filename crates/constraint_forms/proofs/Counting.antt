@@ -171,8 +171,8 @@ different-same : (f g : ℕ → ℕ) (k : ℕ) (bs : List Bool) → JoinFrom k b
 different-same f g k [] h = refl
 different-same f g k (true ∷ bs) h =
     let first : (i : ℕ) → IsTrue (is_member bs i) → (f ((k + 1) + i) == f k) ≡ (g ((k + 1) + i) == g k) = λ i t.
-      let e : k + suc i ≡ (k + 1) + i = omega arith in
-      subst (λ n. (f n == f k) ≡ (g n == g k)) e (subst (λ n. (f (k + suc i) == f n) ≡ (g (k + suc i) == g n)) (add-zero k) (h (suc i) zero t refl)) in
+    let e : k + suc i ≡ (k + 1) + i = omega arith in
+    subst (λ n. (f n == f k) ≡ (g n == g k)) e (subst (λ n. (f (k + suc i) == f n) ≡ (g (k + suc i) == g n)) (add-zero k) (h (suc i) zero t refl)) in
     λ i. cond (among-same f g k (k + 1) bs first i) 0 1 + different-same f g (k + 1) bs (join-after k true bs f g h) i
 different-same f g k (false ∷ bs) h = different-same f g (k + 1) bs (join-after k false bs f g h)
 

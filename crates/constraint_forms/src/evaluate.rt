@@ -32,7 +32,14 @@ pub fn satisfied<H: Holds>(rule: &Rule, h: &H, plan: &Plan) -> bool
 {
     match *rule {
         Rule::Pair { rho, first, second } => h.holds(rho, plan.at(first), plan.at(second)),
-        Rule::SomeOf { rho, group, step } => any_related(h, rho, false, plan, &group, plan.at(step)),
+        Rule::SomeOf { rho, group, step } => any_related(
+            h,
+            rho,
+            false,
+            plan,
+            &group,
+            plan.at(step),
+        ),
         Rule::AllOf { rho, group, step } => all_related(h, rho, false, plan, &group, plan.at(step)),
         Rule::SomeTo { rho, step, group } => any_related(h, rho, true, plan, &group, plan.at(step)),
         Rule::AllTo { rho, step, group } => all_related(h, rho, true, plan, &group, plan.at(step)),
@@ -41,7 +48,7 @@ pub fn satisfied<H: Holds>(rule: &Rule, h: &H, plan: &Plan) -> bool
     }
 }
 
-/// Whether a relation holds from one user to another; where it is read back, from the other to the one.
+/// Whether a relation holds from one user to another; read back, from the other to the one.
 pub(crate) fn is_related<H: Holds>(h: &H, rho: RelId, back: bool, u: UserId, v: UserId) -> bool
     ensures { result ≡ turned back (H.related h.now) rho u v }
 {
@@ -86,7 +93,8 @@ fn any_unrelated<H: Holds>(
     step: StepId,
 ) -> bool
     ensures { result ≡ any_from 0 group.now
-        (λ x. are_unrelated (turned back (H.related h.now)) rho (user_at a.now x) (user_at a.now step)) }
+        (λ x. are_unrelated (turned back (H.related h.now)) rho
+        (user_at a.now x) (user_at a.now step)) }
 {
     let limit = group.limit();
     'members: for x in 0..limit {
@@ -108,7 +116,8 @@ fn all_unrelated<H: Holds>(
     step: StepId,
 ) -> bool
     ensures { result ≡ all_from 0 group.now
-        (λ x. are_unrelated (turned back (H.related h.now)) rho (user_at a.now x) (user_at a.now step)) }
+        (λ x. are_unrelated (turned back (H.related h.now)) rho
+        (user_at a.now x) (user_at a.now step)) }
 {
     let limit = group.limit();
     'members: for x in 0..limit {
@@ -130,7 +139,8 @@ fn any_related<H: Holds>(
     v: UserId,
 ) -> bool
     requires { (x : ℕ) → IsTrue (is_member group.now x) → x < length plan.now }
-    ensures { result ≡ any_from 0 group.now (λ x. turned back (H.related h.now) rho (planned plan.now x) v) }
+    ensures { result ≡ any_from 0 group.now
+        (λ x. turned back (H.related h.now) rho (planned plan.now x) v) }
 {
     let limit = group.limit();
     'members: for x in 0..limit {
@@ -152,7 +162,8 @@ fn all_related<H: Holds>(
     v: UserId,
 ) -> bool
     requires { (x : ℕ) → IsTrue (is_member group.now x) → x < length plan.now }
-    ensures { result ≡ all_from 0 group.now (λ x. turned back (H.related h.now) rho (planned plan.now x) v) }
+    ensures { result ≡ all_from 0 group.now
+        (λ x. turned back (H.related h.now) rho (planned plan.now x) v) }
 {
     let limit = group.limit();
     'members: for x in 0..limit {

@@ -114,7 +114,8 @@ fn keep_related_to_member<R: RelatedRows>(
     requires below { IsBelow asked.now.users set.old }
     ensures { (u : ℕ) → has_user set.new u
         ≡ (has_user set.old u && not (all_from 0 group.now
-        (λ x. are_unrelated_with (turned back (R.related rows.now)) rho asked.now.given x step asked.now.s u))) }
+        (λ x. are_unrelated_with (turned back (R.related rows.now)) rho asked.now.given x step
+        asked.now.s u))) }
 {
     let limit = group.limit();
     let mut kept = UserSet::empty();
@@ -144,7 +145,8 @@ fn keep_related_to_all<R: RelatedRows>(
     requires below { IsBelow asked.now.users set.old }
     ensures { (u : ℕ) → has_user set.new u
         ≡ (has_user set.old u && not (any_from 0 group.now
-        (λ x. are_unrelated_with (turned back (R.related rows.now)) rho asked.now.given x step asked.now.s u))) }
+        (λ x. are_unrelated_with (turned back (R.related rows.now)) rho asked.now.given x step
+        asked.now.s u))) }
 {
     let limit = group.limit();
     'members: for x in 0..limit {
@@ -170,7 +172,8 @@ fn keep_related<R: RelatedRows>(
     requires below { IsBelow asked.now.users set.old }
     ensures { (u : ℕ) → has_user set.new u
         ≡ (has_user set.old u
-        && not (are_unrelated_with (turned back (R.related rows.now)) rho asked.now.given x y asked.now.s u)) }
+        && not (are_unrelated_with (turned back (R.related rows.now)) rho asked.now.given x y
+        asked.now.s u)) }
 {
     let (u, v) = (asked.given.at(x), asked.given.at(y));
     match (x == asked.s, y == asked.s) {

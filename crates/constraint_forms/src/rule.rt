@@ -39,9 +39,15 @@ pub enum Rule {
         group: StepSet,
     },
     /// The steps of the group have so many users at most.
-    AtMost { limit: u8, group: StepSet },
+    AtMost {
+        limit: u8,
+        group: StepSet,
+    },
     /// The steps of the group have so many users at least.
-    AtLeast { limit: u8, group: StepSet },
+    AtLeast {
+        limit: u8,
+        group: StepSet,
+    },
 }
 
 impl Rule {

@@ -18,7 +18,7 @@ use Rattle.policy_reader.specs.Parts.{at_least_one, at_most, array_at, count_in,
 use Rattle.policy_reader.specs.Rosters.{next_user, roles_of, roster_of}
 use Rattle.policy_reader.specs.Flows.{flow_in, flows_of, next_flow, ordered_in, permits_of, ruled_in, steps_of, with_workflow, workflow_in}
 use Rattle.policy_reader.specs.Files.{admin_of, document_in, format_of, policy_by, policy_in, rest_of, staff_of, start_named, start_of, start_over, start_with}
-use Rattle.policy_reader.specs.Laws.{OldFilesReadAlike}
+use Rattle.policy_reader.specs.Laws.{OldFormatReadsAlike}
 
 -- what one reading gives, another one gives
 abbrev Grows : {A : Type 0} → Reading A → Reading A → Type 0
@@ -77,7 +77,7 @@ format_grows file =
 roster_grows : (roles : List (List ℕ)) (file : Members) → Grows (roster_of earlier roles file) (roster_of today roles file)
 unfolding roster_of
 roster_grows roles file =
-    and_then (entries_at Users 0 1024 (codes "users") file) (entries_at Users 0 today.users (codes "users") file) _ _ (entries_grow Users 0 1024 today.users (codes "users") file (omega arith)) (λ users. same _)
+    and_then (entries_at Users 0 earlier.users (codes "users") file) (entries_at Users 0 today.users (codes "users") file) _ _ (entries_grow Users 0 earlier.users today.users (codes "users") file (omega arith)) (λ users. same _)
 
 staff_grows : (roles : List (List ℕ)) (name : List ℕ) (file : Members) → Grows (staff_of earlier roles name file) (staff_of today roles name file)
 unfolding staff_of
@@ -96,7 +96,7 @@ start_grows file =
 steps_grow : (f : ℕ) (ms : Members) → Grows (steps_of earlier f ms) (steps_of today f ms)
 unfolding steps_of
 steps_grow f ms =
-    and_then (items_at Flows f 16 (codes "steps") ms) (items_at Flows f today.steps (codes "steps") ms) _ _ (items_grow Flows f 16 today.steps (codes "steps") ms (omega arith)) (λ steps. same _)
+    and_then (items_at Flows f earlier.steps (codes "steps") ms) (items_at Flows f today.steps (codes "steps") ms) _ _ (items_grow Flows f earlier.steps today.steps (codes "steps") ms (omega arith)) (λ steps. same _)
 
 flow_grows : (f : ℕ) (roles : List (List ℕ)) (ms : Members) → Grows (flow_in earlier f roles ms) (flow_in today f roles ms)
 unfolding flow_in
@@ -134,6 +134,6 @@ policy_grows file =
     and_then (format_of earlier file) (format_of today file) _ _ (format_grows file)
     (λ format. and_then (start_of earlier file) (start_of today file) (λ start. rest_of earlier format start file) (λ start. rest_of today format start file) (start_grows file) (λ start. rest_grows format start file))
 
-pub old_files_read_alike : OldFilesReadAlike
+pub old_format_reads_alike : OldFormatReadsAlike
 unfolding policy_by
-old_files_read_alike bytes = and_then (document_in bytes) (document_in bytes) (policy_in earlier) (policy_in today) (same (document_in bytes)) policy_grows
+old_format_reads_alike bytes = and_then (document_in bytes) (document_in bytes) (policy_in earlier) (policy_in today) (same (document_in bytes)) policy_grows

@@ -5,5 +5,5 @@ use Rattle.policy_reader.specs.Grammars.{earlier, today}
 use Rattle.policy_reader.specs.Files.{policy_by}
 
 -- every file that was read as a policy before there was a second format is read as the same policy
-abbrev pub OldFilesReadAlike : Type 0
-OldFilesReadAlike = (bytes : List ℕ) (p : PolicyShape) → policy_by earlier bytes ≡ Ok p → policy_by today bytes ≡ Ok p
+abbrev pub OldFormatReadsAlike : Type 0
+OldFormatReadsAlike = (bytes : List ℕ) (p : PolicyShape) → policy_by earlier bytes ≡ Ok p → policy_by today bytes ≡ Ok p

@@ -16,8 +16,8 @@ ghost use Rattle.policy_reader.specs.declared.fault.ReadFault.TheVariants.{NoMem
 ghost use Rattle.first_fault.specs.Reading.{Gives, each};
 
 use crate::fault::{PolicyPart, ReadFault};
-use crate::parts::{entries_at, name_of, no_others, table_of};
 use crate::format::Format;
+use crate::parts::{entries_at, name_of, no_others, table_of};
 use crate::rules::read_rules;
 use crate::workflows::{make_flow, read_order, read_permits, read_steps};
 use constraint_forms::Rules;
@@ -75,7 +75,8 @@ fn add_workflow(
     requires fresh { is_some (place_of policy.old.flow_names name) ≡ false }
     requires room { length policy.old.flows < FLOW_LIMIT }
     ensures read { Gives fault_of (λ _. policy.new) result
-        (spec.with_workflow policy.old name (spec.workflow_in today format policy.old (table_view table.now))) }
+        (spec.with_workflow policy.old name
+        (spec.workflow_in today format policy.old (table_view table.now))) }
     ensures names { OnOk result (policy.new.flow_names ≡ policy.old.flow_names ++ name ∷ []) }
     ensures grown { OnOk result (IsGrown policy.old policy.new) }
 {
@@ -113,7 +114,14 @@ fn add_ruled(
     ensures names { OnOk result (policy.new.flow_names ≡ policy.old.flow_names ++ name ∷ []) }
     ensures grown { OnOk result (IsGrown policy.old policy.new) }
 {
-    match read_rules(alloc, format, table, policy.relations(), made.steps(), number) {
+    match read_rules(
+        alloc,
+        format,
+        table,
+        policy.relations(),
+        made.steps(),
+        number,
+    ) {
         Ok(rules) => push_workflow(policy, name, made, rules),
         Err(fault) => Err(fault),
     }

@@ -11,8 +11,10 @@ use shared_part::{Copied, Shared};
 use std::alloc::{AllocError, Global};
 use wf_names::{USER_LIMIT, UserId, UserSet};
 
+/// How many bytes a change copies of the rows each way.
+const BLOCK_BYTES: usize = 16_384;
 /// How many rows a block has.
-const BLOCK_ROWS: usize = 64;
+const BLOCK_ROWS: usize = BLOCK_BYTES * 8 / USER_LIMIT as usize;
 /// How many blocks have a row for each user.
 pub(crate) const BLOCKS: usize = USER_LIMIT as usize / BLOCK_ROWS;
 

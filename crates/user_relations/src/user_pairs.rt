@@ -13,7 +13,7 @@ use std::marker::Model;
 use wf_names::{USER_LIMIT, UserId, UserSet};
 
 /// A finite set of pairs of users. A look-up reads one bit. A copy shares all rows, and a change
-/// after it copies 64 of them each way.
+/// after it copies 16 KiB of them each way.
 #[derive(Drop)]
 pub struct UserPairs {
     // For each first user the second ones, and for each second user the first ones.
