@@ -1,0 +1,15 @@
+pub mod Every
+pub mod Satisfied
+pub mod Steps
+pub mod Plans
+pub mod Signs
+pub mod Listing
+pub mod Domains
+pub mod Counters
+pub mod Among
+pub mod CountClauses
+pub mod Products
+pub mod Filled
+pub mod Sums
+pub mod Said
+pub mod Variables

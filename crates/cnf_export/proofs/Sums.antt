@@ -1,0 +1,76 @@
+-- A count of clauses and literals, clause by clause.
+use Rattle.std.proofs.Common.{◌≡◌, refl, sym, ap, ◌∙◌, ℕ, ◌+◌, ◌-◌, ◌<◌, ◌≤◌, Bool, true, false, List, [], ◌∷◌, ◌++◌, length, arith, append_assoc}
+use Rattle.std.specs.Prelude.{ℤ, Result, Ok, Err, IsErrOf}
+use Rattle.std.specs.Result.{IsErrAnd}
+use Rattle.cnf_export.specs.declared.fault.CnfFault.{CnfFault}
+use Rattle.std.proofs.lemmas.List.{append-nil}
+use Rattle.std.proofs.lemmas.Bool.{false≢true}
+use Rattle.cnf_export.specs.Encodings.{literals}
+use Rattle.cnf_export.specs.Positions.{HasGiven}
+use Rattle.cnf_export.specs.Sizes.{IsCounted, empties}
+use Rattle.cnf_export.specs.declared.tally.TheConstants.{LITERAL_LIMIT}
+use Rattle.cnf_export.proofs.Filled.{empties-append, few_clauses, literals-append}
+
+length-append : (xs ys : List (List ℤ)) → length (xs ++ ys) ≡ length xs + length ys
+length-append [] ys = omega arith
+length-append (x ∷ xs) ys = let rest = length-append xs ys in omega (arith, rest)
+
+pub none_counted : (all : List (List ℤ)) → IsCounted all all 0 0
+none_counted all = record { given = []; all_are = refl; clauses_are = refl; size_is = refl; few = omega arith }
+
+pub one_counted : (all left rest : List (List ℤ)) (c : List ℤ) (clauses size n after more : ℕ) → IsCounted all left clauses size → left ≡ c ∷ rest → n ≡ length c → n ≤ LITERAL_LIMIT - size → after ≡ clauses + 1 → more ≡ size + n → IsCounted all rest after more
+one_counted all left rest c clauses size n after more is first len room one sum =
+    let limit = is.few in
+    let whole = is.clauses_are in
+    let literals_are = is.size_is in
+    let longer = length-append is.given (c ∷ []) in
+    let larger = literals-append is.given (c ∷ []) in
+    record {
+      given = is.given ++ c ∷ [];
+      all_are = is.all_are ∙ ap (λ cs. is.given ++ cs) first ∙ sym (append_assoc is.given (c ∷ []) rest);
+      clauses_are = omega (arith, whole, longer, one);
+      size_is = omega (arith, literals_are, larger, len, sum);
+      few = omega (arith, limit, room, sum);
+    }
+
+pub all_counted : (all left : List (List ℤ)) (clauses size : ℕ) → IsCounted all left clauses size → left ≡ [] → clauses ≡ length all
+all_counted all left clauses size is none = is.clauses_are ∙ ap length (sym (is.all_are ∙ ap (λ cs. is.given ++ cs) none ∙ append-nil is.given))
+
+pub all_few : (all left : List (List ℤ)) (clauses size : ℕ) → IsCounted all left clauses size → left ≡ [] → literals all ≤ LITERAL_LIMIT
+all_few all left clauses size is none =
+    let same = ap literals (is.all_are ∙ ap (λ cs. is.given ++ cs) none ∙ append-nil is.given) in
+    let size_is = is.size_is in
+    let few = is.few in
+    omega (arith, same, size_is, few)
+
+pub too_large : (all left rest : List (List ℤ)) (c : List ℤ) (clauses size n : ℕ) → IsCounted all left clauses size → left ≡ c ∷ rest → n ≡ length c → LITERAL_LIMIT - size < n → LITERAL_LIMIT < literals all
+too_large all left rest c clauses size n is first len over =
+    let same = ap literals (is.all_are ∙ ap (λ cs. is.given ++ cs) first) in
+    let sum = literals-append is.given (c ∷ rest) in
+    let size_is = is.size_is in
+    omega (arith, same, sum, size_is, len, over)
+
+-- the number of clauses has room
+pub few_counted : (all left : List (List ℤ)) (clauses size k : ℕ) → IsCounted all left clauses size → empties all ≤ k → clauses ≤ LITERAL_LIMIT + k
+few_counted all left clauses size k is few =
+    let same = ap empties is.all_are in
+    let sum = empties-append is.given left in
+    let most = few_clauses is.given in
+    let size_is = is.size_is in
+    let limit = is.few in
+    let clauses_are = is.clauses_are in
+    omega (arith, same, sum, most, size_is, limit, clauses_are, few)
+
+-- a clause is given where there is more
+pub given_next : (more : Bool) (left rest : List (List ℤ)) (c : List ℤ) → HasGiven left more c rest → more ≡ true → left ≡ c ∷ rest
+given_next true left rest c h is = h
+given_next false left rest c h is = absurd (false≢true is)
+
+-- a fault that is handed on is the fault that was met
+pub handed_on : {A : Type 0} (r : Result A CnfFault) (met fault : CnfFault) → IsErrAnd r (λ e. e ≡ met) → IsErrOf r fault → met ≡ fault
+handed_on (Ok a) met fault same is = absurd same
+handed_on {A} (Err e) met fault same is = sym same ∙ ap (or_else e) is
+  where
+    or_else : CnfFault → Result A CnfFault → CnfFault
+    or_else d (Ok a) = d
+    or_else d (Err f) = f

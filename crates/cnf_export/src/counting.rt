@@ -1,0 +1,221 @@
+//! The items and clauses of rules that count.
+ghost use Rattle.std.specs.Prelude.{◌≡◌, ◌≤◌, ◌<◌, ◌+◌, ◌*◌, ◌^◌, ◌-◌, ◌==◌, ℕ, suc, [], ◌∷◌, ◌++◌, map, cond, List, OnOk};
+ghost use Rattle.std.specs.List.{flat_map};
+ghost use Rattle.cnf_export.specs.Clauses.{yes_to, no_to};
+ghost use Rattle.cnf_export.specs.Encodings.{counting_clause, counts, ending_clause, has, height, members, numbers, rows, takes, taking_clause};
+ghost use Rattle.cnf_export.specs.Terms.{encoding_in};
+
+use crate::Literals;
+use crate::listed::Items;
+use crate::literals::{add_no, add_yes};
+use crate::terms::Terms;
+use constraint_forms::StepSet;
+use std::alloc::AllocError;
+use wf_names::StepId;
+
+/// How many variables of a count a user has.
+pub(crate) fn height(most: bool, limit: u8) -> u16
+    ensures value { result ≡ height most limit }
+    ensures small { result ≤ 256 }
+{
+    if most { limit as u16 + 1 } else { limit as u16 }
+}
+
+/// The items of a part of who has a step: the members, and that one of them is meant.
+pub(crate) fn list_members(group: &StepSet, into: &mut Items) -> Result<(), AllocError>
+    ensures { OnOk result (into.new ≡ map (λ t. suc t) (members group.now) ++ 0 ∷ []) }
+{
+    into.truncate(0);
+    let limit = group.limit();
+    'members: for t in 0..limit {
+        if group.has(StepId(t as u8)) {
+            into.push(t as u16 + 1)?;
+        }
+    }
+    into.push(0)
+}
+
+/// The items of a part of a count: four rows for each number, of which some are left out.
+pub(crate) fn list_rows(u: u16, high: u16, into: &mut Items) -> Result<(), AllocError>
+    requires { high ≤ 256 }
+    ensures { OnOk result (into.new
+        ≡ flat_map (λ j. map (λ row. 4 * j + row) (rows u j)) (numbers 0 high)) }
+{
+    into.truncate(0);
+    'numbers: for j in 0..high {
+        list_row(u, j, into)?;
+    }
+    Ok(())
+}
+
+fn list_row(u: u16, j: u16, into: &mut Items) -> Result<(), AllocError>
+    requires { j < 256 }
+    ensures { OnOk result (into.new ≡ into.old ++ map (λ row. 4 * j + row) (rows u j)) }
+{
+    if u > 0 {
+        into.push(4 * j)?;
+    }
+    if u > 0 || j == 0 {
+        into.push(4 * j + 1)?;
+    }
+    into.push(4 * j + 2)?;
+    if j > 0 {
+        into.push(4 * j + 3)?;
+    }
+    Ok(())
+}
+
+/// That a user has some step of a group exactly where one of the steps has the user.
+pub(crate) fn write_taking(
+    terms: &Terms,
+    block: u16,
+    group: &StepSet,
+    u: u16,
+    k: u16,
+    into: &mut Literals,
+) -> Result<(), AllocError>
+    ensures { OnOk result (into.new
+        ≡ into.old ++ taking_clause (encoding_in terms.now) block group.now u k) }
+{
+    if k == 0 {
+        add_no(into, terms.takes(block, u))?;
+        return add_takers(terms, group, u, into);
+    }
+    add_no(into, terms.takes(k - 1, u))?;
+    add_yes(into, terms.takes(block, u))
+}
+
+// That some step of a group has the user, behind other literals.
+fn add_takers(terms: &Terms, group: &StepSet, u: u16, into: &mut Literals) -> Result<(), AllocError>
+    ensures { OnOk result (into.new
+        ≡ into.old ++ map (λ t. yes_to (has (encoding_in terms.now) t u)) (members group.now)) }
+{
+    let limit = group.limit();
+    'members: for t in 0..limit {
+        if group.has(StepId(t as u8)) {
+            add_yes(into, terms.has(StepId(t as u8), u))?;
+        }
+    }
+    Ok(())
+}
+
+/// A row of a count, for the users up to u and a number j.
+pub(crate) fn write_counting(
+    terms: &Terms,
+    block: u16,
+    high: u16,
+    u: u16,
+    j: u16,
+    row: u16,
+    into: &mut Literals,
+) -> Result<(), AllocError>
+    requires { high ≤ 256 }
+    ensures { OnOk result (into.new
+        ≡ into.old ++ counting_clause (encoding_in terms.now) block high u j row) }
+{
+    let so_many = terms.counts(block, high, u, j);
+    let above = terms.counts(block, high, u.saturating_sub(1), j);
+    let before = terms.counts(block, high, u.saturating_sub(1), j.saturating_sub(1));
+    let taken = terms.takes(block, u);
+    match row {
+        0 => write_two(above, so_many, into),
+        1 => write_met(taken, j == 0, before, so_many, into),
+        2 => write_owed(so_many, u == 0, above, taken, into),
+        _ => write_followed(so_many, u == 0, above, before, into),
+    }
+}
+
+fn write_two(v: u32, w: u32, into: &mut Literals) -> Result<(), AllocError>
+    requires first { v < 2 ^ 30 }
+    requires second { w < 2 ^ 30 }
+    ensures { OnOk result (into.new ≡ into.old ++ no_to v ∷ yes_to w ∷ []) }
+{
+    add_no(into, v)?;
+    add_yes(into, w)
+}
+
+fn write_met(
+    taken: u32,
+    first: bool,
+    before: u32,
+    so_many: u32,
+    into: &mut Literals,
+) -> Result<(), AllocError>
+    requires taken { taken < 2 ^ 30 }
+    requires before { before < 2 ^ 30 }
+    requires so_many { so_many < 2 ^ 30 }
+    ensures { OnOk result (into.new
+        ≡ into.old ++ no_to taken ∷ (cond first [] (no_to before ∷ []) ++ yes_to so_many ∷ [])) }
+{
+    add_no(into, taken)?;
+    if !first {
+        add_no(into, before)?;
+    }
+    add_yes(into, so_many)
+}
+
+fn write_owed(
+    so_many: u32,
+    first: bool,
+    above: u32,
+    taken: u32,
+    into: &mut Literals,
+) -> Result<(), AllocError>
+    requires so_many { so_many < 2 ^ 30 }
+    requires above { above < 2 ^ 30 }
+    requires taken { taken < 2 ^ 30 }
+    ensures { OnOk result (into.new
+        ≡ into.old ++ no_to so_many ∷ (cond first [] (yes_to above ∷ []) ++ yes_to taken ∷ [])) }
+{
+    add_no(into, so_many)?;
+    if !first {
+        add_yes(into, above)?;
+    }
+    add_yes(into, taken)
+}
+
+fn write_followed(
+    so_many: u32,
+    first: bool,
+    above: u32,
+    before: u32,
+    into: &mut Literals,
+) -> Result<(), AllocError>
+    requires so_many { so_many < 2 ^ 30 }
+    requires above { above < 2 ^ 30 }
+    requires before { before < 2 ^ 30 }
+    ensures { OnOk result (into.new
+        ≡ into.old ++ no_to so_many ∷ cond first [] (yes_to above ∷ yes_to before ∷ [])) }
+{
+    add_no(into, so_many)?;
+    if !first {
+        add_yes(into, above)?;
+        add_yes(into, before)?;
+    }
+    Ok(())
+}
+
+/// That not more of all users have a step, or not fewer.
+pub(crate) fn write_ending(
+    terms: &Terms,
+    block: u16,
+    most: bool,
+    high: u16,
+    into: &mut Literals,
+) -> Result<(), AllocError>
+    requires { high ≤ 256 }
+    ensures { OnOk result (into.new
+        ≡ into.old ++ ending_clause (encoding_in terms.now) block most high) }
+{
+    let all = terms.counts(
+        block,
+        high,
+        terms.users().saturating_sub(1),
+        high.saturating_sub(1),
+    );
+    if most {
+        add_no(into, all)
+    } else {
+        add_yes(into, all)
+    }
+}

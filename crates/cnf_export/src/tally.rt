@@ -1,0 +1,48 @@
+//! How many clauses and literals there are.
+ghost use Rattle.std.specs.Prelude.{◌≡◌, ◌≤◌, ◌<◌, length, IfOk, IsErrOf, OnOk};
+ghost use Rattle.wf_names.specs.declared.limits.TheConstants.{STEP_LIMIT};
+ghost use Rattle.cnf_export.specs.Encodings.{literals};
+ghost use Rattle.cnf_export.specs.Positions.{left_at};
+ghost use Rattle.cnf_export.specs.Sizes.{empties};
+ghost use Rattle.cnf_export.specs.Terms.{encoding_in};
+ghost use Rattle.cnf_export.specs.declared.fault.CnfFault.TheVariants.{TooLarge};
+ghost use Rattle.cnf_export.specs.declared.tally.TheConstants.{LITERAL_LIMIT};
+
+use crate::Literals;
+use crate::fault::CnfFault;
+use crate::group::Group;
+use crate::position::{Position, give};
+use crate::terms::Terms;
+
+/// Most literals of all clauses.
+pub const LITERAL_LIMIT: usize = 20_000_000;
+
+/// How many clauses are left; or that they have too many literals. Each is made in `one`, and none
+/// is kept.
+pub(crate) fn count(
+    terms: &Terms,
+    groups: &[Group],
+    at: &mut Position,
+    one: &mut Literals,
+) -> Result<u32, CnfFault>
+    requires { empties (left_at (encoding_in terms.now) groups.now at.old) ≤ STEP_LIMIT }
+    ensures clauses { IfOk result
+        (λ n. n ≡ length (left_at (encoding_in terms.now) groups.now at.old)) }
+    ensures few { OnOk result (literals
+        (left_at (encoding_in terms.now) groups.now at.old) ≤ LITERAL_LIMIT) }
+    ensures large { IsErrOf result TooLarge
+        → LITERAL_LIMIT < literals (left_at (encoding_in terms.now) groups.now at.old) }
+{
+    let mut clauses = 0u32;
+    let mut size = 0usize;
+    'counting: loop {
+        if !give(terms, groups, at, one)? {
+            return Ok(clauses);
+        }
+        if one.len() > LITERAL_LIMIT - size {
+            return Err(CnfFault::TooLarge);
+        }
+        size += one.len();
+        clauses += 1;
+    }
+}

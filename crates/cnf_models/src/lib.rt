@@ -1,0 +1,13 @@
+//! Models of the clauses of a case: read as a plan, and made of one.
+#![tactic(auto)]
+
+pub mod laws;
+mod made;
+mod model;
+mod reading;
+mod saying;
+mod seen;
+
+pub use made::model_of;
+pub use model::Model;
+pub use reading::{Reading, plan_of};
