@@ -15,7 +15,12 @@ use constraint_forms::{Assign, Plan, StepSet};
 use policy_book::Policy;
 use std::alloc::{AllocError, Global};
 use wf_names::{FlowId, StepId, UserId};
-use wsp_solver::{Outcome, plan_near, solve};
+use wsp_solver::{Outcome, plan_near, solve_within};
+
+/// The most branches that a search for the server keeps, and the most leaves and nodes of a tree that
+/// it answers. A name has at most 40 bytes, so each takes at most 108 bytes of an entry, and an entry
+/// with such a tree at most 16,777,216, which is the longest line that an audit reads.
+const BRANCHES: u32 = 150_000;
 
 /// A plan for a case with one of its steps given to a user: the one that is kept for it, where it
 /// gives the user the step.
@@ -67,7 +72,7 @@ pub(crate) fn outcome_fresh(
     let (assigned, done) = (Assign::empty(), StepSet::empty());
     match recent {
         Some(kept) => outcome_near(alloc, p, f, &assigned, &done, &kept),
-        None => solve(alloc, p, f, &assigned, &done),
+        None => solve_for_entry(alloc, p, f, &assigned, &done),
     }
 }
 
@@ -88,6 +93,26 @@ pub(crate) fn outcome_near(
 {
     match plan_near(p, f, a, done, kept) {
         Some(near) => Ok(Outcome::Plan(near)),
-        None => solve(alloc, p, f, a, done),
+        None => solve_for_entry(alloc, p, f, a, done),
+    }
+}
+
+// What a search finds that has room in an entry. This is the one place where want of memory is
+// answered without a refused allocation: where the search is over its budget (`OverBudget`).
+fn solve_for_entry(
+    alloc: Global,
+    p: &Policy,
+    f: FlowId,
+    a: &Assign,
+    done: &StepSet,
+) -> Result<Outcome, AllocError>
+    requires flow { f < length p.now.flows }
+    requires within { IsWithin (problem_of p.now f) a.now }
+    requires assigned { AreAssigned done.now a.now }
+    ensures { IfOk result (HasSolved (problem_of p.now f) a.now done.now) }
+{
+    match solve_within(alloc, p, f, a, done, BRANCHES) {
+        Ok(outcome) => Ok(outcome),
+        Err(_) => Err(AllocError),
     }
 }
