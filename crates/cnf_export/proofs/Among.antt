@@ -1,7 +1,7 @@
 -- The users of a group's steps, and how many they are.
-use Rattle.std.proofs.Common.{◌≡◌, ◌≢◌, refl, sym, ap, subst, ◌∙◌, ℕ, zero, suc, ◌+◌, ◌<◌, ◌≤◌, Bool, true, false, not, ◌&&◌, ◌||◌, ◌==◌, nat_eq, cond, List, [], ◌∷◌, length, Option, Some, None, ◌⊎◌, inl, inr, arith}
+use Rattle.std.proofs.Common.{◌≡◌, ◌≢◌, refl, sym, ap, ◌∙◌, ℕ, zero, suc, ◌+◌, ◌<◌, ◌≤◌, Bool, true, false, ◌||◌, nat_eq, cond, List, [], ◌∷◌, length, Some, ◌⊎◌, inl, inr, arith}
 use Rattle.std.proofs.lemmas.Bool.{false≢true}
-use Rattle.basics.proofs.Booleans.{bool_cases, differ, eq_above, eq_back, eq_below, eq_is, eq_same, or_cases, or_left, or_right}
+use Rattle.basics.proofs.Booleans.{bool_cases, differ, eq_above, eq_back, eq_is, eq_same, or_cases, or_left, or_right}
 use Rattle.wf_names.specs.UserSets.{count_below}
 use Rattle.constraint_forms.specs.Assigned.{is_member}
 use Rattle.constraint_forms.specs.Rules.{count_members, different, is_among, users_from}

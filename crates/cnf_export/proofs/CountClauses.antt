@@ -1,14 +1,13 @@
 -- What the clauses of a rule that counts say in a model.
-use Rattle.std.proofs.Common.{◌≡◌, ◌≢◌, refl, sym, ap, subst, ◌∙◌, ℕ, zero, suc, ◌+◌, ◌-◌, ◌*◌, ◌/◌, ◌%◌, ◌<◌, ◌≤◌, Bool, true, false, not, ◌&&◌, ◌||◌, ◌==◌, cond, List, [], ◌∷◌, ◌++◌, map, length, arith}
+use Rattle.std.proofs.Common.{◌≡◌, refl, sym, subst, ◌∙◌, ℕ, zero, suc, ◌+◌, ◌-◌, ◌*◌, ◌/◌, ◌%◌, ◌<◌, Bool, true, false, not, ◌&&◌, ◌||◌, ◌==◌, cond, List, [], ◌∷◌, ◌++◌, map, length, arith}
 use Rattle.std.specs.Prelude.{ℤ}
-use Rattle.std.specs.List.{flat_map, AllByRecursion as Every}
+use Rattle.std.specs.List.{AllByRecursion as Every}
 use Rattle.std.proofs.lemmas.Bool.{false≢true}
 use Rattle.basics.proofs.Booleans.{eq_above}
 use Rattle.constraint_forms.specs.Assigned.{is_member}
 use Rattle.cnf_export.specs.Clauses.{no_to, satisfies, yes_to}
-use Rattle.cnf_export.specs.Encodings.{Encoding, clause, counting_clause, counts, group_clauses, has, height, items, members, numbers, part, parts, rows, takes, taking_clause}
-use Rattle.cnf_export.specs.declared.group.Group.{Group}
-use Rattle.cnf_export.specs.declared.group.Group.TheVariants.{Pair, Taking, Counting, Ending}
+use Rattle.cnf_export.specs.Encodings.{Encoding, clause, counting_clause, counts, has, height, items, members, numbers, rows, takes, taking_clause}
+use Rattle.cnf_export.specs.declared.group.Group.TheVariants.{Taking, Counting, Ending}
 use Rattle.cnf_export.proofs.Counters.{IsCounter}
 use Rattle.cnf_export.proofs.Every.{every_flat, every_left, every_map, every_number, every_passing, every_right}
 use Rattle.cnf_export.proofs.Satisfied.{OneOf, no_or, one_listed, one_no, one_yes}

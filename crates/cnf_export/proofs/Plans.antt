@@ -1,25 +1,24 @@
 -- A model of the clauses is a valid plan.
-use Rattle.std.proofs.Common.{◌≡◌, ◌≢◌, refl, sym, ap, subst, ◌∙◌, ℕ, zero, suc, ◌+◌, ◌-◌, ◌<◌, ◌≤◌, Bool, true, false, not, ◌&&◌, ◌||◌, ◌==◌, nat_le, nat_lt, cond, eqb, List, [], ◌∷◌, ◌++◌, map, length, Option, None, Some, is_some, slice_get, slice_index, ◌⊎◌, inl, inr, arith, if◌then◌else◌}
+use Rattle.std.proofs.Common.{◌≡◌, ◌≢◌, refl, sym, ap, subst, ◌∙◌, ℕ, zero, suc, ◌+◌, ◌-◌, ◌<◌, Bool, true, false, not, ◌&&◌, ◌||◌, ◌==◌, nat_le, nat_lt, cond, eqb, List, [], ◌∷◌, map, length, Option, None, Some, is_some, slice_get, ◌⊎◌, inl, inr, arith}
 use Rattle.std.specs.List.{flat_map, AllByRecursion as Every}
-use Rattle.std.specs.Prelude.{IsTrue, slice_index_or, ℤ}
+use Rattle.std.specs.Prelude.{ℤ}
 use Rattle.std.proofs.lemmas.Bool.{false≢true, eqb-true}
 use Rattle.std.proofs.lemmas.Bool.Decides.{eqb_tells}
 use Rattle.std.proofs.lemmas.List.Elements.{recursion_from_All}
-use Rattle.basics.proofs.Booleans.{and_both, and_from, bool_cases, differ, le_yes, lt_back, lt_back_no, not_false, not_true, or_left, or_right, same_by}
+use Rattle.basics.proofs.Booleans.{and_both, and_from, bool_cases, differ, le_yes, lt_back, lt_back_no, or_left, or_right, same_by}
 use Rattle.constraint_forms.specs.declared.rule.Rule.{Rule}
 use Rattle.constraint_forms.specs.declared.rule.Rule.TheVariants as rule
 use Rattle.constraint_forms.specs.Assigned.{is_member, planned, user_at}
-use Rattle.constraint_forms.specs.Rules.{Relating, all_from, any_from, different, is_satisfied, names, turned, users_from}
+use Rattle.constraint_forms.specs.Rules.{all_from, any_from, different, is_satisfied, names, turned, users_from}
 use Rattle.constraint_forms.proofs.RuleLaws.{first-named, second-named, step-named, member-named}
 use Rattle.policy_book.specs.Facts.{HasMembers, IsWithinGroup}
-use Rattle.policy_book.specs.Plans.{IsValidPlan, IsWellFormed, IsWithin, Problem}
-use Rattle.policy_book.specs.Refuting.{passing}
-use Rattle.cnf_export.specs.Clauses.{IsModelOf, no_to, satisfies, yes_to}
-use Rattle.cnf_export.specs.Encodings.{Encoding, blocks, clause, clauses_of, count_groups, counts, encoding_of, group_clauses, groups, has, height, items, may_be, members, numbers, part, rule_groups, rules_groups, step_blocks, step_groups, takes, users_who}
+use Rattle.policy_book.specs.Plans.{Problem}
+use Rattle.cnf_export.specs.Clauses.{no_to, satisfies, yes_to}
+use Rattle.cnf_export.specs.Encodings.{Encoding, blocks, clause, clauses_of, count_groups, counts, encoding_of, group_clauses, groups, has, height, may_be, members, numbers, rule_groups, rules_groups, step_blocks, step_groups, takes, users_who}
 use Rattle.cnf_export.specs.Models.{ModelsArePlans, has_some, last_below, plan_in}
 use Rattle.cnf_export.specs.declared.group.Group.{Group}
-use Rattle.cnf_export.specs.declared.group.Group.TheVariants.{Outside, Someone, Once, Pair, SomeOf, Taking, Counting, Ending}
-use Rattle.cnf_export.proofs.Every.{every_at, every_flat, every_left, every_map, every_number, every_passing, every_right}
+use Rattle.cnf_export.specs.declared.group.Group.TheVariants.{Outside, Someone, Once, Pair, SomeOf, Taking}
+use Rattle.cnf_export.proofs.Every.{every_flat, every_left, every_map, every_number, every_passing, every_right}
 use Rattle.cnf_export.proofs.Satisfied.{OneOf, no_or, one_joined, one_listed, one_no}
 use Rattle.wf_names.specs.UserSets.{count_below}
 use Rattle.wf_names.proofs.Counts.{count_same}

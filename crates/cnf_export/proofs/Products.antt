@@ -1,5 +1,5 @@
 -- Products of small numbers.
-use Rattle.std.proofs.Common.{ℕ, ◌+◌, ◌*◌, ◌^◌, ◌<◌, ◌≤◌, arith, mul-le-mul}
+use Rattle.std.proofs.Common.{ℕ, ◌*◌, ◌^◌, ◌<◌, ◌≤◌, arith, mul-le-mul}
 use Rattle.wf_names.specs.declared.limits.TheConstants.{USER_LIMIT}
 
 -- the first variable of a block

@@ -1,9 +1,9 @@
 -- A model that says a valid plan is a model of the clauses.
-use Rattle.std.proofs.Common.{◌≡◌, ◌≢◌, refl, sym, ap, subst, ◌∙◌, ℕ, zero, suc, ◌+◌, ◌-◌, ◌<◌, ◌≤◌, Bool, true, false, not, ◌&&◌, ◌||◌, ◌==◌, nat_le, cond, eqb, List, [], ◌∷◌, ◌++◌, map, length, nat_lt, ◌/◌, ◌%◌, ◌*◌, Option, None, Some, slice_get, ◌⊎◌, inl, inr, arith}
+use Rattle.std.proofs.Common.{◌≡◌, ◌≢◌, refl, sym, ap, subst, ◌∙◌, ℕ, zero, suc, ◌+◌, ◌-◌, ◌<◌, ◌≤◌, Bool, true, false, not, ◌&&◌, ◌||◌, ◌==◌, nat_le, cond, eqb, List, [], ◌∷◌, ◌++◌, map, length, nat_lt, ◌*◌, Option, None, Some, slice_get, ◌⊎◌, inl, inr, arith}
 use Rattle.std.specs.List.{flat_map, AllByRecursion as Every}
 use Rattle.std.specs.Prelude.{ℤ}
 use Rattle.std.proofs.lemmas.Bool.{false≢true, eqb-true}
-use Rattle.std.proofs.lemmas.Bool.Decides.{eqb_tells, nat_tests}
+use Rattle.std.proofs.lemmas.Bool.Decides.{eqb_tells}
 use Rattle.std.proofs.lemmas.List.Elements.{All-from_recursion}
 use Rattle.basics.proofs.Booleans.{and_both, and_from, bool_cases, differ, eq_is, eq_same, le_back, lt_no, lt_yes, not_true, not_yes, or_cases, or_left, or_right}
 use Rattle.constraint_forms.specs.declared.rule.Rule.{Rule}
@@ -12,10 +12,10 @@ use Rattle.constraint_forms.specs.Assigned.{is_member, planned, user_at}
 use Rattle.constraint_forms.specs.Rules.{all_from, any_from, different, is_satisfied, names, turned, users_from}
 use Rattle.constraint_forms.proofs.RuleLaws.{first-named, second-named, step-named, member-named}
 use Rattle.policy_book.specs.Facts.{HasMembers, IsWithinGroup}
-use Rattle.policy_book.specs.Plans.{AreAssigned, IsValidPlan, IsWellFormed, Problem}
+use Rattle.policy_book.specs.Plans.{AreAssigned, IsValidPlan, Problem}
 use Rattle.policy_book.specs.Refuting.{passing}
 use Rattle.cnf_export.specs.Clauses.{is_true, no_to, satisfies, yes_to}
-use Rattle.cnf_export.specs.Encodings.{Encoding, blocks, clause, clauses_of, count_groups, counting_clause, counts, encoding_of, group_clauses, groups, has, has_by, height, items, may_be, members, numbers, once_clause, once_items, part, parts, rows, rule_groups, rules_groups, step_blocks, step_groups, takes, taking_clause, users_who}
+use Rattle.cnf_export.specs.Encodings.{Encoding, blocks, clause, clauses_of, counts, encoding_of, group_clauses, groups, has, has_by, height, items, may_be, members, numbers, once_clause, once_items, part, parts, rows, rule_groups, rules_groups, step_blocks, step_groups, takes, taking_clause, users_who}
 use Rattle.cnf_export.specs.Models.{PlansAreModels, SaysCount, SaysPlan, SaysRule, SaysRules, has_some}
 use Rattle.cnf_export.specs.declared.group.Group.{Group}
 use Rattle.cnf_export.specs.declared.group.Group.TheVariants.{Outside, Someone, Once, Pair, SomeOf, Taking, Counting, Ending}

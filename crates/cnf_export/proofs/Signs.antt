@@ -1,7 +1,6 @@
 -- Signed numbers of literals.
-use Rattle.std.proofs.Common.{◌≡◌, ℕ, ◌+◌, ◌<◌, ◌^◌, suc, ap, arith}
-use Rattle.std.specs.Prelude.{ℤ, pos, negsuc, Result, Ok, Err, OnOk}
-use Rattle.std.proofs.lemmas.Int.{ints}
+use Rattle.std.proofs.Common.{◌≡◌, ℕ, ◌+◌, suc, ap, arith}
+use Rattle.std.specs.Prelude.{pos, negsuc, Result, Ok, Err, OnOk}
 
 pub next_positive : (v : ℕ) → pos (v + 1) ≡ pos (suc v)
 next_positive v = let e : v + 1 ≡ suc v = omega arith in ap pos e

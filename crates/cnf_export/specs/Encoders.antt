@@ -1,5 +1,5 @@
 -- An encoder, as contracts see it.
-use Rattle.std.specs.Prelude.{◌≡◌, ℕ, ℤ, List, length}
+use Rattle.std.specs.Prelude.{ℕ, ℤ, List}
 use Rattle.std.specs.List.{flat_map}
 use Rattle.cnf_export.specs.Encodings.{group_clauses}
 use Rattle.cnf_export.specs.Positions.{left_at}
@@ -14,4 +14,9 @@ pub record EncoderShape : Type 0 where
   pub variables : ℕ
 
 abbrev pub encoder_view : TermsShape → List Group → Position → ℕ → EncoderShape
-encoder_view t groups x variables = record { all = flat_map (group_clauses (encoding_in t)) groups; left = left_at (encoding_in t) groups x; variables = variables }
+encoder_view t groups x variables =
+    record {
+      all = flat_map (group_clauses (encoding_in t)) groups;
+      left = left_at (encoding_in t) groups x;
+      variables = variables;
+    }

@@ -41,8 +41,7 @@ has e s u = s * e.users + u
 abbrev pub has_by : Encoding → ℕ → ℕ → ℕ
 has_by e s u = e.steps * e.users + (s * e.users + u)
 
--- a rule that counts users has one more variable for each user, and then so many for each user; they
--- stand behind as many blocks of one variable for each user
+-- the variables of a rule that counts stand behind so many blocks of one variable for each user:
 -- the variable that says that a user has some step of the rule
 abbrev pub takes : Encoding → ℕ → ℕ → ℕ
 takes e block u = block * e.users + u
@@ -51,7 +50,8 @@ takes e block u = block * e.users + u
 abbrev pub counts : Encoding → ℕ → ℕ → ℕ → ℕ → ℕ
 counts e block height u j = block * e.users + e.users + (u * height + j)
 
--- how many such variables a user has: up to where a greatest number is passed, or a least one is met
+-- how many such variables a user has: to where a greatest number is passed,
+-- or a least one met
 abbrev pub height : Bool → ℕ → ℕ
 height most limit = cond most (limit + 1) limit
 
@@ -85,7 +85,9 @@ once_items (suc u) = 0 ∷ 1 ∷ 2 ∷ []
 
 -- which of the four rows of clauses there are for the users up to u and a number j
 abbrev pub rows : ℕ → ℕ → List ℕ
-rows u j = if u == 0 then cond (j == 0) (1 ∷ 2 ∷ []) (2 ∷ 3 ∷ []) else cond (j == 0) (0 ∷ 1 ∷ 2 ∷ []) (0 ∷ 1 ∷ 2 ∷ 3 ∷ [])
+rows u j =
+    if u == 0 then cond (j == 0) (1 ∷ 2 ∷ []) (2 ∷ 3 ∷ [])
+    else cond (j == 0) (0 ∷ 1 ∷ 2 ∷ []) (0 ∷ 1 ∷ 2 ∷ 3 ∷ [])
 
 abbrev pub items : Encoding → Group → ℕ → List ℕ
 items e (Outside s) i = users_who e (λ u. not (e.may_have s u))
@@ -104,26 +106,35 @@ once_clause e s u zero = no_to (has e s u) ∷ yes_to (has_by e s u) ∷ []
 once_clause e s u (suc zero) = no_to (has_by e s (u - 1)) ∷ yes_to (has_by e s u) ∷ []
 once_clause e s u (suc (suc k)) = no_to (has e s u) ∷ no_to (has_by e s (u - 1)) ∷ []
 
--- where v has a step, some member of a group has a user who is related to v, or, read back, to whom v is
+-- where v has a step, some member of a group has a user who is related to v, or, read back, to
+-- whom v is
 abbrev pub some_clause : Encoding → ℕ → Bool → List Bool → ℕ → ℕ → List ℤ
 some_clause e rho back group s v =
-    no_to (has e s v) ∷ flat_map (λ t. map (λ u. yes_to (has e t u)) (users_who e (λ u. e.may_have t u && turned back e.related rho u v))) (members group)
+    no_to (has e s v) ∷ flat_map (λ t. map (λ u. yes_to (has e t u))
+    (users_who e (λ u. e.may_have t u && turned back e.related rho u v))) (members group)
 
 -- a user has some step of a group exactly where one of them has the user
 abbrev pub taking_clause : Encoding → ℕ → List Bool → ℕ → ℕ → List ℤ
-taking_clause e block group u zero = no_to (takes e block u) ∷ map (λ t. yes_to (has e t u)) (members group)
+taking_clause e block group u zero =
+    no_to (takes e block u) ∷ map (λ t. yes_to (has e t u)) (members group)
 taking_clause e block group u (suc t) = no_to (has e t u) ∷ yes_to (takes e block u) ∷ []
 
 -- of the users up to u more than j have a step, exactly where of those before more than j have one,
 -- or u has and of those before more than j - 1
 abbrev pub counting_clause : Encoding → ℕ → ℕ → ℕ → ℕ → ℕ → List ℤ
-counting_clause e block high u j zero = no_to (counts e block high (u - 1) j) ∷ yes_to (counts e block high u j) ∷ []
+counting_clause e block high u j zero =
+    no_to (counts e block high (u - 1) j) ∷ yes_to (counts e block high u j) ∷ []
 counting_clause e block high u j (suc zero) =
-    no_to (takes e block u) ∷ (cond (j == 0) [] (no_to (counts e block high (u - 1) (j - 1)) ∷ []) ++ yes_to (counts e block high u j) ∷ [])
+    no_to (takes e block u) ∷ (cond (j == 0) [] (no_to (counts e block high (u - 1) (j - 1)) ∷ [])
+    ++ yes_to (counts e block high u j) ∷ [])
 counting_clause e block high u j (suc (suc zero)) =
-    no_to (counts e block high u j) ∷ (cond (u == 0) [] (yes_to (counts e block high (u - 1) j) ∷ []) ++ yes_to (takes e block u) ∷ [])
+    no_to (counts e block high u j)
+    ∷ (cond (u == 0) [] (yes_to (counts e block high (u - 1) j) ∷ [])
+    ++ yes_to (takes e block u) ∷ [])
 counting_clause e block high u j (suc (suc (suc row))) =
-    no_to (counts e block high u j) ∷ cond (u == 0) [] (yes_to (counts e block high (u - 1) j) ∷ yes_to (counts e block high (u - 1) (j - 1)) ∷ [])
+    no_to (counts e block high u j)
+    ∷ cond (u == 0) [] (yes_to (counts e block high (u - 1) j)
+    ∷ yes_to (counts e block high (u - 1) (j - 1)) ∷ [])
 
 -- all users together: the greatest number is not passed, or the least one is met
 abbrev pub ending_clause : Encoding → ℕ → Bool → ℕ → List ℤ
@@ -141,7 +152,8 @@ clause e (Once s) u k = once_clause e s u k
 clause e (Pair rho s t) u v = no_to (has e s u) ∷ no_to (has e t v) ∷ []
 clause e (SomeOf rho back group s) i v = some_clause e rho back group s v
 clause e (Taking block group) u k = taking_clause e block group u k
-clause e (Counting block most limit) u k = counting_clause e block (height most limit) u (k / 4) (k % 4)
+clause e (Counting block most limit) u k =
+    counting_clause e block (height most limit) u (k / 4) (k % 4)
 clause e (Ending block most limit) i k = ending_clause e block most (height most limit)
 
 abbrev pub part : Encoding → Group → ℕ → List (List ℤ)
@@ -155,7 +167,8 @@ step_groups s = Outside s ∷ Someone s ∷ Once s ∷ []
 
 -- a rule that counts: who has a step, how many do, and what is asked of it
 abbrev pub count_groups : ℕ → Bool → ℕ → List Bool → List Group
-count_groups block most limit group = Taking block group ∷ Counting block most limit ∷ Ending block most limit ∷ []
+count_groups block most limit group =
+    Taking block group ∷ Counting block most limit ∷ Ending block most limit ∷ []
 
 -- a rule that all members keep is one of pairs
 abbrev pub rule_groups : ℕ → Rule → List Group
@@ -191,7 +204,8 @@ abbrev pub step_blocks : ℕ → ℕ
 step_blocks steps = steps + steps
 
 abbrev pub groups : ℕ → List Rule → List Group
-groups steps rules = flat_map step_groups (numbers 0 steps) ++ rules_groups (step_blocks steps) rules
+groups steps rules = flat_map step_groups (numbers 0 steps)
+    ++ rules_groups (step_blocks steps) rules
 
 -- how many variables there are
 abbrev pub variables_of : Problem → ℕ
@@ -199,7 +213,8 @@ variables_of p = (step_blocks p.steps + rules_blocks p.rules) * p.users
 
 -- all clauses: those of each step, and then those of each rule
 abbrev pub clauses_of : Problem → List (Option ℕ) → List Bool → List (List ℤ)
-clauses_of p assigned finished = flat_map (group_clauses (encoding_of p assigned finished)) (groups p.steps p.rules)
+clauses_of p assigned finished =
+    flat_map (group_clauses (encoding_of p assigned finished)) (groups p.steps p.rules)
 
 -- how many literals some clauses have
 abbrev pub literals : List (List ℤ) → ℕ

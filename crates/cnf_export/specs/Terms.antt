@@ -30,10 +30,12 @@ abbrev pub AreKnown : ℕ → List (List ℕ) → Type 0
 AreKnown users domains = (s u : ℕ) → has_user (slice_index_or domains s []) u ≡ true → u < users
 
 -- the sets of the first so many steps have the users whom the steps may have
-pub record AreDomains (p : Problem) (assigned : List (Option ℕ)) (finished : List Bool) (steps : ℕ) (domains : List (List ℕ)) : Type 0 where
+pub record AreDomains (p : Problem) (assigned : List (Option ℕ)) (finished : List Bool) (steps : ℕ)
+    (domains : List (List ℕ)) : Type 0 where
   pub whole : length domains ≡ steps
   pub known : AreKnown p.users domains
-  pub may : (s u : ℕ) → s < steps → has_user (slice_index_or domains s []) u ≡ may_be p finished s (user_at assigned s) u
+  pub may : (s u : ℕ) → s < steps → has_user (slice_index_or domains s []) u
+      ≡ may_be p finished s (user_at assigned s) u
 
 -- counts are within the limits, and no step may have a user who is none
 pub record AreTerms (t : TermsShape) : Type 0 where
@@ -44,8 +46,11 @@ pub record AreTerms (t : TermsShape) : Type 0 where
 -- by which they are told apart
 abbrev pub terms_code : Coded TermsShape
 terms_code =
-    code_by (ℕ × (ℕ × (List (List ℕ) × List RelationShape))) (coded× coded_ℕ (coded× coded_ℕ (coded× (coded_list (coded_list coded_ℕ)) relations_code)))
-    (λ t. (t.users, (t.steps, (t.domains, t.relations)))) (λ p. record { users = p.0; steps = p.1.0; domains = p.1.1.0; relations = p.1.1.1 }) (λ _. refl)
+    code_by (ℕ × (ℕ × (List (List ℕ) × List RelationShape)))
+    (coded× coded_ℕ (coded× coded_ℕ (coded× (coded_list (coded_list coded_ℕ)) relations_code)))
+    (λ t. (t.users, (t.steps, (t.domains, t.relations))))
+    (λ p. record { users = p.0; steps = p.1.0; domains = p.1.1.0; relations = p.1.1.1 })
+    (λ _. refl)
 
 -- a pair of a member and a step, in this order or the other way round
 abbrev pub pair_group : Bool → ℕ → ℕ → ℕ → Group

@@ -38,7 +38,8 @@ pub(crate) fn list_members(group: &StepSet, into: &mut Items) -> Result<(), Allo
 /// The items of a part of a count: four rows for each number, of which some are left out.
 pub(crate) fn list_rows(u: u16, high: u16, into: &mut Items) -> Result<(), AllocError>
     requires { high ≤ 256 }
-    ensures { OnOk result (into.new ≡ flat_map (λ j. map (λ row. 4 * j + row) (rows u j)) (numbers 0 high)) }
+    ensures { OnOk result (into.new
+        ≡ flat_map (λ j. map (λ row. 4 * j + row) (rows u j)) (numbers 0 high)) }
 {
     into.truncate(0);
     'numbers: for j in 0..high {
@@ -73,7 +74,8 @@ pub(crate) fn write_taking(
     k: u16,
     into: &mut Literals,
 ) -> Result<(), AllocError>
-    ensures { OnOk result (into.new ≡ into.old ++ taking_clause (encoding_in terms.now) block group.now u k) }
+    ensures { OnOk result (into.new
+        ≡ into.old ++ taking_clause (encoding_in terms.now) block group.now u k) }
 {
     if k == 0 {
         add_no(into, terms.takes(block, u))?;
@@ -85,7 +87,8 @@ pub(crate) fn write_taking(
 
 // That some step of a group has the user, behind other literals.
 fn add_takers(terms: &Terms, group: &StepSet, u: u16, into: &mut Literals) -> Result<(), AllocError>
-    ensures { OnOk result (into.new ≡ into.old ++ map (λ t. yes_to (has (encoding_in terms.now) t u)) (members group.now)) }
+    ensures { OnOk result (into.new
+        ≡ into.old ++ map (λ t. yes_to (has (encoding_in terms.now) t u)) (members group.now)) }
 {
     let limit = group.limit();
     'members: for t in 0..limit {
@@ -107,7 +110,8 @@ pub(crate) fn write_counting(
     into: &mut Literals,
 ) -> Result<(), AllocError>
     requires { high ≤ 256 }
-    ensures { OnOk result (into.new ≡ into.old ++ counting_clause (encoding_in terms.now) block high u j row) }
+    ensures { OnOk result (into.new
+        ≡ into.old ++ counting_clause (encoding_in terms.now) block high u j row) }
 {
     let so_many = terms.counts(block, high, u, j);
     let above = terms.counts(block, high, u.saturating_sub(1), j);
@@ -140,7 +144,8 @@ fn write_met(
     requires taken { taken < 2 ^ 30 }
     requires before { before < 2 ^ 30 }
     requires so_many { so_many < 2 ^ 30 }
-    ensures { OnOk result (into.new ≡ into.old ++ no_to taken ∷ (cond first [] (no_to before ∷ []) ++ yes_to so_many ∷ [])) }
+    ensures { OnOk result (into.new
+        ≡ into.old ++ no_to taken ∷ (cond first [] (no_to before ∷ []) ++ yes_to so_many ∷ [])) }
 {
     add_no(into, taken)?;
     if !first {
@@ -159,7 +164,8 @@ fn write_owed(
     requires so_many { so_many < 2 ^ 30 }
     requires above { above < 2 ^ 30 }
     requires taken { taken < 2 ^ 30 }
-    ensures { OnOk result (into.new ≡ into.old ++ no_to so_many ∷ (cond first [] (yes_to above ∷ []) ++ yes_to taken ∷ [])) }
+    ensures { OnOk result (into.new
+        ≡ into.old ++ no_to so_many ∷ (cond first [] (yes_to above ∷ []) ++ yes_to taken ∷ [])) }
 {
     add_no(into, so_many)?;
     if !first {
@@ -178,7 +184,8 @@ fn write_followed(
     requires so_many { so_many < 2 ^ 30 }
     requires above { above < 2 ^ 30 }
     requires before { before < 2 ^ 30 }
-    ensures { OnOk result (into.new ≡ into.old ++ no_to so_many ∷ cond first [] (yes_to above ∷ yes_to before ∷ [])) }
+    ensures { OnOk result (into.new
+        ≡ into.old ++ no_to so_many ∷ cond first [] (yes_to above ∷ yes_to before ∷ [])) }
 {
     add_no(into, so_many)?;
     if !first {
@@ -197,7 +204,8 @@ pub(crate) fn write_ending(
     into: &mut Literals,
 ) -> Result<(), AllocError>
     requires { high ≤ 256 }
-    ensures { OnOk result (into.new ≡ into.old ++ ending_clause (encoding_in terms.now) block most high) }
+    ensures { OnOk result (into.new
+        ≡ into.old ++ ending_clause (encoding_in terms.now) block most high) }
 {
     let all = terms.counts(
         block,

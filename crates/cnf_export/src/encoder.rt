@@ -38,12 +38,13 @@ impl Model for Encoder {
 
     ghost view = { λ x. encoder_view x.terms x.groups.items x.at x.variables };
 
-    ghost invariant = { λ x. x.clauses ≡ length (encoder_view x.terms x.groups.items x.at x.variables).all };
+    ghost invariant = { λ x. x.clauses
+        ≡ length (encoder_view x.terms x.groups.items x.at x.variables).all };
 }
 
 impl Encoder {
-    /// An encoder for a case before its first clause: for a workflow, the steps that are assigned, and
-    /// those of them that are finished.
+    /// An encoder for a case before its first clause: for a workflow, the steps that are assigned,
+    /// and those of them that are finished.
     pub fn new(
         alloc: Global,
         p: &Policy,
@@ -56,7 +57,8 @@ impl Encoder {
         ensures all { IfOk result (λ e. e.all ≡ clauses_of (problem_of p.now f) a.now done.now) }
         ensures left { IfOk result (λ e. e.left ≡ e.all) }
         ensures variables { IfOk result (λ e. e.variables ≡ variables_of (problem_of p.now f)) }
-        ensures few { OnOk result (literals (clauses_of (problem_of p.now f) a.now done.now) ≤ LITERAL_LIMIT) }
+        ensures few { OnOk result (literals
+            (clauses_of (problem_of p.now f) a.now done.now) ≤ LITERAL_LIMIT) }
         ensures large { IsErrOf result TooLarge
             → LITERAL_LIMIT < literals (clauses_of (problem_of p.now f) a.now done.now) }
     {

@@ -41,7 +41,8 @@ pub(crate) fn all_blocks(steps: u8, rules: &Rules) -> u16
 }
 
 fn add_steps(made: &mut Vec<Group>, steps: u8) -> Result<(), AllocError>
-    ensures { OnOk result (made.new.items ≡ made.old.items ++ flat_map step_groups (numbers 0 steps)) }
+    ensures { OnOk result (made.new.items
+        ≡ made.old.items ++ flat_map step_groups (numbers 0 steps)) }
 {
     'steps: for s in 0..steps {
         add_step(made, StepId(s))?;
@@ -107,7 +108,8 @@ fn add_pairs(
     group: &StepSet,
     step: StepId,
 ) -> Result<(), AllocError>
-    ensures { OnOk result (made.new.items ≡ made.old.items ++ map (pair_group_at back rho step) (members group.now)) }
+    ensures { OnOk result (made.new.items
+        ≡ made.old.items ++ map (pair_group_at back rho step) (members group.now)) }
 {
     let limit = group.limit();
     'members: for x in 0..limit {

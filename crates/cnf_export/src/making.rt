@@ -58,7 +58,8 @@ fn domain_of(p: &Policy, f: FlowId, a: &Assign, done: &StepSet, s: StepId) -> Us
     requires within { IsWithin (problem_of p.now f) a.now }
     requires step { s < length (flow_at p.now f).flow.steps }
     ensures known { (u : ℕ) → has_user result u ≡ true → u < length p.now.roster.users }
-    ensures may { (u : ℕ) → has_user result u ≡ may_be (problem_of p.now f) done.now s (user_at a.now s) u }
+    ensures may { (u : ℕ) → has_user result u
+        ≡ may_be (problem_of p.now f) done.now s (user_at a.now s) u }
 {
     match a.at(s) {
         None => p.authorised_users(f, s),

@@ -33,7 +33,8 @@ pub(crate) fn give(
     at: &mut Position,
     into: &mut Literals,
 ) -> Result<bool, AllocError>
-    ensures given { IfOk result (λ more. HasGiven (left_at (encoding_in terms.now) groups.now at.old) more into.new
+    ensures given { IfOk result
+        (λ more. HasGiven (left_at (encoding_in terms.now) groups.now at.old) more into.new
         (left_at (encoding_in terms.now) groups.now at.new)) }
     ensures unchanged { OnErr result (left_at (encoding_in terms.now) groups.now at.new
         ≡ left_at (encoding_in terms.now) groups.now at.old) }
@@ -57,7 +58,8 @@ fn write_item(terms: &Terms, at: &Position, into: &mut Literals) -> Result<(), A
 
 // Goes on to the next item, if there is one. No clause is left out.
 fn skip(terms: &Terms, groups: &[Group], at: &mut Position) -> Result<(), AllocError>
-    ensures left { left_at (encoding_in terms.now) groups.now at.new ≡ left_at (encoding_in terms.now) groups.now at.old }
+    ensures left { left_at (encoding_in terms.now) groups.now at.new
+        ≡ left_at (encoding_in terms.now) groups.now at.old }
     ensures ready { OnOk result (IsReady groups.now at.new) }
 {
     'skipping: while at.item >= at.items.len() {
@@ -76,7 +78,8 @@ fn skip(terms: &Terms, groups: &[Group], at: &mut Position) -> Result<(), AllocE
 fn list_part(terms: &Terms, groups: &[Group], at: &mut Position) -> Result<(), AllocError>
     requires done { length at.old.items ≤ at.old.item }
     requires some { at.old.part < at.old.parts }
-    ensures left { left_at (encoding_in terms.now) groups.now at.new ≡ left_at (encoding_in terms.now) groups.now at.old }
+    ensures left { left_at (encoding_in terms.now) groups.now at.new
+        ≡ left_at (encoding_in terms.now) groups.now at.old }
     ensures parts { OnOk result (at.new.parts ≡ at.old.parts) }
     ensures part { OnOk result (at.new.part ≡ suc at.old.part) }
     ensures group { OnOk result (at.new.next_group ≡ at.old.next_group) }
@@ -101,7 +104,8 @@ fn enter(terms: &Terms, groups: &[Group], at: &mut Position)
     requires done { length at.old.items ≤ at.old.item }
     requires all { at.old.parts ≤ at.old.part }
     requires some { at.old.next_group < length groups.now }
-    ensures left { left_at (encoding_in terms.now) groups.now at.new ≡ left_at (encoding_in terms.now) groups.now at.old }
+    ensures left { left_at (encoding_in terms.now) groups.now at.new
+        ≡ left_at (encoding_in terms.now) groups.now at.old }
     ensures group { at.new.next_group ≡ suc at.old.next_group }
     ensures few { at.new.parts < 2 ^ 16 }
 {
@@ -113,7 +117,8 @@ fn enter(terms: &Terms, groups: &[Group], at: &mut Position)
 
 /// Goes back to before the first group.
 pub(crate) fn start(at: &mut Position)
-    ensures { (e : Encoding) → (groups : List AnyGroup) → left_at e groups at.new ≡ flat_map (group_clauses e) groups }
+    ensures { (e : Encoding) → (groups : List AnyGroup) → left_at e groups at.new
+        ≡ flat_map (group_clauses e) groups }
 {
     at.items.truncate(0);
     at.item = 0;
@@ -125,7 +130,8 @@ pub(crate) fn start(at: &mut Position)
 impl Position {
     /// Before the first group.
     pub(crate) fn before(alloc: Global) -> Position
-        ensures { (e : Encoding) → (groups : List AnyGroup) → left_at e groups result ≡ flat_map (group_clauses e) groups }
+        ensures { (e : Encoding) → (groups : List AnyGroup) → left_at e groups result
+            ≡ flat_map (group_clauses e) groups }
     {
         Position {
             next_group: 0,

@@ -17,7 +17,8 @@ use crate::terms::Terms;
 /// Most literals of all clauses.
 pub const LITERAL_LIMIT: usize = 20_000_000;
 
-/// How many clauses are left; or that they have too many literals. Each is made in `one`, and none is kept.
+/// How many clauses are left; or that they have too many literals. Each is made in `one`, and none
+/// is kept.
 pub(crate) fn count(
     terms: &Terms,
     groups: &[Group],
@@ -25,8 +26,10 @@ pub(crate) fn count(
     one: &mut Literals,
 ) -> Result<u32, CnfFault>
     requires { empties (left_at (encoding_in terms.now) groups.now at.old) ≤ STEP_LIMIT }
-    ensures clauses { IfOk result (λ n. n ≡ length (left_at (encoding_in terms.now) groups.now at.old)) }
-    ensures few { OnOk result (literals (left_at (encoding_in terms.now) groups.now at.old) ≤ LITERAL_LIMIT) }
+    ensures clauses { IfOk result
+        (λ n. n ≡ length (left_at (encoding_in terms.now) groups.now at.old)) }
+    ensures few { OnOk result (literals
+        (left_at (encoding_in terms.now) groups.now at.old) ≤ LITERAL_LIMIT) }
     ensures large { IsErrOf result TooLarge
         → LITERAL_LIMIT < literals (left_at (encoding_in terms.now) groups.now at.old) }
 {

@@ -39,17 +39,38 @@ impl Model for Terms {
 
     ghost coded = { terms_code };
 
-    ghost view = { λ t. record { users = t.users; steps = t.steps; domains = t.domains.items; relations = t.relations } };
+    ghost view = { λ t. record {
+      users = t.users;
+      steps = t.steps;
+      domains =
+          t.domains.items;
+      relations = t.relations;
+    } };
 
-    ghost invariant = { λ t. AreTerms (record { users = t.users; steps = t.steps; domains = t.domains.items; relations = t.relations }) };
+    ghost invariant = { λ t. AreTerms
+        (record {
+          users = t.users;
+          steps = t.steps;
+          domains = t.domains.items;
+          relations = t.relations;
+        }) };
 }
 
 impl Terms {
-    /// Of so many users and steps. Users who are none are left out of the domains, and steps past the
-    /// limit are.
+    /// Of so many users and steps, with the users whom each step may have.
     pub(crate) fn new(users: u16, steps: u8, domains: Vec<UserSet>, relations: Relations) -> Terms
-        requires { AreTerms (record { users = users; steps = steps; domains = domains.items; relations = relations }) }
-        ensures { result ≡ record { users = users; steps = steps; domains = domains.items; relations = relations } }
+        requires { AreTerms (record {
+          users = users;
+          steps = steps;
+          domains = domains.items;
+          relations = relations;
+        }) }
+        ensures { result ≡ record {
+          users = users;
+          steps = steps;
+          domains = domains.items;
+          relations = relations;
+        } }
     {
         Terms {
             users,
@@ -125,14 +146,16 @@ impl Terms {
 
     // The users to whom a user is related.
     fn related_to(&self, rho: RelId, u: UserId) -> UserSet
-        ensures { (v : ℕ) → has_user result v ≡ (nat_lt v self.now.users && (encoding_in self.now).related rho u v) }
+        ensures { (v : ℕ) → has_user result v
+            ≡ (nat_lt v self.now.users && (encoding_in self.now).related rho u v) }
     {
         self.relations.after(rho, u, self.users)
     }
 
     // The users who are related to a user, or, read back, to whom the user is.
     fn related_from(&self, rho: RelId, back: bool, v: UserId) -> UserSet
-        ensures { (u : ℕ) → has_user result u ≡ (nat_lt u self.now.users && turned back (encoding_in self.now).related rho u v) }
+        ensures { (u : ℕ) → has_user result u
+            ≡ (nat_lt u self.now.users && turned back (encoding_in self.now).related rho u v) }
     {
         if back {
             self.relations.after(rho, v, self.users)
@@ -158,8 +181,8 @@ impl Terms {
         Ok(())
     }
 
-    /// The users whom a second step may have and to whom a user is not related, where the first step
-    /// may have the user.
+    /// The users whom a second step may have and to whom a user is not related, where the first
+    /// step may have the user.
     pub(crate) fn list_unrelated(
         &self,
         rho: RelId,
@@ -168,7 +191,8 @@ impl Terms {
         u: UserId,
         into: &mut Items,
     ) -> Result<(), AllocError>
-        ensures { OnOk result (into.new ≡ items (encoding_in self.now) (groups.Pair rho first second) u) }
+        ensures { OnOk result (into.new
+            ≡ items (encoding_in self.now) (groups.Pair rho first second) u) }
     {
         if !self.domain(first).has(u) {
             into.truncate(0);
@@ -255,8 +279,8 @@ impl Terms {
         }
     }
 
-    // That where v has a step, some member of a group has a user who is related to v, or, read back,
-    // to whom v is.
+    // That where v has a step, some member of a group has a user who is related to v, or, read
+    // back, to whom v is.
     fn write_some(
         &self,
         rho: RelId,
@@ -266,7 +290,8 @@ impl Terms {
         v: UserId,
         into: &mut Literals,
     ) -> Result<(), AllocError>
-        ensures { OnOk result (into.new ≡ into.old ++ some_clause (encoding_in self.now) rho back group.now step v) }
+        ensures { OnOk result (into.new
+            ≡ into.old ++ some_clause (encoding_in self.now) rho back group.now step v) }
     {
         add_no(into, self.has(step, v.0))?;
         self.add_members(rho, back, group, v, into)
@@ -312,7 +337,8 @@ impl Terms {
     // That a step has some user of a set, behind other literals.
     fn add_users(&self, s: StepId, set: &UserSet, into: &mut Literals) -> Result<(), AllocError>
         requires { (u : ℕ) → has_user set.now u ≡ true → u < self.now.users }
-        ensures { OnOk result (into.new ≡ into.old ++ map (λ u. yes_to (has (encoding_in self.now) s u))
+        ensures { OnOk result (into.new
+            ≡ into.old ++ map (λ u. yes_to (has (encoding_in self.now) s u))
             (passing (has_user set.now) 0 self.now.users)) }
     {
         let mut from = 0u32;
@@ -336,8 +362,11 @@ impl Terms {
         v: UserId,
         into: &mut Literals,
     ) -> Result<(), AllocError>
-        ensures { OnOk result (into.new ≡ into.old ++ flat_map (λ t. map (λ u. yes_to (has (encoding_in self.now) t u))
-            (users_who (encoding_in self.now) (λ u. (encoding_in self.now).may_have t u && turned back (encoding_in self.now).related rho u v)))
+        ensures { OnOk result (into.new
+            ≡ into.old ++ flat_map (λ t. map (λ u. yes_to (has (encoding_in self.now) t u))
+            (users_who (encoding_in self.now)
+            (λ u. (encoding_in self.now).may_have t u
+            && turned back (encoding_in self.now).related rho u v)))
             (members group.now)) }
     {
         let limit = group.limit();
@@ -357,8 +386,11 @@ impl Terms {
         v: UserId,
         into: &mut Literals,
     ) -> Result<(), AllocError>
-        ensures { OnOk result (into.new ≡ into.old ++ map (λ u. yes_to (has (encoding_in self.now) t u))
-            (users_who (encoding_in self.now) (λ u. (encoding_in self.now).may_have t u && turned back (encoding_in self.now).related rho u v))) }
+        ensures { OnOk result (into.new
+            ≡ into.old ++ map (λ u. yes_to (has (encoding_in self.now) t u))
+            (users_who (encoding_in self.now)
+            (λ u. (encoding_in self.now).may_have t u
+            && turned back (encoding_in self.now).related rho u v))) }
     {
         let mut users = self.domain(t);
         users.meet(&self.related_from(rho, back, v));

@@ -1,7 +1,6 @@
 -- Flags in rows, and what the model that says a plan says.
-use Rattle.std.proofs.Common.{◌≡◌, refl, sym, ap, subst, ◌∙◌, ℕ, zero, suc, ◌+◌, ◌*◌, ◌-◌, ◌<◌, ◌≤◌, Bool, true, false, ◌==◌, nat_eq, nat_le, nat_lt, List, [], ◌∷◌, ◌++◌, map, length, slice_index_or, Option, Some, ◌⊎◌, inl, inr, arith, append_assoc, suc-mul, cond}
+use Rattle.std.proofs.Common.{◌≡◌, refl, sym, ap, subst, ◌∙◌, ℕ, zero, suc, ◌+◌, ◌*◌, ◌-◌, ◌<◌, ◌≤◌, Bool, true, false, ◌==◌, nat_eq, nat_le, nat_lt, List, [], ◌∷◌, ◌++◌, map, length, slice_index_or, Option, ◌⊎◌, inl, inr, arith, append_assoc, suc-mul, cond}
 use Rattle.std.specs.List.{flat_map}
-use Rattle.std.proofs.lemmas.Bool.{false≢true}
 use Rattle.basics.proofs.Booleans.{bool_cases, differ, eq_back, eq_is}
 use Rattle.wf_names.specs.UserSets.{count_below}
 use Rattle.constraint_forms.specs.declared.rule.Rule.{Rule}

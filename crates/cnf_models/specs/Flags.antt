@@ -20,7 +20,8 @@ grid f rows places = flat_map (λ i. map (f i) (numbers 0 places)) (numbers 0 ro
 -- who of n users has some step of a group, and how many of those up to each one
 abbrev pub count_flags : ℕ → List ℕ → ℕ → List Bool → List Bool
 count_flags n plan high group =
-    map (has_some group plan) (numbers 0 n) ++ grid (λ u j. nat_lt j (count_below (suc u) (has_some group plan))) n high
+    map (has_some group plan) (numbers 0 n)
+    ++ grid (λ u j. nat_lt j (count_below (suc u) (has_some group plan))) n high
 
 abbrev pub rule_flags : ℕ → List ℕ → Rule → List Bool
 rule_flags n plan (rule.Pair rho s t) = []

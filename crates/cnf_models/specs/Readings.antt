@@ -1,10 +1,9 @@
 -- What a model says of a case.
-use Rattle.std.specs.Prelude.{◌≡◌, ℕ, zero, suc, ◌+◌, ℤ, Bool, true, false, List, [], ◌∷◌, Option, None, Some, if◌then◌else◌}
+use Rattle.std.specs.Prelude.{◌≡◌, ℕ, ◌+◌, ℤ, Bool, List, [], ◌∷◌, Option, None, Some, if◌then◌else◌}
 use Rattle.policy_book.specs.Plans.{Problem, AreAssigned, IsValidPlan}
 use Rattle.cnf_export.specs.Clauses.{IsModelOf, satisfies}
 use Rattle.cnf_export.specs.Encodings.{clauses_of, encoding_of}
 use Rattle.cnf_export.specs.Models.{plan_in}
-use Rattle.cnf_models.specs.Flags.{has_variable}
 use Rattle.cnf_models.specs.declared.reading.Reading.{Reading as AnyReading}
 use Rattle.cnf_models.specs.declared.reading.Reading.TheVariants.{Plan, Clause}
 
@@ -16,10 +15,12 @@ first_false k model (c ∷ cs) = if satisfies model c then first_false (k + 1) m
 -- a model is read as its first false clause, or, where there is none, as the plan that it says,
 -- which is valid
 abbrev pub IsReading : Problem → List (Option ℕ) → List Bool → (ℕ → Bool) → AnyReading → Type 0
-IsReading p assigned finished model (Clause i) = first_false 0 model (clauses_of p assigned finished) ≡ Some i
+IsReading p assigned finished model (Clause i) =
+    first_false 0 model (clauses_of p assigned finished) ≡ Some i
 IsReading p assigned finished model (Plan plan) =
     (first_false 0 model (clauses_of p assigned finished) ≡ None)
-    × ((plan ≡ plan_in (encoding_of p assigned finished) model) × IsValidPlan p assigned finished plan)
+    × ((plan ≡ plan_in (encoding_of p assigned finished) model)
+    × IsValidPlan p assigned finished plan)
 
 -- a model satisfies the clauses of each case for which a plan is valid
 abbrev pub SatisfiesWherever : Problem → List ℕ → (ℕ → Bool) → Type 0

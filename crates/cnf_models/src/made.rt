@@ -16,7 +16,8 @@ use wf_names::{FlowId, STEP_LIMIT};
 pub fn model_of(alloc: Global, p: &Policy, f: FlowId, plan: &Plan) -> Result<Model, AllocError>
     requires { f < length p.now.flows }
     ensures flags { IfOk result (λ m. m ≡ flags_of (problem_of p.now f) plan.now) }
-    ensures satisfies { IfOk result (λ m. SatisfiesWherever (problem_of p.now f) plan.now (has_variable m)) }
+    ensures satisfies { IfOk result
+        (λ m. SatisfiesWherever (problem_of p.now f) plan.now (has_variable m)) }
     ensures back { IfOk result (λ m. ReadsBack (problem_of p.now f) plan.now (has_variable m)) }
 {
     plans_are_models();

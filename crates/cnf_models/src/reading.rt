@@ -40,8 +40,10 @@ pub fn plan_of(
 ) -> Result<Reading, CnfFault>
     requires flow { f < length p.now.flows }
     requires within { IsWithin (problem_of p.now f) a.now }
-    ensures reading { IfOk result (IsReading (problem_of p.now f) a.now done.now (has_variable m.now)) }
-    ensures few { OnOk result (literals (clauses_of (problem_of p.now f) a.now done.now) ≤ LITERAL_LIMIT) }
+    ensures reading { IfOk result
+        (IsReading (problem_of p.now f) a.now done.now (has_variable m.now)) }
+    ensures few { OnOk result (literals
+        (clauses_of (problem_of p.now f) a.now done.now) ≤ LITERAL_LIMIT) }
     ensures large { IsErrOf result TooLarge
         → LITERAL_LIMIT < literals (clauses_of (problem_of p.now f) a.now done.now) }
 {
@@ -82,7 +84,8 @@ fn first_unsatisfied(
 fn plan_said(alloc: Global, p: &Policy, f: FlowId, m: &Model) -> Result<Plan, AllocError>
     requires { f < length p.now.flows }
     ensures { IfOk result (λ plan. plan ≡ map (λ s. last_below (length p.now.roster.users)
-        (λ u. has_variable m.now (s * length p.now.roster.users + u))) (numbers 0 (length (flow_at p.now f).flow.steps))) }
+        (λ u. has_variable m.now (s * length p.now.roster.users + u)))
+        (numbers 0 (length (flow_at p.now f).flow.steps))) }
 {
     let steps = p.flow(f).steps().len();
     let users = p.roster().users().len();

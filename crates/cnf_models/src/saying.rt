@@ -26,7 +26,8 @@ pub(crate) fn say_users(
     users: u16,
     into: &mut Model,
 ) -> Result<(), AllocError>
-    ensures { OnOk result (into.new ≡ into.old ++ grid (λ s u. planned plan.now s == u) steps users) }
+    ensures { OnOk result (into.new
+        ≡ into.old ++ grid (λ s u. planned plan.now s == u) steps users) }
 {
     'steps: for s in 0..steps {
         say_user(user_of(plan, StepId(s)), users, into)?;
@@ -50,7 +51,8 @@ pub(crate) fn say_until(
     users: u16,
     into: &mut Model,
 ) -> Result<(), AllocError>
-    ensures { OnOk result (into.new ≡ into.old ++ grid (λ s u. nat_le (planned plan.now s) u) steps users) }
+    ensures { OnOk result (into.new
+        ≡ into.old ++ grid (λ s u. nat_le (planned plan.now s) u) steps users) }
 {
     'steps: for s in 0..steps {
         say_from(user_of(plan, StepId(s)), users, into)?;
@@ -110,7 +112,8 @@ fn say_count(
 }
 
 fn say_takers(plan: &Plan, users: u16, group: &StepSet, into: &mut Model) -> Result<(), AllocError>
-    ensures { OnOk result (into.new ≡ into.old ++ map (has_some group.now plan.now) (numbers 0 users)) }
+    ensures { OnOk result (into.new
+        ≡ into.old ++ map (has_some group.now plan.now) (numbers 0 users)) }
 {
     'users: for u in 0..users {
         into.push(takes_some(plan, group, u))?;
@@ -125,7 +128,9 @@ fn say_counts(
     group: &StepSet,
     into: &mut Model,
 ) -> Result<(), AllocError>
-    ensures { OnOk result (into.new ≡ into.old ++ grid (λ u j. nat_lt j (count_below (suc u) (has_some group.now plan.now))) users high) }
+    ensures { OnOk result (into.new
+        ≡ into.old ++ grid (λ u j. nat_lt j
+        (count_below (suc u) (has_some group.now plan.now))) users high) }
 {
     let mut count = 0u16;
     'users: for u in 0..users {

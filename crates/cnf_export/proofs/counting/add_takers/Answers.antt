@@ -1,4 +1,4 @@
-use Rattle.std.proofs.Common.{◌≡◌, ◌∙◌, ◌<◌, ◌+◌, ◌++◌, ◌∷◌, [], ℕ, suc, length, ap, sym, arith}
+use Rattle.std.proofs.Common.{◌∙◌, ◌<◌, ◌++◌, ◌∷◌, [], ℕ, length, ap, sym, arith}
 use Rattle.basics.proofs.Booleans.{differ}
 use Rattle.constraint_forms.specs.Assigned.{is_member}
 use Rattle.cnf_export.specs.Clauses.{yes_to}

@@ -1,4 +1,4 @@
-use Rattle.std.proofs.Common.{◌≡◌, ◌∙◌, ◌<◌, ◌+◌, ◌++◌, ◌∷◌, [], ℕ, suc, length, ap, sym, arith}
+use Rattle.std.proofs.Common.{◌∙◌, ◌<◌, ◌++◌, ◌∷◌, [], length, ap, sym, arith}
 use Rattle.basics.proofs.Booleans.{differ}
 use Rattle.constraint_forms.specs.Assigned.{is_member}
 use Rattle.cnf_export.specs.Terms.{pair_group_at}

@@ -1,8 +1,7 @@
-use Rattle.std.proofs.Common.{◌≡◌, ◌∙◌, ◌+◌, ◌-◌, ◌<◌, ◌≤◌, ◌++◌, ◌∷◌, [], ◌==◌, ◌||◌, ℕ, suc, Bool, true, false, nat_le, nat_lt, cond, map, drop, sym, ap, arith, append_assoc}
-use Rattle.cnf_export.specs.Encodings.{numbers}
+use Rattle.std.proofs.Common.{◌≡◌, ◌∙◌, ◌++◌, ◌==◌, nat_le, sym, ap, append_assoc}
 use Rattle.std.proofs.Common.{length, subst}
 use Rattle.constraint_forms.specs.Assigned.{planned}
-use Rattle.policy_book.specs.Policies.{flow_at, problem_of}
+use Rattle.policy_book.specs.Policies.{problem_of}
 use Rattle.cnf_export.specs.Clauses.{IsModelOf}
 use Rattle.cnf_export.specs.Encodings.{clauses_of, encoding_of}
 use Rattle.cnf_export.specs.Models.{AreSound, plan_in}

@@ -1,5 +1,4 @@
-use Rattle.std.proofs.Common.{◌≡◌, ◌∙◌, ◌+◌, ◌-◌, ◌<◌, ◌≤◌, ◌++◌, ◌∷◌, [], ◌==◌, ◌||◌, ℕ, suc, Bool, true, false, nat_le, nat_lt, cond, map, drop, sym, ap, arith, append_assoc}
-use Rattle.cnf_export.specs.Encodings.{numbers}
+use Rattle.std.proofs.Common.{◌∙◌, ◌+◌, ◌++◌, ◌∷◌, [], ℕ, ap, arith}
 use Rattle.std.proofs.Common.{◌*◌, length}
 use Rattle.cnf_export.specs.Models.{last_below}
 use Rattle.cnf_models.specs.Flags.{has_variable}

@@ -1,5 +1,4 @@
-use Rattle.std.proofs.Common.{◌≡◌, ◌-◌, ◌++◌, ◌==◌, suc, nat_le, nat_lt, map, drop}
-use Rattle.std.specs.List.{flat_map}
+use Rattle.std.proofs.Common.{◌≡◌, ◌-◌, ◌++◌, nat_lt, map}
 use Rattle.cnf_export.specs.Encodings.{numbers}
 use Rattle.cnf_models.proofs.saying.say_below.Given as goal
 

@@ -1,4 +1,4 @@
-use Rattle.std.proofs.Common.{◌≡◌, ◌∙◌, ◌+◌, ◌-◌, ◌<◌, ◌≤◌, ◌++◌, ◌∷◌, [], ◌==◌, ◌||◌, ℕ, suc, Bool, true, false, nat_le, nat_lt, cond, map, drop, sym, ap, arith, append_assoc}
+use Rattle.std.proofs.Common.{◌≡◌, ◌∙◌, ◌+◌, ◌-◌, ◌++◌, ℕ, suc, nat_lt, cond, map, sym, ap, arith}
 use Rattle.cnf_export.specs.Encodings.{numbers}
 use Rattle.std.specs.List.{flat_map}
 use Rattle.wf_names.specs.UserSets.{count_below}

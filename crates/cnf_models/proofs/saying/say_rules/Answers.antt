@@ -1,5 +1,4 @@
-use Rattle.std.proofs.Common.{◌≡◌, ◌∙◌, ◌+◌, ◌-◌, ◌<◌, ◌≤◌, ◌++◌, ◌∷◌, [], ◌==◌, ◌||◌, ℕ, suc, Bool, true, false, nat_le, nat_lt, cond, map, drop, sym, ap, arith, append_assoc}
-use Rattle.cnf_export.specs.Encodings.{numbers}
+use Rattle.std.proofs.Common.{◌∙◌, ◌+◌, ◌++◌, drop, sym, ap, append_assoc}
 use Rattle.cnf_export.proofs.Listing.{drop_some}
 use Rattle.cnf_models.specs.Flags.{rule_flags, rules_flags}
 use Rattle.cnf_models.proofs.saying.say_rules.Goals as goal

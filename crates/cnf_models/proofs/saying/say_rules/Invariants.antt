@@ -1,6 +1,4 @@
-use Rattle.std.proofs.Common.{◌≡◌, ◌-◌, ◌++◌, ◌==◌, suc, nat_le, nat_lt, map, drop}
-use Rattle.std.specs.List.{flat_map}
-use Rattle.cnf_export.specs.Encodings.{numbers}
+use Rattle.std.proofs.Common.{◌≡◌, ◌++◌, drop}
 use Rattle.cnf_models.specs.Flags.{rules_flags}
 use Rattle.cnf_models.proofs.saying.say_rules.Given as goal
 

@@ -1,4 +1,4 @@
-use Rattle.std.proofs.Common.{◌≡◌, ◌∙◌, ◌+◌, ◌-◌, ◌<◌, ◌≤◌, ◌++◌, ◌∷◌, [], ◌==◌, ◌||◌, ℕ, suc, Bool, true, false, nat_le, nat_lt, cond, map, drop, sym, ap, arith, append_assoc}
+use Rattle.std.proofs.Common.{◌∙◌, ◌++◌, ℕ, nat_le, map, ap, arith}
 use Rattle.cnf_export.specs.Encodings.{numbers}
 use Rattle.constraint_forms.specs.Assigned.{planned}
 use Rattle.cnf_export.proofs.Listing.{next_number}

@@ -1,5 +1,4 @@
-use Rattle.std.proofs.Common.{◌≡◌, ◌∙◌, ◌+◌, ◌-◌, ◌<◌, ◌≤◌, ◌++◌, ◌∷◌, [], ◌==◌, ◌||◌, ℕ, suc, Bool, true, false, nat_le, nat_lt, cond, map, drop, sym, ap, arith, append_assoc}
-use Rattle.cnf_export.specs.Encodings.{numbers}
+use Rattle.std.proofs.Common.{◌∙◌, ◌==◌, arith}
 use Rattle.cnf_models.proofs.Grids.{next_mapped}
 use Rattle.cnf_models.proofs.saying.say_user.Goals as goal
 

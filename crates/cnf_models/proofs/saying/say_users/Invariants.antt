@@ -1,4 +1,4 @@
-use Rattle.std.proofs.Common.{◌≡◌, ◌-◌, ◌++◌, ◌==◌, suc, nat_le, nat_lt, map, drop}
+use Rattle.std.proofs.Common.{◌≡◌, ◌-◌, ◌++◌, ◌==◌, map}
 use Rattle.std.specs.List.{flat_map}
 use Rattle.cnf_export.specs.Encodings.{numbers}
 use Rattle.constraint_forms.specs.Assigned.{planned}

@@ -1,5 +1,4 @@
-use Rattle.std.proofs.Common.{◌≡◌, ◌∙◌, ◌+◌, ◌-◌, ◌<◌, ◌≤◌, ◌++◌, ◌∷◌, [], ◌==◌, ◌||◌, ℕ, suc, Bool, true, false, nat_le, nat_lt, cond, map, drop, sym, ap, arith, append_assoc}
-use Rattle.cnf_export.specs.Encodings.{numbers}
+use Rattle.std.proofs.Common.{◌≡◌, ◌∙◌, ◌+◌, ◌||◌, true, false, drop, sym, ap}
 use Rattle.cnf_export.specs.Clauses.{is_true, satisfies}
 use Rattle.cnf_export.proofs.Listing.{drop_some}
 use Rattle.cnf_models.specs.Flags.{has_variable}

@@ -1,5 +1,4 @@
-use Rattle.std.proofs.Common.{◌≡◌, ◌∙◌, ◌<◌, ◌&&◌, ℕ, map, length, ap, sym, arith}
-use Rattle.std.proofs.lemmas.Bool.{false≢true}
+use Rattle.std.proofs.Common.{◌∙◌, ◌<◌, ◌&&◌, ℕ, map, length, sym, arith}
 use Rattle.basics.proofs.Booleans.{differ}
 use Rattle.constraint_forms.specs.Assigned.{is_member}
 use Rattle.constraint_forms.specs.Rules.{turned}

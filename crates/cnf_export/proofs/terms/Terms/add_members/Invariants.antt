@@ -1,4 +1,4 @@
-use Rattle.std.proofs.Common.{◌≡◌, ◌≤◌, ◌-◌, ◌++◌, ◌&&◌, map, length}
+use Rattle.std.proofs.Common.{◌≡◌, ◌-◌, ◌++◌, ◌&&◌, map, length}
 use Rattle.std.specs.List.{flat_map}
 use Rattle.constraint_forms.specs.Assigned.{is_member}
 use Rattle.constraint_forms.specs.Rules.{turned}

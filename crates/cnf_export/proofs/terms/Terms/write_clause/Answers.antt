@@ -1,4 +1,4 @@
-use Rattle.std.proofs.Common.{◌≡◌, ◌∙◌, ◌++◌, sym, ap}
+use Rattle.std.proofs.Common.{◌∙◌, ◌++◌, sym, ap}
 use Rattle.cnf_export.specs.Encodings.{clause, some_clause}
 use Rattle.cnf_export.specs.Terms.{encoding_in}
 use Rattle.cnf_export.proofs.Signs.{on_ok}
