@@ -1,6 +1,6 @@
 -- How the steps of a command that answers once compose.
 use Rattle.std.proofs.Common.{◌≡◌, ℕ, ◌≤◌, Bool, true, false, List, [], Option, None, Some, Result, Ok, Err, refl, sym, subst, ◌∙◌, arith}
-use Rattle.std.specs.Prelude.{IsErrAnd, string_bytes}
+use Rattle.std.specs.Prelude.{IsErrAnd}
 use Rattle.wf_names.specs.declared.limits.TheConstants.{POLICY_FILE_LIMIT}
 use Rattle.wf_outside.specs.Outside.{Filed, told, missing, untold, HasPart, Rose, with_bytes}
 use Rattle.wf_outside.proofs.OutsideLaws.{nothing_put, nothing_at_most}
@@ -149,20 +149,20 @@ ends_answered A before after true text h wrote = (text, h, wrote)
 ends_answered A before after false text h wrote = (text, h, wrote)
 
 over_answered : (A : PolicyShape → RunFault → List ℕ → Type 0) (f : Filed) (before after : Option (List ℕ)) (answer : Answer) → AnswersFile A f (Ok answer)
-    → after ≡ with_bytes before (string_bytes answer.text) → OverFile f (ending_with answer.found) (λ file. Ends (OverPolicy A file) before after (ending_with answer.found))
-over_answered A untold before after answer h wrote = (h.0, ends_answered (OverPolicy A h.0) before after answer.found (string_bytes answer.text) h.1 wrote)
+    → after ≡ with_bytes before answer.text.items → OverFile f (ending_with answer.found) (λ file. Ends (OverPolicy A file) before after (ending_with answer.found))
+over_answered A untold before after answer h wrote = (h.0, ends_answered (OverPolicy A h.0) before after answer.found answer.text.items h.1 wrote)
 over_answered A missing before after answer h wrote = cc
-over_answered A (told file) before after answer h wrote = ends_answered (OverPolicy A file) before after answer.found (string_bytes answer.text) h wrote
+over_answered A (told file) before after answer h wrote = ends_answered (OverPolicy A file) before after answer.found answer.text.items h wrote
 
 answer_text : (found : Bool) → HasText (ending_with found)
 answer_text true = tt
 answer_text false = tt
 
 over_part : (A : PolicyShape → RunFault → List ℕ → Type 0) (f : Filed) (before after : Option (List ℕ)) (answer : Answer) → AnswersFile A f (Ok answer)
-    → HasPart before after (string_bytes answer.text) → OverFile f Write (λ file. Ends (OverPolicy A file) before after Write)
-over_part A untold before after answer h part = (h.0, (ending_with answer.found, string_bytes answer.text, answer_text answer.found, h.1, part))
+    → HasPart before after answer.text.items → OverFile f Write (λ file. Ends (OverPolicy A file) before after Write)
+over_part A untold before after answer h part = (h.0, (ending_with answer.found, answer.text.items, answer_text answer.found, h.1, part))
 over_part A missing before after answer h part = cc
-over_part A (told file) before after answer h part = (ending_with answer.found, string_bytes answer.text, answer_text answer.found, h, part)
+over_part A (told file) before after answer h part = (ending_with answer.found, answer.text.items, answer_text answer.found, h, part)
 
 -- how a run ends that wrote its answer
 answered_late : (found : Bool) → is_before_input (ending_with found) ≡ true → ⊥
@@ -204,7 +204,7 @@ pub record HasAnswer (limit : Option ℕ) (policy : List ℕ) (A : Option (List 
 
 pub with_answer : (limit : Option ℕ) (policy : List ℕ) (A : Option (List ℕ) → PolicyShape → RunFault → List ℕ → Type 0) (answer : Answer) (r : Run)
     → HasAnswer limit policy A answer r → r.fault ≡ ending_with answer.found
-    → r.after.output ≡ with_bytes r.before.output (string_bytes answer.text) → r.after.write_faults ≡ r.before.write_faults → RunsOnce limit policy A r
+    → r.after.output ≡ with_bytes r.before.output answer.text.items → r.after.write_faults ≡ r.before.write_faults → RunsOnce limit policy A r
 with_answer limit policy A answer r has is wrote writes = record {
   orderly = record {
     early = λ early. absurd (answered_late answer.found (subst (λ (x : RunFault). is_before_input x ≡ true) is early));
@@ -224,7 +224,7 @@ with_answer limit policy A answer r has is wrote writes = record {
 
 pub with_part : (limit : Option ℕ) (policy : List ℕ) (A : Option (List ℕ) → PolicyShape → RunFault → List ℕ → Type 0) (answer : Answer) (r : Run)
     → HasAnswer limit policy A answer r → r.fault ≡ Write
-    → HasPart r.before.output r.after.output (string_bytes answer.text) → Rose r.before.write_faults r.after.write_faults → RunsOnce limit policy A r
+    → HasPart r.before.output r.after.output answer.text.items → Rose r.before.write_faults r.after.write_faults → RunsOnce limit policy A r
 with_part limit policy A answer r has is part rose = record {
   orderly = record {
     early = λ early. cc;

@@ -1,5 +1,5 @@
 -- Inside: what is known of an answer before it is written.
-use Rattle.std.specs.Prelude.{◌≡◌, ℕ, Bool, true, false, List, [], Result, Ok, Err, string_bytes}
+use Rattle.std.specs.Prelude.{◌≡◌, ℕ, Bool, true, false, List, [], Result, Ok, Err}
 use Rattle.wf_outside.specs.Outside.{Filed, told, missing, untold}
 use Rattle.policy_book.specs.Shapes.{PolicyShape}
 use Rattle.run_record.specs.declared.fault.RunFault.{RunFault}
@@ -22,7 +22,7 @@ RefusesSo how Answers fault = Answers fault []
 
 -- an answer is one of these; so is the ending without one
 abbrev pub AnswersAs : (RunFault → List ℕ → Type 0) → Result Answer RunFault → Type 0
-AnswersAs Answers (Ok answer) = Answers (ending_with answer.found) (string_bytes answer.text)
+AnswersAs Answers (Ok answer) = Answers (ending_with answer.found) answer.text.items
 AnswersAs Answers (Err fault) = RefusesSo (how_of fault) Answers fault
 
 -- the same about the policy in a file, by what is told of the file

@@ -1,5 +1,5 @@
 -- Inside: judging an input that is there.
-use Rattle.std.specs.Prelude.{◌≡◌, ℕ, List, length, Result, Ok, Err, string_bytes}
+use Rattle.std.specs.Prelude.{◌≡◌, ℕ, List, length, Result, Ok, Err}
 use Rattle.policy_book.specs.Shapes.{PolicyShape}
 use Rattle.policy_book.specs.Policies.{flow_at}
 use Rattle.run_record.specs.declared.fault.RunFault.{RunFault}
@@ -14,7 +14,7 @@ use Rattle.wf_commands.specs.Plan.{Judges}
 abbrev pub JudgesAs : PolicyShape → ℕ → List ℕ → Result Answer RunFault → Type 0
 JudgesAs p f input (Ok answer) =
     (users : List ℕ) × (plan_of_input p (length (flow_at p f).flow.steps) input ≡ Ok users)
-    × Judges p f users (ending_with answer.found) (string_bytes answer.text)
+    × Judges p f users (ending_with answer.found) answer.text.items
 JudgesAs p f input (Err (BadInput fault)) =
     plan_of_input p (length (flow_at p f).flow.steps) input ≡ Err fault
 JudgesAs p f input (Err NoMemory) = Unit {0}

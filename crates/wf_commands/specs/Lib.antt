@@ -3,6 +3,7 @@ pub mod Once
 pub mod Plan
 pub mod Show
 pub mod Solve
+pub mod Resilience
 pub mod Given
 pub mod Answer
 pub mod Load

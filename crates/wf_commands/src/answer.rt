@@ -18,7 +18,7 @@ use wf_outside::Source;
 #[derive(Drop)]
 pub struct Answer {
     pub found: bool,
-    pub text: String,
+    pub text: Vec<u8>,
 }
 
 impl Answer {

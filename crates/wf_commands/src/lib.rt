@@ -7,6 +7,7 @@ mod input;
 mod load;
 mod once;
 mod plan;
+mod resilience;
 mod show;
 mod solve;
 
@@ -15,5 +16,6 @@ pub use given::{find_flow, take_input};
 pub use load::{load_file, load_policy};
 pub use once::answer_once;
 pub use plan::PlanCommand;
+pub use resilience::ResilienceCommand;
 pub use show::ShowCommand;
 pub use solve::SolveCommand;

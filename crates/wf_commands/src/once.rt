@@ -32,7 +32,7 @@ pub fn answer_once<A: Answers, F: Shelf, S: Source, K: Sink>(
     ensures untouched { A.limit command.now ≡ None → source.new ≡ source.old }
 {
     match find_answer(alloc, policy, command, shelf, source) {
-        Ok(answer) => match put_and_flush(sink, answer.text.as_bytes()) {
+        Ok(answer) => match put_and_flush(sink, answer.text.as_slice()) {
             Ok(()) => bare_report(alloc, answer.ending()),
             Err(_) => bare_report(alloc, RunFault::Write),
         },

@@ -60,16 +60,16 @@ fn judge_plan(alloc: Global, p: &Policy, f: FlowId, plan: &Plan) -> Result<Answe
     requires users { (s : ℕ) → s < length plan.now
         → planned plan.now s < length p.now.roster.users }
     ensures { IfOk result (λ answer.
-        Judges p.now f plan.now (ending_with answer.found) (string_bytes answer.text)) }
+        Judges p.now f plan.now (ending_with answer.found) answer.text.items) }
 {
     match check_plan(p, f, &Assign::empty(), &StepSet::empty(), plan) {
         Ok(()) => Ok(Answer {
             found: false,
-            text: String::from_str(alloc, "valid\n")?,
+            text: String::from_str(alloc, "valid\n")?.into_bytes(),
         }),
         Err(fault) => Ok(Answer {
             found: true,
-            text: fault_text(alloc, p, f, fault)?,
+            text: fault_text(alloc, p, f, fault)?.into_bytes(),
         }),
     }
 }

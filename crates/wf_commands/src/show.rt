@@ -26,7 +26,7 @@ impl Answers for ShowCommand {
     ) -> Result<Answer, RunFault> {
         Ok(Answer {
             found: false,
-            text: print(alloc, p)?,
+            text: print(alloc, p)?.into_bytes(),
         })
     }
 }

@@ -28,7 +28,7 @@ impl Answers for SolveCommand {
     ) -> Result<Answer, RunFault> {
         Ok(Answer {
             found: false,
-            text: solve_flows(alloc, p)?,
+            text: solve_flows(alloc, p)?.into_bytes(),
         })
     }
 }

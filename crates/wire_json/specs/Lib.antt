@@ -1,3 +1,4 @@
+pub mod Absences
 pub mod Values
 pub mod Requests
 pub mod RequestLaws

@@ -1,6 +1,7 @@
 //! Requests, entries and what a search finds as lines of JSON.
 #![tactic(auto)]
 
+mod absences;
 mod change;
 mod denial;
 mod entry;
@@ -17,6 +18,7 @@ mod value;
 mod views;
 mod word;
 
+pub use absences::{write_absence, write_family};
 pub use finding::{write_plan, write_tree};
 pub use reply::{push_line, write_entry};
 pub use request::{Asked, RequestReader, read_request};

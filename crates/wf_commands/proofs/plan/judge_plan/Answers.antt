@@ -10,7 +10,7 @@ returns-in_ok-from_str-in-Ok c =
     let valid = c.in-Ok.ensures.valid.0 refl in (
       subst (λ (a : List (Option ℕ)). IsValidPlan (problem_of c.args.p.now c.args.f) a no_steps c.args.plan.now) c.empty.ensures.value
           (subst (λ (d : List Bool). IsValidPlan (problem_of c.args.p.now c.args.f) c.empty.result d c.args.plan.now) c.empty-2.ensures.value valid),
-      c.in_ok-from_str-in-Ok.ensures.ok,
+      (let text = c.in_ok-from_str-in-Ok.ensures.ok in let bytes = c.into_bytes.ensures in cc),
     )
 
 pub returns-in_ok-fault_text-in-Err : goal.returns-in_ok-fault_text-in-Err
@@ -19,5 +19,5 @@ returns-in_ok-fault_text-in-Err c =
       c.in-Err.fault,
       subst (λ (a : List (Option ℕ)). plan_verdict (problem_of c.args.p.now c.args.f) a no_steps c.args.plan.now ≡ Err c.in-Err.fault) c.empty.ensures.value
           (subst (λ (d : List Bool). plan_verdict (problem_of c.args.p.now c.args.f) c.empty.result d c.args.plan.now ≡ Err c.in-Err.fault) c.empty-2.ensures.value e),
-      c.in_ok-fault_text-in-Err.ensures,
+      (let text = c.in_ok-fault_text-in-Err.ensures in let bytes = c.into_bytes-in-Err.ensures in cc),
     )

@@ -1,0 +1,55 @@
+//! The command `resilience`: whether a workflow can be done whichever of its users are absent.
+ghost use Rattle.std.specs.Prelude.{◌<◌, length, None, IfOk};
+ghost use Rattle.wf_commands.specs.Answer.{ending_with};
+ghost use Rattle.wf_commands.specs.Resilience.{ChecksAbsences, ChecksFlow};
+
+use crate::answer::{Answer, Answers};
+use crate::given::find_flow;
+use policy_book::Policy;
+use resilience_check::{AbsenceAnswer, resilience};
+use run_record::RunFault;
+use std::alloc::{AllocError, Global};
+use wf_names::FlowId;
+use wf_outside::Source;
+use wire_json::{write_absence, write_family};
+
+/// `resilience`: can this workflow be done whichever users are absent, so many at most?
+#[derive(Clone, Copy)]
+pub struct ResilienceCommand<'a> {
+    pub flow: &'a str,
+    pub absences: u8,
+}
+
+impl Answers for ResilienceCommand<'_> {
+    ghost limit = { λ _. None };
+
+    ghost answers = { λ command _ p. ChecksFlow p command.flow.now command.absences };
+
+    fn answer<S: Source>(
+        &self,
+        alloc: Global,
+        p: &Policy,
+        _source: &mut S,
+    ) -> Result<Answer, RunFault> {
+        let f = find_flow(p, self.flow)?;
+        Ok(check_absences(alloc, p, f, self.absences)?)
+    }
+}
+
+// Whether a workflow can be done whichever at most so many users are absent.
+fn check_absences(alloc: Global, p: &Policy, f: FlowId, t: u8) -> Result<Answer, AllocError>
+    requires { f < length p.now.flows }
+    ensures { IfOk result (λ answer.
+        ChecksAbsences p.now f t (ending_with answer.found) answer.text.items) }
+{
+    match resilience(alloc, p, f, t)? {
+        AbsenceAnswer::Holds(plans) => Ok(Answer {
+            found: false,
+            text: write_family(alloc, p, plans.as_slice())?,
+        }),
+        AbsenceAnswer::Breaks { absent, tree } => Ok(Answer {
+            found: true,
+            text: write_absence(alloc, p, f, absent.as_slice(), &tree)?,
+        }),
+    }
+}
