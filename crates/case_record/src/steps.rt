@@ -7,7 +7,7 @@ ghost use Rattle.wf_names.specs.States.{user_of, is_finished};
 ghost use Rattle.case_record.specs.Cases.{as_finished, phase_after};
 
 use constraint_forms::{Assign, StepSet};
-use wf_names::{Phase, STEP_LIMIT, StepId, StepState, UserId};
+use wf_names::{Phase, STEP_LIMIT, StepId, StepState};
 
 /// Every step free.
 pub(crate) fn all_free() -> [StepState; STEP_LIMIT]
@@ -23,20 +23,12 @@ pub(crate) fn assigned(cells: &[StepState]) -> Assign
 {
     let mut users = Assign::empty();
     'steps: for (s, state) in cells.iter().enumerate() {
-        users = given(users, StepId(s as u8), state.user());
+        match state.user() {
+            Some(user) => users = users.with(StepId(s as u8), user),
+            None => {}
+        }
     }
     users
-}
-
-/// An assignment with a step given to a user, or to nobody.
-fn given(users: Assign, s: StepId, user: Option<UserId>) -> Assign
-    requires { s < STEP_LIMIT }
-    ensures { result ≡ slice_set users s user }
-{
-    match user {
-        Some(user) => users.with(s, user),
-        None => users.without(s),
-    }
 }
 
 /// The steps that are finished.

@@ -1,9 +1,13 @@
-//! Tests of the values at the bottom, of the parts of a policy, and of the policy: what no clause of
-//! theirs shows.
+//! Tests of the values at the bottom, of the parts of a policy, of the policy, and of the clauses of
+//! its cases: what no clause of theirs shows.
 #![tactic(auto)]
 
 #[cfg(test)]
+mod clauses;
+#[cfg(test)]
 mod lists;
+#[cfg(test)]
+mod models;
 #[cfg(test)]
 mod names;
 #[cfg(test)]
