@@ -4,6 +4,7 @@
 _wfserve_forms='serve POLICY --lanes --rounds
 plan POLICY FLOW
 solve POLICY
+resilience POLICY FLOW N
 show POLICY
 audit POLICY REQUESTS --lanes --rounds
 trial N'

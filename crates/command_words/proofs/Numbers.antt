@@ -17,8 +17,9 @@ use Rattle.clap.specs.Walk.{row_text}
 use Rattle.clap.specs.declared.builder.value_parser.Reading.{Reading}
 use Rattle.clap.specs.declared.builder.value_parser.ValueParser.{ValueParser}
 use Rattle.clap.specs.declared.builder.value_parser.ValueParser.TheVariants.{Signed, Unsigned}
+use Rattle.command_words.specs.declared.command.TheConstants.{ABSENCE_LIMIT}
 use Rattle.wf_names.specs.declared.limits.TheConstants.{LANE_LIMIT, ROUND_LIMIT}
-use Rattle.command_words.specs.Words.{audit_form, serve_form, trial_form}
+use Rattle.command_words.specs.Words.{audit_form, resilience_form, serve_form, trial_form}
 use Rattle.command_words.specs.Finding.{HasOptions, PassesIn, RowPasses, TakesValue, WritesWithin}
 
 -- ---- reading a text that writes a number
@@ -206,3 +207,10 @@ audit_options rows p = record {
 pub trial_seed : (rows : List Row) → PassesIn trial_form rows → WritesWithin 0 (2 ^ 64 - 1) (codes "SEED") rows
 trial_seed rows p = unsigned_within p.rules (codes "SEED") 0 (2 ^ 64 - 1) rows (λ e. cc)
     (rules_of (HasParser (codes "SEED") (Unsigned 0 (2 ^ 64 - 1))) trial_form rows p (λ e. refl, tt) (λ e. refl, (other, tt))) p.pass
+
+abbrev absences_parser : ValueParser
+absences_parser = Signed (pos 0) (pos ABSENCE_LIMIT)
+
+pub resilience_absences : (rows : List Row) → PassesIn resilience_form rows → WritesWithin 0 ABSENCE_LIMIT (codes "T") rows
+resilience_absences rows p = signed_within p.rules (codes "T") 0 ABSENCE_LIMIT rows (λ e. cc)
+    (rules_of (HasParser (codes "T") absences_parser) resilience_form rows p (other, (other, (λ e. refl, tt))) (other, (other, (λ e. refl, (other, tt))))) p.pass

@@ -15,11 +15,12 @@ use Rattle.clap.specs.declared.builder.value_parser.ValueParser.TheVariants.{Sig
 use Rattle.clap.specs.declared.parser.matches.ValueSource.{ValueSource}
 use Rattle.clap.specs.declared.parser.matches.ValueSource.TheVariants.{CommandLine, DefaultValue}
 use Rattle.clap.proofs.OnLiterals.{clap_on_literals}
+use Rattle.command_words.specs.declared.command.TheConstants.{ABSENCE_LIMIT}
 use Rattle.wf_names.specs.declared.limits.TheConstants.{DEFAULT_LANES, DEFAULT_ROUNDS, LANE_LIMIT, ROUND_LIMIT}
 use Rattle.command_words.specs.Words.{AreOptions, Options, command_of, found}
-use Rattle.command_words.specs.Words.{audit, plan, serve, show, solve, trial}
-use Rattle.command_words.specs.Words.{audit_form, plan_form, serve_form, show_form, solve_form, trial_form}
-use Rattle.command_words.specs.Words.{audit_in, plan_in, serve_in, show_in, solve_in, trial_in}
+use Rattle.command_words.specs.Words.{audit, plan, resilience, serve, show, solve, trial}
+use Rattle.command_words.specs.Words.{audit_form, plan_form, resilience_form, serve_form, show_form, solve_form, trial_form}
+use Rattle.command_words.specs.Words.{audit_in, plan_in, resilience_in, serve_in, show_in, solve_in, trial_in}
 use Rattle.command_words.specs.Usage.{IsPlain, option_words, options_with}
 use Rattle.command_words.proofs.Decimals.{decimal_plain, signed_taken, unsigned_taken, value_of, value_without_minus}
 use Rattle.command_words.proofs.Walking.{as_option, as_value, at, end_fault, found_by}
@@ -87,6 +88,19 @@ trial_found : (n : Text) → IsPlain n → accepts false (Unsigned 0 (2 ^ 64 - 1
 unfolding clap_on_literals
 trial_found n plain takes =
     found_by trial_form (codes "trial") (as_value n ∷ []) _ refl refl ((plain, refl, refl), tt) (rw takes refl) refl
+
+absences_taken : (n : ℕ) → n ≤ ABSENCE_LIMIT → accepts false (Signed (pos 0) (pos ABSENCE_LIMIT)) (decimal n) ≡ true
+absences_taken n few = let below : n ≤ 3 = few in signed_taken 0 ABSENCE_LIMIT n (omega arith) few (omega arith)
+
+resilience_found : (p f : Text) (n : ℕ) → IsPlain p → IsPlain f → n ≤ ABSENCE_LIMIT
+    → found resilience_form (codes "resilience" ∷ p ∷ f ∷ decimal n ∷ [])
+    ≡ Some (policy_row p ∷ word_row (codes "FLOW") f ∷ number_row (codes "T") CommandLine n ∷ [])
+unfolding clap_on_literals
+resilience_found p f n plain plain_f few =
+    let takes = absences_taken n few in
+    let below : n ≤ 3 = few in
+    found_by resilience_form (codes "resilience") (as_value p ∷ as_value f ∷ as_value (decimal n) ∷ []) _ refl refl
+    ((plain, refl, refl), ((plain_f, refl, refl), ((small_plain n (omega arith), refl, refl), tt))) (rw takes refl) refl
 
 -- `serve`, with the options or without them
 abbrev serve_files : Text → List Row
@@ -245,3 +259,10 @@ trial_read seed small =
     ap (option_and_then trial_in)
     (trial_found (decimal seed) (decimal_plain seed small) (unsigned_taken seed small))
     ∙ ap (λ (n : ℕ). Some (trial n)) (value_of seed small)
+
+pub resilience_read : (p f : Text) (n : ℕ) → IsPlain p → IsPlain f → n ≤ ABSENCE_LIMIT
+    → command_of (codes "resilience" ∷ p ∷ f ∷ decimal n ∷ []) ≡ Some (resilience p f n)
+resilience_read p f n plain plain_f few =
+    let below : n ≤ 3 = few in
+    ap (option_and_then resilience_in) (resilience_found p f n plain plain_f few)
+    ∙ ap (λ (m : ℕ). Some (resilience p f m)) (value_without_minus n (omega arith))

@@ -1,8 +1,8 @@
 -- A command of the code, as the definitions see it.
 use Rattle.command_words.specs.declared.command.Command.{Command as Given}
-use Rattle.command_words.specs.declared.command.Command.TheVariants.{Plan, Show, Solve, Serve, Audit, Trial}
+use Rattle.command_words.specs.declared.command.Command.TheVariants.{Plan, Show, Solve, Resilience, Serve, Audit, Trial}
 use Rattle.command_words.specs.declared.command.Options.{Options as GivenOptions}
-use Rattle.command_words.specs.Words.{AreOptions, Command, Options, plan, show, solve, serve, audit, trial}
+use Rattle.command_words.specs.Words.{AreOptions, Command, Options, plan, show, solve, resilience, serve, audit, trial}
 
 -- the options
 abbrev pub options_in : GivenOptions → Options
@@ -13,6 +13,7 @@ abbrev pub asked : Given → Command
 asked (Plan policy flow) = plan policy.now flow.now
 asked (Show policy) = show policy.now
 asked (Solve policy) = solve policy.now
+asked (Resilience policy flow absences) = resilience policy.now flow.now absences
 asked (Serve policy options) = serve policy.now (options_in options)
 asked (Audit policy requests options) = audit policy.now requests.now (options_in options)
 asked (Trial seed) = trial seed

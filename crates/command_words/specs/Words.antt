@@ -9,6 +9,7 @@ use Rattle.std.specs.Cmp.Lexicographic.{pointwise}
 use Rattle.clap.specs.Words.{App, Row, Rule, Text, fault_of, first_of, matches_of, new_app, new_rule, one_of, with_rule}
 use Rattle.clap.specs.Walk.{is_empty}
 use Rattle.clap.specs.declared.builder.value_parser.ValueParser.TheVariants.{Signed, Unsigned}
+use Rattle.command_words.specs.declared.command.TheConstants.{ABSENCE_LIMIT}
 use Rattle.wf_names.specs.declared.limits.TheConstants.{LANE_LIMIT, DEFAULT_LANES, ROUND_LIMIT, DEFAULT_ROUNDS}
 
 -- how a session is served: on how many lanes, and after how many rounds a request is answered again
@@ -22,11 +23,12 @@ pub record AreOptions (o : Options) : Type 0 where
   pub lanes : o.lanes ≤ LANE_LIMIT
   pub rounds : o.rounds ≤ ROUND_LIMIT
 
--- what the program is asked to do, with the names of the files and the workflow, and the seed
+-- what the program is asked to do, with the names of the files and the workflow, and the numbers
 pub data Command : Type 0 where
   plan : Text → Text → Command
   show : Text → Command
   solve : Text → Command
+  resilience : Text → Text → ℕ → Command
   serve : Text → Options → Command
   audit : Text → Text → Options → Command
   trial : ℕ → Command
@@ -48,6 +50,10 @@ ranged name least most usual = record (new_rule name) {
   parser = Some (Signed (pos least) (pos most));
   defaults = usual ∷ [];
 }
+
+-- a word that has to be there and writes a number up to the most users who may be absent
+abbrev pub absences_word : Rule
+absences_word = record (wanted (codes "T")) { parser = Some (Signed (pos 0) (pos ABSENCE_LIMIT)) }
 
 abbrev pub policy_word : Rule
 policy_word = wanted (codes "POLICY")
@@ -108,6 +114,14 @@ solve_form = form (codes "solve") (policy_word ∷ [])
 abbrev pub solve_in : List Row → Option Command
 solve_in rows = option_map solve (policy_in rows)
 
+abbrev pub resilience_form : App
+resilience_form = form (codes "resilience") (policy_word ∷ wanted (codes "FLOW") ∷ absences_word ∷ [])
+
+abbrev pub resilience_in : List Row → Option Command
+resilience_in rows = option_and_then (λ policy.
+    with_both (resilience policy) (first_of (codes "FLOW") rows) (number_in (codes "T") rows))
+    (policy_in rows)
+
 abbrev pub serve_form : App
 serve_form = form (codes "serve") (policy_word ∷ lanes_option ∷ rounds_option ∷ [])
 
@@ -140,6 +154,7 @@ command_at word words =
     if is_word word (codes "plan") then command_by plan_form plan_in words else
     if is_word word (codes "show") then command_by show_form show_in words else
     if is_word word (codes "solve") then command_by solve_form solve_in words else
+    if is_word word (codes "resilience") then command_by resilience_form resilience_in words else
     if is_word word (codes "serve") then command_by serve_form serve_in words else
     if is_word word (codes "audit") then command_by audit_form audit_in words else
     if is_word word (codes "trial") then command_by trial_form trial_in words else
@@ -156,6 +171,7 @@ reads_input None = false
 reads_input (Some (plan policy flow)) = true
 reads_input (Some (show policy)) = false
 reads_input (Some (solve policy)) = false
+reads_input (Some (resilience policy flow absences)) = false
 reads_input (Some (serve policy options)) = true
 reads_input (Some (audit policy requests options)) = true
 reads_input (Some (trial seed)) = false

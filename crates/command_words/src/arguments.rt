@@ -2,8 +2,9 @@
 ghost use Rattle.std.specs.Prelude.{◌≡◌, false, pos};
 ghost use Rattle.clap.specs.Words.{rule_of};
 ghost use Rattle.clap.specs.declared.builder.value_parser.ValueParser.TheVariants.{Signed};
-ghost use Rattle.command_words.specs.Words.{lanes_option, ranged, rounds_option, wanted, wanted_number};
+ghost use Rattle.command_words.specs.Words.{absences_word, lanes_option, ranged, rounds_option, wanted, wanted_number};
 
+use crate::ABSENCE_LIMIT;
 use clap::Arg;
 use clap::builder::ValueParser;
 use std::alloc::Global;
@@ -23,6 +24,14 @@ pub(crate) fn wanted_number<'a>(alloc: Global, name: &'a str) -> Arg<'a>
     ensures own { result.global ≡ false }
 {
     wanted(alloc, name).value_parser(clap::value_parser!(u64))
+}
+
+/// The number of users who may be absent.
+pub(crate) fn absences<'a>(alloc: Global) -> Arg<'a>
+    ensures rule { rule_of result ≡ absences_word }
+    ensures own { result.global ≡ false }
+{
+    wanted(alloc, "T").value_parser(numbers(0, ABSENCE_LIMIT))
 }
 
 /// The option for the number of lanes.

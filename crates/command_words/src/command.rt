@@ -1,5 +1,8 @@
 //! What the program is asked to do.
 
+/// Most users whose absence `resilience` looks at.
+pub const ABSENCE_LIMIT: u8 = 3;
+
 /// How a session is served.
 #[derive(Clone, Copy, Debug, PartialEq, Eq)]
 pub struct Options {
@@ -24,6 +27,13 @@ pub enum Command<'a> {
     /// Finds a plan for each workflow, or shows that there is none.
     Solve {
         policy: &'a str,
+    },
+    /// Finds whether a workflow can be done whichever of its users are absent.
+    Resilience {
+        policy: &'a str,
+        flow: &'a str,
+        /// How many users may be absent at most.
+        absences: u8,
     },
     /// Answers the requests in the input.
     Serve {

@@ -1,10 +1,11 @@
 //! The forms of the usage are read.
 //!
 //! The function does nothing; its contract is the law.
-ghost use Rattle.std.specs.Prelude.{◌≡◌, ◌<◌, ◌^◌, ℕ, [], ◌∷◌, Option, Some, codes};
+ghost use Rattle.std.specs.Prelude.{◌≡◌, ◌<◌, ◌≤◌, ◌^◌, ℕ, [], ◌∷◌, Option, Some, codes};
 ghost use Rattle.std.specs.Fmt.{decimal};
 ghost use Rattle.clap.specs.Words.{Text};
-ghost use Rattle.command_words.specs.Words.{AreOptions, audit, command_of, plan, serve, show, solve, trial};
+ghost use Rattle.command_words.specs.declared.command.TheConstants.{ABSENCE_LIMIT};
+ghost use Rattle.command_words.specs.Words.{AreOptions, audit, command_of, plan, resilience, serve, show, solve, trial};
 ghost use Rattle.command_words.specs.Usage.{IsPlain, option_words, options_with};
 
 /// The words of each command, in the form that a usage text shows, are read as that command.
@@ -15,6 +16,10 @@ pub fn usage_is_read()
         → command_of (codes "show" ∷ policy ∷ []) ≡ Some (show policy) }
     ensures solve { (policy : Text) → IsPlain policy
         → command_of (codes "solve" ∷ policy ∷ []) ≡ Some (solve policy) }
+    ensures resilience { (policy flow : Text) (absences : ℕ) → IsPlain policy → IsPlain flow
+        → absences ≤ ABSENCE_LIMIT
+        → command_of (codes "resilience" ∷ policy ∷ flow ∷ decimal absences ∷ [])
+        ≡ Some (resilience policy flow absences) }
     ensures serve { (policy : Text) (lanes rounds : Option ℕ) → IsPlain policy
         → AreOptions (options_with lanes rounds)
         → command_of (codes "serve" ∷ policy ∷ option_words lanes rounds)

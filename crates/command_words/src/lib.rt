@@ -9,11 +9,12 @@ mod forms;
 mod laws;
 mod plan;
 mod reading;
+mod resilience;
 mod serve;
 mod show;
 mod solve;
 mod trial;
 
-pub use command::{Command, Options};
+pub use command::{ABSENCE_LIMIT, Command, Options};
 pub use laws::usage_is_read;
 pub use reading::read_words;

@@ -7,9 +7,10 @@ use Rattle.run_record.specs.Run.{Run, IsOrderly, IsUntouched}
 use Rattle.wf_commands.specs.Plan.{Plans}
 use Rattle.wf_commands.specs.Show.{Shows}
 use Rattle.wf_commands.specs.Solve.{Solves}
+use Rattle.wf_commands.specs.Resilience.{ChecksResilience}
 use Rattle.audit_command.specs.Running.{AuditsRun}
 use Rattle.trial_command.specs.Running.{RunsTrial}
-use Rattle.command_words.specs.Words.{Command, plan, show, solve, serve, audit, trial}
+use Rattle.command_words.specs.Words.{Command, plan, show, solve, resilience, serve, audit, trial}
 use Rattle.wf_server.specs.Serving.{ServesRun}
 
 -- a run does what its command is; where the words are none it ends before anything
@@ -18,6 +19,7 @@ Does None r = IsOrderly r × (r.fault ≡ Usage)
 Does (Some (plan policy flow)) r = Plans policy flow r
 Does (Some (show policy)) r = Shows policy r
 Does (Some (solve policy)) r = Solves policy r
+Does (Some (resilience policy flow absences)) r = ChecksResilience policy flow absences r
 Does (Some (serve policy options)) r = ServesRun policy options r
 Does (Some (audit policy requests options)) r = AuditsRun policy requests options.lanes options.rounds r
 Does (Some (trial seed)) r = IsOrderly r × RunsTrial seed (record {

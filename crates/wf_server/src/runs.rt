@@ -20,7 +20,7 @@ use std::alloc::Global;
 use std::sync::Wait;
 use std::thread::Threads;
 use trial_command::run_trial;
-use wf_commands::{PlanCommand, ShowCommand, SolveCommand, answer_once};
+use wf_commands::{PlanCommand, ResilienceCommand, ShowCommand, SolveCommand, answer_once};
 use wf_desk::Desk;
 use wf_lanes::{Gate, serve_by_lanes, serve_by_turns};
 use wf_outside::{Shelf, Sink, Source};
@@ -134,6 +134,14 @@ fn run_command<F: Shelf, S: Source, K: Sink>(
         }
         Command::Solve { policy } => {
             answer_once(alloc, policy, &SolveCommand, shelf, source, sink)
+        }
+        Command::Resilience {
+            policy,
+            flow,
+            absences,
+        } => {
+            let command = ResilienceCommand { flow, absences };
+            answer_once(alloc, policy, &command, shelf, source, sink)
         }
         Command::Serve { policy, options } => {
             let by_turns = |desk: Desk| -> Desk

@@ -1,4 +1,4 @@
-use Rattle.command_words.proofs.Usage.{audit_read, plan_read, serve_read, show_read, solve_read, trial_read}
+use Rattle.command_words.proofs.Usage.{audit_read, plan_read, resilience_read, serve_read, show_read, solve_read, trial_read}
 use Rattle.command_words.proofs.laws.usage_is_read.Goals as goal
 
 pub returns : goal.returns
@@ -6,6 +6,7 @@ returns c = record {
   plan = plan_read;
   show = show_read;
   solve = solve_read;
+  resilience = resilience_read;
   serve = serve_read;
   audit = audit_read;
   trial = trial_read;
