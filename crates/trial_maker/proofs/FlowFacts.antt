@@ -1,5 +1,5 @@
 -- The workflow of a trial: its order has no cycle, no pair stands twice, and its rules name its steps.
-use Rattle.std.proofs.Common.{◌≡◌, ℕ, zero, suc, ◌+◌, ◌%◌, ◌<◌, ◌≤◌, inl, inr, Bool, true, false, ◌||◌, List, [], ◌∷◌, ◌++◌, map, length, replicate, slice_index_or, Option, unwrap_or, ◌==◌, refl, sym, ap, subst, ◌∙◌, append_assoc, arith}
+use Rattle.std.proofs.Common.{◌≡◌, ℕ, zero, suc, ◌+◌, ◌-◌, ◌%◌, ◌<◌, ◌≤◌, inl, inr, Bool, true, false, ◌||◌, List, [], ◌∷◌, ◌++◌, map, length, replicate, slice_index_or, Option, unwrap_or, ◌==◌, refl, sym, ap, subst, ◌∙◌, append_assoc, arith}
 use Rattle.std.specs.List.{list_any, range_with_len}
 use Rattle.std.specs.Ordering.{eq_by_cmp}
 use Rattle.std.specs.FinSet as set
@@ -12,6 +12,7 @@ use Rattle.basics.proofs.Booleans.{eq_back, or_cases}
 use Rattle.constraint_forms.specs.Assigned.{is_member, no_steps}
 use Rattle.constraint_forms.specs.declared.rule.Rule.{Rule}
 use Rattle.constraint_forms.specs.declared.rule.Rule.TheVariants.{Pair, SomeOf, AllOf}
+use Rattle.wf_names.specs.declared.limits.TheConstants.{STEP_LIMIT}
 use Rattle.policy_book.specs.Facts.{AreSoundRules, IsSoundRule, PermitsRolesBelow}
 use Rattle.trial_maker.specs.TrialNames.{step_name}
 use Rattle.trial_maker.specs.TrialPolicy.{both, trial_flow, trial_rules}
@@ -133,7 +134,7 @@ first_two : (s : ℕ) → is_member (both 0 1) s ≡ true → s < 12
 unfolding no_steps
 first_two zero h = omega arith
 first_two (suc zero) h = omega arith
-first_two (suc (suc s)) h = absurd (past_flags 14 s h)
+first_two (suc (suc s)) h = absurd (past_flags (STEP_LIMIT - 2) s h)
 
 next_two : (s : ℕ) → is_member (both 2 3) s ≡ true → s < 12
 unfolding no_steps
@@ -141,7 +142,7 @@ next_two zero h = omega arith
 next_two (suc zero) h = omega arith
 next_two (suc (suc zero)) h = omega arith
 next_two (suc (suc (suc zero))) h = omega arith
-next_two (suc (suc (suc (suc s)))) h = absurd (past_flags 12 s h)
+next_two (suc (suc (suc (suc s)))) h = absurd (past_flags (STEP_LIMIT - 4) s h)
 
 group_sound : (group : List Bool) (step s : ℕ) → ((t : ℕ) → is_member group t ≡ true → t < 12) → step < 12 → ((s == step) || is_member group s) ≡ true → s < 12
 group_sound group step s members low h = elim (or_cases (s == step) (is_member group s) h) [
