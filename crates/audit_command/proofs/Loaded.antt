@@ -25,7 +25,6 @@ use Rattle.audit_command.specs.Loading.{GivesJobs, JobsOf}
 use Rattle.audit_command.specs.Running.{AuditOf, AuditsFile, AuditsPolicy, AuditsRequests, EndsWithout, Input, audit_for}
 use Rattle.audit_command.specs.Steps.{FindsAs, FindsFile, IsReadEnding}
 
-
 -- ---- what is found with them
 
 audits_requests : LegalIsExact → (p : PolicyShape) (o : AuditOf) (i : Input) (requests : List ℕ) (batch : Batch) (f : Finding) → JobsOf requests o.lanes (Ok batch) → AreOfSession p o.rounds batch.jobs batch.ends

@@ -86,12 +86,7 @@ fn push_plans(out: &mut Vec<u8>, p: &Policy, plans: &[Plan]) -> Result<(), Alloc
 }
 
 // Adds one more plan.
-fn push_plan_next(
-    out: &mut Vec<u8>,
-    later: bool,
-    p: &Policy,
-    plan: &Plan,
-) -> Result<(), AllocError>
+fn push_plan_next(out: &mut Vec<u8>, later: bool, p: &Policy, plan: &Plan) -> Result<(), AllocError>
     ensures { OnOk result (out.new.items ≡ out.old.items ++
         (comma_if later ++ compact_text (plan_data p.now.roster.users plan.now))) }
 {
