@@ -15,7 +15,7 @@ use constraint_forms::{Assign, Plan, StepSet};
 use policy_book::Policy;
 use std::alloc::{AllocError, Global};
 use wf_names::{FlowId, StepId, UserId};
-use wsp_solver::{Outcome, plan_near, solve_within};
+use wsp_solver::{Outcome, Unsolved, plan_near, solve_within};
 
 /// The most branches that a search for the server keeps, and the most leaves and nodes of a tree that
 /// it answers. A name has at most 40 bytes, so each takes at most 108 bytes of an entry, and an entry
@@ -113,6 +113,6 @@ fn solve_for_entry(
 {
     match solve_within(alloc, p, f, a, done, BRANCHES) {
         Ok(outcome) => Ok(outcome),
-        Err(_) => Err(AllocError),
+        Err(Unsolved::NoMemory | Unsolved::OverBudget) => Err(AllocError),
     }
 }

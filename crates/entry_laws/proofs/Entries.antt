@@ -157,7 +157,7 @@ entry_fits p rounds entries e is known = record {
     fits : FitsReply s.book.policy (flows_of s) (concerned s.book.policy (flows_of s) e.ask) e.reply
     fits = by_reply known.right.1
 
-    nests : depth (reply_data s.book.policy e.reply) ≤ 70
+    nests : depth (reply_data s.book.policy e.reply) ≤ 90
     nests = fits.1
 
 pub entries_are_lines : EntriesAreLines

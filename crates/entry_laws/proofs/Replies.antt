@@ -53,7 +53,7 @@ pub record IsReached (s : State) : Type 0 where
 
 -- a reply stands for something, and nests little
 abbrev pub FitsReply : PolicyShape → (ℕ → Option ℕ) → Option ℕ → Reply → Type 0
-FitsReply p flows o r = IsReply p flows o r × (depth (reply_data p r) ≤ 70)
+FitsReply p flows o r = IsReply p flows o r × (depth (reply_data p r) ≤ 90)
 
 -- ---- plans
 

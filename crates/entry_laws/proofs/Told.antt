@@ -44,7 +44,7 @@ use Rattle.entry_laws.proofs.Parts.{falsified_there, missing_there, roles_stand,
 
 -- a denial stands for something, and nests little
 abbrev pub FitsDenial : PolicyShape → (ℕ → Option ℕ) → Option ℕ → Denial → Type 0
-FitsDenial p flows o d = IsDenial p flows o d × (depth (denial_data p d) ≤ 60)
+FitsDenial p flows o d = IsDenial p flows o d × (depth (denial_data p d) ≤ 80)
 
 -- a case of the policy, whose workflow is concerned
 abbrev pub IsOn : State → Option ℕ → CaseShape → Type 0
@@ -68,7 +68,7 @@ IsDeedFor s o (deed.TurnAway b) = IsBad b
 abbrev Fits : State → Option ℕ → Denial → Type 0
 Fits s o d = FitsDenial s.book.policy (flows_of s) o d
 
-unknown_nests : (p : PolicyShape) (what : Missing) → depth (denial_data p (denial.Unknown what)) ≤ 60
+unknown_nests : (p : PolicyShape) (what : Missing) → depth (denial_data p (denial.Unknown what)) ≤ 80
 unknown_nests p missing.Flow = omega arith
 unknown_nests p missing.Step = omega arith
 unknown_nests p missing.Relation = omega arith
