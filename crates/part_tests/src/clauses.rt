@@ -12,7 +12,7 @@ use wf_names::{FlowId, StepId, UserId};
 
 pub(crate) const FLOW: FlowId = FlowId(0);
 
-const LONE: &str = r#"
+pub(crate) const LONE: &str = r#"
 format = 1
 admin = "chief"
 roles = ["boss", "chief", "clerk"]

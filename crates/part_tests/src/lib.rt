@@ -1,7 +1,9 @@
-//! Tests of the values at the bottom, of the parts of a policy, of the policy, and of the clauses of
-//! its cases: what no clause of theirs shows.
+//! Tests of the values at the bottom, of the parts of a policy, of the policy, of the absences that its
+//! workflows stand, and of the clauses of its cases: what no clause of theirs shows.
 #![tactic(auto)]
 
+#[cfg(test)]
+mod absences;
 #[cfg(test)]
 mod clauses;
 #[cfg(test)]

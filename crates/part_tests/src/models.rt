@@ -7,7 +7,7 @@ use std::alloc::{AllocError, Global};
 use std::test::Fail;
 use wf_names::UserId;
 
-const PAY: &str = r#"
+pub(crate) const PAY: &str = r#"
 format = 1
 admin = "chief"
 roles = ["boss", "chief", "clerk"]
