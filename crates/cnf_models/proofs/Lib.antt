@@ -1,2 +1,4 @@
 pub mod Grids
 pub mod Firsts
+pub mod Splits
+pub mod Steps

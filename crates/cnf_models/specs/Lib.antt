@@ -1,3 +1,4 @@
 pub mod Flags
 pub mod Readings
 pub mod Laws
+pub mod Texts

@@ -7,7 +7,10 @@ mod model;
 mod reading;
 mod saying;
 mod seen;
+mod text;
+mod word;
 
 pub use made::model_of;
 pub use model::Model;
 pub use reading::{Reading, plan_of};
+pub use text::{ModelFault, read_model};
