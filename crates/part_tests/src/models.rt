@@ -90,7 +90,10 @@ fn texts_are_read_to_their_end(rt: HostRuntime) -> Result<(), Fail> {
         ("1 3", [true, false, true, false]),
         ("0", [false, false, false, false]),
         ("-1 2 -3 4 0\n", [false, true, false, true]),
-        ("c 1 is a comment\ns SATISFIABLE\nv 2 -3\nv 4 0\n", [false, true, false, true]),
+        (
+            "c 1 is a comment\ns SATISFIABLE\nv 2 -3\nv 4 0\n",
+            [false, true, false, true],
+        ),
         ("v\nv 1\t2\r\n", [true, true, false, false]),
         ("1 0 x 99999999999999999999\n5", [true, false, false, false]),
         ("  1   2\r\n\n\n3 0", [true, true, true, false]),
