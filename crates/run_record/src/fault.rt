@@ -9,7 +9,7 @@ use std::alloc::AllocError;
 use std::error::Error;
 use std::fmt;
 
-/// What is wrong with the workflow's name, or with the input of `plan`.
+/// What is wrong with the input of `plan`.
 #[derive(Clone, Copy, Debug, PartialEq, Eq)]
 pub enum InputFault {
     /// The policy has no workflow of the name given.
@@ -28,8 +28,7 @@ pub enum RunFault {
     /// The command was done.
     Nothing,
     /// The command was done, and found what it looks for: `plan` that the plan is not valid,
-    /// `resilience` an absence that leaves no valid plan, `audit` a line of the transcript that has
-    /// a fault or is missing. No other command ends so.
+    /// `audit` a line of the transcript that has a fault or is missing. No other command ends so.
     Found,
     /// The words are none of the program's commands.
     Usage,
@@ -49,7 +48,7 @@ pub enum RunFault {
     LineTooLong(u32),
     /// There are more lines than a session may have.
     TooManyLines,
-    /// The workflow's name, or the input of `plan`, has this fault.
+    /// The input of `plan` has this fault.
     BadInput(InputFault),
 }
 

@@ -14,7 +14,7 @@ use std::alloc::Global;
 use wf_outside::Source;
 
 /// What is written, and whether the command found what it looks for, which is told by its status:
-/// `plan` that the plan is not valid, `resilience` an absence that leaves no valid plan.
+/// `plan` a plan that is not valid.
 #[derive(Drop)]
 pub struct Answer {
     pub found: bool,
