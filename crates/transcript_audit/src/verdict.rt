@@ -11,7 +11,8 @@ use wf_board::{Board, Decider, Verdict};
 use wf_talk::{Ask, Reply, Request};
 
 /// A decider's verdict for an edit or a view over the open cases, against which there is no cause.
-/// Nothing else needs one: a plan or a tree in a reply is checked by itself.
+/// Nothing else needs one: a plan or a tree in a reply is checked by itself, and want of memory may
+/// stand for any reply, so nothing is searched for it.
 pub(crate) fn verdict_for<V: Decider>(
     board: &Board,
     alloc: Global,
@@ -24,7 +25,9 @@ pub(crate) fn verdict_for<V: Decider>(
     ensures verdict { result ≢ Verdict.NoMemory
         → HasVerdict (state_on board.now) ask.now reply.now result }
 {
-    let _ = reply;
+    if matches!(reply, Reply::NoMemory) {
+        return Verdict::Nothing;
+    }
     if asks_of_all(ask) && board.needs(ask) {
         found(board, alloc, decider, ask)
     } else {
