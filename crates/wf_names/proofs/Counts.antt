@@ -1,11 +1,13 @@
 -- How many bits of a word are set.
-use Rattle.std.proofs.Common.{◌≡◌, ℕ, zero, suc, ◌+◌, ◌-◌, ◌*◌, ◌/◌, ◌%◌, ◌^◌, ◌<◌, ◌≤◌, Bool, true, false, nat_eq, List, length, take, slice_index_or, refl, sym, ap, ◌∙◌, inl, inr, arith, count_ones}
+use Rattle.std.proofs.Common.{◌≡◌, ℕ, zero, suc, ◌+◌, ◌-◌, ◌*◌, ◌/◌, ◌%◌, ◌^◌, ◌<◌, ◌≤◌, Bool, true, false, nat_eq, List, length, take, drop, slice_index, slice_index_or, [], ◌∷◌, refl, sym, ap, subst, ◌∙◌, inl, inr, arith, count_ones}
 use Rattle.std.specs.Prelude.{if◌then◌else◌}
 use Rattle.std.specs.Int.{bit_at, w64}
 use mir.Val.{Fits}
 use Rattle.std.specs.List.{sum_by}
-use Rattle.std.proofs.lemmas.List.Sums.{sum_by_more}
-use Rattle.std.proofs.lemmas.Nat.{ones_cat, pow_pos, shr_split, mul-le}
+use Rattle.std.specs.Simd.Lanes.{chunk}
+use Rattle.std.proofs.lemmas.List.{take_all}
+use Rattle.std.proofs.lemmas.List.Sums.{sum_by_more, sum_by-cons}
+use Rattle.std.proofs.lemmas.Nat.{ones-le, ones_cat, pow_pos, shr_split, mul-le}
 use Rattle.std.proofs.lemmas.Bool.{cases_lt}
 use Rattle.std.proofs.lemmas.Nat.Bits.{bit_at_cat_low}
 use Rattle.wf_names.specs.UserSets.{has_bit, has_user, count_below}
@@ -83,3 +85,33 @@ users_counted words fits (suc n) within =
     let place : (64 * n + i) % 64 ≡ i = omega (arith, small) in
     sym (ap (λ j. has_bit (slice_index_or words j 0) ((64 * n + i) % 64)) word ∙ ap (λ k. has_bit (slice_index_or words n 0) k) place)))
     ∙ sym (ap (λ k. count_below k (has_user words)) size ∙ count_add (64 * n) 64 (has_user words))
+
+-- the words of a vector behind those before it
+pub ones_on : (at n : ℕ) (words : List ℕ)
+    → sum_by count_ones (take (at + n) words) ≡ sum_by count_ones (take at words) + sum_by count_ones (chunk at n words)
+ones_on zero n words =
+    let same : zero + n ≡ n = omega arith in
+    let whole = ap (λ k. sum_by count_ones (take k words)) same in
+    omega (arith, whole)
+ones_on (suc at) n [] =
+    let next : suc at + n ≡ suc (at + n) = omega arith in
+    let whole = ap (λ k. sum_by count_ones (take k [])) next in
+    let none = ap (sum_by count_ones) (take_all n [] (omega arith)) in
+    omega (arith, whole, none)
+ones_on (suc at) n (w ∷ words) =
+    let next : suc at + n ≡ suc (at + n) = omega arith in
+    let rest = ones_on at n words in
+    let more = sum_by-cons count_ones w (take (at + n) words) in
+    let some = sum_by-cons count_ones w (take at words) in
+    ap (λ k. sum_by count_ones (take k (w ∷ words))) next ∙ omega (arith, rest, more, some)
+
+-- no word has more than 64 bits
+pub ones_within : (words : List ℕ) → ((i : ℕ) → slice_index words i < 2 ^ 64) → (n : ℕ) → n ≤ length words
+    → sum_by count_ones (take n words) ≤ 64 * n
+ones_within words fits zero within = omega arith
+ones_within words fits (suc n) within =
+    let rest = ones_within words fits n (omega (arith, within)) in
+    let more = sum_by_more count_ones words n 0 (omega (arith, within)) in
+    let word = ones-le 64 (slice_index words n) (fits n) in
+    let next : suc n ≡ n + 1 = omega arith in
+    subst (λ k. sum_by count_ones (take k words) ≤ 64 * k) (sym next) (omega (arith, rest, more, word))

@@ -1,7 +1,7 @@
 //! Kernels over words of bits, several words at a time.
 ghost use Rattle.std.specs.Prelude.{◌≡◌, ℕ, ◌+◌, ◌≤◌, ◌<◌, length, bit_and, bit_or, count_ones};
 ghost use Rattle.std.specs.List.{sum_by};
-ghost use Rattle.std.specs.Simd.Lanes.{zip2};
+ghost use Rattle.std.specs.Simd.Lanes.{chunk, zip2};
 ghost use Rattle.wf_names.specs.Words.{minus, IsMixedFrom};
 
 use std::simd::prelude::*;
@@ -90,9 +90,21 @@ pub fn count_words(words: &[u64]) -> u64
     requires { length words.now ≤ 4294967296 }
     ensures { result ≡ sum_by count_ones words.now }
 {
+    let whole = words.len() / LANES * LANES;
     let mut count: u64 = 0;
-    'words: for word in words {
-        count += word.count_ones() as u64;
+    'lanes: for lane in 0..words.len() / LANES {
+        count += count_lanes(words, lane * LANES);
+    }
+    'rest: for i in whole..words.len() {
+        count += words[i].count_ones() as u64;
     }
     count
+}
+
+// The same for one vector of words.
+fn count_lanes(words: &[u64], at: usize) -> u64
+    requires room { at + 8 ≤ length words.now }
+    ensures { result ≡ sum_by count_ones (chunk at 8 words.now) }
+{
+    u64x8::from_slice(&words[at..]).count_ones().reduce_sum()
 }
