@@ -9,7 +9,7 @@ use std::alloc::AllocError;
 use std::error::Error;
 use std::fmt;
 
-/// What is wrong with the input of `plan`.
+/// What is wrong with what is asked about, or with the input of `plan`.
 #[derive(Clone, Copy, Debug, PartialEq, Eq)]
 pub enum InputFault {
     /// The policy has no workflow of the name given.
@@ -28,7 +28,8 @@ pub enum RunFault {
     /// The command was done.
     Nothing,
     /// The command was done, and found what it looks for: `plan` that the plan is not valid,
-    /// `audit` a line of the transcript that has a fault or is missing. No other command ends so.
+    /// `audit` a line of the transcript that has a fault or is missing, `resilience` users without
+    /// whom the workflow cannot be done.
     Found,
     /// The words are none of the program's commands.
     Usage,

@@ -14,7 +14,7 @@ use std::alloc::Global;
 use wf_outside::Source;
 
 /// What is written, and whether the command found what it looks for, which is told by its status:
-/// `plan` a plan that is not valid.
+/// `plan` a plan that is not valid, `resilience` users without whom the workflow cannot be done.
 #[derive(Drop)]
 pub struct Answer {
     pub found: bool,

@@ -80,7 +80,8 @@ fn edit_in(word: EditWord, object: &Object<'_>) -> Result<Edit, Bad>
 // To add a user.
 #[tactic(auto, unfolding(wf_names::specs::Names::is_name))]
 fn add_user_in(object: &Object<'_>) -> Result<Edit, Bad>
-    ensures { Gives Some (λ e. e) result (edit_by (row_of_edit EditWord.AddUser) (data_of object.now)) }
+    ensures { Gives Some (λ e. e) result
+        (edit_by (row_of_edit EditWord.AddUser) (data_of object.now)) }
 {
     let user = name_at(object, "user")?;
     Ok(Edit::AddUser { user })
@@ -89,7 +90,8 @@ fn add_user_in(object: &Object<'_>) -> Result<Edit, Bad>
 // To take all roles away from a user.
 #[tactic(auto, unfolding(wf_names::specs::Names::is_name))]
 fn leave_in(object: &Object<'_>) -> Result<Edit, Bad>
-    ensures { Gives Some (λ e. e) result (edit_by (row_of_edit EditWord.Leave) (data_of object.now)) }
+    ensures { Gives Some (λ e. e) result
+        (edit_by (row_of_edit EditWord.Leave) (data_of object.now)) }
 {
     let user = name_at(object, "user")?;
     Ok(Edit::Leave { user })
@@ -98,7 +100,8 @@ fn leave_in(object: &Object<'_>) -> Result<Edit, Bad>
 // To give a user a role.
 #[tactic(auto, unfolding(wf_names::specs::Names::is_name))]
 fn enrol_in(object: &Object<'_>) -> Result<Edit, Bad>
-    ensures { Gives Some (λ e. e) result (edit_by (row_of_edit EditWord.Enrol) (data_of object.now)) }
+    ensures { Gives Some (λ e. e) result
+        (edit_by (row_of_edit EditWord.Enrol) (data_of object.now)) }
 {
     let role = name_at(object, "role")?;
     let user = name_at(object, "user")?;
@@ -108,7 +111,8 @@ fn enrol_in(object: &Object<'_>) -> Result<Edit, Bad>
 // To take a role away from a user.
 #[tactic(auto, unfolding(wf_names::specs::Names::is_name))]
 fn dismiss_in(object: &Object<'_>) -> Result<Edit, Bad>
-    ensures { Gives Some (λ e. e) result (edit_by (row_of_edit EditWord.Dismiss) (data_of object.now)) }
+    ensures { Gives Some (λ e. e) result
+        (edit_by (row_of_edit EditWord.Dismiss) (data_of object.now)) }
 {
     let role = name_at(object, "role")?;
     let user = name_at(object, "user")?;
@@ -118,7 +122,8 @@ fn dismiss_in(object: &Object<'_>) -> Result<Edit, Bad>
 // To put a pair of users into a relation.
 #[tactic(auto, unfolding(wf_names::specs::Names::is_name))]
 fn relate_in(object: &Object<'_>) -> Result<Edit, Bad>
-    ensures { Gives Some (λ e. e) result (edit_by (row_of_edit EditWord.Relate) (data_of object.now)) }
+    ensures { Gives Some (λ e. e) result
+        (edit_by (row_of_edit EditWord.Relate) (data_of object.now)) }
 {
     let first = name_at(object, "first")?;
     let relation = name_at(object, "relation")?;
@@ -149,7 +154,8 @@ fn unrelate_in(object: &Object<'_>) -> Result<Edit, Bad>
 // To permit a step to a role.
 #[tactic(auto, unfolding(wf_names::specs::Names::is_name))]
 fn permit_in(object: &Object<'_>) -> Result<Edit, Bad>
-    ensures { Gives Some (λ e. e) result (edit_by (row_of_edit EditWord.Permit) (data_of object.now)) }
+    ensures { Gives Some (λ e. e) result
+        (edit_by (row_of_edit EditWord.Permit) (data_of object.now)) }
 {
     let flow = name_at(object, "flow")?;
     let role = name_at(object, "role")?;
@@ -160,7 +166,8 @@ fn permit_in(object: &Object<'_>) -> Result<Edit, Bad>
 // To forbid a step to a role.
 #[tactic(auto, unfolding(wf_names::specs::Names::is_name))]
 fn forbid_in(object: &Object<'_>) -> Result<Edit, Bad>
-    ensures { Gives Some (λ e. e) result (edit_by (row_of_edit EditWord.Forbid) (data_of object.now)) }
+    ensures { Gives Some (λ e. e) result
+        (edit_by (row_of_edit EditWord.Forbid) (data_of object.now)) }
 {
     let flow = name_at(object, "flow")?;
     let role = name_at(object, "role")?;
@@ -171,7 +178,8 @@ fn forbid_in(object: &Object<'_>) -> Result<Edit, Bad>
 // To open no more cases of a workflow.
 #[tactic(auto, unfolding(wf_names::specs::Names::is_name))]
 fn retire_in(object: &Object<'_>) -> Result<Edit, Bad>
-    ensures { Gives Some (λ e. e) result (edit_by (row_of_edit EditWord.Retire) (data_of object.now)) }
+    ensures { Gives Some (λ e. e) result
+        (edit_by (row_of_edit EditWord.Retire) (data_of object.now)) }
 {
     let flow = name_at(object, "flow")?;
     Ok(Edit::Retire { flow })

@@ -137,7 +137,8 @@ fn word_in(object: &Object<'_>) -> Result<Word, Bad>
 
 // The lane at the key lane, or the first one.
 fn lane_in(object: &Object<'_>, lanes: u8) -> Result<u8, Bad>
-    ensures { Gives Some (λ n. n) result (or_fault (read.lane_at lanes (data_of object.now)) bad.Lane) }
+    ensures { Gives Some (λ n. n) result
+        (or_fault (read.lane_at lanes (data_of object.now)) bad.Lane) }
 {
     if !object.has("lane") {
         return Ok(0);
