@@ -2,7 +2,7 @@
 use Rattle.std.proofs.Common.{◌≡◌, ℕ, List, false, Ok, Err, inl, inr, refl, sym, subst, arith}
 use Rattle.wf_outside.specs.Outside.{Filed, told, missing, untold}
 use Rattle.policy_book.specs.Shapes.{PolicyShape}
-use Rattle.policy_book.specs.Facts.{IsSoundPolicy}
+use Rattle.policy_reader.specs.FilePolicies.{IsFilePolicy}
 use Rattle.run_record.specs.declared.fault.RunFault.{RunFault}
 use Rattle.run_record.specs.declared.fault.RunFault.TheVariants.{Nothing, Found, Usage, Policy, Read, Write, Load, NoMemory, FileTooLong, LineTooLong, TooManyLines, BadInput}
 use Rattle.run_record.specs.Fault.{is_before_input, CountsLoads, CountsReads, CountsWrites}
@@ -81,7 +81,7 @@ refused_run policy options r fault is gives ending nothing loads reads writes =
     }
 
 -- the policy was there, and was served
-pub is_served : (f : Filed) (p : PolicyShape) (options : Options) (r : Run) → GivesPolicy f (Ok p) → IsSoundPolicy p
+pub is_served : (f : Filed) (p : PolicyShape) (options : Options) (r : Run) → GivesPolicy f (Ok p) → IsFilePolicy p
     → Served (setting p options) (start options.lanes) PIECE r.before r.after r.told r.fault → AreWantsRightful r.told.entries → OverFile f r.fault (λ file. ServesFile file options r)
 is_served untold p options r gives sound served wants =
     (gives.0, inr (record { policy = p; within = gives.1.0; read = gives.1.1; sound = sound; served = served; wants = wants }))
