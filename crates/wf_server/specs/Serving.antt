@@ -12,7 +12,7 @@ use Rattle.line_cutter.specs.Jobs.{start}
 use Rattle.wf_server.specs.declared.serve.TheConstants.{PIECE}
 use Rattle.wf_board.specs.Histories.{AreWantsRightful}
 use Rattle.wf_server.specs.Sessions.{Served, Setting}
-use Rattle.command_words.specs.Words.{Options}
+use Rattle.command_words.specs.Words.{AreOptions, Options}
 
 -- how a run may end before its session: the file is too long, or has a fault; one that is not too long may fail to load,
 -- or lack memory
@@ -43,5 +43,6 @@ ServesFile file options r = (EndsBefore file r.fault × IsUntouched r) ⊎ Serve
 
 -- a run of `serve` with a policy file and options
 pub record ServesRun (policy : List ℕ) (options : Options) (r : Run) : Type 0 where
+  pub options : AreOptions options
   pub serves : OverFile (r.files policy) r.fault (λ file. ServesFile file options r)
   pub orderly : IsOrderly r
