@@ -9,7 +9,7 @@ use Rattle.wf_talk.specs.declared.job.Job.{Job}
 use Rattle.line_cutter.specs.declared.stop.Stop.{Stop}
 use Rattle.line_cutter.specs.Jobs.{Cut, cut_all, flush, end_batch, jobs_from, UpToAnEnd}
 use Rattle.line_cutter.specs.Cutter.{Cuts, IsEnded, after_handing, ends_after, emptied}
-use Rattle.line_cutter.specs.CutLaws.{cut_all-append, handed_all, handed_finish, handed_over, closed_after, up_to_end, stopped, finished_stop}
+use Rattle.line_cutter.proofs.CutLaws.{cut_all-append, handed_all, handed_finish, handed_over, closed_after, up_to_end, stopped, finished_stop}
 use Rattle.batch_reader.specs.declared.reader.Paused.{Paused}
 use Rattle.batch_reader.specs.declared.reader.Paused.TheVariants.{Batch, End, Failed, Stopped, NoMemory}
 use Rattle.batch_reader.specs.Reading.{ReaderShape, Handed, handed_more, HasRead, HasPaused, HasReadAll, HasStopped, IsReadUp, ReadsTo, CountsAs}

@@ -17,7 +17,7 @@ use Rattle.wf_board.specs.Counting.{counts_for, is_edited}
 use Rattle.wf_board.specs.Decisions.{decision_of}
 use Rattle.wf_board.specs.Steps.{IsStep, state_after_decision, state_after_deed, state_after_step}
 use Rattle.wf_board.specs.Histories.{EachAfter, IsRetry, IsRightAfter, state_after}
-use Rattle.wf_board.specs.HistoryLaws.{after_more, again_stays, edits_within, policy_stays}
+use Rattle.wf_board.proofs.HistoryLaws.{after_more, again_stays, edits_within, policy_stays}
 use Rattle.wf_board.proofs.Counted.{end_within}
 use Rattle.wf_board.proofs.Keeping.{step_keeps}
 use Rattle.wf_board.proofs.Told.{HoldsOf, IsTold, told}

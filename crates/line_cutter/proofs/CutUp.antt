@@ -8,7 +8,7 @@ use Rattle.wf_names.specs.declared.limits.TheConstants.{SESSION_LINE_LIMIT}
 use Rattle.wf_talk.specs.declared.job.Job.{Job}
 use Rattle.line_cutter.specs.Jobs.{Cut, start, end_batch, end_full_batch, end_line, step, cut_all, flush, jobs_from, jobs_of_input, next_input}
 use Rattle.line_cutter.specs.Cutter.{IsSound, IsEnded, Cuts, emptied, ends_after, after_handing}
-use Rattle.line_cutter.specs.CutLaws.{cut_all-append, handed_all, handed_finish, handed_over, stopped}
+use Rattle.line_cutter.proofs.CutLaws.{cut_all-append, handed_all, handed_finish, handed_over, stopped}
 use Rattle.line_cutter.specs.Laws.{AreInOrder, AreNamedJobs}
 use Rattle.line_cutter.specs.Whole.{HasCutUp}
 use Rattle.line_cutter.proofs.Order.{jobs_are_in_order}

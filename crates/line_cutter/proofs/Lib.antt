@@ -1,3 +1,4 @@
+pub mod CutLaws
 pub mod Adding
 pub mod Order
 mod Named

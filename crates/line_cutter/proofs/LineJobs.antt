@@ -10,7 +10,7 @@ use Rattle.line_reader.specs.Lines.{before_lines, has_end, line_length, lines_of
 use Rattle.line_cutter.specs.declared.stop.Stop.{Stop}
 use Rattle.line_cutter.specs.declared.stop.Stop.TheVariants.{LineTooLong, TooManyLines}
 use Rattle.line_cutter.specs.Jobs.{Cut, start_at, without_cr, job_of, end_batch, end_full_batch, end_line, step, cut_all, flush, jobs_from}
-use Rattle.line_cutter.specs.CutLaws.{stopped}
+use Rattle.line_cutter.proofs.CutLaws.{stopped}
 use Rattle.line_cutter.proofs.Batches.{HasRuns, batches_are, runs_all, runs_start}
 use Rattle.line_cutter.specs.Lines.{AreJobsOfLines, AreWithin, IsWithinLimits, JobsAreOfLines, MeetsLimit, StopsAt, job_at, jobs_of_lines, text_of}
 

@@ -9,7 +9,7 @@ use Rattle.wf_talk.specs.Jobs.{AreOfLanes}
 use Rattle.wire_json.specs.RequestLaws.{lane_below}
 use Rattle.line_cutter.specs.Jobs.{Cut, start, start_at, without_cr, job_of, end_batch, end_full_batch, next_line, with_job, end_line, step, cut_all, flush, jobs_from, jobs_of_input, last_or, next_input}
 use Rattle.line_cutter.specs.Cutter.{after_handing}
-use Rattle.line_cutter.specs.CutLaws.{finished_stop}
+use Rattle.line_cutter.proofs.CutLaws.{finished_stop}
 use Rattle.line_cutter.specs.Laws.{AreLinesBelow, AscendFrom, LeadTo, AreInOrder, GoesOn, InputsGoOn, JobsAreInOrder}
 
 -- the line after the last of the jobs

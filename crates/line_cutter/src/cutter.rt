@@ -89,7 +89,7 @@ impl Cutter {
 
     /// Cuts the next bytes of a piece: a run of a line without its end, or one byte. Answers how many
     /// bytes were cut. No byte is cut after one that ends a batch, or at which the cutting stops.
-    #[tactic(auto, using(crate::specs::CutLaws::one_cut, crate::specs::CutLaws::plain_cut, crate::specs::CutLaws::plain_sound))]
+    #[tactic(auto, using(crate::proofs::CutLaws::one_cut, crate::proofs::CutLaws::plain_cut, crate::proofs::CutLaws::plain_sound))]
     pub fn feed(&mut self, piece: &[u8]) -> Result<usize, AllocError>
         requires some { 0 < length piece.now }
         requires handed { self.old.ends ≡ [] }
@@ -114,7 +114,7 @@ impl Cutter {
 
     /// Ends the input, or what was read of it: where it has ended, what follows the last line end is a
     /// line too, unless it is empty. The open batch ends.
-    #[tactic(auto, using(crate::specs::CutLaws::sound_finish, crate::specs::CutLaws::ended_finish))]
+    #[tactic(auto, using(crate::proofs::CutLaws::sound_finish, crate::proofs::CutLaws::ended_finish))]
     pub fn finish(&mut self, ended: bool) -> Result<(), AllocError>
         requires handed { self.old.ends ≡ [] }
         requires sound { IsSound self.old }
@@ -170,7 +170,7 @@ impl Cutter {
     }
 
     // The next byte, with the laws that a loop rests on.
-    #[tactic(auto, using(crate::specs::CutLaws::sound_step, crate::specs::CutLaws::further))]
+    #[tactic(auto, using(crate::proofs::CutLaws::sound_step, crate::proofs::CutLaws::further))]
     fn feed_byte(&mut self, byte: u8) -> Result<(), AllocError>
         requires handed { self.old.ends ≡ [] }
         requires going { self.old.stop ≡ None }

@@ -1,6 +1,6 @@
 -- Every file that was read as a policy before there was a second format is read as the same policy.
-use Rattle.std.proofs.Common.{◌≡◌, ℕ, ◌≤◌, Bool, true, false, List, [], ◌∷◌, length, ◌⊎◌, inl, inr, Ok, Err, refl, ap, ◌∙◌, arith, nat_le, nat_eq}
-use Rattle.std.specs.Prelude.{ℤ, pos, negsuc, Some, None, codes, if◌then◌else◌, ◌==◌, not}
+use Rattle.std.proofs.Common.{◌≡◌, ℕ, ◌≤◌, Bool, true, false, List, [], ◌∷◌, length, ◌⊎◌, inl, inr, Ok, Err, refl, arith, nat_le, nat_eq}
+use Rattle.std.specs.Prelude.{ℤ, pos, negsuc, None, codes}
 use Rattle.basics.proofs.Booleans.{bool_cases, le_back, le_yes}
 use Rattle.wf_names.specs.declared.limits.TheConstants.{FLOW_LIMIT}
 use Rattle.toml.specs.Data.{Members, as_integer}
@@ -12,11 +12,11 @@ use Rattle.policy_reader.specs.declared.fault.PolicyPart.TheVariants.{File, Flow
 use Rattle.policy_reader.specs.declared.fault.PolicyKind.TheVariants as kind
 use Rattle.policy_reader.specs.declared.format.Format.{Format}
 use Rattle.policy_reader.specs.Faults.{Reading, fault}
-use Rattle.policy_reader.specs.Formats.{file_keys, format_with}
+use Rattle.policy_reader.specs.Formats.{format_with}
 use Rattle.policy_reader.specs.Grammars.{earlier, first_with, today}
-use Rattle.policy_reader.specs.Parts.{at_least_one, at_most, array_at, count_in, entries, entries_at, items, items_at, name_in, next_name, no_others, number_in, table_at, table_in, value_at}
-use Rattle.policy_reader.specs.Rosters.{next_user, roles_of, roster_of}
-use Rattle.policy_reader.specs.Flows.{flow_in, flows_of, next_flow, ordered_in, permits_of, ruled_in, steps_of, with_workflow, workflow_in}
+use Rattle.policy_reader.specs.Parts.{at_least_one, at_most, array_at, count_in, entries, entries_at, items, items_at, name_in, no_others, number_in, table_at, table_in, value_at}
+use Rattle.policy_reader.specs.Rosters.{roles_of, roster_of}
+use Rattle.policy_reader.specs.Flows.{flow_in, flows_of, next_flow, ruled_in, steps_of, workflow_in}
 use Rattle.policy_reader.specs.Files.{admin_of, document_in, format_of, policy_by, policy_in, rest_of, staff_of, start_named, start_of, start_over, start_with}
 use Rattle.policy_reader.specs.Laws.{OldFormatReadsAlike}
 

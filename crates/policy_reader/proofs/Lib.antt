@@ -9,3 +9,7 @@ pub mod Relating
 pub mod Held
 pub mod Grown
 pub mod Ends
+pub mod Gets
+pub mod GetsRules
+pub mod GetsFlows
+pub mod GetsFile

@@ -29,7 +29,7 @@ pushed [] r (suc n) = inl refl
 pushed (x ∷ rs) r zero = inl refl
 pushed (x ∷ rs) r (suc n) = elim (pushed rs r n) [ inl same ↦ inl same | inr new ↦ inr (ap suc new.0, new.1) ]
 
-kind_pushed : (rs : List RelationShape) (r : RelationShape) (m : ℕ) → (kind_of (rs ++ r ∷ []) m ≡ kind_of rs m) ⊎ ((m ≡ first_declared + length rs) × (kind_of (rs ++ r ∷ []) m ≡ Some r.kind))
+pub kind_pushed : (rs : List RelationShape) (r : RelationShape) (m : ℕ) → (kind_of (rs ++ r ∷ []) m ≡ kind_of rs m) ⊎ ((m ≡ first_declared + length rs) × (kind_of (rs ++ r ∷ []) m ≡ Some r.kind))
 kind_pushed rs r zero = inl refl
 kind_pushed rs r (suc zero) = inl refl
 kind_pushed rs r (suc (suc n)) = elim (pushed rs r n) [

@@ -6,6 +6,7 @@ pub mod Kept
 pub mod Rosters
 pub mod Relations
 pub mod Kinds
+pub mod FilePolicies
 pub mod Laws
 pub mod Printable
 pub mod Formats

@@ -9,6 +9,7 @@ ghost use Rattle.policy_reader.specs.Grammars.{today};
 ghost use Rattle.policy_reader.specs.Kept.{IsBare};
 ghost use Rattle.policy_reader.specs.Printable.{Ascend, IsPrintable};
 ghost use Rattle.policy_book.specs.Facts.{AreOfUsers, IsSoundPolicy};
+ghost use Rattle.policy_reader.specs.FilePolicies.{IsFilePolicy};
 ghost use Rattle.policy_reader.specs.Relations.{names_of};
 ghost use Rattle.policy_reader.specs.Rosters.{some_user_has};
 ghost use Rattle.wf_names.specs.declared.limits.TheConstants.{ROLE_LIMIT};
@@ -17,6 +18,7 @@ ghost use Rattle.first_fault.specs.Reading.{Gives};
 use crate::fault::{PolicyKind, PolicyPart, ReadFault, refuse};
 use crate::flows::read_flows;
 use crate::format::Format;
+use crate::laws::policy_of_file_is_sound;
 use crate::parts::{no_others, number_of, text_name_of, value_at};
 use crate::relations::read_relations;
 use crate::rosters::{read_users, start_roster};
@@ -28,16 +30,26 @@ use user_relations::Relations;
 use wf_names::{Name, RoleId, UserId};
 
 /// Reads the policy in the bytes of a TOML file, or tells their first fault.
-#[tactic(auto, unfolding(crate::specs::Files::policy_by))]
 pub fn read(alloc: Global, bytes: &[u8]) -> Result<Policy, ReadFault>
     ensures policy { Gives fault_of (λ p. p) result (spec.policy_of_file bytes.now) }
     ensures printable { IfOk result IsPrintable }
     ensures sound { IfOk result IsSoundPolicy }
+    ensures given { IfOk result IsFilePolicy }
+{
+    policy_of_file_is_sound();
+    match read_policy(alloc, bytes) {
+        Ok(policy) => Ok(policy),
+        Err(fault) => Err(fault),
+    }
+}
+
+#[tactic(auto, unfolding(crate::specs::Files::policy_by))]
+fn read_policy(alloc: Global, bytes: &[u8]) -> Result<Policy, ReadFault>
+    ensures policy { Gives fault_of (λ p. p) result (spec.policy_of_file bytes.now) }
+    ensures printable { IfOk result IsPrintable }
 {
     let file = document_of(alloc, bytes)?;
-    let policy = policy_in(alloc, &file)?;
-    let _ = policy.admin();
-    Ok(policy)
+    policy_in(alloc, &file)
 }
 
 /// Reads the TOML document that bytes are.

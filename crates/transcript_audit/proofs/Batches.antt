@@ -8,7 +8,7 @@ use Rattle.wf_board.specs.Histories.{batch_start, lane_jobs}
 use Rattle.wf_talk.specs.Jobs.{AreOfLanes}
 use Rattle.line_cutter.specs.Laws.{LeadTo}
 use Rattle.wf_desk.specs.BatchLaws.{EndAt}
-use Rattle.wf_desk.specs.DocketLaws.{first_of_lanes, none_of_lanes}
+use Rattle.wf_desk.proofs.DocketLaws.{first_of_lanes, none_of_lanes}
 use Rattle.transcript_audit.specs.Audits.{end_at, start_at}
 use Rattle.transcript_audit.specs.Keeping.{IsBatchOf, end_of, part}
 

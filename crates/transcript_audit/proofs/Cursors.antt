@@ -13,7 +13,7 @@ use Rattle.line_cutter.specs.Laws.{AreInOrder}
 use Rattle.wf_desk.specs.Desks.{served_jobs}
 use Rattle.wf_desk.specs.Keeping.{IsLanePlace}
 use Rattle.wf_desk.specs.Places.{IsNextPlace}
-use Rattle.wf_desk.specs.DocketLaws.{lane_both, lane_own, next_at, served_other, served_own}
+use Rattle.wf_desk.proofs.DocketLaws.{lane_both, lane_own, next_at, served_other, served_own}
 use Rattle.wf_desk.proofs.DeskLaws.{differs}
 use Rattle.transcript_audit.specs.declared.cursor.Cursor.{Cursor}
 use Rattle.transcript_audit.specs.Audits.{AuditShape, ComesNext, audit_of, next_job, present_jobs, present_start, with_entry}

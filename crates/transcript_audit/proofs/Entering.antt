@@ -16,11 +16,11 @@ use Rattle.wf_board.specs.Boards.{BoardShape, numbered, state_on}
 use Rattle.wf_board.specs.Counting.{counted, counted_end, counts_for, lane_end}
 use Rattle.wf_board.specs.Decisions.{decision_of, is_view, needs_verdict}
 use Rattle.wf_board.specs.Histories.{IsRetry}
-use Rattle.wf_board.specs.HistoryLaws.{after_again, after_more, again_rests, edits_within, step_once, step_rests}
+use Rattle.wf_board.proofs.HistoryLaws.{after_again, after_more, again_rests, edits_within, step_once, step_rests}
 use Rattle.wf_board.specs.States.{State, numbered_case, opening_state}
 use Rattle.wf_board.specs.Steps.{IsStep, state_after_step}
 use Rattle.wf_board.proofs.Counted.{count_later}
-use Rattle.wf_desk.specs.DocketLaws.{next_lane}
+use Rattle.wf_desk.proofs.DocketLaws.{next_lane}
 use Rattle.wire_json.specs.Replies.{entry_text}
 use Rattle.entry_reader.specs.Lines.{entry_at}
 use Rattle.entry_laws.proofs.Entries.{text_stays}

@@ -7,11 +7,11 @@ use Rattle.policy_book.specs.Shapes.{PolicyShape}
 use Rattle.wf_talk.specs.declared.entry.Entry.{Entry}
 use Rattle.wf_talk.specs.declared.job.Job.{Job}
 use Rattle.wf_board.specs.Histories.{EachAfter, FillsJobs, IsLegal, IsRightAfter, RestsFrom, batch_end, batch_jobs, batch_start, job_of_entry, lane_jobs, state_after}
-use Rattle.wf_board.specs.HistoryLaws.{after_all, each_later}
+use Rattle.wf_board.proofs.HistoryLaws.{after_all, each_later}
 use Rattle.wf_board.specs.States.{State, opening_state}
 use Rattle.wire_json.specs.Replies.{entry_text}
 use Rattle.line_cutter.specs.Laws.{AreInOrder}
-use Rattle.wf_desk.specs.DocketLaws.{lane_both, lane_own}
+use Rattle.wf_desk.proofs.DocketLaws.{lane_both, lane_own}
 use Rattle.wf_desk.specs.Parts.{FillsPart, lane_answered, lane_asked}
 use Rattle.entry_laws.specs.Transcripts.{texts_of}
 use Rattle.transcript_audit.specs.Audits.{AreNext, AuditShape, ComesNext, IsNextLine, IsTranscript, IsTranscriptPart, audit_of, end_at, next_job, present_start, state_now, with_entry}

@@ -9,13 +9,14 @@ use Rattle.policy_book.specs.Shapes.{PolicyShape}
 use Rattle.wf_talk.specs.declared.entry.Entry.{Entry}
 use Rattle.wf_talk.specs.declared.job.Job.{Job}
 use Rattle.wf_board.specs.Histories.{EachAfter, FillsJobs, IsLegal, IsRightAfter, RestsFrom, batch_start, job_of_entry, lane_jobs}
-use Rattle.wf_board.specs.HistoryLaws.{each_more, rests_more}
+use Rattle.wf_board.proofs.HistoryLaws.{each_more, rests_more}
 use Rattle.wf_board.specs.States.{opening_state}
 use Rattle.line_cutter.specs.Laws.{AreInOrder}
 use Rattle.wf_desk.specs.Desks.{DeskShape, IsDone, served, served_jobs}
 use Rattle.wf_desk.specs.Desks as desk
-use Rattle.wf_desk.specs.BatchLaws.{EndAt, batch_fills}
-use Rattle.wf_desk.specs.DocketLaws.{all_done, batch_short, front_more, no_more, served_other, served_own}
+use Rattle.wf_desk.specs.BatchLaws.{EndAt}
+use Rattle.wf_desk.proofs.BatchLaws.{batch_fills}
+use Rattle.wf_desk.proofs.DocketLaws.{all_done, batch_short, front_more, no_more, served_other, served_own}
 use Rattle.transcript_audit.specs.Audits.{AuditShape, ComesNext, audit_of, end_at, next_job, present_start, with_entry}
 use Rattle.transcript_audit.specs.Outcomes.{IsWhole}
 use Rattle.transcript_audit.specs.Keeping.{IsSoundAudit, end_of, jobs_in}

@@ -9,7 +9,7 @@ use Rattle.wf_talk.specs.declared.job.Job.{Job}
 use Rattle.wf_board.specs.Histories.{EachAfter, RestsFrom, batch_end, batch_start, job_of_entry, lane_jobs}
 use Rattle.line_cutter.specs.Laws.{LeadTo}
 use Rattle.wf_desk.specs.Desks.{AnswersPart, AreOfLanes, served_jobs}
-use Rattle.wf_desk.specs.DocketLaws.{first_of_lanes}
+use Rattle.wf_desk.proofs.DocketLaws.{first_of_lanes}
 use Rattle.wf_desk.specs.Parts.{FillsPart, lane_answered}
 use Rattle.transcript_audit.specs.Keeping.{IsBatchOf, end_of}
 use Rattle.transcript_audit.proofs.Batches.{batch_there, end_is, end_read, ends_within, last_start, read_behind, slice_part, start_before_end, start_is}

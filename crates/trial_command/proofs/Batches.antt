@@ -8,10 +8,11 @@ use Rattle.std.proofs.Math.Seq.{drop-append_seam, take-append_seam, take-length}
 use Rattle.wf_talk.specs.declared.entry.Entry.{Entry}
 use Rattle.wf_talk.specs.declared.job.Job.{Job}
 use Rattle.wf_board.specs.Histories.{AreAnsweredOnce, FillsJobs, batch_end, batch_start}
-use Rattle.wf_board.specs.HistoryLaws.{once_all}
-use Rattle.wf_desk.specs.BatchLaws.{AnswersBatch, EndAt, batch_fills, end_before, end_last, start_before}
+use Rattle.wf_board.proofs.HistoryLaws.{once_all}
+use Rattle.wf_desk.specs.BatchLaws.{AnswersBatch, EndAt}
+use Rattle.wf_desk.proofs.BatchLaws.{batch_fills, end_before, end_last, start_before}
 use Rattle.wf_desk.specs.Desks.{AreOfLanes, DeskShape, IsDone, IsSoundDesk, with_batch, with_room}
-use Rattle.wf_desk.specs.DocketLaws.{batch_done}
+use Rattle.wf_desk.proofs.DocketLaws.{batch_done}
 use Rattle.wf_desk.proofs.Ends.{end_more}
 use Rattle.wf_lanes.specs.Turns.{AreByTurns, HasServedByTurns}
 use Rattle.trial_maker.specs.TrialLaws.{AreBatches}

@@ -26,7 +26,7 @@ use Rattle.wf_board.specs.Decisions.{cause_aside, cause_full, decision_aside, de
 use Rattle.wf_board.specs.Steps.{Answers, IsReplyTo, IsStep, state_after_decision, state_after_deed, state_after_step}
 use Rattle.wf_board.specs.Counting.{IsFresh, case_of_ask, changed_case, changes_any, counted, counts_for, is_edited, is_number}
 use Rattle.wf_board.specs.Histories.{EachAfter, IsLegal, IsRetry, IsRightAfter, state_after}
-use Rattle.wf_board.specs.HistoryLaws.{after_all, after_more, again_stays, each_from, policy_stays}
+use Rattle.wf_board.proofs.HistoryLaws.{after_all, after_more, again_stays, each_from, policy_stays}
 use Rattle.wf_board.specs.Verdicts.{IsRight}
 use Rattle.admin_edits.proofs.Keeping.{HoldsOf, always, then_holds}
 use Rattle.wf_board.proofs.Told.{unless_holds}

@@ -26,7 +26,7 @@ use Rattle.wf_board.specs.States.{Numbered, State, numbered_case, open_cases, op
 use Rattle.wf_board.specs.Decisions.{decision_of}
 use Rattle.wf_board.specs.Steps.{Answers, IsReplyTo, IsStep, state_after_decision, state_after_deed, state_after_step, with_changed, with_edited, with_opened}
 use Rattle.wf_board.specs.Histories.{EachAfter, IsRetry, IsRightAfter, state_after}
-use Rattle.wf_board.specs.HistoryLaws.{after_more, again_stays}
+use Rattle.wf_board.proofs.HistoryLaws.{after_more, again_stays}
 use Rattle.wf_board.specs.Kept.{IsOfPolicy, IsSoundState, KeepsCompletable}
 use Rattle.wf_board.specs.Laws.{HistoriesKeepCompletable, HistoriesStaySound, PlansStayValid, StepsKeepCompletable}
 use Rattle.wf_board.proofs.Told.{HasStep, IsTold, claim_free, held_by, told}

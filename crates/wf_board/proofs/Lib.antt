@@ -1,3 +1,4 @@
+pub mod HistoryLaws
 pub mod Amended
 pub mod Snaps
 pub mod Told

@@ -19,4 +19,3 @@ pub mod Decided
 pub mod Laws
 pub mod Taking
 pub mod Admission
-pub mod HistoryLaws

@@ -1,7 +1,7 @@
 //! Loading a file, and the policy.
 ghost use Rattle.std.specs.Prelude.{◌≡◌, ℕ, List, IfErr, IfOk};
 ghost use Rattle.wf_names.specs.declared.limits.TheConstants.{POLICY_FILE_LIMIT};
-ghost use Rattle.policy_book.specs.Facts.{IsSoundPolicy};
+ghost use Rattle.policy_reader.specs.FilePolicies.{IsFilePolicy};
 ghost use Rattle.policy_reader.specs.Printable.{IsPrintable};
 ghost use Rattle.run_record.specs.Fault.{fault_in, CountsLoads};
 ghost use Rattle.wf_commands.specs.Load.{EndsTooLong, GivesBytes, GivesPolicy, IsLoadEnding};
@@ -16,7 +16,7 @@ use wf_outside::{LoadFault, Loaded, Shelf};
 pub fn load_policy<F: Shelf>(alloc: Global, shelf: &mut F, name: &str) -> Result<Policy, RunFault>
     ensures policy { GivesPolicy (F.file shelf.old name.now) result }
     ensures printable { IfOk result IsPrintable }
-    ensures sound { IfOk result IsSoundPolicy }
+    ensures sound { IfOk result IsFilePolicy }
     ensures ending { IfErr result IsLoadEnding }
     ensures named { EndsTooLong POLICY_FILE_LIMIT (F.file shelf.old name.now) (fault_in result) }
     ensures loads { CountsLoads (fault_in result) (F.faults shelf.old) (F.faults shelf.new) }

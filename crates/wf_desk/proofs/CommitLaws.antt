@@ -15,7 +15,7 @@ use Rattle.wf_board.specs.Boards.{BoardShape, SnapShape, state_on}
 use Rattle.wf_board.specs.Counting.{count_of, counted, counted_end, counts_for, lane_end, last_end_from}
 use Rattle.wf_board.specs.Decisions.{decision_of, is_view, needs_verdict}
 use Rattle.wf_board.specs.Histories.{IsRightAfter}
-use Rattle.wf_board.specs.HistoryLaws.{again_rests, again_stays, step_rests}
+use Rattle.wf_board.proofs.HistoryLaws.{again_rests, again_stays, step_rests}
 use Rattle.wf_board.specs.States.{opening_state}
 use Rattle.wf_board.specs.Steps.{IsStep, state_after_step}
 use Rattle.wf_board.specs.Verdicts.{IsCertified, IsDecided, IsRight, snap_of}
@@ -31,7 +31,7 @@ use Rattle.wf_desk.specs.Commits.{HasCommittedChecked, IsNext, IsReplyWhere, IsR
 use Rattle.wf_desk.specs.Keeping.{HasCommittedNone, IsDesk, own_start}
 use Rattle.wf_desk.specs.Places.{IsNextPlace, entry_for}
 use Rattle.wf_desk.proofs.DeskLaws.{Grows, HasMoved, MayLose, desk_added, desk_lost, with_parts}
-use Rattle.wf_desk.specs.DocketLaws.{next_lane}
+use Rattle.wf_desk.proofs.DocketLaws.{next_lane}
 
 -- a verdict that was right stays so where nothing came that counts
 pub fresh_verdict : (d : DeskShape) (places : List ℕ) (t : Task) (v : Verdict) → IsDesk d places → is_fresh d t ≡ true → IsRightFor d t v →

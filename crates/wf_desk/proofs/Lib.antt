@@ -1,3 +1,6 @@
+pub mod Fronts
+pub mod BatchLaws
+pub mod DocketLaws
 pub mod DeskLaws
 pub mod CommitLaws
 pub mod Scheduling

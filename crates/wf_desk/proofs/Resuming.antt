@@ -14,7 +14,7 @@ use Rattle.wf_board.specs.States.{opening_state}
 use Rattle.wf_desk.specs.Desks.{AnswersPart, AreOfLanes, DeskShape, desk_with, no_loss, served_jobs, with_batch_from, with_room}
 use Rattle.wf_desk.specs.Keeping.{IsDesk}
 use Rattle.wf_desk.specs.Places.{AnswersFirst, IsNextPlace, IsPlaceBehind, answered_of}
-use Rattle.wf_desk.specs.DocketLaws.{lane_both, lane_own, next_there, none_of_lanes, served_other, served_own}
+use Rattle.wf_desk.proofs.DocketLaws.{lane_both, lane_own, next_there, none_of_lanes, served_other, served_own}
 use Rattle.wf_desk.proofs.DeskLaws.{differs, fresh_rests, same_all}
 
 -- ---- places behind what is answered

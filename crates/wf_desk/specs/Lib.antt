@@ -2,9 +2,7 @@ pub mod Desks
 pub mod Commits
 pub mod Places
 pub mod Keeping
-pub mod Fronts
 pub mod BatchLaws
-pub mod DocketLaws
 pub mod Schedules
 pub mod Holding
 pub mod Tabling

@@ -7,7 +7,7 @@ use wf_board::counts;
 use wf_talk::{Ask, Entry, Job, Journal, Reply};
 
 /// The entries from a place on.
-#[tactic(auto, using(crate::specs::DocketLaws::rest_from, crate::specs::DocketLaws::rest_none))]
+#[tactic(auto, using(crate::proofs::DocketLaws::rest_from, crate::proofs::DocketLaws::rest_none))]
 pub fn entries_from(journal: &Journal, place: u32) -> &[Entry]
     ensures { result.now ≡ drop place journal.now.entries }
 {

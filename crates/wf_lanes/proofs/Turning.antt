@@ -18,7 +18,7 @@ use Rattle.wf_desk.specs.declared.tabled.Fixed.{Fixed}
 use Rattle.wf_desk.specs.declared.task.Task.{Task}
 use Rattle.wf_desk.specs.Desks.{DeskShape, HasAdded, next_job, served}
 use Rattle.wf_desk.specs.Commits.{HasCommitted, HasServed, IsRightFor, IsTask, job_of_task}
-use Rattle.wf_desk.specs.DocketLaws as docket
+use Rattle.wf_desk.proofs.DocketLaws as docket
 use Rattle.wf_desk.specs.Schedules.{HasGrown}
 use Rattle.wf_desk.specs.Tabling.{fixed_of, tagged, tagged_of}
 use Rattle.wf_desk.proofs.Scheduling.{begun_held, grown_committed, grown_served, held_on}

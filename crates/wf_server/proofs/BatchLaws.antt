@@ -10,10 +10,11 @@ use Rattle.wf_talk.specs.declared.entry.Entry.{Entry}
 use Rattle.wf_talk.specs.declared.job.Job.{Job}
 use Rattle.wf_board.specs.States.{State, opening_state}
 use Rattle.wf_board.specs.Histories.{FillsJobs, IsLegal, batch_start, state_after}
-use Rattle.wf_board.specs.HistoryLaws.{after_all}
+use Rattle.wf_board.proofs.HistoryLaws.{after_all}
 use Rattle.wf_desk.specs.Desks.{DeskShape, IsDone, IsSoundDesk}
-use Rattle.wf_desk.specs.BatchLaws.{AnswersBatch, AnswersNext, EndAt, batch_fills}
-use Rattle.wf_desk.specs.DocketLaws.{batch_done}
+use Rattle.wf_desk.specs.BatchLaws.{AnswersBatch, AnswersNext, EndAt}
+use Rattle.wf_desk.proofs.BatchLaws.{batch_fills}
+use Rattle.wf_desk.proofs.DocketLaws.{batch_done}
 use Rattle.wf_desk.specs.Schedules.{HasGrown}
 use Rattle.wf_desk.proofs.Ends.{end_more}
 use Rattle.wire_json.specs.Replies.{entry_text}

@@ -11,7 +11,7 @@ use Rattle.wf_board.specs.States.{State, opening_state}
 use Rattle.wf_board.specs.Decisions.{decision_of}
 use Rattle.wf_board.specs.Steps.{IsStep, state_after_step}
 use Rattle.wf_board.specs.Histories.{EachAfter, IsRightAfter, state_after}
-use Rattle.wf_board.specs.HistoryLaws.{after_all, after_more, again_stays, each_later}
+use Rattle.wf_board.proofs.HistoryLaws.{after_all, after_more, again_stays, each_later}
 use Rattle.wf_board.specs.Kept.{IsSoundState, KeepsCompletable}
 use Rattle.wf_board.specs.Laws.{StepsKeepCompletable}
 use Rattle.wire_json.specs.Replies.{entry_text, reply_data}

@@ -2,7 +2,7 @@
 use Rattle.std.proofs.Common.{◌≡◌, ℕ, List, false, Ok, Err, inl, inr, refl, sym, subst, arith}
 use Rattle.wf_outside.specs.Outside.{Filed, told, missing, untold}
 use Rattle.policy_book.specs.Shapes.{PolicyShape}
-use Rattle.policy_book.specs.Facts.{IsSoundPolicy}
+use Rattle.policy_reader.specs.FilePolicies.{IsFilePolicy}
 use Rattle.run_record.specs.declared.fault.RunFault.{RunFault}
 use Rattle.run_record.specs.declared.fault.RunFault.TheVariants.{Nothing, Found, Usage, Policy, Read, Write, Load, NoMemory, FileTooLong, LineTooLong, TooManyLines, BadInput}
 use Rattle.run_record.specs.Fault.{is_before_input, CountsLoads, CountsReads, CountsWrites}
@@ -12,7 +12,7 @@ use Rattle.wf_server.specs.declared.serve.TheConstants.{PIECE}
 use Rattle.line_cutter.specs.Jobs.{start}
 use Rattle.wf_server.specs.Sessions.{Served}
 use Rattle.wf_board.specs.Histories.{AreWantsRightful}
-use Rattle.command_words.specs.Words.{Options}
+use Rattle.command_words.specs.Words.{AreOptions, Options}
 use Rattle.wf_server.specs.Serving.{setting, EndsBefore, ServesFile, ServesRun}
 
 ends_before : (file : List ℕ) (fault : RunFault) → PolicyOf file (Err fault) → IsLoadEnding fault → EndsBefore file fault
@@ -66,11 +66,13 @@ no_writes (BadInput e) n ending = absurd ending
 
 -- and so the run ended
 pub refused_run : (policy : List ℕ) (options : Options) (r : Run) (fault : RunFault) → r.fault ≡ fault → GivesPolicy (r.files policy) (Err fault) → IsLoadEnding fault → IsUntouched r
-    → CountsLoads fault r.load_faults r.load_faults_after → r.after.read_faults ≡ r.before.read_faults → r.after.write_faults ≡ r.before.write_faults → ServesRun policy options r
-refused_run policy options r fault is gives ending nothing loads reads writes =
+    → CountsLoads fault r.load_faults r.load_faults_after → r.after.read_faults ≡ r.before.read_faults → r.after.write_faults ≡ r.before.write_faults → AreOptions options
+    → ServesRun policy options r
+refused_run policy options r fault is gives ending nothing loads reads writes within =
     let given : GivesPolicy (r.files policy) (Err r.fault) = subst (λ (x : RunFault). GivesPolicy (r.files policy) (Err x)) (sym is) gives in
     let ends : IsLoadEnding r.fault = subst IsLoadEnding (sym is) ending in
     record {
+      options = within;
       serves = not_served (r.files policy) options r given ends nothing;
       orderly = record {
         early = λ early. nothing;
@@ -81,7 +83,7 @@ refused_run policy options r fault is gives ending nothing loads reads writes =
     }
 
 -- the policy was there, and was served
-pub is_served : (f : Filed) (p : PolicyShape) (options : Options) (r : Run) → GivesPolicy f (Ok p) → IsSoundPolicy p
+pub is_served : (f : Filed) (p : PolicyShape) (options : Options) (r : Run) → GivesPolicy f (Ok p) → IsFilePolicy p
     → Served (setting p options) (start options.lanes) PIECE r.before r.after r.told r.fault → AreWantsRightful r.told.entries → OverFile f r.fault (λ file. ServesFile file options r)
 is_served untold p options r gives sound served wants =
     (gives.0, inr (record { policy = p; within = gives.1.0; read = gives.1.1; sound = sound; served = served; wants = wants }))

@@ -16,7 +16,7 @@ use Rattle.batch_reader.specs.Reading.{ReaderShape, Handed, handed_more, HasRead
 use Rattle.wf_board.specs.States.{opening_state}
 use Rattle.wf_board.specs.Histories.{FillsJobs, IsLegal}
 use Rattle.wf_desk.specs.Desks.{AreOfLanes, DeskShape}
-use Rattle.wf_desk.specs.DocketLaws.{first_of_lanes}
+use Rattle.wf_desk.proofs.DocketLaws.{first_of_lanes}
 use Rattle.policy_book.specs.Facts.{IsSoundPolicy}
 use Rattle.wf_board.specs.Laws.{HistoriesAreExact, HistoriesKeepCompletable}
 use Rattle.run_record.specs.declared.fault.RunFault.{RunFault}

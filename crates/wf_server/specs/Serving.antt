@@ -3,7 +3,7 @@ use Rattle.std.specs.Prelude.{◌≡◌, ℕ, ◌<◌, ◌≤◌, List, length, 
 use Rattle.std.proofs.Common.{◌⊎◌}
 use Rattle.wf_names.specs.declared.limits.TheConstants.{POLICY_FILE_LIMIT}
 use Rattle.policy_book.specs.Shapes.{PolicyShape}
-use Rattle.policy_book.specs.Facts.{IsSoundPolicy}
+use Rattle.policy_reader.specs.FilePolicies.{IsFilePolicy}
 use Rattle.policy_reader.specs.Files.{policy_of_file}
 use Rattle.run_record.specs.declared.fault.RunFault.{RunFault}
 use Rattle.run_record.specs.declared.fault.RunFault.TheVariants.{Policy, Load, NoMemory, FileTooLong}
@@ -12,7 +12,7 @@ use Rattle.line_cutter.specs.Jobs.{start}
 use Rattle.wf_server.specs.declared.serve.TheConstants.{PIECE}
 use Rattle.wf_board.specs.Histories.{AreWantsRightful}
 use Rattle.wf_server.specs.Sessions.{Served, Setting}
-use Rattle.command_words.specs.Words.{Options}
+use Rattle.command_words.specs.Words.{AreOptions, Options}
 
 -- how a run may end before its session: the file is too long, or has a fault; one that is not too long may fail to load,
 -- or lack memory
@@ -33,7 +33,7 @@ pub record ServesPolicy (file : List ℕ) (options : Options) (r : Run) : Type 0
   pub policy : PolicyShape
   pub within : length file ≤ POLICY_FILE_LIMIT
   pub read : policy_of_file file ≡ Ok policy
-  pub sound : IsSoundPolicy policy
+  pub sound : IsFilePolicy policy
   pub served : Served (setting policy options) (start options.lanes) PIECE r.before r.after r.told r.fault
   pub wants : AreWantsRightful r.told.entries
 
@@ -43,5 +43,6 @@ ServesFile file options r = (EndsBefore file r.fault × IsUntouched r) ⊎ Serve
 
 -- a run of `serve` with a policy file and options
 pub record ServesRun (policy : List ℕ) (options : Options) (r : Run) : Type 0 where
+  pub options : AreOptions options
   pub serves : OverFile (r.files policy) r.fault (λ file. ServesFile file options r)
   pub orderly : IsOrderly r

@@ -185,7 +185,7 @@ fn add_end(ends: &mut Ends, before: usize, count: usize) -> Result<(), AllocErro
 }
 
 // The entries behind the first so many.
-#[tactic(auto, using(wf_desk::specs::DocketLaws::rest_from))]
+#[tactic(auto, using(wf_desk::proofs::DocketLaws::rest_from))]
 fn entries_after(journal: &Journal, done: usize) -> &[Entry]
     requires { done ≤ length journal.now.entries }
     ensures { result.now ≡ drop done journal.now.entries }

@@ -9,6 +9,7 @@ use Rattle.wf_server.proofs.serve.run_serve.Goals as goal
 
 pub returns-in-Ok-clause-serves : goal.returns-in-Ok-clause-serves
 returns-in-Ok-clause-serves g c = record {
+  options = c.requires.options;
   serves = is_served (g.F.Shelf.file c.args.shelf.now c.args.policy.now) c.in-Ok.p (options_in c.args.options) _ c.in-Ok.ensures.policy c.in-Ok.ensures.sound c.serve_policy.ensures.served c.serve_policy.ensures.wants;
   orderly = record {
     early = λ e. let late = c.serve_policy.ensures.late in cc;
@@ -21,7 +22,7 @@ returns-in-Ok-clause-serves g c = record {
 pub returns-in-Err-clause-serves : goal.returns-in-Err-clause-serves
 returns-in-Err-clause-serves g c =
     refused_run c.args.policy.now (options_in c.args.options) _ c.in-Err.fault c.bare_report.ensures.fault c.in-Err.ensures.policy c.in-Err.ensures.ending
-    (record { unread = refl; unwritten = refl; untold = c.bare_report.ensures.told }) c.in-Err.ensures.loads refl refl
+    (record { unread = refl; unwritten = refl; untold = c.bare_report.ensures.told }) c.in-Err.ensures.loads refl refl c.requires.options
 
 pub returns-in-Err-clause-once : goal.returns-in-Err-clause-once
 returns-in-Err-clause-once g c serves = subst (λ (t : Told). AreAnsweredOnce t.entries) (sym c.bare_report.ensures.told) tt

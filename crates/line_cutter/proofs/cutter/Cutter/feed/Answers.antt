@@ -1,6 +1,6 @@
 use Rattle.std.proofs.Common.{arith}
 use Rattle.std.proofs.lemmas.Grind.{common_steps}
-use Rattle.line_cutter.specs.CutLaws.{one_cut, plain_cut, ended_byte, stops_byte}
+use Rattle.line_cutter.proofs.CutLaws.{one_cut, plain_cut, ended_byte, stops_byte}
 use Rattle.line_cutter.proofs.cutter.Cutter.feed.Goals as goal
 
 pub returns-then-run-eq0-clause-cuts : goal.returns-then-run-eq0-clause-cuts

@@ -2,7 +2,7 @@ use Rattle.std.proofs.Common.{◌<◌, ◌≤◌, ◌-◌, ap, drop, length, sli
 use Rattle.wf_names.specs.declared.limits.TheConstants.{LANE_LIMIT}
 use Rattle.wf_board.specs.Histories.{lane_jobs}
 use Rattle.wf_desk.specs.Desks.{AreOfLanes, left_of}
-use Rattle.wf_desk.specs.DocketLaws.{left_at, left_past, rest_from}
+use Rattle.wf_desk.proofs.DocketLaws.{left_at, left_past, rest_from}
 use Rattle.wf_desk.proofs.desk.Desk.left.Goals as goal
 
 pub returns-then-lane-self : goal.returns-then-lane-self

@@ -1,7 +1,7 @@
 use Rattle.std.proofs.Common.{◌<◌, ap, slice_get, slice_index_or, sym, ◌∙◌, arith}
 use Rattle.wf_names.specs.declared.limits.TheConstants.{LANE_LIMIT}
 use Rattle.wf_desk.specs.Desks.{next_job}
-use Rattle.wf_desk.specs.DocketLaws.{next_at}
+use Rattle.wf_desk.proofs.DocketLaws.{next_at}
 use Rattle.wf_desk.proofs.desk.Desk.next_job.Goals as goal
 
 pub returns : goal.returns

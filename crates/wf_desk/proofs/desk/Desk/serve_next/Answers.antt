@@ -1,6 +1,6 @@
 use Rattle.std.proofs.Common.{◌≡◌, ◌<◌, Some, sym, subst, ◌∙◌}
 use Rattle.wf_desk.specs.Desks.{next_job}
-use Rattle.wf_desk.specs.DocketLaws.{next_lane}
+use Rattle.wf_desk.proofs.DocketLaws.{next_lane}
 use Rattle.wf_desk.proofs.desk.Desk.serve_next.Goals as goal
 
 pub serve-requires-clause-lane : goal.serve-requires-clause-lane

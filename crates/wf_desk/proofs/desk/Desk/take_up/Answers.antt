@@ -1,6 +1,6 @@
 use Rattle.std.proofs.Common.{◌≡◌, ◌<◌, Some, sym, subst, ◌∙◌}
 use Rattle.wf_desk.specs.Desks.{next_job}
-use Rattle.wf_desk.specs.DocketLaws.{next_lane}
+use Rattle.wf_desk.proofs.DocketLaws.{next_lane}
 use Rattle.wf_desk.proofs.desk.Desk.take_up.Goals as goal
 
 pub look_at-requires-clause-lane : goal.look_at-requires-clause-lane

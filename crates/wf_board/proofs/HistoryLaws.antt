@@ -1,4 +1,4 @@
--- Inside: laws of histories, for whoever adds an entry at the end.
+-- Laws of histories, for whoever adds an entry at the end.
 use Rattle.std.proofs.Common.{◌≡◌, ℕ, zero, suc, ◌+◌, ◌≤◌, max, false, List, [], ◌∷◌, ◌++◌, length, take, drop, map, Result, Ok, Err, inl, inr, append_assoc, append-nil, refl, sym, ap, subst, ◌∙◌, arith}
 use Rattle.std.proofs.lemmas.List.{drop-append-le, length-map, take-append-drop, take-append-le}
 use Rattle.policy_book.specs.Shapes.{PolicyShape}

@@ -1,4 +1,4 @@
--- Inside: laws of the cutting, for the proofs over it.
+-- Laws of the cutting, for the proofs over it.
 use Rattle.std.proofs.Common.{refl, ap, subst, sym, ◌∙◌, arith}
 use Rattle.std.specs.Prelude.{◌≡◌, ◌≢◌, ℕ, suc, ◌+◌, ◌-◌, ◌==◌, ◌<◌, ◌≤◌, Bool, true, false, List, [], ◌∷◌, ◌++◌, length, map, take, slice_index, Some, None, is_some, if◌then◌else◌}
 use Rattle.std.proofs.lemmas.Grind.{common_steps}

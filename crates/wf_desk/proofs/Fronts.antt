@@ -1,4 +1,4 @@
--- Inside: of each lane the first items are done, of a list of items.
+-- Of each lane the first items are done, of a list of items.
 use Rattle.std.proofs.Common.{◌≡◌, ℕ, ◌+◌, ◌<◌, ◌≤◌, inl, inr, true, false, nat_eq, List, [], ◌∷◌, length, take, if◌then◌else◌, refl, sym, ap, subst, arith}
 use Rattle.std.specs.List.{filter}
 use Rattle.std.proofs.lemmas.Grind.{common_steps}

@@ -1,4 +1,4 @@
--- Inside: the lanes of a docket, job after job.
+-- The lanes of a docket, job after job.
 use Rattle.std.proofs.Common.{◌≡◌, ℕ, zero, suc, ◌+◌, ◌-◌, ◌<◌, ◌≤◌, inl, inr, false, nat_eq, List, [], ◌∷◌, ◌++◌, length, take, drop, map, get_or, slice_get, IfSome, None, Some, refl, sym, ap, subst, ◌∙◌, arith, append-nil}
 use Rattle.std.proofs.lemmas.Grind.{common_steps}
 use Rattle.std.proofs.lemmas.List.{map-append, length-map, length-append, length-drop, take-append-drop, drop-append-le, take_more, take_rest, take_all, length-take-le}
@@ -13,7 +13,7 @@ use Rattle.wf_board.specs.Histories.{EachAfter, RestsFrom, job_of_entry, lane_jo
 use Rattle.wf_desk.specs.Desks.{AreOfLanes, DeskShape, IsDone, IsSoundDesk, left_of, next_job, served, served_jobs}
 use Rattle.wf_desk.specs.Keeping.{IsLanePlace}
 use Rattle.wf_desk.specs.BatchLaws.{AnswersBatch}
-use Rattle.wf_desk.specs.Fronts.{Fronts, fronts_short, fronts_within}
+use Rattle.wf_desk.proofs.Fronts.{Fronts, fronts_short, fronts_within}
 
 -- the jobs of a lane of two lists
 pub lane_both : (lane : ℕ) (xs ys : List Job) → lane_jobs lane (xs ++ ys) ≡ lane_jobs lane xs ++ lane_jobs lane ys
