@@ -7,6 +7,7 @@ use cnf_export::{Encoder, Literals};
 use constraint_forms::{Assign, StepSet};
 use policy_book::Policy;
 use std::alloc::{AllocError, Global};
+use std::process::Abort;
 use std::test::Fail;
 use wf_names::{FlowId, StepId, UserId};
 
@@ -140,37 +141,35 @@ const GONE_CLAUSES: &str = "8 13
 ";
 
 #[test]
-fn a_step_for_nobody_has_an_empty_clause(rt: HostRuntime) -> Result<(), Fail> {
-    let p = policy_reader::read(rt.alloc(), LONE.as_bytes())?;
-    let text = clauses_of_all_free(rt.alloc(), &p)?;
-    assert!(rt; text.as_str() == LONE_CLAUSES);
+fn clauses_are_those_by_hand(rt: HostRuntime) -> Result<(), Fail> {
+    free_cases_have_theirs(&rt, rt.alloc())?;
+    assert!(rt; finished_steps_keep_a_user_without_the_role(rt.alloc())?);
     Ok(())
 }
 
-#[test]
-fn counts_of_users_are_counters(rt: HostRuntime) -> Result<(), Fail> {
-    let most = policy_reader::read(rt.alloc(), MOST.as_bytes())?;
-    let text = clauses_of_all_free(rt.alloc(), &most)?;
-    let wanted = format!(in rt.alloc(); "{COUNTED_CLAUSES}-14 0\n")?;
-    assert!(rt; text.as_str() == wanted.as_str());
+// A step for nobody has an empty clause. Counts of users are counters, and least counts end the
+// other way.
+fn free_cases_have_theirs(rt: &impl Abort, alloc: Global) -> Result<(), Fail> {
+    let rows = [
+        (LONE, LONE_CLAUSES, ""),
+        (MOST, COUNTED_CLAUSES, "-14 0\n"),
+        (LEAST, COUNTED_CLAUSES, "14 0\n"),
+    ];
+    for (policy, front, last) in rows {
+        assert!(rt; are_of_all_free(alloc, policy, front, last)?, "{last}");
+    }
     Ok(())
 }
 
-#[test]
-fn least_counts_end_the_other_way(rt: HostRuntime) -> Result<(), Fail> {
-    let least = policy_reader::read(rt.alloc(), LEAST.as_bytes())?;
-    let text = clauses_of_all_free(rt.alloc(), &least)?;
-    let wanted = format!(in rt.alloc(); "{COUNTED_CLAUSES}14 0\n")?;
-    assert!(rt; text.as_str() == wanted.as_str());
-    Ok(())
+// Whether the clauses of a case of the policy's first workflow, whose steps are all free, are these.
+fn are_of_all_free(alloc: Global, policy: &str, front: &str, last: &str) -> Result<bool, Fail> {
+    let p = policy_reader::read(alloc, policy.as_bytes())?;
+    Ok(clauses_of_all_free(alloc, &p)?.as_str().strip_prefix(front) == Some(last))
 }
 
-#[test]
-fn finished_steps_keep_a_user_without_the_role(rt: HostRuntime) -> Result<(), Fail> {
-    let p = policy_reader::read(rt.alloc(), GONE.as_bytes())?;
-    let text = clauses_of_lees(rt.alloc(), &p)?;
-    assert!(rt; text.as_str() == GONE_CLAUSES);
-    Ok(())
+fn finished_steps_keep_a_user_without_the_role(alloc: Global) -> Result<bool, Fail> {
+    let p = policy_reader::read(alloc, GONE.as_bytes())?;
+    Ok(clauses_of_lees(alloc, &p)?.as_str() == GONE_CLAUSES)
 }
 
 // The clauses of a case of the first workflow whose steps are all free; no text where there is none.
@@ -213,16 +212,30 @@ fn has_two(p: &Policy) -> bool
 fn text_of(alloc: Global, encoder: &mut Encoder) -> Result<String, Fail> {
     let (variables, clauses) = (encoder.variables(), encoder.clauses());
     let mut text = format!(in alloc; "{variables} {clauses}\n")?;
+    add_all(alloc, encoder, &mut text)?;
+    Ok(text)
+}
+
+fn add_all(alloc: Global, encoder: &mut Encoder, text: &mut String) -> Result<(), AllocError> {
     let mut one = Literals::new(alloc);
-    for _ in 0..clauses {
-        if encoder.next(&mut one)? {
-            add_line(alloc, &mut text, &one)?;
+    add_lines(alloc, encoder, text, &mut one)
+}
+
+fn add_lines(
+    alloc: Global,
+    encoder: &mut Encoder,
+    text: &mut String,
+    one: &mut Literals,
+) -> Result<(), AllocError> {
+    for _ in 0..encoder.clauses() {
+        if encoder.next(one)? {
+            add_line(alloc, text, one)?;
         }
     }
-    if encoder.next(&mut one)? {
+    if encoder.next(one)? {
         text.push_str("more")?;
     }
-    Ok(text)
+    Ok(())
 }
 
 fn add_line(alloc: Global, text: &mut String, clause: &Literals) -> Result<(), AllocError> {

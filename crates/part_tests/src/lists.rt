@@ -45,10 +45,14 @@ fn copies_both(log: &Log<u32>) -> Result<bool, AllocError> {
 }
 
 #[test]
-fn a_list_of_given_values_has_them(rt: HostRuntime) -> Result<(), Fail> {
+fn a_list_of_given_values_and_its_clone_have_them(rt: HostRuntime) -> Result<(), Fail> {
     let list = List::from_vec(vec![in rt.alloc(); 7u8, 9]?);
-    assert!(rt; list.as_bytes() == [7, 9].as_slice());
+    assert!(rt; has_both(&list) && has_both(&list.clone()?));
     Ok(())
+}
+
+fn has_both(list: &List<u8>) -> bool {
+    list.as_bytes() == [7, 9].as_slice()
 }
 
 /// A value that is copied as any other.
@@ -64,20 +68,13 @@ impl Same for Noted {
 #[test]
 fn a_log_copies_each_of_its_entries(rt: HostRuntime) -> Result<(), Fail> {
     let mut log = Log::new(rt.alloc());
+    assert!(rt; copies_each(&mut log)?);
+    Ok(())
+}
+
+fn copies_each(log: &mut Log<Noted>) -> Result<bool, AllocError> {
     log.push(Noted(3))?;
     log.push(Noted(5))?;
-    assert!(rt; copies_each(&log)?);
-    Ok(())
-}
-
-fn copies_each(log: &Log<Noted>) -> Result<bool, AllocError> {
     let copy = log.copy_each()?;
     Ok(copy.len() == 2 && copy.get(0).0 == 3 && copy.get(1).0 == 5)
-}
-
-#[test]
-fn a_clone_of_a_list_has_its_values(rt: HostRuntime) -> Result<(), Fail> {
-    let list = List::from_vec(vec![in rt.alloc(); 7u8, 9]?);
-    assert!(rt; list.clone()?.as_bytes() == [7, 9].as_slice());
-    Ok(())
 }

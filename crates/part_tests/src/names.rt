@@ -1,5 +1,5 @@
 //! What no clause shows: which texts are names, and that a table's calls succeed while there is memory.
-ghost use Rattle.std.specs.Prelude.{◌≡◌, ◌≤◌, length};
+ghost use Rattle.std.specs.Prelude.{◌≡◌, ◌≤◌, IfOk, length};
 
 use std::process::Abort;
 use std::test::Fail;
@@ -59,7 +59,10 @@ fn has_both(table: &NameTable) -> Result<bool, Fail> {
     Ok(table.len() == 2 && there == Some(1) && other.is_none())
 }
 
-fn read(text: &str) -> Result<Name, Fail> {
+/// A name.
+pub(crate) fn read(text: &str) -> Result<Name, Fail>
+    ensures { IfOk result (λ name. name ≡ text.now) }
+{
     Ok(Name::read(text).ok_or("not a name")?)
 }
 

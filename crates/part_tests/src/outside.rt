@@ -10,28 +10,28 @@ use wf_outside::{
     take_all,
 };
 
+#[test]
+fn sources_give_all_or_tell_their_faults(rt: HostRuntime) -> Result<(), Fail> {
+    assert!(rt; is_taken_in_pieces(rt.alloc())?);
+    assert!(rt; is_too_long(rt.alloc())? && keeps_the_rest(rt.alloc())?);
+    Ok(())
+}
+
 // Nine bytes come in pieces of 2, the last one shorter.
-#[test]
-fn all_is_taken_in_pieces(rt: HostRuntime) -> Result<(), Fail> {
-    let mut source = nine_bytes(rt.alloc(), 2, &[])?;
-    let bytes = take_all(rt.alloc(), &mut source, 9, 5)?;
-    assert!(rt; bytes.as_bytes() == b"nine char".as_slice());
-    Ok(())
+fn is_taken_in_pieces(alloc: Global) -> Result<bool, Fail> {
+    let mut source = nine_bytes(alloc, 2, &[])?;
+    Ok(take_all(alloc, &mut source, 9, 5)?.as_bytes() == b"nine char".as_slice())
 }
 
-#[test]
-fn a_source_tells_its_faults(rt: HostRuntime) -> Result<(), Fail> {
-    let mut long = nine_bytes(rt.alloc(), 4, &[])?;
-    assert!(rt; take_all(rt.alloc(), &mut long, 8, 5).err() == Some(LoadFault::TooLong));
-    Ok(())
+fn is_too_long(alloc: Global) -> Result<bool, AllocError> {
+    let mut long = nine_bytes(alloc, 4, &[])?;
+    Ok(take_all(alloc, &mut long, 8, 5).err() == Some(LoadFault::TooLong))
 }
 
-#[test]
-fn a_failing_source_keeps_the_rest(rt: HostRuntime) -> Result<(), Fail> {
-    let mut failing = nine_bytes(rt.alloc(), 4, &[1])?;
-    assert!(rt; take_all(rt.alloc(), &mut failing, 9, 5).err() == Some(LoadFault::Failed));
-    assert!(rt; failing.faults() == 1 && failing.left() == b" char".as_slice());
-    Ok(())
+fn keeps_the_rest(alloc: Global) -> Result<bool, AllocError> {
+    let mut failing = nine_bytes(alloc, 4, &[1])?;
+    let failed = take_all(alloc, &mut failing, 9, 5).err() == Some(LoadFault::Failed);
+    Ok(failed && failing.faults() == 1 && failing.left() == b" char".as_slice())
 }
 
 fn nine_bytes(alloc: Global, most: usize, failing: &[u64]) -> Result<MemSource, AllocError>

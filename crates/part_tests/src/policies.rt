@@ -1,17 +1,14 @@
 //! What no clause shows: that a policy may be lent to threads and handed from one to another, and
 //! that it answers while there is memory.
-ghost use Rattle.std.specs.Prelude.{◌≡◌, ◌<◌, ◌+◌, ℕ, ◌∷◌, [], IfOk, IsTrue, OnOk, length};
-ghost use Rattle.std.specs.FinSet as set;
+ghost use Rattle.std.specs.Prelude.{◌<◌, IsTrue, length};
 ghost use Rattle.wf_names.specs.declared.limits.TheConstants.{STEP_LIMIT};
-ghost use Rattle.constraint_forms.specs.declared.rule.Rule.TheVariants.{Pair};
 ghost use Rattle.policy_book.specs.Policies.{flow_at, problem_of};
 ghost use Rattle.policy_book.specs.Refuting.{is_unassigned};
 
 use constraint_forms::falsified;
-use policy_book::{Assign, Flow, Policy, RelatedRows, Relations, Roster, Rule, Rules};
-use std::alloc::Global;
+use policy_book::{Assign, Policy, RelatedRows, Rules};
 use std::test::Fail;
-use wf_names::{FlowId, Name, NameTable, RelId, RoleId, StepId, UserId};
+use wf_names::{FlowId, RelId, RoleId, StepId, UserId};
 
 const CLERK: RoleId = RoleId(0);
 
@@ -27,6 +24,23 @@ const BOB: UserId = UserId(1);
 
 const USERS: u16 = 3;
 
+// Nobody is a clerk and nobody may do a step; different users do the two steps.
+const APART: &str = r#"
+format = 1
+admin = "chief"
+roles = ["clerk", "chief"]
+
+[users]
+ann = []
+bob = []
+cyd = ["chief"]
+
+[flows.pay]
+steps = ["a", "b"]
+permit = {}
+rules = [{ form = "pair", relation = "other", first = "a", second = "b" }]
+"#;
+
 fn is_shared<T: Send + Sync>() -> bool {
     true
 }
@@ -39,7 +53,7 @@ fn policies_are_shared(rt: HostRuntime) {
 // Ann and bob are clerks, cyd is none; clerks may do both steps, which one user may not do both.
 #[test]
 fn candidates_are_clerks_who_have_not_done_the_other_step(rt: HostRuntime) -> Result<(), Fail> {
-    let mut p = policy(rt.alloc())?;
+    let mut p = policy_reader::read(rt.alloc(), APART.as_bytes())?;
     assert!(rt; finds_its_clerks(&mut p));
     Ok(())
 }
@@ -140,121 +154,4 @@ fn rows_are_right(p: &Policy) -> bool {
     let others = p.after(RelId::OTHER, ANN, USERS);
     let same = p.ahead(RelId::SAME, ANN, USERS);
     others.count() == 2 && !others.has(ANN) && same.count() == 1 && same.has(ANN)
-}
-
-fn policy(alloc: Global) -> Result<Policy, Fail> {
-    let mut p = without_flows(alloc)?;
-    add_pay(alloc, &mut p)?;
-    Ok(p)
-}
-
-fn without_flows(alloc: Global) -> Result<Policy, Fail> {
-    let roster = roster(alloc)?;
-    with_relations(alloc, roster, Relations::new(alloc)?)
-}
-
-fn with_relations(alloc: Global, roster: Roster, relations: Relations) -> Result<Policy, Fail>
-    requires roles { length roster.roles ≡ 1 }
-    requires relations { relations ≡ [] }
-{
-    Ok(Policy::start(alloc, roster, relations, CLERK)?)
-}
-
-fn add_pay(alloc: Global, p: &mut Policy) -> Result<(), Fail> {
-    let name = read("pay")?;
-    let rules = apart(alloc)?;
-    put_in(p, name, flow(alloc)?, rules)
-}
-
-#[tactic(auto, using(crate::proofs::Apart::apart_is_sound))]
-fn put_in(p: &mut Policy, name: Name, flow: Flow, rules: Rules) -> Result<(), Fail>
-    requires steps { length flow.steps ≡ 2 }
-    requires permits { flow.permits ≡ set.empty }
-    requires rules { rules ≡ Pair 1 0 1 ∷ [] }
-{
-    p.add_flow(name, flow, rules).ok().ok_or("no flow")?;
-    Ok(())
-}
-
-fn roster(alloc: Global) -> Result<Roster, Fail>
-    ensures { IfOk result (λ roster. length roster.roles ≡ 1) }
-{
-    let mut roster = Roster::new(alloc, clerks(alloc)?)?;
-    add_users(&mut roster)?;
-    Ok(roster)
-}
-
-// The role of clerks alone.
-fn clerks(alloc: Global) -> Result<NameTable, Fail>
-    ensures { IfOk result (λ roles. length roles.names ≡ 1) }
-{
-    let mut roles = NameTable::new(alloc, 4)?;
-    add_name(&mut roles, "clerk")?;
-    Ok(roles)
-}
-
-fn add_name(names: &mut NameTable, text: &str) -> Result<(), Fail>
-    ensures { OnOk result (length names.new.names ≡ length names.old.names + 1) }
-{
-    let name = read(text)?;
-    names.add(name).ok().ok_or("no room")?;
-    Ok(())
-}
-
-fn add_users(roster: &mut Roster) -> Result<(), Fail>
-    ensures { length roster.new.roles ≡ length roster.old.roles }
-{
-    add(roster, "ann")?;
-    add(roster, "bob")?;
-    add(roster, "cyd")?;
-    Ok(())
-}
-
-fn add(roster: &mut Roster, name: &str) -> Result<(), Fail>
-    ensures { length roster.new.roles ≡ length roster.old.roles }
-{
-    let name = read(name)?;
-    roster.add_user(name).ok().ok_or("no room")?;
-    Ok(())
-}
-
-fn flow(alloc: Global) -> Result<Flow, Fail>
-    ensures steps { IfOk result (λ f. length f.steps ≡ 2) }
-    ensures permits { IfOk result (λ f. f.permits ≡ set.empty) }
-{
-    let steps = two_steps(alloc)?;
-    Ok(Flow::build(alloc, steps, &[], &[]).ok().ok_or("no flow")?)
-}
-
-fn two_steps(alloc: Global) -> Result<NameTable, Fail>
-    ensures { IfOk result (λ steps. length steps.names ≡ 2) }
-{
-    let mut steps = NameTable::new(alloc, 4)?;
-    add_steps(&mut steps)?;
-    Ok(steps)
-}
-
-fn add_steps(steps: &mut NameTable) -> Result<(), Fail>
-    ensures { OnOk result (length steps.new.names ≡ length steps.old.names + 2) }
-{
-    add_name(steps, "a")?;
-    add_name(steps, "b")
-}
-
-// The rule that different users do the two steps.
-fn apart(alloc: Global) -> Result<Rules, Fail>
-    ensures { IfOk result (λ rules. rules ≡ Pair 1 0 1 ∷ []) }
-{
-    let mut rules = Rules::new(alloc);
-    let different = Rule::Pair {
-        rho: RelId::OTHER,
-        first: A,
-        second: B,
-    };
-    rules.push(different)?;
-    Ok(rules)
-}
-
-fn read(text: &str) -> Result<Name, Fail> {
-    Ok(Name::read(text).ok_or("not a name")?)
 }

@@ -5,6 +5,7 @@ ghost use Rattle.std.specs.FinSet as set;
 ghost use Rattle.wf_names.specs.declared.limits.TheConstants.{USER_LIMIT};
 ghost use Rattle.user_relations.specs.Relations.{RelationShape, listed};
 
+use crate::names::read;
 use std::alloc::{AllocError, Global};
 use std::process::Abort;
 use std::test::Fail;
@@ -328,10 +329,4 @@ fn declare(relations: &mut Relations, name: &str) -> Result<RelId, Fail>
         Ok(rho) => Ok(rho),
         Err(_) => Err("no room")?,
     }
-}
-
-fn read(text: &str) -> Result<Name, Fail>
-    ensures { IfOk result (λ name. name ≡ text.now) }
-{
-    Ok(Name::read(text).ok_or("not a name")?)
 }

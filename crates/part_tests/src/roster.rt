@@ -2,6 +2,7 @@
 
 ghost use Rattle.std.specs.Prelude.{◌≡◌, ◌+◌, IfOk, OnOk, length};
 
+use crate::names::read;
 use rbac_state::{Roster, RosterFault};
 use std::alloc::Global;
 use std::process::Abort;
@@ -251,8 +252,4 @@ fn add(roster: &mut Roster, name: &str) -> Result<UserId, Fail>
 {
     let name = read(name)?;
     Ok(roster.add_user(name).ok().ok_or("no room")?)
-}
-
-fn read(text: &str) -> Result<Name, Fail> {
-    Ok(Name::read(text).ok_or("not a name")?)
 }

@@ -7,6 +7,7 @@ ghost use Rattle.wf_names.specs.declared.limits.TheConstants.{STEP_LIMIT, USER_L
 use constraint_forms::{
     Assign, Holds, Plan, RelatedRows, Rule, Rules, StepSet, falsified, keep_unfalsified, satisfied,
 };
+use std::process::Abort;
 use std::test::Fail;
 use wf_names::{RelId, STEP_LIMIT, StepId, UserId, UserSet};
 
@@ -123,11 +124,14 @@ fn duo_falsifies_a_pair_once_both_steps_are_assigned(rt: HostRuntime) {
         ("kk", true, false),
         ("kl", false, true),
     ];
-    for (row, breaks_other, breaks_same) in rows {
-        assert!(rt;
-            broken_by(&other, &same, row) == (breaks_other, breaks_same),
-            "{row}"
-        );
+    are_broken_so(&rt, &other, &same, &rows);
+}
+
+// Each row says whether its assignment falsifies each of two rules.
+fn are_broken_so(rt: &impl Abort, first: &Rule, second: &Rule, rows: &[(&str, bool, bool)]) {
+    for (row, breaks_first, breaks_second) in rows {
+        let broken = broken_by(first, second, row);
+        assert!(rt; broken == (*breaks_first, *breaks_second), "{row}");
     }
 }
 
@@ -158,12 +162,7 @@ fn trio_mentor_falsifies_some_once_all_are_assigned(rt: HostRuntime) {
         ("klk", true, true),
         ("kl-", false, false),
     ];
-    for (row, breaks_some, breaks_all) in rows {
-        assert!(rt;
-            broken_by(&some, &all, row) == (breaks_some, breaks_all),
-            "{row}"
-        );
-    }
+    are_broken_so(&rt, &some, &all, &rows);
 }
 
 #[test]
@@ -184,12 +183,7 @@ fn trio_mentor_read_back_falsifies_some_once_all_are_assigned(rt: HostRuntime) {
         ("lkl", true, true),
         ("lk-", false, false),
     ];
-    for (row, breaks_some, breaks_all) in rows {
-        assert!(rt;
-            broken_by(&some, &all, row) == (breaks_some, breaks_all),
-            "{row}"
-        );
-    }
+    are_broken_so(&rt, &some, &all, &rows);
 }
 
 #[test]
@@ -206,12 +200,7 @@ fn counts_are_of_users_and_free_steps_may_get_others(rt: HostRuntime) {
         ("klk", false, false),
         ("klm", false, true),
     ];
-    for (row, breaks_least, breaks_most) in rows {
-        assert!(rt;
-            broken_by(&least, &most, row) == (breaks_least, breaks_most),
-            "{row}"
-        );
-    }
+    are_broken_so(&rt, &least, &most, &rows);
 }
 
 #[test]
@@ -225,12 +214,7 @@ fn steps_outside_a_group_are_not_counted(rt: HostRuntime) {
         ("kkl", false, true),
         ("-kl", false, false),
     ];
-    for (row, breaks_least, breaks_most) in rows {
-        assert!(rt;
-            broken_by(&least, &most, row) == (breaks_least, breaks_most),
-            "{row}"
-        );
-    }
+    are_broken_so(&rt, &least, &most, &rows);
 }
 
 #[test]
@@ -238,8 +222,12 @@ fn trio_plans_satisfy_or_not(rt: HostRuntime) {
     let (rho, group, step) = (LISTED, StepSet::empty().with(A).with(B), C);
     let some = Rule::SomeOf { rho, group, step };
     let all = Rule::AllOf { rho, group, step };
-    assert!(rt; satisfies(&some, &[KIM, MAX, LEE]) && !satisfies(&some, &[MAX, MAX, LEE]));
-    assert!(rt; !satisfies(&all, &[KIM, MAX, LEE]) && satisfies(&all, &[KIM, KIM, LEE]));
+    let rows = [
+        ([KIM, MAX, LEE], true, false),
+        ([MAX, MAX, LEE], false, false),
+        ([KIM, KIM, LEE], true, true),
+    ];
+    are_satisfied_so(&rt, &some, &all, &rows);
 }
 
 #[test]
@@ -247,8 +235,12 @@ fn trio_plans_satisfy_what_is_read_back_or_not(rt: HostRuntime) {
     let (rho, group, step) = (LISTED, StepSet::empty().with(A).with(B), C);
     let some = Rule::SomeTo { rho, step, group };
     let all = Rule::AllTo { rho, step, group };
-    assert!(rt; satisfies(&some, &[LEE, MAX, KIM]) && !satisfies(&some, &[KIM, MAX, LEE]));
-    assert!(rt; !satisfies(&all, &[LEE, MAX, KIM]) && satisfies(&all, &[LEE, LEE, KIM]));
+    let rows = [
+        ([LEE, MAX, KIM], true, false),
+        ([KIM, MAX, LEE], false, false),
+        ([LEE, LEE, KIM], true, true),
+    ];
+    are_satisfied_so(&rt, &some, &all, &rows);
 }
 
 #[test]
@@ -256,16 +248,32 @@ fn trio_plans_have_so_many_users_or_not(rt: HostRuntime) {
     let (limit, group) = (2, StepSet::empty().with(A).with(B).with(C));
     let least = Rule::AtLeast { limit, group };
     let most = Rule::AtMost { limit, group };
-    assert!(rt; !satisfies(&least, &[KIM, KIM, KIM]) && satisfies(&most, &[KIM, KIM, KIM]));
-    assert!(rt; satisfies(&least, &[KIM, LEE, KIM]) && satisfies(&most, &[KIM, LEE, KIM]));
-    assert!(rt; satisfies(&least, &[KIM, LEE, MAX]) && !satisfies(&most, &[KIM, LEE, MAX]));
+    let rows = [
+        ([KIM, KIM, KIM], false, true),
+        ([KIM, LEE, KIM], true, true),
+        ([KIM, LEE, MAX], true, false),
+    ];
+    are_satisfied_so(&rt, &least, &most, &rows);
 }
 
-fn satisfies(rule: &Rule, users: &[UserId]) -> bool
-    requires plan { length users.now ≤ STEP_LIMIT }
-    requires rule { IsRuleOf (length users.now) rule.now }
+// Each row says whether its plan satisfies each of two rules.
+fn are_satisfied_so(
+    rt: &impl Abort,
+    first: &Rule,
+    second: &Rule,
+    rows: &[([UserId; 3], bool, bool)],
+)
+    requires first { IsRuleOf 3 first.now }
+    requires second { IsRuleOf 3 second.now }
 {
-    satisfied(rule, &Mentors, &Plan::of(users))
+    for (users, by_first, by_second) in rows {
+        let plan = Plan::of(users);
+        let satisfies = (
+            satisfied(first, &Mentors, &plan),
+            satisfied(second, &Mentors, &plan),
+        );
+        assert!(rt; satisfies == (*by_first, *by_second));
+    }
 }
 
 #[test]

@@ -3,10 +3,11 @@ ghost use Rattle.std.specs.Prelude.{◌≡◌, ◌<◌, length, IfOk, OnOk};
 ghost use Rattle.std.specs.List.{All};
 ghost use Rattle.wf_names.specs.declared.limits.TheConstants.{ROLE_LIMIT};
 
+use crate::names::read;
 use std::alloc::{AllocError, Global};
 use std::process::Abort;
 use std::test::Fail;
-use wf_names::{Name, NameTable, RoleId, StepId};
+use wf_names::{NameTable, RoleId, StepId};
 use workflow_schema::{Flow, FlowFault};
 
 const A: StepId = StepId(0);
@@ -77,7 +78,7 @@ fn add_four(names: &mut NameTable) -> Result<(), Fail>
 }
 
 fn add(names: &mut NameTable, text: &str) -> Result<(), Fail> {
-    let name = Name::read(text).ok_or("not a name")?;
+    let name = read(text)?;
     names.add(name).ok().ok_or("not added")?;
     Ok(())
 }
