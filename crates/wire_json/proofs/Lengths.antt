@@ -99,6 +99,7 @@ branch_long later user kid rest =
 
 mutual
   unfolding escape_byte
+
   tree_short : (p : PolicyShape) (f : ℕ) → AreNames p.roster.users → AreNames (flow_at p f).flow.steps → (t : Shape) → HasSmallRules t → length (compact_text (tree_data p f t)) + 46 ≤ 108 * nodes_of t
   tree_short p f users steps (holder s) small = omega (arith, holder_short p f s steps)
   tree_short p f users steps (rule k) small = omega (arith, rule_short p f k small)
