@@ -6,3 +6,4 @@ pub mod PlainLines
 pub mod Keys
 pub mod Lines
 pub mod Flats
+pub mod Lengths

@@ -9,3 +9,4 @@ pub mod Entries
 pub mod Trees
 pub mod Replies
 pub mod Findings
+pub mod Lengths

@@ -7,6 +7,7 @@ mod denial;
 mod entry;
 mod finding;
 mod flat;
+pub mod laws;
 mod object;
 mod plain;
 mod reply;

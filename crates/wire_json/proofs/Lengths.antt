@@ -1,0 +1,119 @@
+-- How long the texts of trees are.
+use Rattle.std.proofs.Common.{◌≡◌, ℕ, zero, suc, ◌+◌, ◌*◌, ◌<◌, ◌≤◌, ◌^◌, List, [], ◌∷◌, ◌++◌, length, Bool, true, false, refl, ap, ◌∙◌, ◌⊎◌, inl, inr, arith, Some, slice_get}
+use Rattle.std.specs.Prelude.{codes, decimal, slice_index_or}
+use Rattle.std.proofs.lemmas.Fmt.{length-decimal-le}
+use Rattle.std.proofs.lemmas.Grind.{common_steps}
+use Rattle.std.proofs.lemmas.List.{length-append}
+use Rattle.json.specs.Print.{escape, escape_byte, quoted}
+use Rattle.serde_json.specs.Data.{array}
+use Rattle.serde_json.specs.View.{items_of}
+use Rattle.serde_json.specs.Written.{comma_if, compact_text, items_text}
+use Rattle.wf_names.specs.Names.{is_name}
+use Rattle.wf_names.specs.Table.{AreNames}
+use Rattle.refutation_tree.specs.Shapes.{Shape, Kids, holder, rule, node, no_kids, tree_kid, twin_kid, nodes_of, nodes_of_kids}
+use Rattle.policy_book.specs.Shapes.{PolicyShape}
+use Rattle.policy_book.specs.Policies.{flow_at}
+use Rattle.wire_json.specs.Entries.{named, single, step_data, user_data}
+use Rattle.wire_json.specs.Lengths.{HasSmallRules, HaveSmallRules, TreeTextsAreShort}
+use Rattle.wire_json.specs.Trees.{branches_data, tree_data}
+use Rattle.wire_json.proofs.Texts.{name_stays}
+
+-- ---- lists
+
+around : (a x b : List ℕ) → length (a ++ (x ++ b)) ≡ length a + (length x + length b)
+around a x b = length-append a (x ++ b) ∙ ap (λ n. length a + n) (length-append x b)
+
+-- ---- names
+
+name_short : (s : List ℕ) → is_name s ≡ true → length s ≤ 40
+unfolding is_name
+name_short s h = grind (arith, common_steps)
+
+quoted_short : (s : List ℕ) → is_name s ≡ true → length (quoted s) ≤ 42
+quoted_short s h =
+    let same : length (quoted s) ≡ suc (length (escape s ++ 34 ∷ [])) = refl in
+    let parts : length (escape s ++ 34 ∷ []) ≡ length (escape s) + 1 = length-append (escape s) (34 ∷ []) in
+    omega (arith, same, parts, ap length (name_stays s h), name_short s h)
+
+-- a number stands for a name, or for the empty text
+there_or_not : (names : List (List ℕ)) (n : ℕ) → (slice_index_or names n [] ≡ []) ⊎ (slice_get names n ≡ Some (slice_index_or names n []))
+there_or_not [] n = inl refl
+there_or_not (x ∷ xs) zero = inr refl
+there_or_not (x ∷ xs) (suc n) = there_or_not xs n
+
+named_short : (names : List (List ℕ)) (n : ℕ) → AreNames names → length (compact_text (named names n)) ≤ 42
+named_short names n known = at (there_or_not names n)
+  where
+    at : (slice_index_or names n [] ≡ []) ⊎ (slice_get names n ≡ Some (slice_index_or names n [])) → length (quoted (slice_index_or names n [])) ≤ 42
+    at (inl none) = omega (arith, ap (λ s. length (quoted s)) none)
+    at (inr there) = quoted_short (slice_index_or names n []) (known.form n (slice_index_or names n []) there)
+
+-- ---- leaves
+
+holder_short : (p : PolicyShape) (f s : ℕ) → AreNames (flow_at p f).flow.steps → length (compact_text (tree_data p f (holder s))) ≤ 62
+unfolding escape_byte
+holder_short p f s steps =
+    let parts : length (compact_text (tree_data p f (holder s))) ≡ 10 + (length (compact_text (step_data p f s)) + 1) = around (codes "{\"holder\":") (compact_text (step_data p f s)) (codes "}") in
+    omega (arith, parts, named_short (flow_at p f).flow.steps s steps)
+
+rule_short : (p : PolicyShape) (f k : ℕ) → k < 2 ^ 8 → length (compact_text (tree_data p f (rule k))) ≤ 62
+unfolding escape_byte
+rule_short p f k small =
+    let parts : length (compact_text (tree_data p f (rule k))) ≡ 8 + (length (decimal k) + 1) = around (codes "{\"rule\":") (decimal k) (codes "}") in
+    omega (arith, parts, length-decimal-le 3 k (omega arith) (omega (arith, small)) (omega (arith, small)))
+
+twin_short : (p : PolicyShape) (v : ℕ) → AreNames p.roster.users → length (compact_text (single (codes "twin") (user_data p v))) ≤ 51
+unfolding escape_byte
+twin_short p v users =
+    let parts : length (compact_text (single (codes "twin") (user_data p v))) ≡ 8 + (length (compact_text (user_data p v)) + 1) = around (codes "{\"twin\":") (compact_text (user_data p v)) (codes "}") in
+    omega (arith, parts, named_short p.roster.users v users)
+
+-- ---- nodes
+
+-- a node whose branches have a text
+node_long : (step users : List ℕ) → length (codes "{\"step\":" ++ (step ++ (codes ",\"users\":" ++ (users ++ codes "}")))) ≡ 18 + (length step + length users)
+node_long step users =
+    let outer = around (codes "{\"step\":") step (codes ",\"users\":" ++ (users ++ codes "}")) in
+    let inner = around (codes ",\"users\":") users (codes "}") in
+    let first : length (codes "{\"step\":") ≡ 8 = refl in
+    let second : length (codes ",\"users\":") ≡ 9 = refl in
+    let last : length (codes "}") ≡ 1 = refl in
+    omega (arith, outer, inner, first, second, last)
+
+comma_short : (later : Bool) → length (comma_if later) ≤ 1
+comma_short true = omega arith
+comma_short false = omega arith
+
+-- a branch before others
+branch_long : (later : Bool) (user kid rest : List ℕ) → length (comma_if later ++ ((91 ∷ (user ++ (44 ∷ (kid ++ 93 ∷ [])))) ++ rest)) ≤ 4 + (length user + (length kid + length rest))
+branch_long later user kid rest =
+    let ending : List ℕ = 93 ∷ [] in
+    let tail : List ℕ = 44 ∷ (kid ++ ending) in
+    let branch : List ℕ = 91 ∷ (user ++ tail) in
+    let outer : length (comma_if later ++ (branch ++ rest)) ≡ length (comma_if later) + (length branch + length rest) = around (comma_if later) branch rest in
+    let front : length branch ≡ suc (length (user ++ tail)) = refl in
+    let inner : length (user ++ tail) ≡ length user + length tail = length-append user tail in
+    let comma : length tail ≡ suc (length (kid ++ ending)) = refl in
+    let close : length (kid ++ ending) ≡ length kid + 1 = length-append kid ending in
+    omega (arith, outer, front, inner, comma, close, comma_short later)
+
+mutual
+  unfolding escape_byte
+
+  tree_short : (p : PolicyShape) (f : ℕ) → AreNames p.roster.users → AreNames (flow_at p f).flow.steps → (t : Shape) → HasSmallRules t → length (compact_text (tree_data p f t)) + 46 ≤ 108 * nodes_of t
+  tree_short p f users steps (holder s) small = omega (arith, holder_short p f s steps)
+  tree_short p f users steps (rule k) small = omega (arith, rule_short p f k small)
+  tree_short p f users steps (node s kids) small =
+      let parts : length (compact_text (tree_data p f (node s kids))) ≡ 18 + (length (compact_text (step_data p f s)) + length (compact_text (array (items_of (branches_data p f kids))))) = node_long (compact_text (step_data p f s)) (compact_text (array (items_of (branches_data p f kids)))) in
+      let whole : length (compact_text (array (items_of (branches_data p f kids)))) ≡ suc (length (items_text false (items_of (branches_data p f kids)))) = refl in
+      omega (arith, parts, whole, named_short (flow_at p f).flow.steps s steps, kids_short p f users steps kids small false)
+
+  kids_short : (p : PolicyShape) (f : ℕ) → AreNames p.roster.users → AreNames (flow_at p f).flow.steps → (kids : Kids) → HaveSmallRules kids → (later : Bool) → length (items_text later (items_of (branches_data p f kids))) ≤ 108 * nodes_of_kids kids + 1
+  kids_short p f users steps no_kids small later = omega arith
+  kids_short p f users steps (tree_kid u t kids) small later =
+      omega (arith, branch_long later (compact_text (user_data p u)) (compact_text (tree_data p f t)) (items_text true (items_of (branches_data p f kids))), named_short p.roster.users u users, tree_short p f users steps t small.0, kids_short p f users steps kids small.1 true)
+  kids_short p f users steps (twin_kid u v kids) small later =
+      omega (arith, branch_long later (compact_text (user_data p u)) (compact_text (single (codes "twin") (user_data p v))) (items_text true (items_of (branches_data p f kids))), named_short p.roster.users u users, twin_short p v users, kids_short p f users steps kids small true)
+
+pub tree_texts_are_short : TreeTextsAreShort
+tree_texts_are_short p f t users steps small = tree_short p f users steps t small
