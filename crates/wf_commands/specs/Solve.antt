@@ -29,11 +29,14 @@ TellsTree p f line =
 abbrev pub TellsFlow : PolicyShape → ℕ → List ℕ → Type 0
 TellsFlow p f line = TellsPlan p f line ⊎ TellsTree p f line
 
+-- a text has such a line for a workflow behind another text
+abbrev pub TellsNext : PolicyShape → ℕ → List ℕ → List ℕ → Type 0
+TellsNext p f front text = (line : List ℕ) × TellsFlow p f line × (text ≡ front ++ line)
+
 -- a text is such a line for each of the first n workflows, in their order
 abbrev pub TellsFirst : PolicyShape → ℕ → List ℕ → Type 0
 TellsFirst p zero text = text ≡ []
-TellsFirst p (suc n) text =
-    (front line : List ℕ) × TellsFirst p n front × TellsFlow p n line × (text ≡ front ++ line)
+TellsFirst p (suc n) text = (front : List ℕ) × TellsFirst p n front × TellsNext p n front text
 
 -- the text tells of each workflow of the policy
 abbrev pub SolvesPolicy : PolicyShape → RunFault → List ℕ → Type 0

@@ -1,6 +1,6 @@
 //! The command `solve`: a plan for each workflow, or a tree that shows that there is none.
-ghost use Rattle.std.specs.Prelude.{◌<◌, length, string_bytes, None, IfOk};
-ghost use Rattle.wf_commands.specs.Solve.{SolvesPolicy, TellsFirst, TellsFlow};
+ghost use Rattle.std.specs.Prelude.{◌<◌, length, None, IfOk, OnOk};
+ghost use Rattle.wf_commands.specs.Solve.{SolvesPolicy, TellsFirst, TellsNext};
 
 use crate::answer::{Answer, Answers};
 use policy_book::{Assign, Policy, StepSet};
@@ -8,7 +8,7 @@ use run_record::RunFault;
 use std::alloc::{AllocError, Global};
 use wf_names::FlowId;
 use wf_outside::Source;
-use wire_json::{write_plan, write_tree};
+use wire_json::{push_plan_line, push_tree_line};
 use wsp_solver::Outcome;
 
 /// `solve`: which plan is there for each workflow, or why is there none?
@@ -28,30 +28,29 @@ impl Answers for SolveCommand {
     ) -> Result<Answer, RunFault> {
         Ok(Answer {
             found: false,
-            text: solve_flows(alloc, p)?.into_bytes(),
+            text: solve_flows(alloc, p)?,
         })
     }
 }
 
 // The lines of all workflows of a policy, in their order.
-fn solve_flows(alloc: Global, p: &Policy) -> Result<String, AllocError>
-    ensures { IfOk result (λ text. TellsFirst p.now (length p.now.flows) (string_bytes text)) }
+fn solve_flows(alloc: Global, p: &Policy) -> Result<Vec<u8>, AllocError>
+    ensures { IfOk result (λ text. TellsFirst p.now (length p.now.flows) text.items) }
 {
-    let mut text = String::new(alloc);
+    let mut text = Vec::new(alloc);
     'flows: for f in 0..p.flows().len() {
-        let line = solve_flow(alloc, p, FlowId(f as u8))?;
-        text.push_str(line.as_str())?;
+        push_solved(alloc, &mut text, p, FlowId(f as u8))?;
     }
     Ok(text)
 }
 
-// The line of a workflow.
-fn solve_flow(alloc: Global, p: &Policy, f: FlowId) -> Result<String, AllocError>
+// Adds the line of a workflow.
+fn push_solved(alloc: Global, out: &mut Vec<u8>, p: &Policy, f: FlowId) -> Result<(), AllocError>
     requires { f < length p.now.flows }
-    ensures { IfOk result (λ line. TellsFlow p.now f (string_bytes line)) }
+    ensures { OnOk result (TellsNext p.now f out.old.items out.new.items) }
 {
     match wsp_solver::solve(alloc, p, f, &Assign::empty(), &StepSet::empty())? {
-        Outcome::Plan(plan) => write_plan(alloc, p, f, &plan),
-        Outcome::Refuted(tree) => write_tree(alloc, p, f, &tree),
+        Outcome::Plan(plan) => push_plan_line(out, p, f, &plan),
+        Outcome::Refuted(tree) => push_tree_line(out, p, f, &tree),
     }
 }

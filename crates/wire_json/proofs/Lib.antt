@@ -1,5 +1,4 @@
 pub mod Values
-pub mod Floats
 pub mod Branches
 pub mod Texts
 pub mod PlainLines

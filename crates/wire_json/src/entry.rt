@@ -2,23 +2,12 @@
 ghost use Rattle.std.specs.Prelude.{◌≡◌, IfOk};
 ghost use Rattle.serde_json.specs.View.{view};
 ghost use Rattle.policy_book.specs.Policies.{flow_at};
-ghost use Rattle.wire_json.specs.Entries.{named, user_data, step_data, plan_data};
+ghost use Rattle.wire_json.specs.Entries.{named, user_data, step_data};
 
-use policy_book::{Plan, Policy};
+use policy_book::Policy;
 use serde_json::{Value, json};
 use std::alloc::{AllocError, Global};
 use wf_names::{FlowId, NameTable, StepId, UserId};
-
-// The names of a plan's users.
-pub(crate) fn plan_value(alloc: Global, users: &NameTable, plan: &Plan) -> Result<Value, AllocError>
-    ensures { IfOk result (λ v. view v ≡ plan_data users.now.names plan.now) }
-{
-    let mut names = Vec::new(alloc);
-    'users: for s in 0..plan.len() {
-        names.push(name_value(alloc, users, plan.at(StepId(s)).0)?)?;
-    }
-    Ok(Value::Array(names))
-}
 
 pub(crate) fn user_value(alloc: Global, p: &Policy, u: UserId) -> Result<Value, AllocError>
     ensures { IfOk result (λ v. view v ≡ user_data p.now u) }
@@ -42,7 +31,7 @@ pub(crate) fn step_value(
 }
 
 // The name with a number, as text; the empty text where there is none.
-pub(crate) fn name_value(alloc: Global, names: &NameTable, n: u16) -> Result<Value, AllocError>
+fn name_value(alloc: Global, names: &NameTable, n: u16) -> Result<Value, AllocError>
     ensures { IfOk result (λ v. view v ≡ named names.now.names n) }
 {
     if n < names.len() {

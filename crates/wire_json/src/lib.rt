@@ -20,7 +20,7 @@ mod views;
 mod word;
 
 pub use absences::{write_absence, write_family};
-pub use finding::{write_plan, write_tree};
+pub use finding::{push_plan_line, push_tree_line};
 pub use reply::{push_line, write_entry};
 pub use request::{Asked, RequestReader, read_request};
 pub use tree::tree_value;

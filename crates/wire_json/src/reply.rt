@@ -84,8 +84,8 @@ fn push_granted(out: &mut Vec<u8>, p: &Policy, plan: &Plan) -> Result<(), AllocE
     Ok(())
 }
 
-// Adds the names of a plan's users.
-fn push_users(out: &mut Vec<u8>, p: &Policy, plan: &Plan) -> Result<(), AllocError>
+/// Adds the names of a plan's users.
+pub(crate) fn push_users(out: &mut Vec<u8>, p: &Policy, plan: &Plan) -> Result<(), AllocError>
     ensures { OnOk result (out.new.items ≡ out.old.items ++ compact_text
         (plan_data p.now.roster.users plan.now)) }
 {
@@ -183,7 +183,8 @@ fn push_face(out: &mut Vec<u8>, p: &Policy, face: &Face) -> Result<(), AllocErro
     Ok(())
 }
 
-fn push_flow(out: &mut Vec<u8>, p: &Policy, f: FlowId) -> Result<(), AllocError>
+/// Adds the name of a workflow.
+pub(crate) fn push_flow(out: &mut Vec<u8>, p: &Policy, f: FlowId) -> Result<(), AllocError>
     ensures { OnOk result (out.new.items ≡ out.old.items ++ compact_text
         (named p.now.flow_names f)) }
 {

@@ -1,5 +1,5 @@
-use Rattle.std.proofs.Common.{◌≡◌, ℕ, List, Bool, Option, true, inl, inr, subst}
-use Rattle.std.proofs.lemmas.Result.{IfOk-weaker}
+use Rattle.std.proofs.Common.{◌≡◌, ℕ, List, Bool, Option, true, refl, inl, inr, subst}
+use Rattle.std.proofs.lemmas.Result.{on_ok_weaker}
 use Rattle.constraint_forms.specs.Assigned.{no_steps}
 use Rattle.policy_book.specs.Plans.{IsValidPlan}
 use Rattle.policy_book.specs.Policies.{problem_of}
@@ -8,7 +8,7 @@ use Rattle.policy_book.specs.Lean.{is_lean}
 use Rattle.refutation_tree.specs.Views.{shape_of}
 use Rattle.wsp_solver.specs.Searches.{HasSolved}
 use Rattle.wsp_solver.specs.declared.search.Outcome.{Outcome}
-use Rattle.wf_commands.proofs.solve.solve_flow.Goals as goal
+use Rattle.wf_commands.proofs.solve.push_solved.Goals as goal
 
 pub returns-in-Plan : goal.returns-in-Plan
 returns-in-Plan c =
@@ -17,7 +17,7 @@ returns-in-Plan c =
     let found = subst (λ (o : Outcome). HasSolved problem c.empty.result c.empty-2.result o) c.in-Plan.is c.in_ok-plan.ensures in
     let valid = subst (λ (a : List (Option ℕ)). IsValidPlan problem a no_steps plan) c.empty.ensures.value
     (subst (λ (d : List Bool). IsValidPlan problem c.empty.result d plan) c.empty-2.ensures.value found) in
-    IfOk-weaker c.write_plan.result _ _ (λ line same. inl (plan, valid, same)) c.write_plan.ensures
+    on_ok_weaker c.push_plan_line.result (λ same. (_, inl (plan, valid, refl), same)) c.push_plan_line.ensures
 
 pub returns-in-Refuted : goal.returns-in-Refuted
 returns-in-Refuted c =
@@ -27,4 +27,4 @@ returns-in-Refuted c =
     let refuting = subst (λ (a : List (Option ℕ)). refutes problem a no_steps tree ≡ true) c.empty.ensures.value
     (subst (λ (d : List Bool). refutes problem c.empty.result d tree ≡ true) c.empty-2.ensures.value found.refutes) in
     let lean = subst (λ (a : List (Option ℕ)). is_lean problem a tree ≡ true) c.empty.ensures.value found.lean in
-    IfOk-weaker c.write_tree.result _ _ (λ line same. inr (tree, refuting, lean, same)) c.write_tree.ensures
+    on_ok_weaker c.push_tree_line.result (λ same. (_, inr (tree, refuting, lean, refl), same)) c.push_tree_line.ensures
