@@ -43,12 +43,7 @@ pub fn push_tree_line(
 }
 
 // Adds a workflow's name, and a plan for it.
-fn push_plan_found(
-    out: &mut Vec<u8>,
-    p: &Policy,
-    f: FlowId,
-    plan: &Plan,
-) -> Result<(), AllocError>
+fn push_plan_found(out: &mut Vec<u8>, p: &Policy, f: FlowId, plan: &Plan) -> Result<(), AllocError>
     ensures { OnOk result (out.new.items ≡ out.old.items ++ compact_text
         (plan_found p.now f plan.now)) }
 {
@@ -61,12 +56,7 @@ fn push_plan_found(
 }
 
 // Adds a workflow's name, and a tree over its steps.
-fn push_tree_found(
-    out: &mut Vec<u8>,
-    p: &Policy,
-    f: FlowId,
-    tree: &Tree,
-) -> Result<(), AllocError>
+fn push_tree_found(out: &mut Vec<u8>, p: &Policy, f: FlowId, tree: &Tree) -> Result<(), AllocError>
     ensures { OnOk result (out.new.items ≡ out.old.items ++ compact_text
         (tree_found p.now f (shape_of tree.now))) }
 {
