@@ -7,6 +7,21 @@ complete -c wfserve -n __fish_use_subcommand -a resilience -d 'say whether a wor
 complete -c wfserve -n __fish_use_subcommand -a show -d 'write the policy as it was understood'
 complete -c wfserve -n __fish_use_subcommand -a audit -d 'say whether a transcript is legal'
 complete -c wfserve -n __fish_use_subcommand -a trial -d 'serve a generated session'
-complete -c wfserve -n '__fish_seen_subcommand_from serve plan solve resilience show audit' -F
+
+# whether so many words stand before the one that is completed
+function __wfserve_at -a count
+    test (count (commandline -opc)) -eq $count
+end
+
+# the workflows of the policy
+function __wfserve_flows
+    set -l words (commandline -opc)
+    sed -n 's/^\[flows\.\([a-z0-9_]*\).*/\1/p' $words[3] 2>/dev/null
+end
+
+complete -c wfserve -n '__fish_seen_subcommand_from serve audit' -F
+complete -c wfserve -n '__fish_seen_subcommand_from plan solve resilience show; and __wfserve_at 2' -F
+complete -c wfserve -n '__fish_seen_subcommand_from plan resilience; and __wfserve_at 3' -a '(__wfserve_flows)'
+complete -c wfserve -n '__fish_seen_subcommand_from resilience; and __wfserve_at 4' -a '0 1 2 3'
 complete -c wfserve -n '__fish_seen_subcommand_from serve audit' -l lanes -x -a '1 2 3 4 5 6 7 8' -d 'number of lanes'
 complete -c wfserve -n '__fish_seen_subcommand_from serve audit' -l rounds -x -a '0 1 2 3 4 5 6 7 8' -d 'tries beside other lanes'

@@ -1,29 +1,24 @@
-"""A small client of wfserve: it starts the server as a child, writes one request and an empty line, reads the one
-entry that answers it, and says of each reply what it is."""
+"""A small client of wfserve: it starts the server as a child, writes a request and an empty line, and reads its entry."""
 
 import json
 import subprocess
 
-LINES = 200_000  # of a session; empty lines count
-# Whom a denial is for: the clerk who asked, whoever administers the policy, or whoever wrote the client.
-FOR = {
-    **dict.fromkeys(("closed", "taken", "order", "role", "rule", "stranded", "not_held"), "clerk"),
-    **dict.fromkeys(("retired", "full", "unsatisfiable", "no_user", "not_admin", "unknown"), "administrator"),
-    **dict.fromkeys(("already", "absent", "fixed", "last_admin", "strands"), "administrator"),
-    **dict.fromkeys(("no_flow", "no_case", "no_step"), "developer"),
+# Whom a reply is for that changed nothing: the clerk who asked, whoever administers the policy, or whoever wrote the client.
+WORDS = {
+    "clerk": ("closed", "taken", "order", "role", "rule", "stranded", "not_held"),
+    "administrator": ("retired", "full", "unsatisfiable", "no_user", "not_admin", "unknown")
+    + ("already", "absent", "fixed", "last_admin", "strands"),
+    "developer": ("no_flow", "no_case", "no_step", "bad"),
 }
+FOR = {word: whom for whom, words in WORDS.items() for word in words}
 
 
 class Unmet(Exception):
-    """A request that changed nothing: `word` says why, `what` is the rest of the reply, and `whom` has to hear of it."""
-
-    def __init__(self, word, what, whom):
-        super().__init__(word, what, whom)
-        self.word, self.what, self.whom = word, what, whom
+    """A request that changed nothing; its arguments are the word, the rest of the reply, and who has to hear of it."""
 
 
 class Ended(Exception):
-    """The server has ended, or takes no more lines. Whether the last request was served its transcript tells alone."""
+    """The server has ended: its status and its last words. Whether the last request was served its transcript tells."""
 
 
 class Server:
@@ -37,21 +32,19 @@ class Server:
     def ask(self, do, tries=3, **keys):
         """The reply, as its word and the rest of it. What was overtaken or lacked memory is asked again."""
         for _ in range(tries):
-            reply = self.exchange(json.dumps({"do": do, **keys}, separators=(",", ":")).encode() + b"\n\n")
-            word, what = (reply, None) if isinstance(reply, str) else next(iter(reply.items()))
+            word, what = pair(self.exchange(json.dumps({"do": do, **keys}).encode() + b"\n\n"))
             if word == "denied":
-                word, what = (what, None) if isinstance(what, str) else next(iter(what.items()))
+                word, what = pair(what)
+            if word in FOR:
                 raise Unmet(word, what, FOR[word])
-            if word == "bad":
-                raise Unmet(word, what, "developer")
             if word not in ("again", "no_memory"):
                 return word, what
         raise Unmet(word, what, "clerk" if word == "again" else "operator")
 
     def exchange(self, lines):
-        if self.line + 2 > LINES:
-            raise Ended("no lines are left")
         try:
+            if self.keep:  # (whoever relies on it has this synced before the server gets it)
+                self.keep[0].write(lines)
             self.child.stdin.write(lines)
             entry = self.entries.readline()
         except BrokenPipeError:
@@ -59,7 +52,7 @@ class Server:
         if not entry.endswith(b"\n"):
             raise Ended(*self.close())
         if self.keep:
-            self.keep[0].write(lines), self.keep[1].write(entry)
+            self.keep[1].write(entry)
         told = json.loads(entry)
         assert told["line"] == self.line, "the entry answers another line"
         self.line += 2
@@ -70,3 +63,7 @@ class Server:
         self.child.stdin.close()
         said = self.child.stderr.read().decode().splitlines()
         return self.child.wait(), said[-1] if said else ""
+
+
+def pair(reply):
+    return (reply, None) if isinstance(reply, str) else next(iter(reply.items()))

@@ -6,7 +6,7 @@ use Rattle.std.proofs.lemmas.List.{append-nil, length-append}
 use Rattle.wf_names.specs.declared.limits.TheConstants.{LINE_LIMIT, SESSION_LINE_LIMIT, BATCH_LINE_LIMIT}
 use Rattle.wf_talk.specs.declared.job.Job.{Job}
 use Rattle.wf_talk.specs.Jobs.{AreOfLanes}
-use Rattle.wire_json.specs.RequestLaws.{lane_below}
+use Rattle.wire_json.proofs.RequestLaws.{lane_below}
 use Rattle.line_cutter.specs.Jobs.{Cut, start, start_at, without_cr, job_of, end_batch, end_full_batch, next_line, with_job, end_line, step, cut_all, flush, jobs_from, jobs_of_input, last_or, next_input}
 use Rattle.line_cutter.specs.Cutter.{after_handing}
 use Rattle.line_cutter.proofs.CutLaws.{finished_stop}

@@ -6,3 +6,4 @@ pub mod Keys
 pub mod Lines
 pub mod Flats
 pub mod Lengths
+pub mod RequestLaws

@@ -1,7 +1,6 @@
 pub mod Absences
 pub mod Values
 pub mod Requests
-pub mod RequestLaws
 pub mod Words
 pub mod Objects
 pub mod Plain
