@@ -1,5 +1,5 @@
 -- Models as text, as solvers write them.
-use Rattle.std.specs.Prelude.{ℕ, ◌+◌, ◌*◌, ◌-◌, Bool, true, false, ◌&&◌, ◌||◌, ◌==◌, nat_le, nat_lt, List, [], ◌∷◌, length, drop, replicate, slice_index, slice_index_or, slice_set, Option, None, Some, option_and_then, Result, Ok, Err, if◌then◌else◌}
+use Rattle.std.specs.Prelude.{ℕ, ◌+◌, ◌*◌, ◌-◌, ◌≤◌, Bool, true, false, ◌&&◌, ◌||◌, ◌==◌, nat_le, nat_lt, List, [], ◌∷◌, length, drop, replicate, slice_index, slice_index_or, slice_set, Option, None, Some, option_and_then, Result, Ok, Err, if◌then◌else◌}
 use Rattle.std.specs.List.{slice_split}
 use Rattle.first_fault.specs.Reading.{◌>>=◌, each}
 use Rattle.cnf_models.specs.declared.text.ModelFault.{ModelFault}
@@ -95,3 +95,8 @@ count_of (Some k) = k
 abbrev pub word_of : ModelFault → Option ℕ
 word_of (Word k) = Some k
 word_of NoMemory = None
+
+-- a text has no more words than bytes
+abbrev pub IsWordOf : List ℕ → ModelFault → Type 0
+IsWordOf text (Word k) = k ≤ length text
+IsWordOf text NoMemory = Unit {0}

@@ -1,11 +1,11 @@
 //! Models read from text.
-ghost use Rattle.std.specs.Prelude.{◌≡◌, ◌≤◌, ◌<◌, ◌+◌, ◌^◌, suc, [], ◌∷◌, length, Some, IfOk};
+ghost use Rattle.std.specs.Prelude.{◌≡◌, ◌≤◌, ◌<◌, ◌+◌, ◌^◌, suc, [], ◌∷◌, length, Some, IfErr, IfOk};
 ghost use Rattle.std.specs.Option.{option_map_or};
 ghost use Rattle.std.specs.List.{slice_split};
 ghost use Rattle.memchr.specs.Find.{IsFirstByte};
 ghost use Rattle.first_fault.specs.Reading.{each, Gives};
 ghost use Rattle.cnf_models.specs.declared.text.ModelFault.TheVariants.{NoMemory};
-ghost use Rattle.cnf_models.specs.Texts.{count_of, is_blank, is_lf, is_passed_over, model_of_text, next_line, next_part, without_v, word_of};
+ghost use Rattle.cnf_models.specs.Texts.{count_of, is_blank, is_lf, is_passed_over, model_of_text, next_line, next_part, without_v, word_of, IsWordOf};
 
 use crate::Model;
 use crate::word::read_part;
@@ -31,7 +31,8 @@ impl From<AllocError> for ModelFault {
 
 /// The model of so many variables that a text says.
 pub fn read_model(alloc: Global, text: &[u8], variables: u32) -> Result<Model, ModelFault>
-    ensures { Gives word_of (λ m. m) result (model_of_text variables text.now) }
+    ensures model { Gives word_of (λ m. m) result (model_of_text variables text.now) }
+    ensures word { IfErr result (IsWordOf text.now) }
 {
     let mut flags = vec![in alloc; false; variables as usize]?;
     match read_lines(variables, text, &mut flags) {
@@ -44,8 +45,9 @@ pub fn read_model(alloc: Global, text: &[u8], variables: u32) -> Result<Model, M
 #[tactic(auto, using(crate::proofs::Steps::reads_on, crate::proofs::Steps::fails_here))]
 fn read_lines(limit: u32, text: &[u8], flags: &mut [bool]) -> Result<Option<usize>, usize>
     requires { limit ≤ length flags.old }
-    ensures { Gives Some (λ words. (flags.new, words)) result
+    ensures read { Gives Some (λ words. (flags.new, words)) result
         (each (next_line limit) (flags.old, Some 0) (slice_split is_lf text.now)) }
+    ensures word { IfErr result (λ k. k ≤ length text.now) }
 {
     prove!(text.len() <= usize::MAX);
     let mut words = Some(0);
@@ -71,6 +73,7 @@ fn read_line(
     requires fits { count_of words + length line.now < 2 ^ 64 }
     ensures read { Gives Some (λ after. (flags.new, after)) result
         (next_line limit (flags.old, words) line.now) }
+    ensures word { IfErr result (λ k. k ≤ count_of words + length line.now) }
     ensures few { IfOk result (λ after. count_of after ≤ count_of words + length line.now) }
     ensures places { length flags.new ≡ length flags.old }
 {
@@ -92,6 +95,7 @@ fn read_parts(
     requires fits { count_of words + length line.now < 2 ^ 64 }
     ensures read { Gives Some (λ after. (flags.new, after)) result
         (each (next_part limit) (flags.old, words) (slice_split is_blank line.now)) }
+    ensures word { IfErr result (λ k. k ≤ count_of words + length line.now) }
     ensures few { IfOk result (λ after. count_of after ≤ count_of words + length line.now) }
     ensures places { length flags.new ≡ length flags.old }
 {

@@ -1,5 +1,5 @@
 //! The words of a model's text.
-ghost use Rattle.std.specs.Prelude.{◌≡◌, ◌≤◌, ◌<◌, ◌+◌, ◌^◌, length, Some, IfOk, IfSome};
+ghost use Rattle.std.specs.Prelude.{◌≡◌, ◌≤◌, ◌<◌, ◌+◌, ◌^◌, length, Some, IfErr, IfOk, IfSome};
 ghost use Rattle.first_fault.specs.Reading.{Gives};
 ghost use Rattle.cnf_models.specs.Texts.{count_of, is_digit, next_part, number_of, take_no, take_yes, with_digit};
 
@@ -15,6 +15,7 @@ pub(crate) fn read_part(
     requires fits { count_of words + length part.now < 2 ^ 64 }
     ensures read { Gives Some (λ after. (flags.new, after)) result
         (next_part limit (flags.old, words) part.now) }
+    ensures word { IfErr result (λ k. k ≤ count_of words) }
     ensures few { IfOk result (λ after. count_of after ≤ count_of words + length part.now) }
     ensures places { length flags.new ≡ length flags.old }
 {
@@ -34,6 +35,7 @@ pub(crate) fn read_part(
 fn take_no(k: usize, number: Option<u32>, flags: &[bool]) -> Result<Option<usize>, usize>
     requires { k + 1 < 2 ^ 64 }
     ensures read { Gives Some (λ after. (flags.now, after)) result (take_no k flags.now number) }
+    ensures word { IfErr result (λ n. n ≤ k) }
     ensures few { IfOk result (λ after. count_of after ≤ k + 1) }
 {
     let _ = flags;
@@ -47,6 +49,7 @@ fn take_yes(k: usize, number: Option<u32>, flags: &mut [bool]) -> Result<Option<
     requires fits { k + 1 < 2 ^ 64 }
     requires places { IfSome number (λ n. n ≤ length flags.old) }
     ensures read { Gives Some (λ after. (flags.new, after)) result (take_yes k flags.old number) }
+    ensures word { IfErr result (λ n. n ≤ k) }
     ensures few { IfOk result (λ after. count_of after ≤ k + 1) }
     ensures places { length flags.new ≡ length flags.old }
 {

@@ -4,12 +4,14 @@ ghost use Rattle.constraint_forms.specs.Assigned.{user_at};
 ghost use Rattle.policy_book.specs.Policies.{flow_at};
 
 use cnf_export::{Encoder, Literals};
+use cnf_text::write_clauses;
 use constraint_forms::{Assign, StepSet};
 use policy_book::Policy;
 use std::alloc::{AllocError, Global};
 use std::process::Abort;
 use std::test::Fail;
 use wf_names::{FlowId, StepId, UserId};
+use wf_outside::MemSink;
 
 pub(crate) const FLOW: FlowId = FlowId(0);
 
@@ -145,6 +147,30 @@ fn clauses_are_those_by_hand(rt: HostRuntime) -> Result<(), Fail> {
     free_cases_have_theirs(&rt, rt.alloc())?;
     assert!(rt; finished_steps_keep_a_user_without_the_role(rt.alloc())?);
     Ok(())
+}
+
+#[test]
+fn clauses_are_written_as_the_text_by_hand(rt: HostRuntime) -> Result<(), Fail> {
+    assert!(rt; is_written_whole(rt.alloc())?);
+    Ok(())
+}
+
+// Whether the text of the clauses where all steps are free goes out over a sink that takes a part of
+// it at a time.
+fn is_written_whole(alloc: Global) -> Result<bool, Fail> {
+    let p = policy_reader::read(alloc, LONE.as_bytes())?;
+    let mut sink = MemSink::new(alloc, 200, 7, Vec::new(alloc))?;
+    let text = format!(in alloc; "p cnf {LONE_CLAUSES}")?;
+    Ok(writes_all_free(alloc, &p, &mut sink)? && sink.bytes() == text.as_bytes())
+}
+
+// Writes the clauses of a case of the first workflow whose steps are all free.
+fn writes_all_free(alloc: Global, p: &Policy, sink: &mut MemSink) -> Result<bool, Fail> {
+    if p.flows().len() == 0 {
+        return Ok(false);
+    }
+    let mut encoder = Encoder::new(alloc, p, FLOW, &Assign::empty(), &StepSet::empty())?;
+    Ok(write_clauses(alloc, &mut encoder, sink).is_ok())
 }
 
 // A step for nobody has an empty clause. Counts of users are counters, and least counts end the
