@@ -68,11 +68,11 @@ no_writes (BadInput e) n ending = absurd ending
 pub refused_run : (policy : List ℕ) (options : Options) (r : Run) (fault : RunFault) → r.fault ≡ fault → GivesPolicy (r.files policy) (Err fault) → IsLoadEnding fault → IsUntouched r
     → CountsLoads fault r.load_faults r.load_faults_after → r.after.read_faults ≡ r.before.read_faults → r.after.write_faults ≡ r.before.write_faults → AreOptions options
     → ServesRun policy options r
-refused_run policy options r fault is gives ending nothing loads reads writes within =
+refused_run policy options r fault is gives ending nothing loads reads writes limits =
     let given : GivesPolicy (r.files policy) (Err r.fault) = subst (λ (x : RunFault). GivesPolicy (r.files policy) (Err x)) (sym is) gives in
     let ends : IsLoadEnding r.fault = subst IsLoadEnding (sym is) ending in
     record {
-      options = within;
+      within = limits;
       serves = not_served (r.files policy) options r given ends nothing;
       orderly = record {
         early = λ early. nothing;

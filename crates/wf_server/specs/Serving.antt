@@ -43,6 +43,6 @@ ServesFile file options r = (EndsBefore file r.fault × IsUntouched r) ⊎ Serve
 
 -- a run of `serve` with a policy file and options
 pub record ServesRun (policy : List ℕ) (options : Options) (r : Run) : Type 0 where
-  pub options : AreOptions options
+  pub within : AreOptions options
   pub serves : OverFile (r.files policy) r.fault (λ file. ServesFile file options r)
   pub orderly : IsOrderly r
