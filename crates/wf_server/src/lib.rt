@@ -2,6 +2,8 @@
 #![tactic(auto)]
 
 mod batch;
+mod file;
+mod resume;
 mod runs;
 mod serve;
 mod session;
