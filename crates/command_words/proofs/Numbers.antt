@@ -19,7 +19,7 @@ use Rattle.clap.specs.declared.builder.value_parser.ValueParser.{ValueParser}
 use Rattle.clap.specs.declared.builder.value_parser.ValueParser.TheVariants.{Signed, Unsigned}
 use Rattle.command_words.specs.declared.command.TheConstants.{ABSENCE_LIMIT}
 use Rattle.wf_names.specs.declared.limits.TheConstants.{LANE_LIMIT, ROUND_LIMIT}
-use Rattle.command_words.specs.Words.{audit_form, resilience_form, serve_form, trial_form}
+use Rattle.command_words.specs.Words.{audit_form, resilience_form, resume_form, serve_form, trial_form}
 use Rattle.command_words.specs.Finding.{HasOptions, PassesIn, RowPasses, TakesValue, WritesWithin}
 
 -- ---- reading a text that writes a number
@@ -202,6 +202,16 @@ audit_options rows p = record {
       (rules_of (HasParser (codes "lanes") lanes_parser) audit_form rows p (other, (other, (λ e. refl, (other, tt)))) (other, (other, (λ e. refl, (other, (other, tt)))))) p.pass;
   rounds = signed_within p.rules (codes "rounds") 0 ROUND_LIMIT rows (λ e. cc)
       (rules_of (HasParser (codes "rounds") rounds_parser) audit_form rows p (other, (other, (other, (λ e. refl, tt)))) (other, (other, (other, (λ e. refl, (other, tt)))))) p.pass;
+}
+
+pub resume_options : (rows : List Row) → PassesIn resume_form rows → HasOptions rows
+resume_options rows p = record {
+  lanes = signed_within p.rules (codes "lanes") 1 LANE_LIMIT rows (λ e. cc)
+      (rules_of (HasParser (codes "lanes") lanes_parser) resume_form rows p
+      (other, (other, (other, (λ e. refl, (other, tt))))) (other, (other, (other, (λ e. refl, (other, (other, tt))))))) p.pass;
+  rounds = signed_within p.rules (codes "rounds") 0 ROUND_LIMIT rows (λ e. cc)
+      (rules_of (HasParser (codes "rounds") rounds_parser) resume_form rows p
+      (other, (other, (other, (other, (λ e. refl, tt))))) (other, (other, (other, (other, (λ e. refl, (other, tt))))))) p.pass;
 }
 
 pub trial_seed : (rows : List Row) → PassesIn trial_form rows → WritesWithin 0 (2 ^ 64 - 1) (codes "SEED") rows

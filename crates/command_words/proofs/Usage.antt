@@ -18,12 +18,12 @@ use Rattle.clap.proofs.OnLiterals.{clap_on_literals}
 use Rattle.command_words.specs.declared.command.TheConstants.{ABSENCE_LIMIT}
 use Rattle.wf_names.specs.declared.limits.TheConstants.{DEFAULT_LANES, DEFAULT_ROUNDS, LANE_LIMIT, ROUND_LIMIT}
 use Rattle.command_words.specs.Words.{AreOptions, Options, command_of, found}
-use Rattle.command_words.specs.Words.{audit, plan, resilience, serve, show, solve, trial}
-use Rattle.command_words.specs.Words.{audit_form, plan_form, resilience_form, serve_form, show_form, solve_form, trial_form}
-use Rattle.command_words.specs.Words.{audit_in, plan_in, resilience_in, serve_in, show_in, solve_in, trial_in}
+use Rattle.command_words.specs.Words.{audit, cnf, plan, resilience, resume, serve, show, solve, trial}
+use Rattle.command_words.specs.Words.{audit_form, cnf_form, plan_form, resilience_form, resume_form, serve_form, show_form, solve_form, trial_form}
+use Rattle.command_words.specs.Words.{audit_in, cnf_in, plan_in, resilience_in, resume_in, serve_in, show_in, solve_in, trial_in}
 use Rattle.command_words.specs.Usage.{IsPlain, option_words, options_with}
 use Rattle.command_words.proofs.Decimals.{decimal_plain, signed_taken, unsigned_taken, value_of, value_without_minus}
-use Rattle.command_words.proofs.Walking.{as_option, as_value, at, end_fault, found_by}
+use Rattle.command_words.proofs.Walking.{as_option, as_value, at, end_fault, found_by, none_at_end}
 
 -- ---- what is found
 
@@ -101,6 +101,21 @@ resilience_found p f n plain plain_f few =
     let below : n ≤ 3 = few in
     found_by resilience_form (codes "resilience") (as_value p ∷ as_value f ∷ as_value (decimal n) ∷ []) _ refl refl
     ((plain, refl, refl), ((plain_f, refl, refl), ((small_plain n (omega arith), refl, refl), tt))) (rw takes refl) refl
+
+cnf_found : (p f : Text) → IsPlain p → IsPlain f
+    → found cnf_form (codes "cnf" ∷ p ∷ f ∷ []) ≡ Some (policy_row p ∷ word_row (codes "FLOW") f ∷ [])
+unfolding clap_on_literals
+cnf_found p f plain plain_f =
+    found_by cnf_form (codes "cnf") (as_value p ∷ as_value f ∷ []) _ refl refl
+    ((plain, refl, refl), ((plain_f, refl, refl), tt)) refl refl
+
+model_found : (p f m : Text) → IsPlain p → IsPlain f → IsPlain m
+    → found cnf_form (codes "cnf" ∷ p ∷ f ∷ m ∷ [])
+    ≡ Some (policy_row p ∷ word_row (codes "FLOW") f ∷ word_row (codes "MODEL") m ∷ [])
+unfolding clap_on_literals
+model_found p f m plain plain_f plain_m =
+    found_by cnf_form (codes "cnf") (as_value p ∷ as_value f ∷ as_value m ∷ []) _ refl refl
+    ((plain, refl, refl), ((plain_f, refl, refl), ((plain_m, refl, refl), tt))) refl refl
 
 -- `serve`, with the options or without them
 abbrev serve_files : Text → List Row
@@ -205,6 +220,67 @@ audit_found p q plain plain_q (Some lanes) (Some rounds) are =
     )
     none refl
 
+-- `resume`, with the options or without them
+abbrev resume_files : Text → Text → Text → List Row
+resume_files p q t = policy_row p ∷ word_row (codes "REQUESTS") q ∷ word_row (codes "TRANSCRIPT") t ∷ []
+
+resume_found : (p q t : Text) → IsPlain p → IsPlain q → IsPlain t → (lanes rounds : Option ℕ) → AreOptions (options_with lanes rounds)
+    → found resume_form (codes "resume" ∷ p ∷ q ∷ t ∷ option_words lanes rounds) ≡ Some (resume_files p q t ++ option_rows lanes rounds)
+unfolding clap_on_literals
+resume_found p q t plain plain_q plain_t None None are =
+    let lanes_ok = usual_lanes in
+    let rounds_ok = usual_rounds in
+    found_by resume_form (codes "resume") (as_value p ∷ as_value q ∷ as_value t ∷ []) _ refl refl
+    ((plain, refl, refl), ((plain_q, refl, refl), ((plain_t, refl, refl), tt)))
+    (none_at_end (built resume_form) (at (record { rows = resume_files p q t; pending = None; skip = 0 }) idle 3) refl refl
+    (rw (lanes_ok, rounds_ok) refl) refl) refl
+resume_found p q t plain plain_q plain_t None (Some rounds) are =
+    let lanes_ok = usual_lanes in
+    let rounds_ok = rounds_taken rounds are.rounds in
+    let end = at (record { rows = resume_files p q t; pending = Some (codes "rounds", decimal rounds ∷ []); skip = 0 }) idle 4 in
+    let none : end_fault (built resume_form) end ≡ [] = none_at_end (built resume_form) end refl (rw rounds_ok refl) (rw lanes_ok refl) refl in
+    found_by resume_form (codes "resume") (as_value p ∷ as_value q ∷ as_value t ∷ as_option (codes "--rounds") ∷ as_value (decimal rounds) ∷ []) _ refl refl
+    ((plain, refl, refl), ((plain_q, refl, refl), ((plain_t, refl, refl), (refl, ((small_plain rounds are.rounds, refl, refl), tt)))))
+    none refl
+resume_found p q t plain plain_q plain_t (Some lanes) None are =
+    let lanes_ok = lanes_taken lanes are.some are.lanes in
+    let rounds_ok = usual_rounds in
+    let end = at (record { rows = resume_files p q t; pending = Some (codes "lanes", decimal lanes ∷ []); skip = 0 }) idle 4 in
+    let none : end_fault (built resume_form) end ≡ [] = none_at_end (built resume_form) end refl (rw lanes_ok refl) (rw rounds_ok refl) refl in
+    found_by resume_form (codes "resume") (as_value p ∷ as_value q ∷ as_value t ∷ as_option (codes "--lanes") ∷ as_value (decimal lanes) ∷ []) _ refl refl
+    ((plain, refl, refl), ((plain_q, refl, refl), ((plain_t, refl, refl), (refl, ((small_plain lanes are.lanes, refl, refl), tt)))))
+    none refl
+resume_found p q t plain plain_q plain_t (Some lanes) (Some rounds) are =
+    let lanes_ok = lanes_taken lanes are.some are.lanes in
+    let rounds_ok = rounds_taken rounds are.rounds in
+    let before = at (record { rows = resume_files p q t; pending = Some (codes "lanes", decimal lanes ∷ []); skip = 0 }) idle 4 in
+    let between : turn_fault (top resume_form) [] before (codes "--rounds") ≡ [] = rw lanes_ok refl in
+    let end = at (record {
+      rows = resume_files p q t ++ number_row (codes "lanes") CommandLine lanes ∷ [];
+      pending = Some
+          (codes "rounds", decimal rounds ∷ []);
+      skip = 0;
+    }) idle 4 in
+    let none : end_fault (built resume_form) end ≡ [] = none_at_end (built resume_form) end refl (rw rounds_ok refl) refl refl in
+    found_by resume_form (codes "resume") (as_value p ∷ as_value q ∷ as_value t ∷ as_option (codes "--lanes") ∷ as_value (decimal lanes) ∷ as_option
+    (codes "--rounds") ∷ as_value (decimal rounds) ∷ []) _ refl refl (
+      (plain, refl, refl),
+      (
+        (plain_q, refl, refl),
+        (
+          (plain_t, refl, refl),
+          (
+            refl,
+            (
+              (small_plain lanes are.lanes, refl, refl),
+              (between, ((small_plain rounds are.rounds, refl, refl), tt)),
+            ),
+          ),
+        ),
+      ),
+    )
+    none refl
+
 -- ---- the commands
 
 abbrev number : ℕ → ℕ
@@ -242,6 +318,20 @@ audit_rows p q (Some lanes) None = refl
 audit_rows p q None (Some rounds) = refl
 audit_rows p q (Some lanes) (Some rounds) = refl
 
+resume_rows : (p q t : Text) (lanes rounds : Option ℕ) → resume_in (resume_files p q t ++ option_rows lanes rounds)
+    ≡ Some (resume p q t (with_numbers (number (options_with lanes rounds).lanes) (number (options_with lanes rounds).rounds)))
+resume_rows p q t None None = refl
+resume_rows p q t (Some lanes) None = refl
+resume_rows p q t None (Some rounds) = refl
+resume_rows p q t (Some lanes) (Some rounds) = refl
+
+pub cnf_read : (p f : Text) → IsPlain p → IsPlain f → command_of (codes "cnf" ∷ p ∷ f ∷ []) ≡ Some (cnf p f None)
+cnf_read p f plain plain_f = ap (option_and_then cnf_in) (cnf_found p f plain plain_f)
+
+pub model_read : (p f m : Text) → IsPlain p → IsPlain f → IsPlain m
+    → command_of (codes "cnf" ∷ p ∷ f ∷ m ∷ []) ≡ Some (cnf p f (Some m))
+model_read p f m plain plain_f plain_m = ap (option_and_then cnf_in) (model_found p f m plain plain_f plain_m)
+
 pub serve_read : (p : Text) (lanes rounds : Option ℕ) → IsPlain p → AreOptions (options_with lanes rounds)
     → command_of (codes "serve" ∷ p ∷ option_words lanes rounds) ≡ Some (serve p (options_with lanes rounds))
 serve_read p lanes rounds plain are =
@@ -253,6 +343,12 @@ pub audit_read : (p q : Text) (lanes rounds : Option ℕ) → IsPlain p → IsPl
 audit_read p q lanes rounds plain plain_q are =
     ap (option_and_then audit_in) (audit_found p q plain plain_q lanes rounds are) ∙ audit_rows p q lanes rounds
     ∙ ap (λ (o : Options). Some (audit p q o)) (numbers_are (options_with lanes rounds) are)
+
+pub resume_read : (p q t : Text) (lanes rounds : Option ℕ) → IsPlain p → IsPlain q → IsPlain t → AreOptions (options_with lanes rounds)
+    → command_of (codes "resume" ∷ p ∷ q ∷ t ∷ option_words lanes rounds) ≡ Some (resume p q t (options_with lanes rounds))
+resume_read p q t lanes rounds plain plain_q plain_t are =
+    ap (option_and_then resume_in) (resume_found p q t plain plain_q plain_t lanes rounds are) ∙ resume_rows p q t lanes rounds
+    ∙ ap (λ (o : Options). Some (resume p q t o)) (numbers_are (options_with lanes rounds) are)
 
 pub trial_read : (seed : ℕ) → seed < 2 ^ 64 → command_of (codes "trial" ∷ decimal seed ∷ []) ≡ Some (trial seed)
 trial_read seed small =

@@ -102,6 +102,12 @@ end_fault b w = or_else (entered_fault b w.stopped)
     (or_else (defaults_fault (settled b.top.rules w.held).rows b.top.rules)
     (check_fault b.top (finished b.top.rules w.held) (is_some (entered b w.stopped)))))
 
+pub none_at_end : (b : App) (w : Walk) → entered_fault b w.stopped ≡ [] → settle_fault b.top.rules b.top.args_override_self w.held ≡ []
+    → defaults_fault (settled b.top.rules w.held).rows b.top.rules ≡ []
+    → check_fault b.top (finished b.top.rules w.held) (is_some (entered b w.stopped)) ≡ [] → end_fault b w ≡ []
+none_at_end b w entered_none settle_none defaults_none check_none =
+    ap₂ or_else entered_none (ap₂ or_else settle_none (ap₂ or_else defaults_none check_none))
+
 pub taken : (a : App) (words : List Text) (end : Walk) (rows : List Row) → names_of (built a) ≡ []
     → Goes (built a).top (walk_from nothing_held) (argument_words a words) end
     → end_fault (built a) end ≡ [] → finished (built a).top.rules end.held ≡ rows → found a words ≡ Some rows

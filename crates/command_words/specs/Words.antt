@@ -29,8 +29,10 @@ pub data Command : Type 0 where
   show : Text → Command
   solve : Text → Command
   resilience : Text → Text → ℕ → Command
+  cnf : Text → Text → Option Text → Command
   serve : Text → Options → Command
   audit : Text → Text → Options → Command
+  resume : Text → Text → Text → Options → Command
   trial : ℕ → Command
 
 -- ---- what the forms are made of
@@ -54,6 +56,10 @@ ranged name least most usual = record (new_rule name) {
 -- a word that has to be there and writes a number up to the most users who may be absent
 abbrev pub absences_word : Rule
 absences_word = record (wanted (codes "T")) { parser = Some (Signed (pos 0) (pos ABSENCE_LIMIT)) }
+
+-- a word for a file with a model, which may be left out
+abbrev pub model_word : Rule
+model_word = new_rule (codes "MODEL")
 
 abbrev pub policy_word : Rule
 policy_word = wanted (codes "POLICY")
@@ -122,6 +128,13 @@ resilience_in rows = option_and_then (λ policy.
     with_both (resilience policy) (first_of (codes "FLOW") rows) (number_in (codes "T") rows))
     (policy_in rows)
 
+abbrev pub cnf_form : App
+cnf_form = form (codes "cnf") (policy_word ∷ wanted (codes "FLOW") ∷ model_word ∷ [])
+
+abbrev pub cnf_in : List Row → Option Command
+cnf_in rows = with_both (λ policy flow. cnf policy flow (first_of (codes "MODEL") rows))
+    (policy_in rows) (first_of (codes "FLOW") rows)
+
 abbrev pub serve_form : App
 serve_form = form (codes "serve") (policy_word ∷ lanes_option ∷ rounds_option ∷ [])
 
@@ -135,6 +148,15 @@ audit_form = form (codes "audit")
 abbrev pub audit_in : List Row → Option Command
 audit_in rows = option_and_then (λ policy.
     with_both (audit policy) (first_of (codes "REQUESTS") rows) (options_of rows)) (policy_in rows)
+
+abbrev pub resume_form : App
+resume_form = form (codes "resume") (policy_word ∷ wanted (codes "REQUESTS")
+    ∷ wanted (codes "TRANSCRIPT") ∷ lanes_option ∷ rounds_option ∷ [])
+
+abbrev pub resume_in : List Row → Option Command
+resume_in rows = option_and_then (λ policy. option_and_then (λ requests.
+    with_both (resume policy requests) (first_of (codes "TRANSCRIPT") rows) (options_of rows))
+    (first_of (codes "REQUESTS") rows)) (policy_in rows)
 
 abbrev pub trial_form : App
 trial_form = form (codes "trial") (wanted_number (codes "SEED") ∷ [])
@@ -155,8 +177,10 @@ command_at word words =
     if is_word word (codes "show") then command_by show_form show_in words else
     if is_word word (codes "solve") then command_by solve_form solve_in words else
     if is_word word (codes "resilience") then command_by resilience_form resilience_in words else
+    if is_word word (codes "cnf") then command_by cnf_form cnf_in words else
     if is_word word (codes "serve") then command_by serve_form serve_in words else
     if is_word word (codes "audit") then command_by audit_form audit_in words else
+    if is_word word (codes "resume") then command_by resume_form resume_in words else
     if is_word word (codes "trial") then command_by trial_form trial_in words else
     None
 
@@ -172,8 +196,10 @@ reads_input (Some (plan policy flow)) = true
 reads_input (Some (show policy)) = false
 reads_input (Some (solve policy)) = false
 reads_input (Some (resilience policy flow absences)) = false
+reads_input (Some (cnf policy flow model)) = true
 reads_input (Some (serve policy options)) = true
 reads_input (Some (audit policy requests options)) = true
+reads_input (Some (resume policy requests transcript options)) = true
 reads_input (Some (trial seed)) = false
 
 -- whether a request may be answered again for these words: there are several lanes, and some rounds

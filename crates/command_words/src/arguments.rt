@@ -2,7 +2,7 @@
 ghost use Rattle.std.specs.Prelude.{◌≡◌, false, pos};
 ghost use Rattle.clap.specs.Words.{rule_of};
 ghost use Rattle.clap.specs.declared.builder.value_parser.ValueParser.TheVariants.{Signed};
-ghost use Rattle.command_words.specs.Words.{absences_word, lanes_option, ranged, rounds_option, wanted, wanted_number};
+ghost use Rattle.command_words.specs.Words.{absences_word, lanes_option, model_word, ranged, rounds_option, wanted, wanted_number};
 
 use crate::ABSENCE_LIMIT;
 use clap::Arg;
@@ -32,6 +32,14 @@ pub(crate) fn absences<'a>(alloc: Global) -> Arg<'a>
     ensures own { result.global ≡ false }
 {
     wanted(alloc, "T").value_parser(numbers(0, ABSENCE_LIMIT))
+}
+
+/// The file with a model, which may be left out.
+pub(crate) fn model<'a>(alloc: Global) -> Arg<'a>
+    ensures rule { rule_of result ≡ model_word }
+    ensures own { result.global ≡ false }
+{
+    Arg::new(alloc, "MODEL")
 }
 
 /// The option for the number of lanes.

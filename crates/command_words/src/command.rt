@@ -35,6 +35,14 @@ pub enum Command<'a> {
         /// How many users may be absent at most.
         absences: u8,
     },
+    /// Writes the clauses that say which plans a case can still be finished by, or reads a model
+    /// of them.
+    Cnf {
+        policy: &'a str,
+        flow: &'a str,
+        /// The file with the model that is to be read, if one is.
+        model: Option<&'a str>,
+    },
     /// Answers the requests in the input.
     Serve {
         policy: &'a str,
@@ -44,6 +52,14 @@ pub enum Command<'a> {
     Audit {
         policy: &'a str,
         requests: &'a str,
+        options: Options,
+    },
+    /// Takes up an earlier session, by its requests and its transcript, and goes on with the
+    /// requests in the input.
+    Resume {
+        policy: &'a str,
+        requests: &'a str,
+        transcript: &'a str,
         options: Options,
     },
     /// Runs a trial of random requests.

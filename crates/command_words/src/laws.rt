@@ -1,11 +1,11 @@
 //! The forms of the usage are read.
 //!
 //! The function does nothing; its contract is the law.
-ghost use Rattle.std.specs.Prelude.{◌≡◌, ◌<◌, ◌≤◌, ◌^◌, ℕ, [], ◌∷◌, Option, Some, codes};
+ghost use Rattle.std.specs.Prelude.{◌≡◌, ◌<◌, ◌≤◌, ◌^◌, ℕ, [], ◌∷◌, Option, None, Some, codes};
 ghost use Rattle.std.specs.Fmt.{decimal};
 ghost use Rattle.clap.specs.Words.{Text};
 ghost use Rattle.command_words.specs.declared.command.TheConstants.{ABSENCE_LIMIT};
-ghost use Rattle.command_words.specs.Words.{AreOptions, audit, command_of, plan, resilience, serve, show, solve, trial};
+ghost use Rattle.command_words.specs.Words.{AreOptions, audit, cnf, command_of, plan, resilience, resume, serve, show, solve, trial};
 ghost use Rattle.command_words.specs.Usage.{IsPlain, option_words, options_with};
 
 /// The words of each command, in the form that a usage text shows, are read as that command.
@@ -20,6 +20,10 @@ pub fn usage_is_read()
         → absences ≤ ABSENCE_LIMIT
         → command_of (codes "resilience" ∷ policy ∷ flow ∷ decimal absences ∷ [])
         ≡ Some (resilience policy flow absences) }
+    ensures cnf { (policy flow : Text) → IsPlain policy → IsPlain flow
+        → command_of (codes "cnf" ∷ policy ∷ flow ∷ []) ≡ Some (cnf policy flow None) }
+    ensures model { (policy flow file : Text) → IsPlain policy → IsPlain flow → IsPlain file
+        → command_of (codes "cnf" ∷ policy ∷ flow ∷ file ∷ []) ≡ Some (cnf policy flow (Some file)) }
     ensures serve { (policy : Text) (lanes rounds : Option ℕ) → IsPlain policy
         → AreOptions (options_with lanes rounds)
         → command_of (codes "serve" ∷ policy ∷ option_words lanes rounds)
@@ -28,6 +32,12 @@ pub fn usage_is_read()
         → IsPlain policy → IsPlain requests → AreOptions (options_with lanes rounds)
         → command_of (codes "audit" ∷ policy ∷ requests ∷ option_words lanes rounds)
         ≡ Some (audit policy requests (options_with lanes rounds)) }
+    ensures resume { (policy requests transcript : Text) (lanes rounds : Option ℕ)
+        → IsPlain policy → IsPlain requests → IsPlain transcript
+        → AreOptions (options_with lanes rounds)
+        → command_of (codes "resume" ∷ policy ∷ requests ∷ transcript
+        ∷ option_words lanes rounds)
+        ≡ Some (resume policy requests transcript (options_with lanes rounds)) }
     ensures trial { (seed : ℕ) → seed < 2 ^ 64
         → command_of (codes "trial" ∷ decimal seed ∷ []) ≡ Some (trial seed) }
 {}

@@ -3,6 +3,7 @@
 
 mod arguments;
 mod audit;
+mod cnf;
 mod command;
 mod finding;
 mod forms;
@@ -10,6 +11,7 @@ mod laws;
 mod plan;
 mod reading;
 mod resilience;
+mod resume;
 mod serve;
 mod show;
 mod solve;

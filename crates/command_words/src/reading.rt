@@ -3,7 +3,7 @@ ghost use Rattle.std.specs.Prelude.{◌≡◌, IfOk, IfSome, map, option_map, st
 ghost use Rattle.command_words.specs.Words.{command_at, command_of};
 ghost use Rattle.command_words.specs.Asked.{CanServe, asked};
 
-use crate::{Command, audit, plan, resilience, serve, show, solve, trial};
+use crate::{Command, audit, cnf, plan, resilience, resume, serve, show, solve, trial};
 use std::alloc::{AllocError, Global};
 
 /// The command that the words are, where they are one; they are those behind the program's name.
@@ -35,8 +35,10 @@ fn read_command<'a>(
         "show" => show::read(alloc, words),
         "solve" => solve::read(alloc, words),
         "resilience" => resilience::read(alloc, words),
+        "cnf" => cnf::read(alloc, words),
         "serve" => serve::read(alloc, words),
         "audit" => audit::read(alloc, words),
+        "resume" => resume::read(alloc, words),
         "trial" => trial::read(alloc, words),
         _ => Ok(None),
     }

@@ -10,7 +10,7 @@ use Rattle.wf_commands.specs.Solve.{Solves}
 use Rattle.wf_commands.specs.Resilience.{ChecksResilience}
 use Rattle.audit_command.specs.Running.{AuditsRun}
 use Rattle.trial_command.specs.Running.{RunsTrial}
-use Rattle.command_words.specs.Words.{Command, plan, show, solve, resilience, serve, audit, trial}
+use Rattle.command_words.specs.Words.{Command, plan, show, solve, resilience, cnf, serve, audit, resume, trial}
 use Rattle.wf_server.specs.Serving.{ServesRun}
 
 -- a run does what its command is; where the words are none it ends before anything
@@ -20,8 +20,10 @@ Does (Some (plan policy flow)) r = Plans policy flow r
 Does (Some (show policy)) r = Shows policy r
 Does (Some (solve policy)) r = Solves policy r
 Does (Some (resilience policy flow absences)) r = ChecksResilience policy flow absences r
+Does (Some (cnf policy flow model)) r = Unit {0}
 Does (Some (serve policy options)) r = ServesRun policy options r
 Does (Some (audit policy requests options)) r = AuditsRun policy requests options.lanes options.rounds r
+Does (Some (resume policy requests transcript options)) r = Unit {0}
 Does (Some (trial seed)) r = IsOrderly r × RunsTrial seed (record {
   output = r.before.output;
   output_after = r.after.output;

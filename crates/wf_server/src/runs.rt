@@ -143,6 +143,7 @@ fn run_command<F: Shelf, S: Source, K: Sink>(
             let command = ResilienceCommand { flow, absences };
             answer_once(alloc, policy, &command, shelf, source, sink)
         }
+        Command::Cnf { .. } => bare_report(alloc, RunFault::NoMemory),
         Command::Serve { policy, options } => {
             let by_turns = |desk: Desk| -> Desk
                 requires { (0 < desk.lanes) × AreOfLanes desk.lanes desk.jobs }
@@ -167,6 +168,7 @@ fn run_command<F: Shelf, S: Source, K: Sink>(
                 sink,
             )
         }
+        Command::Resume { .. } => bare_report(alloc, RunFault::NoMemory),
         Command::Trial { seed } => run_trial(alloc, &PlainDecider, seed, sink),
     }
 }
