@@ -1,5 +1,5 @@
 -- How a run stops at its files, or goes on.
-use Rattle.std.proofs.Common.{◌≡◌, ◌≢◌, ℕ, ◌<◌, ◌≤◌, true, List, length, Option, None, Some, Result, Ok, Err, inl, inr, refl, sym, ap, subst, ◌∙◌, arith}
+use Rattle.std.proofs.Common.{◌≡◌, ℕ, ◌<◌, ◌≤◌, true, List, length, Option, None, Some, Result, Ok, Err, inl, inr, refl, sym, ap, subst, ◌∙◌, arith}
 use Rattle.wf_names.specs.declared.limits.TheConstants.{REQUESTS_FILE_LIMIT}
 use Rattle.wf_outside.specs.Outside.{Filed, told, missing, untold}
 use Rattle.policy_book.specs.Shapes.{PolicyShape}
@@ -9,16 +9,15 @@ use Rattle.line_cutter.specs.declared.whole.CutText.{CutText}
 use Rattle.line_cutter.specs.Jobs.{Cut, jobs_of_input}
 use Rattle.line_reader.specs.Lines.{lines_of}
 use Rattle.run_record.specs.declared.fault.RunFault.{RunFault}
-use Rattle.run_record.specs.declared.fault.RunFault.TheVariants.{Nothing, Found, Usage, Policy, Read, Write, Load, NoMemory, FileTooLong, LineTooLong, TooManyLines, BadInput}
-use Rattle.run_record.specs.Fault.{CountsLoads}
-use Rattle.wf_commands.specs.Load.{GivesBytes, GivesPolicy}
+use Rattle.run_record.specs.declared.fault.RunFault.TheVariants.{Load, LineTooLong}
+use Rattle.run_record.specs.Fault.{How, unasked, answered, misfiled, refused, unloaded, unread, unwritten, lacking, how_of, LoadsSo}
+use Rattle.wf_commands.specs.Load.{EndsLoading, GivesBytes, GivesPolicy}
 use Rattle.transcript_audit.specs.declared.fault.AuditFault.{AuditFault}
 use Rattle.transcript_audit.specs.declared.fault.AuditFault.TheVariants as audit
 use Rattle.transcript_resume.specs.Resumed.{first_long, whole_lines}
-use Rattle.resume_command.specs.declared.refusal.Refusal.{Refusal}
-use Rattle.resume_command.specs.declared.begin.Beginning.{Beginning}
-use Rattle.resume_command.specs.Loading.{GivesCut, IsCutOf, OverFiled, OverLong, OverPolicy, OverRequests, OverStop, OverText, OverTranscript, ending_at}
-use Rattle.resume_command.specs.Begun.{fault_by}
+use Rattle.resume_command.specs.declared.begin.TheConstants.{TRANSCRIPT_FILE_LIMIT}
+use Rattle.resume_command.specs.Loading.{GivesCut, IsCutOf, Names, OverBoth, OverFiled, OverFiles, OverLong, OverPolicy, OverRequests, OverStop, OverText, OverTranscript, OverTranscriptFile, ending_at}
+use Rattle.resume_command.specs.Begun.{EndsBeginning, EndsLoaded, fault_by}
 use Rattle.resume_command.specs.Refusing.{refused_by}
 
 -- ---- the policy file
@@ -89,20 +88,89 @@ lines_short Stops Goes transcript found is none goes = subst (OverLong Stops (Go
 
 -- ---- counts of faults
 
-pub loads_none : (fault : RunFault) (count : ℕ) → fault ≢ Load → CountsLoads fault count count
-loads_none Load count other = absurd (other refl)
-loads_none Nothing count other = refl
-loads_none Found count other = refl
-loads_none Usage count other = refl
-loads_none (Policy e) count other = refl
-loads_none Read count other = refl
-loads_none Write count other = refl
-loads_none NoMemory count other = refl
-loads_none FileTooLong count other = refl
-loads_none (LineTooLong line) count other = refl
-loads_none TooManyLines count other = refl
-loads_none (BadInput e) count other = refl
+pub loads_none : (how : How) (count : ℕ) → EndsLoaded how → LoadsSo how count count
+loads_none unasked count ending = refl
+loads_none answered count ending = refl
+loads_none misfiled count ending = refl
+loads_none refused count ending = refl
+loads_none unloaded count ending = absurd ending
+loads_none unread count ending = refl
+loads_none unwritten count ending = refl
+loads_none lacking count ending = refl
 
-pub refused_late : (e : AuditFault) → fault_by (Err (refused_by e)) ≢ Load
-refused_late (audit.At n kind) = λ is. cc
-refused_late audit.NoMemory = λ is. cc
+pub loaded_quietly : (how : How) → EndsLoaded how → EndsBeginning how
+loaded_quietly unasked ending = absurd ending
+loaded_quietly answered ending = tt
+loaded_quietly misfiled ending = tt
+loaded_quietly refused ending = tt
+loaded_quietly unloaded ending = tt
+loaded_quietly unread ending = absurd ending
+loaded_quietly unwritten ending = absurd ending
+loaded_quietly lacking ending = tt
+
+pub loading_quietly : (how : How) → EndsLoading how → EndsBeginning how
+loading_quietly unasked ending = absurd ending
+loading_quietly answered ending = tt
+loading_quietly misfiled ending = tt
+loading_quietly refused ending = tt
+loading_quietly unloaded ending = tt
+loading_quietly unread ending = absurd ending
+loading_quietly unwritten ending = absurd ending
+loading_quietly lacking ending = tt
+
+pub refused_loaded : (e : AuditFault) → EndsLoaded (how_of (fault_by (Err (refused_by e))))
+refused_loaded (audit.At n kind) = tt
+refused_loaded audit.NoMemory = tt
+
+-- ---- other ways of stopping and going on
+
+filed_map : (S T : RunFault → Type 0) (O P : List ℕ → Type 0) (filed : Filed) → ((x : RunFault) → S x → T x) → ((x : List ℕ) → O x → P x) → OverFiled S O filed → OverFiled T P filed
+filed_map S T O P untold stops over at = (at.0, over at.0 at.1)
+filed_map S T O P missing stops over at = stops Load at
+filed_map S T O P (told file) stops over at = over file at
+
+policy_map : (S T : RunFault → Type 0) (G H : PolicyShape → Type 0) (file : List ℕ) → ((x : RunFault) → S x → T x) → ((p : PolicyShape) → IsFilePolicy p → G p → H p) → OverPolicy S G file
+    → OverPolicy T H file
+policy_map S T G H file stops goes (inl ends) = inl (ends.0, (ends.1.0, stops ends.0 ends.1.1))
+policy_map S T G H file stops goes (inr there) = inr (there.0, (there.1.0, (there.1.1.0, goes there.0 there.1.1.0 there.1.1.1)))
+
+text_map : (limit : ℕ) (S T : RunFault → Type 0) (G H : List ℕ → Type 0) (file : List ℕ) → ((x : RunFault) → S x → T x) → ((x : List ℕ) → G x → H x) → OverText limit S G file → OverText limit T H file
+text_map limit S T G H file stops goes (inl ends) = inl (ends.0, (ends.1.0, stops ends.0 ends.1.1))
+text_map limit S T G H file stops goes (inr there) = inr (there.0, goes file there.1)
+
+stop_map : (S T : RunFault → Type 0) (G H : Type 0) (met : Option Stop) → ((x : RunFault) → S x → T x) → (G → H) → OverStop S G met → OverStop T H met
+stop_map S T G H None stops goes at = goes at
+stop_map S T G H (Some met) stops goes at = stops (ending_at met) at
+
+long_map : (S T : RunFault → Type 0) (G H : Type 0) (found : Option ℕ) → ((x : RunFault) → S x → T x) → (G → H) → OverLong S G found → OverLong T H found
+long_map S T G H None stops goes at = goes at
+long_map S T G H (Some line) stops goes at = stops (LineTooLong line) at
+
+transcript_map : (S T : RunFault → Type 0) (G H : List ℕ → Type 0) (filed : Filed) → ((x : RunFault) → S x → T x) → ((x : List ℕ) → G x → H x)
+    → OverTranscriptFile S G filed → OverTranscriptFile T H filed
+transcript_map S T G H filed stops goes at =
+    filed_map S T (OverText TRANSCRIPT_FILE_LIMIT S (OverTranscript S G)) (OverText TRANSCRIPT_FILE_LIMIT T (OverTranscript T H)) filed stops
+    (λ file. text_map TRANSCRIPT_FILE_LIMIT S T (OverTranscript S G) (OverTranscript T H) file stops
+    (λ text. long_map S T (G text) (H text) (first_long 0 (lines_of (whole_lines text))) stops (goes text))) at
+
+both_map : (lanes : ℕ) (S T : RunFault → Type 0) (G H : Cut → List ℕ → Type 0) (requests transcript : Filed) → ((x : RunFault) → S x → T x) → ((c : Cut) (x : List ℕ) → G c x → H c x)
+    → OverBoth lanes S G requests transcript → OverBoth lanes T H requests transcript
+both_map lanes S T G H requests transcript stops goes at =
+    let O = OverRequests lanes S (λ cut. OverTranscriptFile S (G cut) transcript) in
+    let P = OverRequests lanes T (λ cut. OverTranscriptFile T (H cut) transcript) in
+    filed_map S T (OverText REQUESTS_FILE_LIMIT S O) (OverText REQUESTS_FILE_LIMIT T P) requests stops
+    (λ file. text_map REQUESTS_FILE_LIMIT S T O P file stops
+    (λ text. let cut = jobs_of_input text true lanes in
+    stop_map S T (OverTranscriptFile S (G cut) transcript) (OverTranscriptFile T (H cut) transcript) cut.stop stops
+    (transcript_map S T (G cut) (H cut) transcript stops (goes cut)))) at
+
+-- what stops stops, and what goes on goes on
+pub files_map : (files : List ℕ → Filed) (names : Names) (lanes : ℕ) (S T : RunFault → Type 0) (G H : PolicyShape → Cut → List ℕ → Type 0) → ((x : RunFault) → S x → T x)
+    → ((p : PolicyShape) (c : Cut) (x : List ℕ) → IsFilePolicy p → G p c x → H p c x) → OverFiles files names lanes S G → OverFiles files names lanes T H
+files_map files names lanes S T G H stops goes at =
+    let requests = files names.requests in
+    let transcript = files names.transcript in
+    let O = λ (p : PolicyShape). OverBoth lanes S (G p) requests transcript in
+    let P = λ (p : PolicyShape). OverBoth lanes T (H p) requests transcript in
+    filed_map S T (OverPolicy S O) (OverPolicy T P) (files names.policy) stops
+    (λ file. policy_map S T O P file stops (λ p sound. both_map lanes S T (G p) (H p) requests transcript stops (λ c x. goes p c x sound))) at

@@ -181,7 +181,7 @@ ends_here ends jobs n lead within =
           rw some (ap (λ m. take m ends) next ∙ take_more ends k 0 lt ∙ ap (λ x. take k ends ++ x ∷ []) (there ∙ omega (arith, size, first)))
     ]
 
-jobs_here : (from stop : ℕ) (jobs : List Job) → from ≤ stop → take stop jobs ≡ take from jobs ++ jobs_between from stop jobs
+pub jobs_here : (from stop : ℕ) (jobs : List Job) → from ≤ stop → take stop jobs ≡ take from jobs ++ jobs_between from stop jobs
 jobs_here from stop jobs order = sym (take-append-drop from (take stop jobs)) ∙ ap (λ js. js ++ jobs_between from stop jobs) (take-take from stop jobs order)
 
 stands_here : (es : List Entry) (jobs : List Job) (ends : List ℕ) → LeadTo 0 ends (length jobs) → FillsPart es jobs ends →

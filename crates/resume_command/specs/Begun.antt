@@ -9,9 +9,10 @@ use Rattle.wf_desk.specs.BatchLaws.{EndAt}
 use Rattle.wf_desk.specs.Desks.{AreOfLanes}
 use Rattle.line_cutter.specs.Cutter.{ends_after}
 use Rattle.line_cutter.specs.Jobs.{Cut, next_input, start_at}
-use Rattle.line_cutter.specs.Laws.{GoesOn}
+use Rattle.line_cutter.specs.Laws.{AreInOrder, GoesOn}
 use Rattle.run_record.specs.declared.fault.RunFault.{RunFault}
 use Rattle.run_record.specs.declared.fault.RunFault.TheVariants.{Nothing, NoMemory}
+use Rattle.run_record.specs.Fault.{How, unasked, answered, refused, unread, unwritten, lacking}
 use Rattle.transcript_resume.specs.Resumed.{IsRefused, IsTakenUp, Session}
 use Rattle.resume_command.specs.declared.begin.Beginning.{Beginning}
 use Rattle.resume_command.specs.declared.begin.TheConstants.{PIECE}
@@ -43,6 +44,9 @@ pub record StandsAt (entries : List Entry) (start : ℕ) (batch jobs : List Job)
 -- its end are told; and the input is read on behind the requests
 pub record HasBegun (s : Session) (cut : Cut) (transcript : List ℕ) (b : Beginning) : Type 0 where
   pub policy : IsSoundPolicy s.policy
+  pub order : AreInOrder s.lanes s.jobs s.batch_ends
+  pub cut_jobs : s.jobs ≡ cut.jobs
+  pub cut_ends : s.batch_ends ≡ cut.ends
   pub taken : IsTakenUp s transcript b.desk.entries
   pub opening : b.desk.opening ≡ s.policy
   pub lanes : b.desk.lanes ≡ s.lanes
@@ -74,3 +78,17 @@ abbrev pub fault_by : Result Beginning Refusal → RunFault
 fault_by (Ok b) = Nothing
 fault_by (Err (Line n kind)) = Nothing
 fault_by (Err (Ends fault)) = fault
+
+-- how it ends before the session: no read and no write failed
+abbrev pub EndsBeginning : How → Type 0
+EndsBeginning unasked = ⊥
+EndsBeginning unread = ⊥
+EndsBeginning unwritten = ⊥
+EndsBeginning how = Unit {0}
+
+-- Inside: how it ends once its files are loaded
+abbrev pub EndsLoaded : How → Type 0
+EndsLoaded answered = Unit {0}
+EndsLoaded refused = Unit {0}
+EndsLoaded lacking = Unit {0}
+EndsLoaded how = ⊥

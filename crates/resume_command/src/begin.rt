@@ -1,11 +1,11 @@
 //! Where a session goes on: its files are loaded, and its transcript is taken up.
-ghost use Rattle.std.specs.Prelude.{◌≡◌, ◌≢◌, ◌<◌, ◌≤◌, ℕ, true, List, IfOk, length, take, None};
+ghost use Rattle.std.specs.Prelude.{◌≡◌, ◌<◌, ◌≤◌, ℕ, true, List, IfOk, length, take, None};
 ghost use Rattle.wf_names.specs.declared.limits.TheConstants.{LANE_LIMIT, ROUND_LIMIT, SESSION_LINE_LIMIT};
 ghost use Rattle.line_cutter.specs.Jobs.{jobs_of_input};
 ghost use Rattle.line_cutter.specs.Laws.{AreInOrder, AreNamedJobs};
-ghost use Rattle.run_record.specs.Fault.{CountsLoads};
+ghost use Rattle.run_record.specs.Fault.{how_of, CountsLoads};
 ghost use Rattle.resume_command.specs.Loading.{IsCutOf, OverBoth, OverFiles, OverTranscript, OverTranscriptFile};
-ghost use Rattle.resume_command.specs.Begun.{BeginsBy, StopsBy, ends_to, fault_by, session_of};
+ghost use Rattle.resume_command.specs.Begun.{BeginsBy, EndsBeginning, EndsLoaded, StopsBy, ends_to, fault_by, session_of};
 
 use crate::Refusal;
 use crate::load::load_requests;
@@ -63,6 +63,7 @@ pub fn begin<V: Decider, F: Shelf>(
     ensures begins { OverFiles (F.file shelf.old)
         (record { policy = policy.now; requests = requests.now; transcript = transcript.now }) lanes (StopsBy result)
         (λ p cut transcript. BeginsBy (session_of p lanes rounds cut) cut transcript result) }
+    ensures ending { EndsBeginning (how_of (fault_by result)) }
     ensures loads { CountsLoads (fault_by result) (F.faults shelf.old) (F.faults shelf.new) }
 {
     let policy = load_policy(alloc, shelf, policy)?;
@@ -89,6 +90,7 @@ fn begin_under<V: Decider, F: Shelf>(
     ensures begins { OverBoth lanes (StopsBy result)
         (λ cut transcript. BeginsBy (session_of policy lanes rounds cut) cut transcript result)
         (F.file shelf.old requests.now) (F.file shelf.old transcript.now) }
+    ensures ending { EndsBeginning (how_of (fault_by result)) }
     ensures loads { CountsLoads (fault_by result) (F.faults shelf.old) (F.faults shelf.new) }
 {
     let text = load_requests(alloc, shelf, requests, lanes)?;
@@ -122,6 +124,7 @@ fn begin_behind<V: Decider, F: Shelf>(
         OverTranscriptFile (StopsBy result)
         (λ transcript. BeginsBy (session_of policy lanes rounds (jobs_of_input requests true lanes))
         (jobs_of_input requests true lanes) transcript result) (F.file shelf.old transcript.now) }
+    ensures ending { EndsBeginning (how_of (fault_by result)) }
     ensures loads { CountsLoads (fault_by result) (F.faults shelf.old) (F.faults shelf.new) }
 {
     let file = load_file(alloc, shelf, transcript, TRANSCRIPT_FILE_LIMIT)?;
@@ -151,7 +154,7 @@ fn begin_at<V: Decider>(
         OverTranscript (StopsBy result)
         (λ transcript. BeginsBy (session_of policy lanes rounds (jobs_of_input requests true lanes))
         (jobs_of_input requests true lanes) transcript result) transcript }
-    ensures late { fault_by result ≢ RunFault.Load }
+    ensures ending { EndsLoaded (how_of (fault_by result)) }
 {
     match first_long(transcript.as_bytes()) {
         Some(line) => Err(Refusal::Ends(RunFault::LineTooLong(line))),
@@ -180,7 +183,7 @@ fn take_up<V: Decider>(
     ensures begins { (requests : List ℕ) → IsCutOf requests lanes text →
         BeginsBy (session_of policy lanes rounds (jobs_of_input requests true lanes))
         (jobs_of_input requests true lanes) transcript result }
-    ensures late { fault_by result ≢ RunFault.Load }
+    ensures ending { EndsLoaded (how_of (fault_by result)) }
 {
     inputs_go_on(lanes);
     let _ = policy.admin();
