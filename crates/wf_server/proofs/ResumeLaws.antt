@@ -1,16 +1,17 @@
 -- A session behind the entries that were taken up, and the run of its command.
 use Rattle.std.proofs.Common.{◌≡◌, ◌≢◌, ℕ, zero, suc, ◌+◌, ◌<◌, ◌≤◌, nat_lt, Bool, true, false, List, [], ◌∷◌, ◌++◌, length, take, drop, slice_index_or, Option, None, Result, Ok, Err, inl, inr, refl, sym, ap, subst, ◌∙◌, arith, ◌⊎◌}
 use Rattle.std.proofs.lemmas.Bool.{le-ltb}
-use Rattle.std.proofs.lemmas.List.{take_all}
+use Rattle.std.proofs.lemmas.List.{drop_all, take_all}
 use Rattle.wf_outside.specs.Outside.{Filed, HasPart, HasTaken, with_bytes}
 use Rattle.wf_outside.proofs.OutsideLaws.{nothing_taken}
 use Rattle.policy_book.specs.Shapes.{PolicyShape}
 use Rattle.policy_reader.specs.FilePolicies.{IsFilePolicy}
 use Rattle.wf_talk.specs.declared.entry.Entry.{Entry}
 use Rattle.wf_talk.specs.declared.job.Job.{Job}
-use Rattle.wf_board.specs.Histories.{AreAnsweredOnce, AreWantsRightful, batch_start}
+use Rattle.wf_board.specs.Histories.{AreAnsweredOnce, AreWantsRightful, IsLegal, batch_start}
+use Rattle.wf_board.specs.Laws.{HistoriesAreExact, HistoriesKeepCompletable}
 use Rattle.wf_board.specs.States.{opening_state}
-use Rattle.wf_desk.specs.Desks.{DeskShape}
+use Rattle.wf_desk.specs.Desks.{AreOfLanes, DeskShape}
 use Rattle.line_cutter.specs.Cutter.{after_handing}
 use Rattle.line_cutter.specs.Jobs.{Cut, UpToAnEnd, end_batch, flush, jobs_from, last_or, next_input, start_at}
 use Rattle.line_cutter.specs.Laws.{AreInOrder, GoesOn}
@@ -37,6 +38,7 @@ use Rattle.wf_server.specs.declared.batch.Answered.{Answered}
 use Rattle.wf_server.specs.Batches.{Serves, told_of, AreInOrderFrom, HasAnswered, HasAnsweredPart, IsServing, IsWriteEnding}
 use Rattle.wf_server.specs.Files.{FileTo, IsToldTo, StopsIn}
 use Rattle.wf_server.specs.Resuming.{EndsBy, ResumesFrom, ResumesRun, TellsAs, setting_behind}
+use Rattle.wf_server.proofs.SessionLaws.{lanes_of, serves_kept}
 use Rattle.wf_server.proofs.WayLaws.{once_legal}
 use Rattle.wf_server.proofs.Endings.{reads_so, writes_so}
 
@@ -118,6 +120,69 @@ serving_on s cut before after r d told order goes jobs ends lanes reads unread c
       read_faults = counts;
       write_faults = writes;
     }
+
+-- ---- what begins a session
+
+-- how its desk serves
+pub set_behind : (s : Session) (cut : Cut) (transcript : List ℕ) (b : Beginning) (d : DeskShape) → HasBegun s cut transcript b → setting_of d ≡ setting_of b.desk
+    → setting_of d ≡ setting_behind s (length b.desk.entries)
+set_behind s cut transcript b d h same = same ∙ rw (h.opening, h.lanes, h.rounds, h.restored) refl
+
+pub begun_lanes : (s : Session) (cut : Cut) (transcript : List ℕ) (b : Beginning) → HasBegun s cut transcript b → AreOfLanes b.desk.lanes b.desk.jobs
+begun_lanes s cut transcript b h = subst (λ n. AreOfLanes n b.desk.jobs) (sym h.lanes) h.of_lanes
+
+pub begun_order : (s : Session) (cut : Cut) (transcript : List ℕ) (b : Beginning) → HasBegun s cut transcript b → AreInOrder b.desk.lanes b.file.jobs b.file.ends
+begun_order s cut transcript b h =
+    subst (λ n. AreInOrder n b.file.jobs b.file.ends) (sym h.lanes)
+    (subst (λ js. AreInOrder s.lanes js b.file.ends) (sym h.file_jobs) (subst (AreInOrder s.lanes s.jobs) (sym h.file_ends) h.order))
+
+pub begun_told : (s : Session) (cut : Cut) (transcript : List ℕ) (b : Beginning) (told : Told) → HasBegun s cut transcript b → told.jobs ≡ b.jobs → told.batch_ends ≡ b.ends
+    → IsToldTo b.file.jobs b.file.ends b.count told
+begun_told s cut transcript b told h jobs ends =
+    subst (λ js. IsToldTo js b.file.ends b.count told) (sym h.file_jobs)
+    (subst (λ es. IsToldTo s.jobs es b.count told) (sym h.file_ends)
+    (record { known = h.known; all_jobs = jobs ∙ h.first_jobs; all_ends = ends ∙ h.first_ends }))
+
+file_of : (s : Session) (cut : Cut) (transcript : List ℕ) (b : Beginning) (held aft : Option (List ℕ)) (d : DeskShape) (told : Told) (result : Result (Unit {0}) RunFault) → HasBegun s cut transcript b
+    → FileTo held aft b.file.jobs b.file.ends d told result → FileTo held aft s.jobs s.batch_ends d told result
+file_of s cut transcript b held aft d told result h to =
+    subst (λ js. FileTo held aft js s.batch_ends d told result) h.file_jobs (subst (λ es. FileTo held aft b.file.jobs es d told result) h.file_ends to)
+
+-- a fault ended it at the requests
+pub stops_begun : (s : Session) (cut : Cut) (transcript : List ℕ) (b : Beginning) (before after : Streams) (d : DeskShape) (told : Told) (ending : RunFault) → HasBegun s cut transcript b
+    → after.input ≡ before.input → after.read_faults ≡ before.read_faults → CountsWrites ending before.write_faults after.write_faults
+    → FileTo before.output after.output b.file.jobs b.file.ends d told (Err ending) → IsWriteEnding ending → Serves (setting_of d) (next_input cut) PIECE before after told ending
+stops_begun s cut transcript b before after d told ending h unread reads writes to end =
+    stops_serves s cut s.lanes PIECE before after d told ending h.goes_on h.cut_jobs h.cut_ends unread reads writes (file_of s cut transcript b before.output after.output d told (Err ending) h to) end
+
+-- or it reads on
+pub serving_begun : (s : Session) (cut : Cut) (transcript : List ℕ) (b : Beginning) (before after : Streams) (d : DeskShape) (told : Told) → HasBegun s cut transcript b
+    → setting_of d ≡ setting_of b.desk → after.input ≡ before.input → after.read_faults ≡ before.read_faults → after.write_faults ≡ before.write_faults
+    → FileTo before.output after.output b.file.jobs b.file.ends d told (Ok tt) → IsServing (next_input cut) before after b.reader d told
+serving_begun s cut transcript b before after d told h same unread reads writes to =
+    let file = file_of s cut transcript b before.output after.output d told (Ok tt) h to in
+    serving_on s cut before after b.reader d told h.order h.goes_on h.cut_jobs h.cut_ends (lanes_of b.desk d same ∙ h.lanes) h.reader unread reads writes file.0 file.1
+
+-- a session behind it is one as it is promised
+pub served_begun : (s : Session) (cut : Cut) (transcript : List ℕ) (b : Beginning) (d : DeskShape) (room : ℕ) (before after : Streams) (told : Told) (ending : RunFault) → HasBegun s cut transcript b
+    → HistoriesKeepCompletable → HistoriesAreExact → setting_of d ≡ setting_of b.desk → room ≡ PIECE → IsLegal (opening_state d.opening) d.rounds told.entries
+    → Serves (setting_of d) (next_input cut) room before after told ending → Served (setting_behind s (length b.desk.entries)) (next_input cut) PIECE before after told ending
+served_begun s cut transcript b d room before after told ending h keeps exact same size legal serves =
+    let set = setting_behind s (length b.desk.entries) in
+    let is = set_behind s cut transcript b d h same in
+    serves_kept set (next_input cut) PIECE before after told ending h.policy keeps exact
+    (subst (λ (x : Setting). IsLegal (opening_state x.policy) x.rounds told.entries) is legal)
+    (subst (λ n. Serves set (next_input cut) n before after told ending) size (subst (λ (x : Setting). Serves x (next_input cut) room before after told ending) is serves))
+
+-- ---- what was taken up
+
+pub begins_behind : (b d : DeskShape) (es : List Entry) → b.restored ≡ length b.entries → d.restored ≡ b.restored → take d.restored es ≡ take d.restored d.entries
+    → take b.restored d.entries ≡ take b.restored b.entries → take (length b.entries) es ≡ b.entries
+begins_behind b d es size same later first =
+    ap (λ n. take n es) (sym (same ∙ size)) ∙ later ∙ ap (λ n. take n d.entries) same ∙ first ∙ ap (λ n. take n b.entries) size ∙ take_all (length b.entries) b.entries (omega arith)
+
+pub none_before : (b : DeskShape) → b.restored ≡ length b.entries → AreAnsweredOnce (drop b.restored b.entries)
+none_before b size = subst AreAnsweredOnce (sym (drop_all b.restored b.entries (omega (arith, size)))) tt
 
 -- ---- the run
 
