@@ -97,7 +97,9 @@ fn begin_under<V: Decider, F: Shelf>(
     match text.stop {
         Some(Stop::LineTooLong(line)) => Err(Refusal::Ends(RunFault::LineTooLong(line))),
         Some(Stop::TooManyLines) => Err(Refusal::Ends(RunFault::TooManyLines)),
-        None => begin_behind(alloc, decider, policy, text, transcript, lanes, rounds, shelf),
+        None => begin_behind(
+            alloc, decider, policy, text, transcript, lanes, rounds, shelf,
+        ),
     }
 }
 

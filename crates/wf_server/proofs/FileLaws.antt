@@ -102,21 +102,25 @@ pub file_fails : (lanes : ℕ) (jobs : List Job) (ends : List ℕ) (count : ℕ)
 file_fails lanes jobs ends count held aft before after d batch start stop fault.Write order known is next begins same answers end =
     let above = next.order in
     let size = part_length start stop jobs (omega (arith, above)) next.within in
-    let same_size = ap length same in
-    (record {
-      count = count + 1;
-      to = told_more lanes jobs ends count before after batch start stop order known is next begins same answers.0;
-      some = λ _. told_some before after batch answers.0 (omega (arith, size, above, same_size));
-    }, answers.1)
-file_fails lanes jobs ends count held aft before after d batch start stop fault.NoMemory order known is next begins same answers end =
-    (elim answers.0 [
-      | inl stays ↦ record { count = count; to = subst (λ (t : Told). IsToldTo jobs ends count t) (sym stays) is; some = λ other. absurd cc }
-      | inr added ↦ record {
+    let same_size = ap length same in (
+      record {
         count = count + 1;
-        to = told_more lanes jobs ends count before after batch start stop order known is next begins same added;
-        some = λ other. absurd cc;
-      }
-    ], answers.1)
+        to = told_more lanes jobs ends count before after batch start stop order known is next begins same answers.0;
+        some = λ _. told_some before after batch answers.0 (omega (arith, size, above, same_size));
+      },
+      answers.1,
+    )
+file_fails lanes jobs ends count held aft before after d batch start stop fault.NoMemory order known is next begins same answers end = (
+  elim answers.0 [
+    | inl stays ↦ record { count = count; to = subst (λ (t : Told). IsToldTo jobs ends count t) (sym stays) is; some = λ other. absurd cc }
+    | inr added ↦ record {
+      count = count + 1;
+      to = told_more lanes jobs ends count before after batch start stop order known is next begins same added;
+      some = λ other. absurd cc;
+    }
+  ],
+  answers.1,
+)
 file_fails lanes jobs ends count held aft before after d batch start stop ending order known is next begins same answers end = absurd end
 
 -- ---- the batch at the desk

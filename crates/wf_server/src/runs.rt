@@ -11,7 +11,7 @@ ghost use Rattle.command_words.specs.Asked.{asked, CanServe};
 ghost use Rattle.command_words.specs.Words.{command_of, may_repeat, reads_input};
 ghost use Rattle.wf_server.specs.Run.{Does, HasRun, IsWordsEnding, takes_up};
 
-use crate::resume::run_resume;
+use crate::going_on::run_resume;
 use crate::serve::run_serve;
 use audit_command::run_audit;
 use case_views::{PlainDecider, SpreadDecider};
@@ -59,12 +59,14 @@ pub fn run<R: Threads + Wait + Sync, F: Shelf, S: Source, K: Sink, G: Gate + Syn
             { serve_by_lanes(rt, alloc, &SpreadDecider::new(rt), gate, desk) };
             run_serve(alloc, &on_lanes, policy, options, shelf, source, sink)
         }
-        Ok(Command::Resume {
-            policy,
-            requests,
-            transcript,
-            options,
-        }) if on_threads(&options) => {
+        Ok(
+            Command::Resume {
+                policy,
+                requests,
+                transcript,
+                options,
+            },
+        ) if on_threads(&options) => {
             let on_lanes = |desk: Desk| -> Desk
                 requires { (0 < desk.lanes) × AreOfLanes desk.lanes desk.jobs }
                 ensures { HasGrown desk result × IsDone result }

@@ -50,14 +50,21 @@ pub(crate) fn run_resume<F: Shelf, S: Source, K: Sink, W: Fn(Desk) -> Desk>(
     ensures resumes { (repeats : Bool) →
         (repeats ≡ false → ServesOnce (W.post way.now) ⊎ (options.rounds ≡ 0)) →
         ResumesRun (record
-            { policy = policy.now; requests = requests.now; transcript = transcript.now })
+        { policy = policy.now; requests = requests.now; transcript = transcript.now })
         (options_in options) repeats (
         run_of F.file F.faults shelf.old shelf.new
         (streams_of S.left S.faults K.held K.faults source.old sink.old)
         (streams_of S.left S.faults K.held K.faults source.new sink.new) result) }
 {
     match begin(
-        alloc, &PlainDecider, policy, requests, transcript, options.lanes, options.rounds, shelf,
+        alloc,
+        &PlainDecider,
+        policy,
+        requests,
+        transcript,
+        options.lanes,
+        options.rounds,
+        shelf,
     ) {
         Ok(beginning) => go_on(alloc, way, beginning, source, sink),
         Err(Refusal::Ends(fault)) => bare_report(alloc, fault),

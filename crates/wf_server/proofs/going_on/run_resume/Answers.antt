@@ -4,7 +4,7 @@ use Rattle.command_words.specs.Asked.{options_in}
 use Rattle.resume_command.specs.Loading.{Names}
 use Rattle.wf_server.proofs.ResumeLaws.{ended_orderly, ended_run, gone_on, is_untouched, refused_run, told_orderly}
 use Rattle.wf_server.proofs.ServeLaws.{loads_late}
-use Rattle.wf_server.proofs.resume.run_resume.Goals as goal
+use Rattle.wf_server.proofs.going_on.run_resume.Goals as goal
 
 pub returns-in-Ok-clause-resumes : goal.returns-in-Ok-clause-resumes
 returns-in-Ok-clause-resumes g c repeats once =
