@@ -13,7 +13,7 @@ use Rattle.wf_desk.specs.Desks.{AreOfLanes, DeskShape}
 use Rattle.wf_desk.specs.Parts.{FillsPart}
 use Rattle.line_cutter.specs.Cutter.{ends_after}
 use Rattle.line_cutter.specs.Laws.{LeadTo}
-use Rattle.transcript_audit.proofs.Batches.{first_ends, part_length, start_first, start_rises}
+use Rattle.transcript_audit.proofs.Batches.{first_ends, part_length, start_first as front_start, start_rises}
 use Rattle.transcript_resume.specs.Places.{end_at, jobs_between, start_at}
 use Rattle.transcript_resume.specs.Resumed.{GoesOnAt, Session}
 use Rattle.transcript_resume.proofs.Rests.{answers_part, bounds_order, bounds_within, lanes_between}
@@ -35,65 +35,96 @@ record IsBound (before : ℕ) (ends : List ℕ) (place count : ℕ) : Type 0 whe
   there : slice_index_or (before ∷ ends) count 0 ≡ place
   above : before ≤ place
 
+bound_more : (before x : ℕ) (xs : List ℕ) (p c : ℕ) → before ≤ x → IsBound x xs p c → IsBound before (x ∷ xs) p (suc c)
+bound_more before x xs p c first rest =
+    let known = rest.known in
+    let above = rest.above in
+    record { known = omega (arith, known); there = rest.there; above = omega (arith, first, above) }
+
+to_more : (x : ℕ) (xs : List ℕ) (p : ℕ) → x ≤ p → ends_to p (x ∷ xs) ≡ suc (ends_to p xs)
+to_more x xs p le = let here : nat_le x p ≡ true = grind (arith, common_steps) in rw here refl
+
+to_none : (x : ℕ) (xs : List ℕ) (p : ℕ) → p < x → ends_to p (x ∷ xs) ≡ 0
+to_none x xs p lt = let here : nat_le x p ≡ false = grind (arith, common_steps) in rw here refl
+
+start_past : (before x n : ℕ) (xs : List ℕ) → x ≤ n → start_at before n (x ∷ xs) ≡ start_at x n xs
+start_past before x n xs le = let here : nat_le x n ≡ true = grind (arith, common_steps) in rw here refl
+
+start_first : (before x n : ℕ) (xs : List ℕ) → n < x → start_at before n (x ∷ xs) ≡ before
+start_first before x n xs lt = let here : nat_le x n ≡ false = grind (arith, common_steps) in rw here refl
+
+stop_past : (x n : ℕ) (xs : List ℕ) → x ≤ n → end_at n (x ∷ xs) ≡ end_at n xs
+stop_past x n xs le = let here : nat_le x n ≡ true = grind (arith, common_steps) in rw here refl
+
+stop_first : (x n : ℕ) (xs : List ℕ) → n < x → end_at n (x ∷ xs) ≡ x
+stop_first x n xs lt = let here : nat_le x n ≡ false = grind (arith, common_steps) in rw here refl
+
 -- so many ends are up to the place where the batches before one end
 starts_from : (before : ℕ) (ends : List ℕ) (total n : ℕ) → LeadTo before ends total → before ≤ n → n ≤ total →
     IsBound before ends (start_at before n ends) (ends_to (start_at before n ends) ends)
 starts_from before [] total n lead begun within = record { known = omega arith; there = refl; above = omega arith }
-starts_from before (x ∷ xs) total n lead begun within = elim (bool_cases (nat_le x n)) [
-  | inl past ↦
-      let le : x ≤ n = grind (arith, common_steps) in
-      let rest = starts_from x xs total n lead.2 le within in
-      let first = lead.0 in
-      let known = rest.known in
-      let above = rest.above in
-      let here : nat_le x (start_at x n xs) ≡ true = grind (arith, common_steps) in
-      rw past (rw here (record { known = omega (arith, known); there = rest.there; above = omega (arith, first, above) }))
-  | inr ahead ↦
-      let first = lead.0 in
-      let here : nat_le x before ≡ false = grind (arith, common_steps) in
-      rw ahead (rw here (record { known = omega arith; there = refl; above = omega arith }))
-]
+starts_from before (x ∷ xs) total n lead begun within =
+    let first = lead.0 in
+    elim (bool_cases (nat_le x n)) [
+      | inl past ↦
+          let le : x ≤ n = grind (arith, common_steps) in
+          let rest = starts_from x xs total n lead.2 le within in
+          subst (λ p. IsBound before (x ∷ xs) p (ends_to p (x ∷ xs))) (sym (start_past before x n xs le))
+          (subst (λ c. IsBound before (x ∷ xs) (start_at x n xs) c) (sym (to_more x xs (start_at x n xs) rest.above))
+          (bound_more before x xs (start_at x n xs) (ends_to (start_at x n xs) xs) (omega (arith, first)) rest))
+      | inr ahead ↦
+          let lt : n < x = grind (arith, common_steps) in
+          subst (λ p. IsBound before (x ∷ xs) p (ends_to p (x ∷ xs))) (sym (start_first before x n xs lt))
+          (subst (λ c. IsBound before (x ∷ xs) before c) (sym (to_none x xs before first))
+          (record { known = omega arith; there = refl; above = omega arith }))
+    ]
 
 stops_from : (before : ℕ) (ends : List ℕ) (total n : ℕ) → LeadTo before ends total → before ≤ n → n ≤ total →
     IsBound before ends (end_at n ends) (ends_to (end_at n ends) ends)
 stops_from before [] total n lead begun within = record { known = omega arith; there = omega (arith, lead, begun, within); above = begun }
-stops_from before (x ∷ xs) total n lead begun within = elim (bool_cases (nat_le x n)) [
-  | inl past ↦
-      let le : x ≤ n = grind (arith, common_steps) in
-      let rest = stops_from x xs total n lead.2 le within in
-      let first = lead.0 in
-      let known = rest.known in
-      let above = rest.above in
-      let here : nat_le x (end_at n xs) ≡ true = grind (arith, common_steps) in
-      rw past (rw here (record { known = omega (arith, known); there = rest.there; above = omega (arith, first, above) }))
-  | inr ahead ↦
-      let first = lead.0 in
-      let here : nat_le x x ≡ true = grind (arith, common_steps) in
-      rw ahead (rw here (rw (none_to x xs total lead.2) (record { known = omega arith; there = refl; above = omega (arith, first) })))
-]
+stops_from before (x ∷ xs) total n lead begun within =
+    let first = lead.0 in
+    elim (bool_cases (nat_le x n)) [
+      | inl past ↦
+          let le : x ≤ n = grind (arith, common_steps) in
+          let rest = stops_from x xs total n lead.2 le within in
+          subst (λ p. IsBound before (x ∷ xs) p (ends_to p (x ∷ xs))) (sym (stop_past x n xs le))
+          (subst (λ c. IsBound before (x ∷ xs) (end_at n xs) c) (sym (to_more x xs (end_at n xs) rest.above))
+          (bound_more before x xs (end_at n xs) (ends_to (end_at n xs) xs) (omega (arith, first)) rest))
+      | inr ahead ↦
+          let lt : n < x = grind (arith, common_steps) in
+          subst (λ p. IsBound before (x ∷ xs) p (ends_to p (x ∷ xs))) (sym (stop_first x n xs lt))
+          (subst (λ c. IsBound before (x ∷ xs) x c) (sym (to_more x xs x (omega arith) ∙ ap suc (none_to x xs total lead.2)))
+          (record { known = omega arith; there = refl; above = omega (arith, first) }))
+    ]
 
--- the batch in which a place stands has no job, or its end is the next one
-next_end : (before : ℕ) (ends : List ℕ) (total n : ℕ) → LeadTo before ends total → before ≤ n → n ≤ total →
-    (start_at before n ends ≡ end_at n ends)
-    ⊎ ((start_at before n ends < end_at n ends) × (ends_to (end_at n ends) ends ≡ suc (ends_to (start_at before n ends) ends)))
+-- a batch has no job, or its end is the next one behind where it begins
+abbrev IsNextEnd : (ends : List ℕ) (start stop : ℕ) → Type 0
+IsNextEnd ends start stop = (start ≡ stop) ⊎ ((start < stop) × (ends_to stop ends ≡ suc (ends_to start ends)))
+
+next_end : (before : ℕ) (ends : List ℕ) (total n : ℕ) → LeadTo before ends total → before ≤ n → n ≤ total → IsNextEnd ends (start_at before n ends) (end_at n ends)
 next_end before [] total n lead begun within = inl (omega (arith, lead, begun, within))
-next_end before (x ∷ xs) total n lead begun within = elim (bool_cases (nat_le x n)) [
-  | inl past ↦
-      let le : x ≤ n = grind (arith, common_steps) in
-      let above = (starts_from x xs total n lead.2 le within).above in
-      let over = (stops_from x xs total n lead.2 le within).above in
-      let here : nat_le x (start_at x n xs) ≡ true = grind (arith, common_steps) in
-      let there : nat_le x (end_at n xs) ≡ true = grind (arith, common_steps) in
-      rw past (rw here (rw there (elim (next_end x xs total n lead.2 le within) [
-        | inl same ↦ inl same
-        | inr more ↦ inr (more.0, ap suc more.1)
-      ])))
-  | inr ahead ↦
-      let first = lead.0 in
-      let here : nat_le x before ≡ false = grind (arith, common_steps) in
-      let there : nat_le x x ≡ true = grind (arith, common_steps) in
-      rw ahead (rw here (rw there (inr (first, ap suc (none_to x xs total lead.2)))))
-]
+next_end before (x ∷ xs) total n lead begun within =
+    let first = lead.0 in
+    elim (bool_cases (nat_le x n)) [
+      | inl past ↦
+          let le : x ≤ n = grind (arith, common_steps) in
+          let above = (starts_from x xs total n lead.2 le within).above in
+          let over = (stops_from x xs total n lead.2 le within).above in
+          let start = start_at x n xs in
+          let stop = end_at n xs in
+          subst (λ p. IsNextEnd (x ∷ xs) p (end_at n (x ∷ xs))) (sym (start_past before x n xs le))
+          (subst (λ q. IsNextEnd (x ∷ xs) start q) (sym (stop_past x n xs le))
+          (elim (next_end x xs total n lead.2 le within) [
+            | inl same ↦ inl same
+            | inr more ↦ inr (more.0, to_more x xs stop over ∙ ap suc (more.1 ∙ sym (to_more x xs start above)))
+          ]))
+      | inr ahead ↦
+          let lt : n < x = grind (arith, common_steps) in
+          subst (λ p. IsNextEnd (x ∷ xs) p (end_at n (x ∷ xs))) (sym (start_first before x n xs lt))
+          (subst (λ q. IsNextEnd (x ∷ xs) before q) (sym (stop_first x n xs lt))
+          (inr (first, to_more x xs x (omega arith) ∙ ap suc (none_to x xs total lead.2 ∙ sym (to_none x xs before first)))))
+    ]
 
 -- ---- the batches before
 
@@ -111,8 +142,8 @@ record IsEarlier (ends : List ℕ) (k i : ℕ) : Type 0 where
 
 is_earlier : (ends : List ℕ) (total k i : ℕ) → LeadTo 0 ends total → i < k → k ≤ length ends → IsEarlier ends k i
 is_earlier ends total k i lead below known = record {
-  start = start_first 0 ends k i (omega (arith, below)) known;
-  stop = start_first 0 ends k (suc i) (omega (arith, below)) known;
+  start = front_start 0 ends k i (omega (arith, below)) known;
+  stop = front_start 0 ends k (suc i) (omega (arith, below)) known;
   begun = start_rises 0 ends total i k lead (omega (arith, below)) known;
   within = start_rises 0 ends total (suc i) k lead (omega (arith, below)) known;
 }

@@ -1,13 +1,14 @@
 -- The first line that is too long.
-use Rattle.std.proofs.Common.{◌≡◌, ℕ, zero, suc, ◌+◌, ◌==◌, ◌<◌, ◌≤◌, nat_lt, Bool, true, false, List, [], ◌∷◌, length, drop, Option, None, Some, refl, sym, ap, ◌∙◌, arith}
+use Rattle.std.proofs.Common.{◌≡◌, ℕ, zero, suc, ◌+◌, ◌-◌, ◌==◌, ◌<◌, ◌≤◌, nat_lt, Bool, true, false, List, [], ◌∷◌, length, take, drop, Option, None, Some, refl, sym, ap, subst, ◌∙◌, arith}
 use Rattle.std.proofs.lemmas.Bool.{le-ltb, lt-ltb}
-use Rattle.std.proofs.lemmas.List.{drop-drop, drop_all}
+use Rattle.std.proofs.lemmas.List.{drop-drop, drop_all, length-drop}
 use Rattle.wf_names.specs.declared.limits.TheConstants.{TRANSCRIPT_LINE_LIMIT}
 use Rattle.memchr.specs.Find.{IsFirstByte, is_byte}
 use Rattle.line_reader.specs.Lines.{behind_line, first_line, has_end, line_length, lines_of}
 use Rattle.line_reader.specs.Steps.{FindsEnd}
 use Rattle.line_reader.proofs.FirstLines.{finds_end, lines_first, open_line}
 use Rattle.transcript_resume.specs.Resumed.{first_long, whole_lines}
+use Rattle.transcript_resume.proofs.LinesTaken.{left_at}
 
 -- ---- lengths
 
@@ -50,3 +51,18 @@ long_behind n bytes some short =
 -- none is left
 pub long_none : (n at : ℕ) (bytes : List ℕ) → length bytes ≤ at → first_long n (lines_of (drop at bytes)) ≡ None
 long_none n at bytes past = ap (λ xs. first_long n (lines_of xs)) (drop_all at bytes past)
+
+-- the same of what is left of a text behind a place, as a slice
+pub long_at : (n at : ℕ) (text : List ℕ) (found : Option ℕ) → at < length text → TRANSCRIPT_LINE_LIMIT < line_length (take (length text - at) (drop at text))
+    → first_long n (lines_of (drop at text)) ≡ found → Some n ≡ found
+long_at n at text found within long goes =
+    sym (long_here n (drop at text) (omega (arith, within, length-drop at text)) (subst (λ xs. TRANSCRIPT_LINE_LIMIT < line_length xs) (left_at text at) long)) ∙ goes
+
+pub long_on : (n at count : ℕ) (text : List ℕ) → at < length text → line_length (take (length text - at) (drop at text)) ≤ TRANSCRIPT_LINE_LIMIT
+    → drop count (take (length text - at) (drop at text)) ≡ behind_line (take (length text - at) (drop at text))
+    → first_long (n + 1) (lines_of (drop (at + count) text)) ≡ first_long n (lines_of (drop at text))
+long_on n at count text within short behind =
+    let rest : drop (at + count) text ≡ behind_line (drop at text) =
+    sym (drop-drop count at text) ∙ ap (drop count) (sym (left_at text at)) ∙ behind ∙ ap behind_line (left_at text at) in
+    ap (λ xs. first_long (n + 1) (lines_of xs)) rest
+    ∙ sym (long_behind n (drop at text) (omega (arith, within, length-drop at text)) (subst (λ xs. line_length xs ≤ TRANSCRIPT_LINE_LIMIT) (left_at text at) short))
