@@ -174,3 +174,48 @@ files_map files names lanes S T G H stops goes at =
     let P = λ (p : PolicyShape). OverBoth lanes T (H p) requests transcript in
     filed_map S T (OverPolicy S O) (OverPolicy T P) (files names.policy) stops
     (λ file. policy_map S T O P file stops (λ p sound. both_map lanes S T (G p) (H p) requests transcript stops (λ c x. goes p c x sound))) at
+
+-- ---- what comes of files over which a run does not stop
+
+filed_goal : (S : RunFault → Type 0) (O : List ℕ → Type 0) (filed : Filed) (T : Type 0) → ((x : RunFault) → S x → T) → ((x : List ℕ) → O x → T) → OverFiled S O filed → T
+filed_goal S O untold T stops over at = over at.0 at.1
+filed_goal S O missing T stops over at = stops Load at
+filed_goal S O (told file) T stops over at = over file at
+
+policy_goal : (S : RunFault → Type 0) (G : PolicyShape → Type 0) (file : List ℕ) (T : Type 0) → ((x : RunFault) → S x → T) → ((p : PolicyShape) → G p → T) → OverPolicy S G file → T
+policy_goal S G file T stops goes (inl ends) = stops ends.0 ends.1.1
+policy_goal S G file T stops goes (inr there) = goes there.0 there.1.1.1
+
+text_goal : (limit : ℕ) (S : RunFault → Type 0) (G : List ℕ → Type 0) (file : List ℕ) (T : Type 0) → ((x : RunFault) → S x → T) → ((x : List ℕ) → G x → T) → OverText limit S G file → T
+text_goal limit S G file T stops goes (inl ends) = stops ends.0 ends.1.1
+text_goal limit S G file T stops goes (inr there) = goes file there.1
+
+stop_goal : (S : RunFault → Type 0) (G : Type 0) (met : Option Stop) (T : Type 0) → ((x : RunFault) → S x → T) → (G → T) → OverStop S G met → T
+stop_goal S G None T stops goes at = goes at
+stop_goal S G (Some met) T stops goes at = stops (ending_at met) at
+
+long_goal : (S : RunFault → Type 0) (G : Type 0) (found : Option ℕ) (T : Type 0) → ((x : RunFault) → S x → T) → (G → T) → OverLong S G found → T
+long_goal S G None T stops goes at = goes at
+long_goal S G (Some line) T stops goes at = stops (LineTooLong line) at
+
+transcript_goal : (S : RunFault → Type 0) (G : List ℕ → Type 0) (filed : Filed) (T : Type 0) → ((x : RunFault) → S x → T) → ((x : List ℕ) → G x → T) → OverTranscriptFile S G filed → T
+transcript_goal S G filed T stops goes at =
+    filed_goal S (OverText TRANSCRIPT_FILE_LIMIT S (OverTranscript S G)) filed T stops
+    (λ file. text_goal TRANSCRIPT_FILE_LIMIT S (OverTranscript S G) file T stops
+    (λ text. long_goal S (G text) (first_long 0 (lines_of (whole_lines text))) T stops (goes text))) at
+
+both_goal : (lanes : ℕ) (S : RunFault → Type 0) (G : Cut → List ℕ → Type 0) (requests transcript : Filed) (T : Type 0) → ((x : RunFault) → S x → T) → ((c : Cut) (x : List ℕ) → G c x → T)
+    → OverBoth lanes S G requests transcript → T
+both_goal lanes S G requests transcript T stops goes at =
+    let O = OverRequests lanes S (λ cut. OverTranscriptFile S (G cut) transcript) in
+    filed_goal S (OverText REQUESTS_FILE_LIMIT S O) requests T stops
+    (λ file. text_goal REQUESTS_FILE_LIMIT S O file T stops
+    (λ text. let cut = jobs_of_input text true lanes in
+    stop_goal S (OverTranscriptFile S (G cut) transcript) cut.stop T stops (transcript_goal S (G cut) transcript T stops (goes cut)))) at
+
+pub files_goal : (files : List ℕ → Filed) (names : Names) (lanes : ℕ) (S : RunFault → Type 0) (G : PolicyShape → Cut → List ℕ → Type 0) (T : Type 0) → ((x : RunFault) → S x → T)
+    → ((p : PolicyShape) (c : Cut) (x : List ℕ) → G p c x → T) → OverFiles files names lanes S G → T
+files_goal files names lanes S G T stops goes at =
+    let O = λ (p : PolicyShape). OverBoth lanes S (G p) (files names.requests) (files names.transcript) in
+    filed_goal S (OverPolicy S O) (files names.policy) T stops
+    (λ file. policy_goal S O file T stops (λ p. both_goal lanes S (G p) (files names.requests) (files names.transcript) T stops (goes p))) at

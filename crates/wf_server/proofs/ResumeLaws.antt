@@ -29,7 +29,7 @@ use Rattle.resume_command.specs.declared.begin.TheConstants.{PIECE}
 use Rattle.resume_command.specs.declared.refusal.Refusal.TheVariants.{Ends, Line}
 use Rattle.resume_command.specs.Begun.{BeginsBy, EndsBeginning, HasBegun, StopsBy, session_of}
 use Rattle.resume_command.specs.Loading.{Names, OverFiles}
-use Rattle.resume_command.proofs.Files.{files_map}
+use Rattle.resume_command.proofs.Files.{files_goal, files_map}
 use Rattle.command_words.specs.Words.{AreOptions, Options}
 use Rattle.transcript_audit.proofs.Batches.{last_start}
 use Rattle.wf_server.specs.Sessions.{IsWithinFirst, ReadsFor, Served, Setting, handed_in}
@@ -38,7 +38,8 @@ use Rattle.wf_server.specs.declared.batch.Answered.{Answered}
 use Rattle.wf_server.specs.Batches.{Serves, told_of, AreInOrderFrom, HasAnswered, HasAnsweredPart, IsServing, IsWriteEnding}
 use Rattle.wf_server.specs.Files.{FileTo, IsToldTo, StopsIn}
 use Rattle.wf_server.specs.Resuming.{EndsBy, ResumesFrom, ResumesRun, TellsAs, setting_behind}
-use Rattle.wf_server.proofs.SessionLaws.{lanes_of, serves_kept}
+use Rattle.wf_server.proofs.SessionLaws.{lanes_of, late_reads, serves_kept}
+use Rattle.wf_server.proofs.ServeLaws.{loads_late}
 use Rattle.wf_server.proofs.WayLaws.{once_legal}
 use Rattle.wf_server.proofs.Endings.{reads_so, writes_so}
 
@@ -174,6 +175,10 @@ served_begun s cut transcript b d room before after told ending h keeps exact sa
     (subst (λ (x : Setting). IsLegal (opening_state x.policy) x.rounds told.entries) is legal)
     (subst (λ n. Serves set (next_input cut) n before after told ending) size (subst (λ (x : Setting). Serves x (next_input cut) room before after told ending) is serves))
 
+-- how it ends
+pub late_begun : (set : Setting) (first : Cut) (room : ℕ) (before after : Streams) (told : Told) (ending : RunFault) → Served set first room before after told ending → is_before_input ending ≡ false
+late_begun set first room before after told ending served = late_reads before.input after.input room (handed_in first told) ending served.reads
+
 -- ---- what was taken up
 
 pub begins_behind : (b d : DeskShape) (es : List Entry) → b.restored ≡ length b.entries → d.restored ≡ b.restored → take d.restored es ≡ take d.restored d.entries
@@ -273,14 +278,34 @@ refused_run names options repeats number kind r within unread untold tells order
   orderly = orderly;
 }
 
+-- what begins a session is there
+pub begun_there : (files : List ℕ → Filed) (names : Names) (options : Options) (b : Beginning)
+    → OverFiles files names options.lanes (StopsBy (Ok b)) (λ p cut transcript. BeginsBy (session_of p options.lanes options.rounds cut) cut transcript (Ok b))
+    → (s : Session) × ((cut : Cut) × ((transcript : List ℕ) × HasBegun s cut transcript b))
+begun_there files names options b over =
+    files_goal files names options.lanes (StopsBy (Ok b)) (λ p cut transcript. BeginsBy (session_of p options.lanes options.rounds cut) cut transcript (Ok b))
+    ((s : Session) × ((cut : Cut) × ((transcript : List ℕ) × HasBegun s cut transcript b)))
+    (λ x stops. absurd cc)
+    (λ p cut transcript begun. (session_of p options.lanes options.rounds cut, (cut, (transcript, begun)))) over
+
+went_orderly : (s : Session) (cut : Cut) (n : ℕ) (r : Run) → Served (setting_behind s n) (next_input cut) PIECE r.before r.after r.told r.fault → r.load_faults_after ≡ r.load_faults → IsOrderly r
+went_orderly s cut n r served loads =
+    let late = late_begun (setting_behind s n) (next_input cut) PIECE r.before r.after r.told r.fault served in
+    record {
+      early = λ early. absurd cc;
+      loads = loads_late r.fault r.load_faults r.load_faults_after late loads;
+      reads = served.read_faults;
+      writes = served.write_faults;
+    }
+
 -- a run whose session went on
-pub gone_on : (names : Names) (options : Options) (repeats : Bool) (b : Beginning) (r : Run) → AreOptions options → IsOrderly r
+pub gone_on : (names : Names) (options : Options) (repeats : Bool) (b : Beginning) (r : Run) → AreOptions options → r.load_faults_after ≡ r.load_faults
     → ((s : Session) (cut : Cut) (transcript : List ℕ) → HasBegun s cut transcript b → Served (setting_behind s (length b.desk.entries)) (next_input cut) PIECE r.before r.after r.told r.fault)
     → take (length b.desk.entries) r.told.entries ≡ b.desk.entries → AreWantsRightful (drop (length b.desk.entries) r.told.entries)
     → (repeats ≡ false → AreAnsweredOnce (drop (length b.desk.entries) r.told.entries) ⊎ (options.rounds ≡ 0))
     → OverFiles r.files names options.lanes (StopsBy (Ok b)) (λ p cut transcript. BeginsBy (session_of p options.lanes options.rounds cut) cut transcript (Ok b))
     → ResumesRun names options repeats r
-gone_on names options repeats b r within orderly served begins wants once over = record {
+gone_on names options repeats b r within loads served begins wants once over = record {
   within = within;
   resumes = files_map r.files names options.lanes (StopsBy (Ok b)) (EndsBy r)
       (λ p cut transcript. BeginsBy (session_of p options.lanes options.rounds cut) cut transcript (Ok b))
@@ -300,5 +325,5 @@ gone_on names options repeats b r within orderly served begins wants once over =
           | inr none ↦ once_behind (length b.desk.entries) r.told.entries (once_legal (opening_state p) options.rounds r.told.entries all.legal none)
         ];
       }))) over;
-  orderly = orderly;
+  orderly = let h = begun_there r.files names options b over in went_orderly h.0 h.1.0 (length b.desk.entries) r (served h.0 h.1.0 h.1.1.0 h.1.1.1) loads;
 }

@@ -232,7 +232,7 @@ serves_kept set first room before after told ending sound keeps exact legal h = 
 }
 
 -- a session ends with its own endings alone
-late_reads : (before after : Option (List ℕ)) (room : ℕ) (handed : Handed) (ending : RunFault) → ReadsFor before after room handed ending → is_before_input ending ≡ false
+pub late_reads : (before after : Option (List ℕ)) (room : ℕ) (handed : Handed) (ending : RunFault) → ReadsFor before after room handed ending → is_before_input ending ≡ false
 late_reads before after room handed fault.Nothing h = refl
 late_reads before after room handed fault.Read h = refl
 late_reads before after room handed (fault.LineTooLong line) h = refl

