@@ -9,6 +9,7 @@ use Rattle.wf_commands.specs.Show.{Shows}
 use Rattle.wf_commands.specs.Solve.{Solves}
 use Rattle.wf_commands.specs.Resilience.{ChecksResilience}
 use Rattle.audit_command.specs.Running.{AuditsRun}
+use Rattle.cnf_command.specs.Running.{ReadsModelFile, WritesClauses}
 use Rattle.trial_command.specs.Running.{RunsTrial}
 use Rattle.command_words.specs.Words.{Command, plan, show, solve, resilience, cnf, serve, audit, resume, trial}
 use Rattle.wf_server.specs.Serving.{ServesRun}
@@ -20,7 +21,8 @@ Does (Some (plan policy flow)) r = Plans policy flow r
 Does (Some (show policy)) r = Shows policy r
 Does (Some (solve policy)) r = Solves policy r
 Does (Some (resilience policy flow absences)) r = ChecksResilience policy flow absences r
-Does (Some (cnf policy flow model)) r = Unit {0}
+Does (Some (cnf policy flow None)) r = WritesClauses policy flow r
+Does (Some (cnf policy flow (Some model))) r = ReadsModelFile policy flow model r
 Does (Some (serve policy options)) r = ServesRun policy options r
 Does (Some (audit policy requests options)) r = AuditsRun policy requests options.lanes options.rounds r
 Does (Some (resume policy requests transcript options)) r = Unit {0}
