@@ -60,7 +60,7 @@ refuses_so A unwritten fault h = h
 -- answers in one sense are answers in another
 pub answers_by : (A B : RunFault → List ℕ → Type 0) (result : Result Answer RunFault) → ((fault : RunFault) (text : List ℕ) → A fault text → B fault text)
     → AnswersAs A result → AnswersAs B result
-answers_by A B (Ok answer) to h = to _ _ h
+answers_by A B (Ok answer) to h = to (ending_with answer.found) answer.text.items h
 answers_by A B (Err fault) to h = refuses_by A B (how_of fault) fault (to fault []) h
 
 pub answers_failed : (A : RunFault → List ℕ → Type 0) (result : Result Answer RunFault) (fault : RunFault) → IsErrAnd result (λ e. e ≡ fault)
@@ -164,25 +164,35 @@ clauses_written p f c e law sound known given = record {
   decides = law (problem_of p f) c.assigned c.finished sound known.within known.all_assigned;
 }
 
-clauses_told : (p : PolicyShape) (f : ℕ) (c : Case) (told : Option (List ℕ)) (result : Result EncoderShape RunFault) → SatisfiableIsCompletable → AreSound (problem_of p f) → IsCaseOf (problem_of p f) c
-    → IfSome told (λ input. GivesCase p f input (Ok c)) → GivesEncoder p f c result
-    → EncodesAs (λ fault text. IfSome told (λ input. OverCase p f (λ c. UnlessLarge p f c (TellsClauses p f c)) input fault text)) result
-clauses_told p f c told (Ok e) law sound known taken given =
-    over_told p f told c (λ c. UnlessLarge p f c (TellsClauses p f c)) Nothing _ taken
-    (few_literals p f c (TellsClauses p f c) Nothing _ given.0 (clauses_written p f c e law sound known given))
-clauses_told p f c told (Err fault) law sound known taken given =
-    refuses_by (UnlessLarge p f c (TellsClauses p f c)) _ (how_of fault) fault
-    (λ h. over_told p f told c (λ c. UnlessLarge p f c (TellsClauses p f c)) fault [] taken h) (large_refused p f c (TellsClauses p f c) fault given)
+-- the answers about the case in the input
+abbrev AboutCase : PolicyShape → ℕ → Option (List ℕ) → (Case → RunFault → List ℕ → Type 0) → RunFault → List ℕ → Type 0
+AboutCase p f told A fault text = IfSome told (λ input. OverCase p f A input fault text)
+
+abbrev ClausesOf : PolicyShape → ℕ → Case → RunFault → List ℕ → Type 0
+ClausesOf p f c fault text = UnlessLarge p f c (TellsClauses p f c) fault text
+
+asked_clauses : (p : PolicyShape) (word : List ℕ) (f : ℕ) (told : Option (List ℕ)) (fault : RunFault) (text : List ℕ) → number_named p.flow_names word ≡ Some f
+    → AboutCase p f told (ClausesOf p f) fault text → ClausesAsked p word told fault text
+asked_clauses p word f told fault text named h = rw named h
 
 pub encodes_case : (p : PolicyShape) (word : List ℕ) (f : ℕ) (c : Case) (told : Option (List ℕ)) (result : Result EncoderShape RunFault) → number_named p.flow_names word ≡ Some f
     → SatisfiableIsCompletable → AreSound (problem_of p f) → IsCaseOf (problem_of p f) c → IfSome told (λ input. GivesCase p f input (Ok c)) → GivesEncoder p f c result
     → EncodesAs (ClausesAsked p word told) result
-encodes_case p word f c told result named law sound known taken given = rw named (clauses_told p f c told result law sound known taken given)
+encodes_case p word f c told (Ok e) named law sound known taken given =
+    let text = dimacs_text e.variables e.all in
+    asked_clauses p word f told Nothing text named
+    (over_told p f told c (ClausesOf p f) Nothing text taken
+    (few_literals p f c (TellsClauses p f c) Nothing text given.0 (clauses_written p f c e law sound known given)))
+encodes_case p word f c told (Err fault) named law sound known taken given =
+    refuses_by (UnlessLarge p f c (TellsClauses p f c)) (ClausesAsked p word told) (how_of fault) fault
+    (λ h. asked_clauses p word f told fault [] named (over_told p f told c (ClausesOf p f) fault [] taken h)) (large_refused p f c (TellsClauses p f c) fault given)
 
 pub encodes_no_case : (p : PolicyShape) (word : List ℕ) (f : ℕ) (told : Option (List ℕ)) (result : Result EncoderShape RunFault) (fault : RunFault) → IsErrAnd result (λ e. e ≡ fault)
     → number_named p.flow_names word ≡ Some f → IfSome told (λ input. GivesCase p f input (Err fault)) → IsCaseEnding fault → EncodesAs (ClausesAsked p word told) result
 encodes_no_case p word f told result fault is named given ending =
-    encodes_failed (ClausesAsked p word told) result fault is (rw named (case_refused p f told fault (λ c. UnlessLarge p f c (TellsClauses p f c)) given ending))
+    encodes_failed (ClausesAsked p word told) result fault is
+    (refuses_by (AboutCase p f told (ClausesOf p f)) (ClausesAsked p word told) (how_of fault) fault
+    (λ h. asked_clauses p word f told fault [] named h) (case_refused p f told fault (ClausesOf p f) given ending))
 
 -- ---- the policy in a file
 
@@ -259,7 +269,7 @@ pub answers_word : (p : PolicyShape) (f : ℕ) (c : Case) (text : List ℕ) (res
     → literals (clauses_for p f c) ≤ LITERAL_LIMIT → GivesModel (variables_of (problem_of p f)) text (Err fault) → AnswersAs (UnlessLarge p f c (ReadsModel p f text c)) result
 answers_word p f c text result fault is few given =
     answers_failed (UnlessLarge p f c (ReadsModel p f text c)) result fault is
-    (refuses_by (ReadsModel p f text c) _ (how_of fault) fault (few_literals p f c (ReadsModel p f text c) fault [] few) (word_refused p f c text fault given))
+    (refuses_by (ReadsModel p f text c) (UnlessLarge p f c (ReadsModel p f text c)) (how_of fault) fault (few_literals p f c (ReadsModel p f text c) fault [] few) (word_refused p f c text fault given))
 
 -- what a model says is what its text says
 pub answers_model : (p : PolicyShape) (f : ℕ) (c : Case) (text : List ℕ) (flags : List Bool) (result : Result Answer RunFault) → model_of_text (variables_of (problem_of p f)) text ≡ Ok flags
@@ -303,11 +313,23 @@ model_refused A filed TooManyLines gives ending = absurd ending
 model_refused A filed (BadInput e) gives ending = absurd ending
 model_refused A filed TooLarge gives ending = absurd ending
 
+abbrev ModelOf : PolicyShape → ℕ → List ℕ → Case → RunFault → List ℕ → Type 0
+ModelOf p f model c fault text = UnlessLarge p f c (ReadsModel p f model c) fault text
+
+abbrev AboutModel : PolicyShape → ℕ → Option (List ℕ) → List ℕ → RunFault → List ℕ → Type 0
+AboutModel p f told model fault text = AboutCase p f told (ModelOf p f model) fault text
+
+asked_model : (p : PolicyShape) (word : List ℕ) (f : ℕ) (filed : Filed) (told : Option (List ℕ)) (fault : RunFault) (text : List ℕ) → number_named p.flow_names word ≡ Some f
+    → OverModel (AboutModel p f told) filed fault text → ModelAsked p word filed told fault text
+asked_model p word f filed told fault text named h = rw named h
+
 -- the model was not loaded
 pub answers_no_model : (p : PolicyShape) (word : List ℕ) (f : ℕ) (filed : Filed) (told : Option (List ℕ)) (result : Result Answer RunFault) (fault : RunFault) → IsErrAnd result (λ e. e ≡ fault)
     → number_named p.flow_names word ≡ Some f → GivesBytes MODEL_FILE_LIMIT filed (Err fault) → IsLoadEnding fault → AnswersAs (ModelAsked p word filed told) result
 answers_no_model p word f filed told result fault is named gives ending =
-    answers_failed (ModelAsked p word filed told) result fault is (rw named (model_refused _ filed fault gives ending))
+    answers_failed (ModelAsked p word filed told) result fault is
+    (refuses_by (OverModel (AboutModel p f told) filed) (ModelAsked p word filed told) (how_of fault) fault
+    (λ h. asked_model p word f filed told fault [] named h) (model_refused (AboutModel p f told) filed fault gives ending))
 
 -- the input is no case
 pub answers_no_case : (p : PolicyShape) (word : List ℕ) (f : ℕ) (filed : Filed) (bytes : List ℕ) (told : Option (List ℕ)) (result : Result Answer RunFault) (fault : RunFault) → IsErrAnd result (λ e. e ≡ fault)
@@ -315,20 +337,17 @@ pub answers_no_case : (p : PolicyShape) (word : List ℕ) (f : ℕ) (filed : Fil
     → AnswersAs (ModelAsked p word filed told) result
 answers_no_case p word f filed bytes told result fault is named gives given ending =
     answers_failed (ModelAsked p word filed told) result fault is
-    (rw named
-    (refuses_by (λ fault text. IfSome told (λ input. OverCase p f (λ c. UnlessLarge p f c (ReadsModel p f bytes c)) input fault text)) _ (how_of fault) fault
-    (λ h. over_model (λ model fault text. IfSome told (λ input. OverCase p f (λ c. UnlessLarge p f c (ReadsModel p f model c)) input fault text)) filed bytes fault [] gives h)
-    (case_refused p f told fault (λ c. UnlessLarge p f c (ReadsModel p f bytes c)) given ending)))
+    (refuses_by (AboutModel p f told bytes) (ModelAsked p word filed told) (how_of fault) fault
+    (λ h. asked_model p word f filed told fault [] named (over_model (AboutModel p f told) filed bytes fault [] gives h))
+    (case_refused p f told fault (ModelOf p f bytes) given ending))
 
 -- the model is read for the case
 pub answers_told : (p : PolicyShape) (word : List ℕ) (f : ℕ) (filed : Filed) (bytes : List ℕ) (told : Option (List ℕ)) (c : Case) (result : Result Answer RunFault)
     → number_named p.flow_names word ≡ Some f → GivesBytes MODEL_FILE_LIMIT filed (Ok bytes) → IfSome told (λ input. GivesCase p f input (Ok c))
     → AnswersAs (UnlessLarge p f c (ReadsModel p f bytes c)) result → AnswersAs (ModelAsked p word filed told) result
 answers_told p word f filed bytes told c result named gives given h =
-    rw named
-    (answers_by (UnlessLarge p f c (ReadsModel p f bytes c)) _ result
-    (λ fault text says. over_model (λ model fault text. IfSome told (λ input. OverCase p f (λ c. UnlessLarge p f c (ReadsModel p f model c)) input fault text)) filed bytes fault text gives
-    (over_told p f told c (λ c. UnlessLarge p f c (ReadsModel p f bytes c)) fault text given says)) h)
+    answers_by (UnlessLarge p f c (ReadsModel p f bytes c)) (ModelAsked p word filed told) result
+    (λ fault text says. asked_model p word f filed told fault text named (over_model (AboutModel p f told) filed bytes fault text gives (over_told p f told c (ModelOf p f bytes) fault text given says))) h
 
 -- ---- a run whose model is not there
 
