@@ -58,7 +58,11 @@ fn is_of_row(key: &str, value: &Value) -> bool {
             value.as_str().is_some()
         }
         "words" | "after" => value.as_array().is_some(),
-        "more_here" | "more_requests" | "more_transcript" | "more_model" | "more_input"
+        "more_here"
+        | "more_requests"
+        | "more_transcript"
+        | "more_model"
+        | "more_input"
         | "more_output" => value.as_array().is_some(),
         "status" => value.as_integer().is_some(),
         "outside" => value.as_table().is_some(),
