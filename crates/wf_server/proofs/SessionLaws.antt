@@ -245,6 +245,7 @@ late_reads before after room handed (fault.Policy e) h = absurd h
 late_reads before after room handed fault.Load h = absurd h
 late_reads before after room handed fault.FileTooLong h = absurd h
 late_reads before after room handed (fault.BadInput e) h = absurd h
+late_reads before after room handed fault.TooLarge h = absurd h
 
 pub serves_late : (set : Setting) (first : Cut) (room : ℕ) (before after : Streams) (told : Told) (ending : RunFault) → Serves set first room before after told ending → is_before_input ending ≡ false
 serves_late set first room before after told ending h = late_reads before.input after.input room (handed_in first told) ending h.reads

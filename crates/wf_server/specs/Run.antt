@@ -9,6 +9,7 @@ use Rattle.wf_commands.specs.Show.{Shows}
 use Rattle.wf_commands.specs.Solve.{Solves}
 use Rattle.wf_commands.specs.Resilience.{ChecksResilience}
 use Rattle.audit_command.specs.Running.{AuditsRun}
+use Rattle.cnf_command.specs.Running.{ReadsModelFile, WritesClauses}
 use Rattle.trial_command.specs.Running.{RunsTrial}
 use Rattle.command_words.specs.Words.{Command, plan, show, solve, resilience, cnf, serve, audit, resume, trial}
 use Rattle.wf_server.specs.Serving.{ServesRun}
@@ -22,7 +23,8 @@ Does repeats (Some (plan policy flow)) r = Plans policy flow r
 Does repeats (Some (show policy)) r = Shows policy r
 Does repeats (Some (solve policy)) r = Solves policy r
 Does repeats (Some (resilience policy flow absences)) r = ChecksResilience policy flow absences r
-Does repeats (Some (cnf policy flow model)) r = Unit {0}
+Does repeats (Some (cnf policy flow None)) r = WritesClauses policy flow r
+Does repeats (Some (cnf policy flow (Some model))) r = ReadsModelFile policy flow model r
 Does repeats (Some (serve policy options)) r = ServesRun policy options r
 Does repeats (Some (audit policy requests options)) r = AuditsRun policy requests options.lanes options.rounds r
 Does repeats (Some (resume policy requests transcript options)) r =

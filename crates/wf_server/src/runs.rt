@@ -15,6 +15,7 @@ use crate::going_on::run_resume;
 use crate::serve::run_serve;
 use audit_command::run_audit;
 use case_views::{PlainDecider, SpreadDecider};
+use cnf_command::{run_clauses, run_model};
 use command_words::{Command, Options, read_words};
 use run_record::{Report, RunFault, bare_report};
 use std::alloc::Global;
@@ -164,7 +165,16 @@ fn run_command<F: Shelf, S: Source, K: Sink>(
             let command = ResilienceCommand { flow, absences };
             answer_once(alloc, policy, &command, shelf, source, sink)
         }
-        Command::Cnf { .. } => bare_report(alloc, RunFault::NoMemory),
+        Command::Cnf {
+            policy,
+            flow,
+            model: None,
+        } => run_clauses(alloc, policy, flow, shelf, source, sink),
+        Command::Cnf {
+            policy,
+            flow,
+            model: Some(model),
+        } => run_model(alloc, policy, flow, model, shelf, source, sink),
         Command::Serve { policy, options } => {
             let by_turns = |desk: Desk| -> Desk
                 requires { (0 < desk.lanes) × AreOfLanes desk.lanes desk.jobs }
