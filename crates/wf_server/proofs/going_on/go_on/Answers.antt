@@ -4,10 +4,11 @@ use Rattle.line_cutter.specs.Jobs.{next_input}
 use Rattle.run_record.specs.Report.{Told, told_by}
 use Rattle.run_record.specs.Run.{Streams}
 use Rattle.wf_board.specs.Histories.{AreAnsweredOnce, AreWantsRightful}
+use Rattle.resume_command.specs.declared.start.TheConstants.{PIECE}
 use Rattle.wf_server.specs.Sessions.{Setting}
 use Rattle.wf_server.specs.Batches.{told_of}
 use Rattle.wf_server.proofs.ResumeLaws.{begins_behind, begun_lanes, begun_order, begun_told, none_before, served_begun, serving_begun, stops_begun}
-use Rattle.wf_server.proofs.SessionLaws.{lanes_of, serves_late}
+use Rattle.wf_server.proofs.SessionLaws.{lanes_of}
 use Rattle.wf_server.proofs.going_on.go_on.Goals as goal
 
 pub answer_requests-served-requires-clause-of_lanes : goal.answer_requests-served-requires-clause-of_lanes
@@ -68,3 +69,41 @@ pub returns-in-Ok-clause-wants : goal.returns-in-Ok-clause-wants
 returns-in-Ok-clause-wants g c =
     let restored : c.answer_requests-served.result.0.restored ≡ c.args.beginning.desk.restored = ap (λ (s : Setting). s.restored) c.answer_requests-served.ensures.setting in
     subst (λ n. AreWantsRightful (drop n (told_by c.serve_batches.result).entries)) (restored ∙ c.requires.begun.1.1.1.restored) c.serve_batches.ensures.wants
+
+pub returns-in-Err-clause-served : goal.returns-in-Err-clause-served
+returns-in-Err-clause-served g c s cut transcript h =
+    let before : Streams = record { input = g.S.Source.left c.args.source.now; output = g.K.Sink.held c.args.sink.now; read_faults = g.S.Source.faults c.args.source.now; write_faults = g.K.Sink.faults c.args.sink.now } in
+    let mid : Streams = record { input = g.S.Source.left c.args.source.now; output = g.K.Sink.held c.answer_requests-served.new.sink; read_faults = g.S.Source.faults c.args.source.now; write_faults = g.K.Sink.faults c.answer_requests-served.new.sink } in
+    let d = c.answer_requests-served.result.0 in
+    let told = told_of d c.answer_requests-served.new.told in
+    let fault = c.in-Err.fault in
+    let serves = stops_begun s cut transcript c.args.beginning before mid d told fault h refl refl (rw c.in-Err.is at c.answer_requests-served.ensures.counts)
+    (rw c.in-Err.is at c.answer_requests-served.ensures.answers) (rw c.in-Err.is at c.answer_requests-served.ensures.ending) in
+    rw (c.report_of.ensures.told, c.report_of.ensures.fault)
+    (served_begun s cut transcript c.args.beginning d PIECE before mid told fault h c.histories_keep_completable.ensures c.histories_are_exact.ensures c.answer_requests-served.ensures.setting refl
+    c.report_of.ensures.sound.legal serves)
+
+pub returns-in-Err-clause-begins : goal.returns-in-Err-clause-begins
+returns-in-Err-clause-begins g c =
+    let size = c.requires.begun.1.1.1.restored in
+    let d = c.answer_requests-served.result.0 in
+    let b = c.args.beginning.desk in
+    let same : (told_by c.report_of.result).entries ≡ d.entries = ap (λ (t : Told). t.entries) c.report_of.ensures.told in
+    let restored : d.restored ≡ b.restored = ap (λ (s : Setting). s.restored) c.answer_requests-served.ensures.setting in
+    begins_behind b d (told_by c.report_of.result).entries size restored (ap (take d.restored) same) c.answer_requests-served.ensures.begins
+
+pub returns-in-Err-clause-once : goal.returns-in-Err-clause-once
+returns-in-Err-clause-once g c serves =
+    let size = c.requires.begun.1.1.1.restored in
+    let b = c.args.beginning.desk in
+    subst (λ (t : Told). AreAnsweredOnce (drop (length b.entries) t.entries)) (sym c.report_of.ensures.told)
+    (subst (λ n. AreAnsweredOnce (drop n c.answer_requests-served.result.0.entries)) size (c.answer_requests-served.ensures.once serves (none_before b size)))
+
+pub returns-in-Err-clause-wants : goal.returns-in-Err-clause-wants
+returns-in-Err-clause-wants g c =
+    let size = c.requires.begun.1.1.1.restored in
+    let d = c.answer_requests-served.result.0 in
+    let b = c.args.beginning.desk in
+    let restored : d.restored ≡ b.restored = ap (λ (s : Setting). s.restored) c.answer_requests-served.ensures.setting in
+    subst (λ (t : Told). AreWantsRightful (drop (length b.entries) t.entries)) (sym c.report_of.ensures.told)
+    (subst (λ n. AreWantsRightful (drop n d.entries)) (restored ∙ size) c.report_of.ensures.sound.wants)
