@@ -12,7 +12,7 @@ use Rattle.line_reader.specs.Lines.{lines_of}
 use Rattle.transcript_audit.specs.Audits.{AuditShape, IsTranscript, audit_of}
 use Rattle.transcript_audit.specs.Laws.{AreOfSession}
 use Rattle.run_record.specs.declared.fault.RunFault.{RunFault}
-use Rattle.run_record.specs.declared.fault.RunFault.TheVariants.{Nothing, Found, Usage, Policy, Read, Write, Load, NoMemory, FileTooLong, LineTooLong, TooManyLines, BadInput}
+use Rattle.run_record.specs.declared.fault.RunFault.TheVariants.{Nothing, Found, Usage, Policy, Read, Write, Load, NoMemory, FileTooLong, LineTooLong, TooManyLines, BadInput, TooLarge}
 use Rattle.wf_commands.specs.Once.{OverPolicy}
 use Rattle.wf_commands.specs.Load.{GivesPolicy, PolicyOf, IsLoadEnding}
 use Rattle.wf_commands.proofs.Loading.{answers_file}
@@ -62,6 +62,7 @@ finds_under exact p o i batch (Err Write) gives order found ending = absurd endi
 finds_under exact p o i batch (Err (LineTooLong line)) gives order found ending = absurd ending
 finds_under exact p o i batch (Err TooManyLines) gives order found ending = absurd ending
 finds_under exact p o i batch (Err (BadInput e)) gives order found ending = absurd ending
+finds_under exact p o i batch (Err TooLarge) gives order found ending = absurd ending
 
 -- where there are jobs the file is not missing, and not too long
 pub jobs_there : (filed : Filed) (lanes : ℕ) (batch : Batch) (fault : RunFault) → GivesJobs filed lanes (Ok batch) → EndsWithout filed fault
@@ -94,6 +95,7 @@ finds_no_jobs p o i Write gives ending = absurd ending
 finds_no_jobs p o i (LineTooLong line) gives ending = absurd ending
 finds_no_jobs p o i TooManyLines gives ending = absurd ending
 finds_no_jobs p o i (BadInput e) gives ending = absurd ending
+finds_no_jobs p o i TooLarge gives ending = absurd ending
 
 pub no_jobs : (p : PolicyShape) (o : AuditOf) (i : Input) (result : Result Finding RunFault) (fault : RunFault) → IsErrAnd result (λ e. e ≡ fault)
     → GivesJobs o.requests o.lanes (Err fault) → IsLoadEnding fault → FindsAs (AuditsPolicy o i p) result
@@ -127,6 +129,7 @@ finds_none A file Write gives ending = absurd ending
 finds_none A file (LineTooLong line) gives ending = absurd ending
 finds_none A file TooManyLines gives ending = absurd ending
 finds_none A file (BadInput e) gives ending = absurd ending
+finds_none A file TooLarge gives ending = absurd ending
 
 finds_no_policy : (A : PolicyShape → RunFault → List ℕ → Type 0) (f : Filed) (fault : RunFault) → GivesPolicy f (Err fault) → IsLoadEnding fault → FindsFile A f (Err fault)
 finds_no_policy A untold fault gives ending = (gives.0, finds_none A gives.0 fault gives.1 ending)

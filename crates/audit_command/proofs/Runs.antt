@@ -6,7 +6,7 @@ use Rattle.wf_outside.specs.Outside.{Filed, told, missing, untold, HasPart, with
 use Rattle.wf_outside.proofs.OutsideLaws.{nothing_put, nothing_taken}
 use Rattle.policy_book.specs.Shapes.{PolicyShape}
 use Rattle.run_record.specs.declared.fault.RunFault.{RunFault}
-use Rattle.run_record.specs.declared.fault.RunFault.TheVariants.{Nothing, Found, Usage, Policy, Read, Write, Load, NoMemory, FileTooLong, LineTooLong, TooManyLines, BadInput}
+use Rattle.run_record.specs.declared.fault.RunFault.TheVariants.{Nothing, Found, Usage, Policy, Read, Write, Load, NoMemory, FileTooLong, LineTooLong, TooManyLines, BadInput, TooLarge}
 use Rattle.run_record.specs.Fault.{fault_in, is_before_input, CountsLoads, CountsReadsAlone, CountsWrites}
 use Rattle.run_record.specs.Report.{nothing_told}
 use Rattle.run_record.specs.Run.{Run, OverFile}
@@ -36,6 +36,7 @@ unread Write left ending = absurd ending
 unread (LineTooLong line) left ending = absurd ending
 unread TooManyLines left ending = absurd ending
 unread (BadInput e) left ending = absurd ending
+unread TooLarge left ending = absurd ending
 
 pub unread_after : (result : Result Finding RunFault) (fault : RunFault) (left : Option (List ℕ)) → IsErrAnd result (λ e. e ≡ fault) → IsLoadEnding fault
     → ReadsAsAudit (fault_in result) left left
@@ -170,6 +171,7 @@ untold_run policy requests lanes rounds r f FileTooLong is fails finds named wit
 untold_run policy requests lanes rounds r f (LineTooLong line) is fails finds named without loads reads writes input nothing = absurd fails
 untold_run policy requests lanes rounds r f TooManyLines is fails finds named without loads reads writes input nothing = absurd fails
 untold_run policy requests lanes rounds r f (BadInput e) is fails finds named without loads reads writes input nothing = absurd fails
+untold_run policy requests lanes rounds r f TooLarge is fails finds named without loads reads writes input nothing = absurd fails
 
 -- nothing was found: so may every command end
 is_refusal : (fault : RunFault) → IsAuditEnding fault → answer.IsCommandEnding fault
@@ -185,6 +187,7 @@ is_refusal Write ending = absurd ending
 is_refusal (LineTooLong n) ending = absurd ending
 is_refusal TooManyLines ending = absurd ending
 is_refusal (BadInput e) ending = absurd ending
+is_refusal TooLarge ending = absurd ending
 
 refused_early : (fault : RunFault) (before after : Option (List ℕ)) → IsAuditEnding fault → is_before_input fault ≡ true → ReadsAsAudit fault before after → after ≡ before
 refused_early Load before after ending early reads = reads
@@ -199,6 +202,7 @@ refused_early Write before after ending early reads = absurd ending
 refused_early (LineTooLong n) before after ending early reads = absurd ending
 refused_early TooManyLines before after ending early reads = absurd ending
 refused_early (BadInput e) before after ending early reads = absurd ending
+refused_early TooLarge before after ending early reads = absurd ending
 
 refused_file : (A : PolicyShape → RunFault → List ℕ → Type 0) (filed : Filed) (fault : RunFault) (before after : Option (List ℕ)) → IsAuditEnding fault → FindsFile A filed (Err fault)
     → after ≡ before → OverFile filed fault (λ file. Ends (OverPolicy A file) before after fault)

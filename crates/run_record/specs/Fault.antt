@@ -5,7 +5,7 @@ use Rattle.wf_outside.specs.Outside.{Rose}
 use Rattle.policy_reader.specs.declared.fault.ReadFault.{ReadFault}
 use Rattle.policy_reader.specs.declared.fault.ReadFault.TheVariants as reading
 use Rattle.run_record.specs.declared.fault.RunFault.{RunFault}
-use Rattle.run_record.specs.declared.fault.RunFault.TheVariants.{Nothing, Found, Usage, Policy, Read, Write, Load, NoMemory, FileTooLong, LineTooLong, TooManyLines, BadInput}
+use Rattle.run_record.specs.declared.fault.RunFault.TheVariants.{Nothing, Found, Usage, Policy, Read, Write, Load, NoMemory, FileTooLong, LineTooLong, TooManyLines, BadInput, TooLarge}
 use Rattle.run_record.specs.declared.fault.InputFault.TheVariants.{NoFlow}
 
 -- the status of each ending
@@ -22,6 +22,7 @@ status_of FileTooLong = 8
 status_of (LineTooLong line) = 9
 status_of TooManyLines = 10
 status_of (BadInput fault) = 11
+status_of TooLarge = 12
 
 -- how a run comes to an end
 pub data How : Type 0 where
@@ -49,6 +50,7 @@ how_of FileTooLong = misfiled
 how_of (LineTooLong line) = refused
 how_of TooManyLines = refused
 how_of (BadInput fault) = refused
+how_of TooLarge = refused
 
 -- when a run comes to its end
 pub data When : Type 0 where

@@ -2,7 +2,7 @@
 use Rattle.std.specs.Prelude.{ℕ, List, ◌++◌, codes, decimal}
 use Rattle.policy_reader.specs.Words.{fault_text}
 use Rattle.run_record.specs.declared.fault.RunFault.{RunFault}
-use Rattle.run_record.specs.declared.fault.RunFault.TheVariants.{Nothing, Found, Usage, Policy, Read, Write, Load, NoMemory, FileTooLong, LineTooLong, TooManyLines, BadInput}
+use Rattle.run_record.specs.declared.fault.RunFault.TheVariants.{Nothing, Found, Usage, Policy, Read, Write, Load, NoMemory, FileTooLong, LineTooLong, TooManyLines, BadInput, TooLarge}
 
 -- what is printed of it
 abbrev pub text_of : RunFault → List ℕ
@@ -18,3 +18,4 @@ text_of FileTooLong = codes "wfserve: file too long"
 text_of (LineTooLong line) = codes "wfserve: line " ++ decimal line ++ codes " too long"
 text_of TooManyLines = codes "wfserve: too many lines"
 text_of (BadInput fault) = codes "wfserve: bad input"
+text_of TooLarge = codes "wfserve: too large"

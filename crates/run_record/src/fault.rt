@@ -9,17 +9,19 @@ use std::alloc::AllocError;
 use std::error::Error;
 use std::fmt;
 
-/// What is wrong with what is asked about, or with the input of `plan`.
+/// What is wrong with what is asked about, with the input of `plan` or `cnf`, or with a model.
 #[derive(Clone, Copy, Debug, PartialEq, Eq)]
 pub enum InputFault {
     /// The policy has no workflow of the name given.
     NoFlow,
-    /// The input is no JSON array of texts.
+    /// The input is no JSON array of texts; for `cnf`, of items that say where a step stands.
     Syntax,
-    /// There is not one text for each step.
+    /// There is not one item for each step.
     Length,
-    /// The text at this place, the least such, names no user.
+    /// The item at this place, the least such, names no user.
     NoUser(u32),
+    /// The word of the model at this place, the least such, is no number of a variable.
+    Model(u32),
 }
 
 /// How a run ended. The text of each ending but the first two is printed to standard error.
@@ -29,7 +31,7 @@ pub enum RunFault {
     Nothing,
     /// The command was done, and found what it looks for: `plan` that the plan is not valid,
     /// `audit` a line of the transcript that has a fault or is missing, `resilience` users without
-    /// whom the workflow cannot be done.
+    /// whom the workflow cannot be done, `cnf` a clause that the model does not satisfy.
     Found,
     /// The words are none of the program's commands.
     Usage,
@@ -45,12 +47,14 @@ pub enum RunFault {
     NoMemory,
     /// A file is longer than its limit.
     FileTooLong,
-    /// A line is longer than its limit; for `plan` the whole input counts as line 0.
+    /// A line is longer than its limit; for `plan` and `cnf` the whole input counts as line 0.
     LineTooLong(u32),
     /// There are more lines than a session may have.
     TooManyLines,
-    /// The input of `plan` has this fault.
+    /// What is asked about, the input or the model has this fault.
     BadInput(InputFault),
+    /// The clauses of `cnf` have too many literals.
+    TooLarge,
 }
 
 impl fmt::Display for RunFault {
@@ -70,6 +74,7 @@ impl fmt::Display for RunFault {
             RunFault::LineTooLong(line) => write!(f, "wfserve: line {line} too long"),
             RunFault::TooManyLines => f.write_str("wfserve: too many lines"),
             RunFault::BadInput(_) => f.write_str("wfserve: bad input"),
+            RunFault::TooLarge => f.write_str("wfserve: too large"),
         }
     }
 }
@@ -94,6 +99,7 @@ impl RunFault {
             RunFault::LineTooLong(_) => 9,
             RunFault::TooManyLines => 10,
             RunFault::BadInput(_) => 11,
+            RunFault::TooLarge => 12,
         }
     }
 }

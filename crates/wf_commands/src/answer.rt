@@ -14,7 +14,8 @@ use std::alloc::Global;
 use wf_outside::Source;
 
 /// What is written, and whether the command found what it looks for, which is told by its status:
-/// `plan` a plan that is not valid, `resilience` users without whom the workflow cannot be done.
+/// `plan` a plan that is not valid, `resilience` users without whom the workflow cannot be done,
+/// `cnf` a clause that the model does not satisfy.
 #[derive(Drop)]
 pub struct Answer {
     pub found: bool,
@@ -23,7 +24,7 @@ pub struct Answer {
 
 impl Answer {
     /// How the run ends where all of the text is written.
-    pub(crate) fn ending(&self) -> RunFault
+    pub fn ending(&self) -> RunFault
         ensures { result ≡ ending_with self.now.found }
     {
         if self.found {

@@ -1,4 +1,4 @@
-//! The input of `plan`, read as a plan.
+//! The input as JSON, the users whom it names, and the input of `plan` read as a plan.
 ghost use Rattle.std.specs.Prelude.{◌≡◌, ◌<◌, ◌≤◌, ◌^◌, ◌==◌, ℕ, List, [], ◌∷◌, ◌++◌, length, option_and_then, IfErr, IfOk, IfSome, OnOk};
 ghost use Rattle.std.specs.List.{list_all};
 ghost use Rattle.serde_json.specs.View.{view, items_view};
@@ -17,10 +17,12 @@ use std::alloc::Global;
 use wf_names::{Name, UserId};
 use wire_json::read_value;
 
-/// Why an input was not read as a plan.
+/// Why an input was not read.
 #[derive(Clone, Copy, Debug)]
-pub(crate) enum InputError {
+pub enum InputError {
+    /// It has this fault.
     Fault(InputFault),
+    /// There was no memory.
     NoMemory,
 }
 
@@ -52,8 +54,8 @@ pub(crate) fn read_plan(
     Ok(Plan::of(&users))
 }
 
-// The JSON value of the input.
-fn json_of(alloc: Global, input: &[u8]) -> Result<Value, InputError>
+/// The JSON value of the input.
+pub fn json_of(alloc: Global, input: &[u8]) -> Result<Value, InputError>
     ensures value { Gives input_fault view result (or_fault (value_of input.now) Syntax) }
     ensures fault { IfErr result IsOfInput }
 {
@@ -123,8 +125,8 @@ fn user_of(p: &Policy, item: &Value) -> Option<UserId>
     }
 }
 
-// The user of a name, if the text is one.
-fn find_user(p: &Policy, text: &str) -> Option<UserId>
+/// The user of a name, if the text is one.
+pub fn find_user(p: &Policy, text: &str) -> Option<UserId>
     ensures user { result ≡ number_named p.now.roster.users text.now }
     ensures known { IfSome result (λ u. u < length p.now.roster.users) }
 {

@@ -90,8 +90,8 @@ fn fault_text(alloc: Global, p: &Policy, f: FlowId, fault: PlanFault) -> Result<
     }
 }
 
-// The name with a number; the empty text where there is none.
-fn name_text(alloc: Global, names: &NameTable, n: u16) -> Result<String, AllocError>
+/// The name with a number; the empty text where there is none.
+pub fn name_text(alloc: Global, names: &NameTable, n: u16) -> Result<String, AllocError>
     ensures { IfOk result (λ text. string_bytes text ≡ slice_index_or names.now.names n []) }
 {
     if n < names.len() {

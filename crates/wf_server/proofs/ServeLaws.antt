@@ -4,7 +4,7 @@ use Rattle.wf_outside.specs.Outside.{Filed, told, missing, untold}
 use Rattle.policy_book.specs.Shapes.{PolicyShape}
 use Rattle.policy_reader.specs.FilePolicies.{IsFilePolicy}
 use Rattle.run_record.specs.declared.fault.RunFault.{RunFault}
-use Rattle.run_record.specs.declared.fault.RunFault.TheVariants.{Nothing, Found, Usage, Policy, Read, Write, Load, NoMemory, FileTooLong, LineTooLong, TooManyLines, BadInput}
+use Rattle.run_record.specs.declared.fault.RunFault.TheVariants.{Nothing, Found, Usage, Policy, Read, Write, Load, NoMemory, FileTooLong, LineTooLong, TooManyLines, BadInput, TooLarge}
 use Rattle.run_record.specs.Fault.{is_before_input, CountsLoads, CountsReads, CountsWrites}
 use Rattle.run_record.specs.Run.{Run, IsUntouched, OverFile}
 use Rattle.wf_commands.specs.Load.{GivesPolicy, IsLoadEnding, PolicyOf}
@@ -28,6 +28,7 @@ ends_before file Write gives ending = absurd ending
 ends_before file (LineTooLong line) gives ending = absurd ending
 ends_before file TooManyLines gives ending = absurd ending
 ends_before file (BadInput e) gives ending = absurd ending
+ends_before file TooLarge gives ending = absurd ending
 
 -- no policy was there
 pub not_served : (f : Filed) (options : Options) (r : Run) → GivesPolicy f (Err r.fault) → IsLoadEnding r.fault → IsUntouched r
@@ -49,6 +50,7 @@ no_reads Write n ending = absurd ending
 no_reads (LineTooLong line) n ending = absurd ending
 no_reads TooManyLines n ending = absurd ending
 no_reads (BadInput e) n ending = absurd ending
+no_reads TooLarge n ending = absurd ending
 
 no_writes : (fault : RunFault) (n : ℕ) → IsLoadEnding fault → CountsWrites fault n n
 no_writes FileTooLong n ending = refl
@@ -63,6 +65,7 @@ no_writes Write n ending = absurd ending
 no_writes (LineTooLong line) n ending = absurd ending
 no_writes TooManyLines n ending = absurd ending
 no_writes (BadInput e) n ending = absurd ending
+no_writes TooLarge n ending = absurd ending
 
 -- and so the run ended
 pub refused_run : (policy : List ℕ) (options : Options) (r : Run) (fault : RunFault) → r.fault ≡ fault → GivesPolicy (r.files policy) (Err fault) → IsLoadEnding fault → IsUntouched r
@@ -105,6 +108,7 @@ loads_late FileTooLong before after late same = same
 loads_late (LineTooLong line) before after late same = same
 loads_late TooManyLines before after late same = same
 loads_late (BadInput e) before after late same = same
+loads_late TooLarge before after late same = same
 
 -- loading a policy reads and writes nothing
 pub unread_counts : (fault : RunFault) (count : ℕ) → IsLoadEnding fault → CountsReads fault count count × CountsWrites fault count count
@@ -120,3 +124,4 @@ unread_counts Write count ending = absurd ending
 unread_counts (LineTooLong line) count ending = absurd ending
 unread_counts TooManyLines count ending = absurd ending
 unread_counts (BadInput e) count ending = absurd ending
+unread_counts TooLarge count ending = absurd ending

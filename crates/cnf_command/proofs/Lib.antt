@@ -1,0 +1,5 @@
+pub mod Said
+pub mod CaseLaws
+pub mod Telling
+pub mod Runs
+pub mod Plain
