@@ -15,8 +15,8 @@ returns-in-Err-Failed-clause-writes g c =
     (record { given = c.in-Ok.ensures.clauses; named = c.in-Ok.ensures.named; loads = c.in-Ok.ensures.loads; reads = c.in-Ok.ensures.reads; input = c.in-Ok.ensures.input; untold = c.bare_report-in-Err-Failed.ensures.told })
     c.bare_report-in-Err-Failed.ensures.fault c.in-Err-Failed.ensures.part (c.in-Err-Failed.ensures.rose (let is = c.in-Err-Failed.field-0-is in cc)))
 
-pub returns-in-Err-NoMemory-clause-writes : goal.returns-in-Err-NoMemory-clause-writes
-returns-in-Err-NoMemory-clause-writes g c =
+pub returns-in-Ok-clause-writes : goal.returns-in-Ok-clause-writes
+returns-in-Ok-clause-writes g c =
     inr (broken_off c.args.policy.now (λ p. ClausesAsked p c.args.flow.now (g.S.Source.left c.args.source.now)) c.in-Ok.encoder _
     (record { given = c.in-Ok.ensures.clauses; named = c.in-Ok.ensures.named; loads = c.in-Ok.ensures.loads; reads = c.in-Ok.ensures.reads; input = c.in-Ok.ensures.input; untold = c.bare_report-in-Err-NoMemory.ensures.told })
     c.bare_report-in-Err-NoMemory.ensures.fault c.in-Err-NoMemory.ensures.part (rw c.in-Err-NoMemory.field-0-is at c.in-Err-NoMemory.ensures.stays))
