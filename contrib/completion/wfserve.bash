@@ -5,8 +5,10 @@ _wfserve_forms='serve POLICY --lanes --rounds
 plan POLICY FLOW
 solve POLICY
 resilience POLICY FLOW N
+cnf POLICY FLOW MODEL
 show POLICY
 audit POLICY REQUESTS --lanes --rounds
+resume POLICY REQUESTS TRANSCRIPT --lanes --rounds
 trial N'
 
 _wfserve() {

@@ -54,10 +54,14 @@ word_of Job = codes "job"
 word_of Reply = codes "reply"
 word_of Missing = codes "missing"
 
+-- the line that tells a fault
+abbrev pub fault_line : ℕ → AuditKind → List ℕ
+fault_line n kind = codes "fault " ++ decimal n ++ codes " " ++ word_of kind ++ codes "\n"
+
 -- what is written
 abbrev pub text_of : Finding → List ℕ
 text_of Legal = codes "legal\n"
-text_of (Fault n kind) = codes "fault " ++ decimal n ++ codes " " ++ word_of kind ++ codes "\n"
+text_of (Fault n kind) = fault_line n kind
 text_of (TooLong n) = []
 
 -- behind so many lines the audit has seen, of the next one and behind it, at most a piece more than a line may have

@@ -1,6 +1,6 @@
 //! What an audit finds.
 ghost use Rattle.std.specs.Prelude.{◌≡◌, ◌++◌, IfOk, codes, decimal, string_bytes};
-ghost use Rattle.audit_command.specs.Auditing.{ending_of, text_of, word_of};
+ghost use Rattle.audit_command.specs.Auditing.{ending_of, fault_line, text_of, word_of};
 
 use run_record::RunFault;
 use std::alloc::{AllocError, Global};
@@ -41,9 +41,9 @@ impl Finding {
     }
 }
 
-// The line that tells a fault.
-fn fault_text(alloc: Global, n: u32, kind: AuditKind) -> Result<String, AllocError>
-    ensures { IfOk result (λ text. string_bytes text ≡ text_of (Finding.Fault n kind)) }
+/// The line that tells that the line with this number is the first that has a fault, and which one.
+pub fn fault_text(alloc: Global, n: u32, kind: AuditKind) -> Result<String, AllocError>
+    ensures { IfOk result (λ text. string_bytes text ≡ fault_line n kind) }
 {
     let mut text = fault_start(alloc, n)?;
     text.push_str(word_of(kind))?;

@@ -7,5 +7,6 @@ mod lines;
 mod load;
 mod run;
 
+pub use finding::fault_text;
 pub use laws::{legal_is_exact, legal_is_next};
 pub use run::run_audit;

@@ -206,4 +206,5 @@ reads_input (Some (trial seed)) = false
 abbrev pub may_repeat : Option Command → Bool
 may_repeat None = false
 may_repeat (Some (serve policy options)) = nat_lt 1 options.lanes && nat_lt 0 options.rounds
+may_repeat (Some (resume policy requests transcript options)) = nat_lt 1 options.lanes && nat_lt 0 options.rounds
 may_repeat (Some other) = false

@@ -27,6 +27,23 @@ fn audit(lanes: u8, rounds: u8) -> Option<Command<'static>> {
     })
 }
 
+fn cnf(model: Option<&str>) -> Option<Command<'_>> {
+    Some(Command::Cnf {
+        policy: "p",
+        flow: "f",
+        model,
+    })
+}
+
+fn resume(lanes: u8, rounds: u8) -> Option<Command<'static>> {
+    Some(Command::Resume {
+        policy: "p",
+        requests: "r",
+        transcript: "t",
+        options: Options { lanes, rounds },
+    })
+}
+
 fn trial(seed: u64) -> Option<Command<'static>> {
     Some(Command::Trial { seed })
 }
@@ -56,6 +73,13 @@ fn spellings_that_are_read(rt: HostRuntime) -> Result<(), AllocError> {
         ("audit p r", audit(1, 2)),
         ("audit p --lanes 2 r --rounds 1", audit(2, 1)),
         ("audit --lanes=2 p r", audit(2, 2)),
+        ("cnf p f", cnf(None)),
+        ("cnf p f m", cnf(Some("m"))),
+        ("cnf p f ", cnf(Some(""))),
+        ("cnf -- p f -m", cnf(Some("-m"))),
+        ("resume p r t", resume(1, 2)),
+        ("resume p --lanes 2 r --rounds 1 t", resume(2, 1)),
+        ("resume --rounds=0 p r t", resume(1, 0)),
         ("trial 0", trial(0)),
         ("trial 007", trial(7)),
         ("trial 18446744073709551615", trial(18446744073709551615)),
@@ -96,6 +120,13 @@ fn words_that_are_no_command(rt: HostRuntime) -> Result<(), AllocError> {
         "serve -h",
         "audit p",
         "audit p r q",
+        "cnf",
+        "cnf p",
+        "cnf p f m n",
+        "cnf p f --lanes 2",
+        "resume p r",
+        "resume p r t u",
+        "resume p r t --lanes 9",
         "trial",
         "trial 1 2",
         "trial 18446744073709551616",

@@ -1,3 +1,4 @@
 pub mod Rests
 pub mod WholeLines
 pub mod LinesTaken
+pub mod LongLines

@@ -58,7 +58,7 @@ failed_more a b text rest n kind first fails =
     (inr (first.entry, (first.next, subst (λ x. FailsAt x (lines_of rest) n kind) first.after fails)))
 
 -- what is left of a text behind a place, as a slice
-left_at : (text : List ℕ) (at : ℕ) → take (length text - at) (drop at text) ≡ drop at text
+pub left_at : (text : List ℕ) (at : ℕ) → take (length text - at) (drop at text) ≡ drop at text
 left_at text at = take_all (length text - at) (drop at text) (omega (arith, length-drop at text))
 
 pub left_some : (text : List ℕ) (at : ℕ) → at < length text → 0 < length (take (length text - at) (drop at text))

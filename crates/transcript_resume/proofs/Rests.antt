@@ -70,7 +70,7 @@ bounds_within ends total n lead within =
 
 -- ---- how many jobs it has
 
-near_from : (before : ℕ) (ends : List ℕ) (total k : ℕ) → LeadTo before ends total → k < length ends → slice_index_or ends k 0 ≤ slice_index_or (before ∷ ends) k 0 + BATCH_LINE_LIMIT
+pub near_from : (before : ℕ) (ends : List ℕ) (total k : ℕ) → LeadTo before ends total → k < length ends → slice_index_or ends k 0 ≤ slice_index_or (before ∷ ends) k 0 + BATCH_LINE_LIMIT
 near_from before [] total k lead known = absurd (omega (arith, known))
 near_from before (x ∷ xs) total zero lead known = lead.1
 near_from before (x ∷ xs) total (suc k) lead known = near_from x xs total k lead.2 (omega (arith, known))

@@ -1,10 +1,11 @@
 -- Going on from a transcript: its whole lines, the entries that they tell, and the first line that tells none.
-use Rattle.std.specs.Prelude.{◌≡◌, ℕ, List, [], ◌∷◌, length, Result, Ok, Err, if◌then◌else◌}
+use Rattle.std.specs.Prelude.{◌≡◌, ℕ, ◌+◌, nat_lt, List, [], ◌∷◌, length, Option, None, Some, Result, Ok, Err, if◌then◌else◌}
 use Rattle.std.proofs.Common.{◌⊎◌}
+use Rattle.wf_names.specs.declared.limits.TheConstants.{TRANSCRIPT_LINE_LIMIT}
 use Rattle.policy_book.specs.Shapes.{PolicyShape}
 use Rattle.wf_talk.specs.declared.entry.Entry.{Entry}
 use Rattle.wf_talk.specs.declared.job.Job.{Job}
-use Rattle.line_reader.specs.Lines.{has_end, lines_of}
+use Rattle.line_reader.specs.Lines.{has_end, line_length, lines_of}
 use Rattle.wf_desk.specs.Desks.{DeskShape}
 use Rattle.transcript_audit.specs.declared.fault.AuditFault.{AuditFault}
 use Rattle.transcript_audit.specs.declared.fault.AuditFault.TheVariants.{At, NoMemory}
@@ -25,6 +26,11 @@ pub record Session : Type 0 where
 abbrev pub whole_lines : List ℕ → List ℕ
 whole_lines [] = []
 whole_lines (b ∷ bs) = if has_end (b ∷ bs) then b ∷ whole_lines bs else []
+
+-- the first of these lines, counted from a number on, that is longer than a line may be
+abbrev pub first_long : ℕ → List (List ℕ) → Option ℕ
+first_long n [] = None
+first_long n (line ∷ lines) = if nat_lt TRANSCRIPT_LINE_LIMIT (line_length line) then Some n else first_long (n + 1) lines
 
 -- the whole lines of a transcript are those of these entries, and these are a legal history that answers a part of the jobs
 abbrev pub IsTakenUp : Session → List ℕ → List Entry → Type 0

@@ -7,6 +7,6 @@ mod resumed;
 mod taking;
 mod unserved;
 
-pub use lines::whole;
+pub use lines::{first_long, whole};
 pub use resumed::{Resumed, resume};
 pub use unserved::{Unserved, rest};

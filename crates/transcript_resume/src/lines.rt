@@ -1,9 +1,10 @@
 //! The lines of a transcript.
 ghost use Rattle.std.specs.Prelude.{◌≡◌, ◌≢◌, ◌<◌, ◌≤◌, ◌-◌, ℕ, length, slice_index, take, drop};
-ghost use Rattle.line_reader.specs.Lines.{behind_line, first_line};
-ghost use Rattle.transcript_resume.specs.Resumed.{whole_lines};
+ghost use Rattle.line_reader.specs.Lines.{behind_line, first_line, line_length, lines_of};
+ghost use Rattle.transcript_resume.specs.Resumed.{first_long, whole_lines};
 
 use memchr::{memchr, memrchr};
+use wf_names::TRANSCRIPT_LINE_LIMIT;
 
 /// How many bytes there are up to the last LF and with it: none where there is no LF.
 pub fn whole(transcript: &[u8]) -> usize
@@ -35,6 +36,42 @@ pub(crate) fn first_len(text: &[u8]) -> usize
 {
     match memchr(b'\n', text) {
         Some(place) => place + 1,
+        None => text.len(),
+    }
+}
+
+/// The number of the first whole line of a transcript that is longer than a line may be, if one is.
+pub fn first_long(transcript: &[u8]) -> Option<u32>
+    requires { length transcript.now < 4294967296 }
+    ensures { result ≡ first_long 0 (lines_of (whole_lines transcript.now)) }
+{
+    first_long_of(whole_lines(transcript))
+}
+
+// The number of the first line of a text that is too long, if one is.
+fn first_long_of(text: &[u8]) -> Option<u32>
+    requires { length text.now < 4294967296 }
+    ensures { result ≡ first_long 0 (lines_of text.now) }
+{
+    let mut at = 0;
+    let mut number = 0;
+    'looking: while at < text.len() {
+        let rest = &text[at..];
+        if line_len(rest) > TRANSCRIPT_LINE_LIMIT {
+            return Some(number);
+        }
+        at += first_len(rest);
+        number += 1;
+    }
+    None
+}
+
+// How many bytes the first line has, without its LF.
+fn line_len(text: &[u8]) -> usize
+    ensures { result ≡ line_length text.now }
+{
+    match memchr(b'\n', text) {
+        Some(place) => place,
         None => text.len(),
     }
 }

@@ -18,13 +18,16 @@ use wf_outside::{MemShelf, MemSink, MemSource};
 use wf_server::{Report, run_alone};
 
 // The files: commands with what comes of them, faulty policies, the forms of rules that the first
-// format lacks, devices that fail with texts made to break it, and limits.
-const FILES: [&str; 5] = [
+// format lacks, devices that fail with texts made to break it, limits, sessions that go on, and the
+// clauses of cases.
+const FILES: [&str; 7] = [
     "rows.toml",
     "policies.toml",
     "forms.toml",
     "hostile.toml",
     "limits.toml",
+    "resumed.toml",
+    "clauses.toml",
 ];
 
 // Whole sessions.

@@ -17,7 +17,7 @@ pub fn words_of(alloc: Global, given: &[Value]) -> Result<Vec<String>, AllocErro
     Ok(words)
 }
 
-/// The policies of all rows, and the row's own with its requests.
+/// The policies of all rows, and the row's own with its other files.
 pub fn shelf_of(alloc: Global, rows: &Table, row: &Value) -> Result<MemShelf, AllocError> {
     let mut files = Vec::new(alloc);
     put_files(alloc, rows, row, &mut files)?;
@@ -32,14 +32,9 @@ fn put_files(
 ) -> Result<(), AllocError> {
     let own = own_text(alloc, rows, row)?;
     put_file(alloc, "here", &own, list(row.get("more_here")), files)?;
-    let requests = text(row.get("requests"));
-    put_file(
-        alloc,
-        "requests",
-        requests,
-        list(row.get("more_requests")),
-        files,
-    )?;
+    put_text(alloc, row, "requests", "more_requests", files)?;
+    put_text(alloc, row, "transcript", "more_transcript", files)?;
+    put_text(alloc, row, "model", "more_model", files)?;
     for policy in list(rows.get("policy")) {
         let (name, whole) = (text(policy.get("name")), text(policy.get("text")));
         put_file(alloc, name, whole, &[], files)?;

@@ -148,7 +148,7 @@ pub fault_ends : (first : Cut) (room : ℕ) (before mid aft : Streams) (r : Read
     → AnswersTo before.output aft.output told batch e after (Err ending) → IsWriteEnding ending → CountsAs how mid.read_faults aft.read_faults
     → CountsWrites ending mid.write_faults aft.write_faults → Serves (setting_of e) first room before aft after ending
 fault_ends first room before mid aft r d e told after batch how fault.Write serving same reads memory up up_before answers end counts writes = record {
-  reads = (how, memory, subst (λ (h : Handed). ReadsTo before.input aft.input room h how) (added_handed first told batch after answers.0) reads);
+  reads = inl (how, memory, subst (λ (h : Handed). ReadsTo before.input aft.input room h how) (added_handed first told batch after answers.0) reads);
   fills = answers.1.fills;
   writes = answers.1.written;
   read_faults = let le = counts_le how mid.read_faults aft.read_faults counts in let same_count = serving.read_faults in omega arith;
@@ -232,7 +232,7 @@ serves_kept set first room before after told ending sound keeps exact legal h = 
 }
 
 -- a session ends with its own endings alone
-late_reads : (before after : Option (List ℕ)) (room : ℕ) (handed : Handed) (ending : RunFault) → ReadsFor before after room handed ending → is_before_input ending ≡ false
+pub late_reads : (before after : Option (List ℕ)) (room : ℕ) (handed : Handed) (ending : RunFault) → ReadsFor before after room handed ending → is_before_input ending ≡ false
 late_reads before after room handed fault.Nothing h = refl
 late_reads before after room handed fault.Read h = refl
 late_reads before after room handed (fault.LineTooLong line) h = refl

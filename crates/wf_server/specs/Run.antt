@@ -1,5 +1,5 @@
 -- A run of the program: what its words make it do.
-use Rattle.std.specs.Prelude.{◌≡◌, Option, None, Some}
+use Rattle.std.specs.Prelude.{◌≡◌, Bool, true, false, Option, None, Some}
 use Rattle.std.proofs.Common.{◌⊎◌}
 use Rattle.run_record.specs.declared.fault.RunFault.{RunFault}
 use Rattle.run_record.specs.declared.fault.RunFault.TheVariants.{NoMemory, Usage}
@@ -13,20 +13,23 @@ use Rattle.cnf_command.specs.Running.{ReadsModelFile, WritesClauses}
 use Rattle.trial_command.specs.Running.{RunsTrial}
 use Rattle.command_words.specs.Words.{Command, plan, show, solve, resilience, cnf, serve, audit, resume, trial}
 use Rattle.wf_server.specs.Serving.{ServesRun}
+use Rattle.wf_server.specs.Resuming.{ResumesRun}
 
--- a run does what its command is; where the words are none it ends before anything
-abbrev pub Does : Option Command → Run → Type 0
-Does None r = IsOrderly r × (r.fault ≡ Usage)
-Does (Some (plan policy flow)) r = Plans policy flow r
-Does (Some (show policy)) r = Shows policy r
-Does (Some (solve policy)) r = Solves policy r
-Does (Some (resilience policy flow absences)) r = ChecksResilience policy flow absences r
-Does (Some (cnf policy flow None)) r = WritesClauses policy flow r
-Does (Some (cnf policy flow (Some model))) r = ReadsModelFile policy flow model r
-Does (Some (serve policy options)) r = ServesRun policy options r
-Does (Some (audit policy requests options)) r = AuditsRun policy requests options.lanes options.rounds r
-Does (Some (resume policy requests transcript options)) r = Unit {0}
-Does (Some (trial seed)) r = IsOrderly r × RunsTrial seed (record {
+-- a run does what its command is, where a request may be answered again or not; where the words are none it ends before
+-- anything
+abbrev pub Does : Bool → Option Command → Run → Type 0
+Does repeats None r = IsOrderly r × (r.fault ≡ Usage)
+Does repeats (Some (plan policy flow)) r = Plans policy flow r
+Does repeats (Some (show policy)) r = Shows policy r
+Does repeats (Some (solve policy)) r = Solves policy r
+Does repeats (Some (resilience policy flow absences)) r = ChecksResilience policy flow absences r
+Does repeats (Some (cnf policy flow None)) r = WritesClauses policy flow r
+Does repeats (Some (cnf policy flow (Some model))) r = ReadsModelFile policy flow model r
+Does repeats (Some (serve policy options)) r = ServesRun policy options r
+Does repeats (Some (audit policy requests options)) r = AuditsRun policy requests options.lanes options.rounds r
+Does repeats (Some (resume policy requests transcript options)) r =
+    ResumesRun (record { policy = policy; requests = requests; transcript = transcript }) options repeats r
+Does repeats (Some (trial seed)) r = IsOrderly r × RunsTrial seed (record {
   output = r.before.output;
   output_after = r.after.output;
   faults = r.before.write_faults;
@@ -40,8 +43,13 @@ abbrev pub LacksWords : Run → Type 0
 LacksWords r = IsOrderly r × (IsUntouched r × (r.fault ≡ NoMemory))
 
 -- a run does what its words ask, unless there was no memory to read them
-abbrev pub HasRun : Option Command → Run → Type 0
-HasRun command r = LacksWords r ⊎ Does command r
+abbrev pub HasRun : Bool → Option Command → Run → Type 0
+HasRun repeats command r = LacksWords r ⊎ Does repeats command r
+
+-- whether the entries of an earlier session are taken up for these words
+abbrev pub takes_up : Option Command → Bool
+takes_up (Some (resume policy requests transcript options)) = true
+takes_up command = false
 
 -- how a run may end at its words
 abbrev pub IsWordsEnding : RunFault → Type 0

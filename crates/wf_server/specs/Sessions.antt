@@ -1,9 +1,10 @@
 -- A session: the lines of the input are answered, and the entries written.
-use Rattle.std.specs.Prelude.{◌≡◌, ◌≢◌, ℕ, ◌-◌, true, false, List, length, take, drop, max, Option}
+use Rattle.std.specs.Prelude.{◌≡◌, ◌≢◌, ℕ, ◌-◌, ◌<◌, true, false, List, length, take, drop, max, Option}
+use Rattle.std.proofs.Common.{◌⊎◌}
 use Rattle.wf_outside.specs.Outside.{HasPart, with_bytes}
 use Rattle.wf_talk.specs.declared.entry.Entry.{Entry}
 use Rattle.line_cutter.specs.declared.stop.Stop.TheVariants as stop
-use Rattle.line_cutter.specs.Jobs.{Cut}
+use Rattle.line_cutter.specs.Jobs.{Cut, UpToAnEnd}
 use Rattle.batch_reader.specs.declared.reader.Paused.{Paused}
 use Rattle.batch_reader.specs.declared.reader.Paused.TheVariants as paused
 use Rattle.batch_reader.specs.Reading.{Handed, HasReadAll, HasStopped, IsReadUp, ReadsTo}
@@ -31,15 +32,21 @@ pub record Setting : Type 0 where
 abbrev pub handed_in : Cut → Told → Handed
 handed_in first told = record { first = first; jobs = told.jobs; batch_ends = told.batch_ends }
 
+-- nothing was read, and of the jobs that were cut before some are handed over, up to an end of a batch
+pub record IsWithinFirst (before after : Option (List ℕ)) (handed : Handed) : Type 0 where
+  pub unread : after ≡ before
+  pub some : 0 < length handed.jobs
+  pub up : UpToAnEnd handed.jobs handed.batch_ends handed.first
+
 -- what was read where a session ended so, with pieces of at most so many bytes; a write fault ends it wherever reading
--- had paused
+-- had paused, or while what was cut before is answered
 abbrev pub ReadsFor : Option (List ℕ) → Option (List ℕ) → ℕ → Handed → RunFault → Type 0
 ReadsFor before after room handed Nothing = HasReadAll before after true handed
 ReadsFor before after room handed Read = HasReadAll before after false handed
 ReadsFor before after room handed (LineTooLong line) = HasStopped before after room (stop.LineTooLong line) handed
 ReadsFor before after room handed TooManyLines = HasStopped before after room stop.TooManyLines handed
 ReadsFor before after room handed Write =
-    (how : Paused) × (how ≢ paused.NoMemory) × ReadsTo before after room handed how
+    ((how : Paused) × (how ≢ paused.NoMemory) × ReadsTo before after room handed how) ⊎ IsWithinFirst before after handed
 ReadsFor before after room handed NoMemory = IsReadUp before after handed
 ReadsFor before after room handed fault = ⊥
 

@@ -92,6 +92,7 @@ pub(crate) fn answer_loaded<K: Sink, W: Fn(Desk) -> Desk>(
         after.entries ≡ result.0.entries → LoadedTo held (K.held sink.new) result.0 after result.1 }
     ensures once { ServesOnce (W.post way.now) → AreAnsweredOnce (drop desk.restored desk.entries)
         → AreAnsweredOnce (drop desk.restored result.0.entries) }
+    ensures some { OnErr result.1 (0 < length result.0.entries) }
     ensures ending { IfErr result.1 IsWriteEnding }
     ensures counts { CountsWrites (fault_in result.1) (K.faults sink.old) (K.faults sink.new) }
     ensures flushed { K.is_flushed sink.old → result.1 ≢ Err RunFault.Write

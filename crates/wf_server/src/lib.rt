@@ -2,6 +2,8 @@
 #![tactic(auto)]
 
 mod batch;
+mod file;
+mod going_on;
 mod runs;
 mod serve;
 mod session;
@@ -9,4 +11,5 @@ mod texts;
 
 pub use run_record::{InputFault, Report, RunFault};
 pub use runs::{run, run_alone};
+pub use transcript_resume::{Resumed, resume};
 pub use wf_lanes::{Gate, OpenGate};

@@ -1,5 +1,5 @@
 //! The top calls: one run of the program over a source, a sink and a shelf, with threads or alone.
-ghost use Rattle.std.specs.Prelude.{◌≡◌, ◌<◌, map, nat_lt, string_bytes, None, Some, IfErr, IfOk, false};
+ghost use Rattle.std.specs.Prelude.{◌≡◌, ◌<◌, Bool, map, nat_lt, string_bytes, None, Some, IfErr, IfOk, false};
 ghost use Rattle.run_record.specs.Fault.{status_of};
 ghost use Rattle.run_record.specs.Report.{told_by};
 ghost use Rattle.run_record.specs.Run.{run_of, streams_of};
@@ -9,8 +9,9 @@ ghost use Rattle.wf_desk.specs.Schedules.{HasGrown};
 ghost use Rattle.wf_lanes.specs.Turns.{HasServedOn};
 ghost use Rattle.command_words.specs.Asked.{asked, CanServe};
 ghost use Rattle.command_words.specs.Words.{command_of, may_repeat, reads_input};
-ghost use Rattle.wf_server.specs.Run.{Does, HasRun, IsWordsEnding};
+ghost use Rattle.wf_server.specs.Run.{Does, HasRun, IsWordsEnding, takes_up};
 
+use crate::going_on::run_resume;
 use crate::serve::run_serve;
 use audit_command::run_audit;
 use case_views::{PlainDecider, SpreadDecider};
@@ -26,9 +27,9 @@ use wf_desk::Desk;
 use wf_lanes::{Gate, serve_by_lanes, serve_by_turns};
 use wf_outside::{Shelf, Sink, Source};
 
-/// Runs the command that the words are, which are those after the program's name. `serve` with two
-/// or more lanes runs each lane on a thread of its own, and tells the gate of each search that is
-/// about to begin; every other command runs as `run_alone` does it. It may wait for its threads.
+/// Runs the command that the words are, which are those after the program's name. `serve` and
+/// `resume` with two or more lanes run each lane on a thread of its own, and tell the gate of each
+/// search that is about to begin; all else runs as `run_alone` does it. It may wait for its threads.
 pub fn run<R: Threads + Wait + Sync, F: Shelf, S: Source, K: Sink, G: Gate + Sync>(
     rt: &R,
     alloc: Global,
@@ -40,13 +41,15 @@ pub fn run<R: Threads + Wait + Sync, F: Shelf, S: Source, K: Sink, G: Gate + Syn
 ) -> Report
     ensures status { result.status ≡ status_of result.fault }
     ensures usage { result.fault ≡ RunFault.Usage → command_of (map string_bytes words.now) ≡ None }
-    ensures does { HasRun (command_of (map string_bytes words.now)) (
+    ensures does { HasRun (may_repeat (command_of (map string_bytes words.now)))
+        (command_of (map string_bytes words.now)) (
         run_of F.file F.faults shelf.old shelf.new
         (streams_of S.left S.faults K.held K.faults source.old sink.old)
         (streams_of S.left S.faults K.held K.faults source.new sink.new) result) }
     ensures untouched { reads_input (command_of (map string_bytes words.now)) ≡ false
         → source.new ≡ source.old }
-    ensures once { may_repeat (command_of (map string_bytes words.now)) ≡ false
+    ensures once { takes_up (command_of (map string_bytes words.now)) ≡ false
+        → may_repeat (command_of (map string_bytes words.now)) ≡ false
         → AreAnsweredOnce (told_by result).entries }
 {
     match read_command(alloc, words) {
@@ -57,13 +60,29 @@ pub fn run<R: Threads + Wait + Sync, F: Shelf, S: Source, K: Sink, G: Gate + Syn
             { serve_by_lanes(rt, alloc, &SpreadDecider::new(rt), gate, desk) };
             run_serve(alloc, &on_lanes, policy, options, shelf, source, sink)
         }
+        Ok(
+            Command::Resume {
+                policy,
+                requests,
+                transcript,
+                options,
+            },
+        ) if on_threads(&options) => {
+            let on_lanes = |desk: Desk| -> Desk
+                requires { (0 < desk.lanes) × AreOfLanes desk.lanes desk.jobs }
+                ensures { HasGrown desk result × IsDone result }
+            { serve_by_lanes(rt, alloc, &SpreadDecider::new(rt), gate, desk) };
+            run_resume(
+                alloc, &on_lanes, policy, requests, transcript, options, shelf, source, sink,
+            )
+        }
         Ok(other) => run_command(alloc, other, shelf, source, sink),
         Err(fault) => bare_report(alloc, fault),
     }
 }
 
 /// Runs the command that the words are, which are those after the program's name. It always
-/// returns, starts no thread and waits for nothing: the lanes of `serve` take turns.
+/// returns, starts no thread and waits for nothing: the lanes of `serve` and `resume` take turns.
 pub fn run_alone<F: Shelf, S: Source, K: Sink>(
     alloc: Global,
     words: &[String],
@@ -73,13 +92,14 @@ pub fn run_alone<F: Shelf, S: Source, K: Sink>(
 ) -> Report
     ensures status { result.status ≡ status_of result.fault }
     ensures usage { result.fault ≡ RunFault.Usage → command_of (map string_bytes words.now) ≡ None }
-    ensures does { HasRun (command_of (map string_bytes words.now)) (
+    ensures does { HasRun false (command_of (map string_bytes words.now)) (
         run_of F.file F.faults shelf.old shelf.new
         (streams_of S.left S.faults K.held K.faults source.old sink.old)
         (streams_of S.left S.faults K.held K.faults source.new sink.new) result) }
     ensures untouched { reads_input (command_of (map string_bytes words.now)) ≡ false
         → source.new ≡ source.old }
-    ensures once { AreAnsweredOnce (told_by result).entries }
+    ensures once { takes_up (command_of (map string_bytes words.now)) ≡ false
+        → AreAnsweredOnce (told_by result).entries }
 {
     match read_command(alloc, words) {
         Ok(command) => run_command(alloc, command, shelf, source, sink),
@@ -119,12 +139,13 @@ fn run_command<F: Shelf, S: Source, K: Sink>(
     requires { CanServe command }
     ensures status { result.status ≡ status_of result.fault }
     ensures usage { result.fault ≡ RunFault.Usage → ⊥ }
-    ensures does { Does (Some (asked command.entry)) (
+    ensures does { (repeats : Bool) → Does repeats (Some (asked command.entry)) (
         run_of F.file F.faults shelf.old shelf.new
         (streams_of S.left S.faults K.held K.faults source.old sink.old)
         (streams_of S.left S.faults K.held K.faults source.new sink.new) result) }
     ensures untouched { reads_input (Some (asked command.entry)) ≡ false → source.new ≡ source.old }
-    ensures once { AreAnsweredOnce (told_by result).entries }
+    ensures once { takes_up (Some (asked command.entry)) ≡ false
+        → AreAnsweredOnce (told_by result).entries }
 {
     match command {
         Command::Plan { policy, flow } => {
@@ -178,7 +199,20 @@ fn run_command<F: Shelf, S: Source, K: Sink>(
                 sink,
             )
         }
-        Command::Resume { .. } => bare_report(alloc, RunFault::NoMemory),
+        Command::Resume {
+            policy,
+            requests,
+            transcript,
+            options,
+        } => {
+            let by_turns = |desk: Desk| -> Desk
+                requires { (0 < desk.lanes) × AreOfLanes desk.lanes desk.jobs }
+                ensures { HasServedOn desk result × IsDone result }
+            { turned(alloc, desk) };
+            run_resume(
+                alloc, &by_turns, policy, requests, transcript, options, shelf, source, sink,
+            )
+        }
         Command::Trial { seed } => run_trial(alloc, &PlainDecider, seed, sink),
     }
 }

@@ -65,8 +65,8 @@ pub(crate) fn run_session<S: Source, K: Sink, W: Fn(Desk) -> Desk>(
     )
 }
 
-// Serves batch after batch of what is read, behind those that were answered before.
-fn serve_batches<S: Source, K: Sink, W: Fn(Desk) -> Desk>(
+/// Serves batch after batch of what is read, behind those that were answered before.
+pub(crate) fn serve_batches<S: Source, K: Sink, W: Fn(Desk) -> Desk>(
     alloc: Global,
     way: &W,
     reader: &mut Reader,
@@ -159,8 +159,8 @@ fn ending_after(paused: Paused) -> Option<RunFault>
     }
 }
 
-// The report of a session that ended so.
-fn report_of(fault: RunFault, desk: Desk, told: Answered) -> Report
+/// The report of a session that ended so.
+pub(crate) fn report_of(fault: RunFault, desk: Desk, told: Answered) -> Report
     ensures status { result.status ≡ status_of fault }
     ensures fault { result.fault ≡ fault }
     ensures told { told_by result ≡ told_of desk told }

@@ -1,0 +1,247 @@
+//! Where a session goes on: its files are loaded, and its transcript is taken up.
+ghost use Rattle.std.specs.Prelude.{◌≡◌, ◌<◌, ◌≤◌, ℕ, true, List, IfOk, length, take, None};
+ghost use Rattle.wf_names.specs.declared.limits.TheConstants.{LANE_LIMIT, ROUND_LIMIT, SESSION_LINE_LIMIT};
+ghost use Rattle.line_cutter.specs.Jobs.{jobs_of_input};
+ghost use Rattle.line_cutter.specs.Laws.{AreInOrder, AreNamedJobs};
+ghost use Rattle.run_record.specs.Fault.{how_of, CountsLoads};
+ghost use Rattle.resume_command.specs.Loading.{IsCutOf, OverBoth, OverFiles, OverTranscript, OverTranscriptFile};
+ghost use Rattle.resume_command.specs.Begun.{BeginsBy, EndsBeginning, EndsLoaded, StopsBy, ends_to, fault_by, session_of};
+
+use crate::Refusal;
+use crate::load::load_requests;
+use batch_reader::Reader;
+use line_cutter::{Batch, CutText, Stop, inputs_go_on};
+use policy_book::Policy;
+use run_record::RunFault;
+use std::alloc::{AllocError, Global};
+use transcript_resume::{Resumed, first_long, resume};
+use wf_board::Decider;
+use wf_commands::{load_file, load_policy};
+use wf_desk::Desk;
+use wf_outside::{Loaded, Shelf};
+use wf_talk::{Ends, Jobs};
+
+/// Most bytes of a transcript.
+pub const TRANSCRIPT_FILE_LIMIT: usize = 67_108_864;
+
+/// How many bytes of the input are taken at once.
+pub const PIECE: usize = 65_536;
+
+/// A session that goes on behind the entries of an earlier one.
+#[derive(Drop)]
+pub struct Beginning {
+    /// The desk behind these entries, with the batch in which they stop.
+    pub desk: Desk,
+    /// All jobs of the requests file, with the ends of their batches.
+    pub file: Batch,
+    /// How many batches there are up to that one and with it.
+    pub count: usize,
+    /// The jobs of these batches.
+    pub jobs: Jobs,
+    /// Their ends.
+    pub ends: Ends,
+    /// What reads the input, with its lines numbered on behind those of the file.
+    pub reader: Reader,
+}
+
+/// Loads the policy, the requests and the transcript of an earlier session, each once those before it
+/// are found to be within their limits, and takes the session up.
+pub fn begin<V: Decider, F: Shelf>(
+    alloc: Global,
+    decider: &V,
+    policy: &str,
+    requests: &str,
+    transcript: &str,
+    lanes: u8,
+    rounds: u8,
+    shelf: &mut F,
+) -> Result<Beginning, Refusal>
+    requires ready { V.ready decider.now }
+    requires some { 0 < lanes }
+    requires lanes { lanes ≤ LANE_LIMIT }
+    requires rounds { rounds ≤ ROUND_LIMIT }
+    ensures begins { OverFiles (F.file shelf.old)
+        (record { policy = policy.now; requests = requests.now; transcript = transcript.now }) lanes (StopsBy result)
+        (λ p cut transcript. BeginsBy (session_of p lanes rounds cut) cut transcript result) }
+    ensures ending { EndsBeginning (how_of (fault_by result)) }
+    ensures loads { CountsLoads (fault_by result) (F.faults shelf.old) (F.faults shelf.new) }
+{
+    let policy = load_policy(alloc, shelf, policy)?;
+    begin_under(
+        alloc, decider, policy, requests, transcript, lanes, rounds, shelf,
+    )
+}
+
+// The same under a policy.
+fn begin_under<V: Decider, F: Shelf>(
+    alloc: Global,
+    decider: &V,
+    policy: Policy,
+    requests: &str,
+    transcript: &str,
+    lanes: u8,
+    rounds: u8,
+    shelf: &mut F,
+) -> Result<Beginning, Refusal>
+    requires ready { V.ready decider.now }
+    requires some { 0 < lanes }
+    requires lanes { lanes ≤ LANE_LIMIT }
+    requires rounds { rounds ≤ ROUND_LIMIT }
+    ensures begins { OverBoth lanes (StopsBy result)
+        (λ cut transcript. BeginsBy (session_of policy lanes rounds cut) cut transcript result)
+        (F.file shelf.old requests.now) (F.file shelf.old transcript.now) }
+    ensures ending { EndsBeginning (how_of (fault_by result)) }
+    ensures loads { CountsLoads (fault_by result) (F.faults shelf.old) (F.faults shelf.new) }
+{
+    let text = load_requests(alloc, shelf, requests, lanes)?;
+    match text.stop {
+        Some(Stop::LineTooLong(line)) => Err(Refusal::Ends(RunFault::LineTooLong(line))),
+        Some(Stop::TooManyLines) => Err(Refusal::Ends(RunFault::TooManyLines)),
+        None => begin_behind(
+            alloc, decider, policy, text, transcript, lanes, rounds, shelf,
+        ),
+    }
+}
+
+// The same with the requests as they are cut.
+fn begin_behind<V: Decider, F: Shelf>(
+    alloc: Global,
+    decider: &V,
+    policy: Policy,
+    text: CutText,
+    transcript: &str,
+    lanes: u8,
+    rounds: u8,
+    shelf: &mut F,
+) -> Result<Beginning, Refusal>
+    requires ready { V.ready decider.now }
+    requires some { 0 < lanes }
+    requires lanes { lanes ≤ LANE_LIMIT }
+    requires rounds { rounds ≤ ROUND_LIMIT }
+    requires few { text.lines ≤ SESSION_LINE_LIMIT }
+    requires order { AreInOrder lanes text.batch.jobs text.batch.ends }
+    requires named { AreNamedJobs text.batch.jobs }
+    requires going { text.stop ≡ None }
+    ensures begins { (requests : List ℕ) → IsCutOf requests lanes text →
+        OverTranscriptFile (StopsBy result)
+        (λ transcript. BeginsBy (session_of policy lanes rounds (jobs_of_input requests true lanes))
+        (jobs_of_input requests true lanes) transcript result) (F.file shelf.old transcript.now) }
+    ensures ending { EndsBeginning (how_of (fault_by result)) }
+    ensures loads { CountsLoads (fault_by result) (F.faults shelf.old) (F.faults shelf.new) }
+{
+    let file = load_file(alloc, shelf, transcript, TRANSCRIPT_FILE_LIMIT)?;
+    begin_at(alloc, decider, policy, text, file, lanes, rounds)
+}
+
+// The same with the transcript, if none of its whole lines is too long.
+fn begin_at<V: Decider>(
+    alloc: Global,
+    decider: &V,
+    policy: Policy,
+    text: CutText,
+    transcript: Loaded,
+    lanes: u8,
+    rounds: u8,
+) -> Result<Beginning, Refusal>
+    requires ready { V.ready decider.now }
+    requires some { 0 < lanes }
+    requires lanes { lanes ≤ LANE_LIMIT }
+    requires rounds { rounds ≤ ROUND_LIMIT }
+    requires few { text.lines ≤ SESSION_LINE_LIMIT }
+    requires order { AreInOrder lanes text.batch.jobs text.batch.ends }
+    requires named { AreNamedJobs text.batch.jobs }
+    requires going { text.stop ≡ None }
+    requires short { length transcript ≤ TRANSCRIPT_FILE_LIMIT }
+    ensures begins { (requests : List ℕ) → IsCutOf requests lanes text →
+        OverTranscript (StopsBy result)
+        (λ transcript. BeginsBy (session_of policy lanes rounds (jobs_of_input requests true lanes))
+        (jobs_of_input requests true lanes) transcript result) transcript }
+    ensures ending { EndsLoaded (how_of (fault_by result)) }
+{
+    match first_long(transcript.as_bytes()) {
+        Some(line) => Err(Refusal::Ends(RunFault::LineTooLong(line))),
+        None => take_up(alloc, decider, policy, text, transcript, lanes, rounds),
+    }
+}
+
+// Takes up the entries of a transcript.
+fn take_up<V: Decider>(
+    alloc: Global,
+    decider: &V,
+    policy: Policy,
+    text: CutText,
+    transcript: Loaded,
+    lanes: u8,
+    rounds: u8,
+) -> Result<Beginning, Refusal>
+    requires ready { V.ready decider.now }
+    requires some { 0 < lanes }
+    requires lanes { lanes ≤ LANE_LIMIT }
+    requires rounds { rounds ≤ ROUND_LIMIT }
+    requires few { text.lines ≤ SESSION_LINE_LIMIT }
+    requires order { AreInOrder lanes text.batch.jobs text.batch.ends }
+    requires named { AreNamedJobs text.batch.jobs }
+    requires going { text.stop ≡ None }
+    ensures begins { (requests : List ℕ) → IsCutOf requests lanes text →
+        BeginsBy (session_of policy lanes rounds (jobs_of_input requests true lanes))
+        (jobs_of_input requests true lanes) transcript result }
+    ensures ending { EndsLoaded (how_of (fault_by result)) }
+{
+    inputs_go_on(lanes);
+    let _ = policy.admin();
+    let reader = Reader::new(alloc, lanes, text.lines, PIECE)?;
+    let resumed = resume(
+        alloc,
+        decider,
+        policy,
+        text.batch,
+        transcript.as_bytes(),
+        lanes,
+        rounds,
+    )?;
+    Ok(with_told(alloc, resumed, reader)?)
+}
+
+// The same desk, with the jobs that are told up to the end of its batch.
+fn with_told(alloc: Global, resumed: Resumed, reader: Reader) -> Result<Beginning, AllocError>
+    requires { resumed.next ≤ length resumed.batch.jobs }
+    ensures desk { IfOk result (λ b. b.desk ≡ resumed.desk) }
+    ensures file_jobs { IfOk result (λ b. b.file.jobs ≡ resumed.batch.jobs) }
+    ensures file_ends { IfOk result (λ b. b.file.ends ≡ resumed.batch.ends) }
+    ensures count { IfOk result (λ b. b.count ≡ ends_to resumed.next resumed.batch.ends) }
+    ensures jobs { IfOk result (λ b. b.jobs ≡ take resumed.next resumed.batch.jobs) }
+    ensures ends { IfOk result (λ b. b.ends ≡ take b.count resumed.batch.ends) }
+    ensures reader { IfOk result (λ b. b.reader ≡ reader) }
+{
+    let Resumed {
+        desk,
+        batch: file,
+        next,
+    } = resumed;
+    let count = count_ends(file.ends.as_slice(), next);
+    let jobs = Vec::from_slice(alloc, &file.jobs.as_slice()[..next as usize])?;
+    let ends = Vec::from_slice(alloc, &file.ends.as_slice()[..count])?;
+    Ok(Beginning {
+        desk,
+        file,
+        count,
+        jobs: Jobs::from_vec(jobs),
+        ends: Ends::from_vec(ends),
+        reader,
+    })
+}
+
+// How many of the ends of batches, from the first on, are not behind a place.
+fn count_ends(ends: &[u32], place: u32) -> usize
+    ensures count { result ≡ ends_to place ends.now }
+    ensures within { result ≤ length ends.now }
+{
+    let mut count = 0;
+    'ends: for end in ends {
+        if *end > place {
+            return count;
+        }
+        count += 1;
+    }
+    count
+}

@@ -1,0 +1,157 @@
+-- How the batches of a requests file follow one another.
+use Rattle.std.proofs.Common.{◌≡◌, ℕ, suc, zero, ◌+◌, ◌-◌, ◌<◌, ◌≤◌, nat_lt, true, List, [], ◌∷◌, ◌++◌, length, take, drop, slice_index_or, Option, Result, Ok, Err, inl, inr, refl, sym, ap, subst, ◌∙◌, arith}
+use Rattle.std.proofs.lemmas.Bool.{lt-ltb}
+use Rattle.std.proofs.lemmas.List.{drop_all, length-append, length-take-le, take_more}
+use Rattle.wf_outside.specs.Outside.{with_bytes}
+use Rattle.wf_outside.proofs.OutsideLaws.{nothing_put}
+use Rattle.wf_talk.specs.declared.entry.Entry.{Entry}
+use Rattle.wf_talk.specs.declared.job.Job.{Job}
+use Rattle.wf_board.specs.Histories.{batch_start}
+use Rattle.wf_desk.specs.Desks.{DeskShape}
+use Rattle.line_cutter.specs.Cutter.{ends_after}
+use Rattle.line_cutter.specs.Laws.{AreInOrder}
+use Rattle.transcript_audit.proofs.Batches.{ends_within, next_start, end_read, part_length, start_ahead, start_within}
+use Rattle.transcript_resume.specs.Places.{jobs_between}
+use Rattle.transcript_resume.proofs.Rests.{lanes_between, near_from}
+use Rattle.resume_command.specs.Begun.{StandsAt}
+use Rattle.resume_command.proofs.Stands.{jobs_here}
+use Rattle.run_record.specs.declared.fault.RunFault.{RunFault}
+use Rattle.run_record.specs.declared.fault.RunFault.TheVariants as fault
+use Rattle.run_record.specs.Report.{Told}
+use Rattle.wf_server.specs.Sessions.{text_from}
+use Rattle.wf_server.specs.Ways.{setting_of}
+use Rattle.wf_server.specs.declared.batch.Answered.{Answered}
+use Rattle.wf_server.specs.Batches.{told_of, AnswersTo, HasAnswered, HasAnsweredPart, HasLoaded, IsAdded, IsBatch, IsWriteEnding}
+use Rattle.wf_server.specs.Files.{FileTo, IsToldTo, StopsIn}
+
+-- ---- one batch
+
+-- where the next batch of a file begins and ends
+pub record IsNext (jobs : List Job) (ends : List ℕ) (count start stop : ℕ) : Type 0 where
+  pub begins : start ≡ batch_start ends count
+  pub closes : stop ≡ batch_start ends (count + 1)
+  pub end_here : slice_index_or ends count 0 ≡ stop
+  pub order : start < stop
+  pub within : stop ≤ length jobs
+
+pub is_next : (lanes : ℕ) (jobs : List Job) (ends : List ℕ) (count : ℕ) (told : Told) → AreInOrder lanes jobs ends → count < length ends → IsToldTo jobs ends count told
+    → IsNext jobs ends count (length told.jobs) (slice_index_or ends count 0)
+is_next lanes jobs ends count told order known is =
+    let lead = order.ends in
+    let begun = start_within ends (length jobs) count lead (omega (arith, known)) in
+    let begins : length told.jobs ≡ batch_start ends count = ap length is.all_jobs ∙ length-take-le (batch_start ends count) jobs begun in
+    let ahead = start_ahead ends (length jobs) count lead known in
+    let last = end_read ends count known in
+    let inside = ends_within ends (length jobs) count lead (omega (arith, known)) in
+    record {
+      begins = begins;
+      closes = sym (next_start ends count known ∙ last);
+      end_here = refl;
+      order = omega (arith, begins, ahead);
+      within = omega (arith, last, inside);
+    }
+
+-- its jobs are a batch
+pub file_batch : (lanes : ℕ) (jobs : List Job) (ends : List ℕ) (count start stop : ℕ) → AreInOrder lanes jobs ends → count < length ends → IsNext jobs ends count start stop
+    → IsBatch lanes start (jobs_between start stop jobs)
+file_batch lanes jobs ends count start stop order known next =
+    let above = next.order in
+    let within = next.within in
+    let begins = next.begins in
+    let here = next.end_here in
+    let size = part_length start stop jobs (omega (arith, above)) within in
+    let near = near_from 0 ends (length jobs) count order.ends known in
+    let few = order.few in
+    record {
+      few = omega (arith, size, within, few);
+      short = omega (arith, size, near, begins, here);
+      of_lanes = lanes_between lanes start stop jobs order.of_lanes;
+    }
+
+-- and are told
+pub told_more : (lanes : ℕ) (jobs : List Job) (ends : List ℕ) (count : ℕ) (before after : Told) (batch : List Job) (start stop : ℕ) → AreInOrder lanes jobs ends → count < length ends
+    → IsToldTo jobs ends count before → IsNext jobs ends count start stop → start ≡ length before.jobs → batch ≡ jobs_between start stop jobs → IsAdded before batch after
+    → IsToldTo jobs ends (count + 1) after
+told_more lanes jobs ends count before after batch start stop order known is next begins same added =
+    let above = next.order in
+    let within = next.within in
+    let size = part_length start stop jobs (omega (arith, above)) within in
+    let some : nat_lt 0 (length (jobs_between start stop jobs)) ≡ true = lt-ltb 0 (length (jobs_between start stop jobs)) (omega (arith, size, above)) in
+    let last : start + length (jobs_between start stop jobs) ≡ stop = size in
+    let ends_with : ends_after (take count ends) start (jobs_between start stop jobs) ≡ take (count + 1) ends =
+    rw some (ap (λ x. take count ends ++ x ∷ []) (last ∙ sym next.end_here) ∙ sym (take_more ends count 0 known)) in
+    record {
+      known = omega (arith, known);
+      all_jobs =
+          added.jobs ∙ ap (λ js. js ++ batch) (is.all_jobs ∙ ap (λ n. take n jobs) (sym next.begins)) ∙ ap (λ js. take start jobs ++ js) same
+          ∙ sym (jobs_here start stop jobs (omega (arith, above))) ∙ ap (λ n. take n jobs) next.closes;
+      all_ends =
+          added.ends ∙ ap (λ es. ends_after es (length before.jobs) batch) is.all_ends ∙ ap (λ n. ends_after (take count ends) n batch) (sym begins)
+          ∙ ap (λ js. ends_after (take count ends) start js) same ∙ ends_with;
+    }
+
+-- the jobs so far are some where a batch was told
+told_some : (before after : Told) (batch : List Job) → IsAdded before batch after → 0 < length batch → 0 < length after.jobs
+told_some before after batch added some = let size = ap length added.jobs in omega (arith, size, some, length-append before.jobs batch)
+
+-- ---- a fault
+
+pub file_fails : (lanes : ℕ) (jobs : List Job) (ends : List ℕ) (count : ℕ) (held aft : Option (List ℕ)) (before after : Told) (d : DeskShape) (batch : List Job) (start stop : ℕ) (ending : RunFault)
+    → AreInOrder lanes jobs ends → count < length ends → IsToldTo jobs ends count before → IsNext jobs ends count start stop → start ≡ length before.jobs → batch ≡ jobs_between start stop jobs
+    → AnswersTo held aft before batch d after (Err ending) → IsWriteEnding ending → FileTo held aft jobs ends d after (Err ending)
+file_fails lanes jobs ends count held aft before after d batch start stop fault.Write order known is next begins same answers end =
+    let above = next.order in
+    let size = part_length start stop jobs (omega (arith, above)) next.within in
+    let same_size = ap length same in (
+      record {
+        count = count + 1;
+        to = told_more lanes jobs ends count before after batch start stop order known is next begins same answers.0;
+        some = λ _. told_some before after batch answers.0 (omega (arith, size, above, same_size));
+      },
+      answers.1,
+    )
+file_fails lanes jobs ends count held aft before after d batch start stop fault.NoMemory order known is next begins same answers end = (
+  elim answers.0 [
+    | inl stays ↦ record { count = count; to = subst (λ (t : Told). IsToldTo jobs ends count t) (sym stays) is; some = λ other. absurd cc }
+    | inr added ↦ record {
+      count = count + 1;
+      to = told_more lanes jobs ends count before after batch start stop order known is next begins same added;
+      some = λ other. absurd cc;
+    }
+  ],
+  answers.1,
+)
+file_fails lanes jobs ends count held aft before after d batch start stop ending order known is next begins same answers end = absurd end
+
+-- ---- the batch at the desk
+
+-- the batches before the one at the desk
+abbrev pub earlier : (d : DeskShape) (a : Answered) → StandsAt d.entries d.start d.jobs a.jobs a.batch_ends → Told
+earlier d a stands = record { entries = take d.start d.entries; jobs = stands.earlier_jobs; batch_ends = stands.earlier_ends }
+
+pub first_loaded : (held : Option (List ℕ)) (d : DeskShape) (a : Answered) → (stands : StandsAt d.entries d.start d.jobs a.jobs a.batch_ends) → d.restored ≡ length d.entries
+    → HasLoaded held held d (earlier d a stands)
+first_loaded held d a stands restored =
+    let begun = stands.begun in
+    let none : drop d.restored d.entries ≡ [] = drop_all d.restored d.entries (omega (arith, restored)) in
+    record {
+      fills = stands.fills;
+      ends = stands.at_end;
+      front = refl;
+      here = omega (arith, begun, restored);
+      written = rw none (sym (nothing_put held));
+    }
+
+pub first_added : (d e : DeskShape) (a : Answered) → (stands : StandsAt d.entries d.start d.jobs a.jobs a.batch_ends) → IsAdded (earlier d a stands) d.jobs (told_of e a)
+first_added d e a stands = record { jobs = stands.all_jobs; ends = stands.all_ends }
+
+-- what is told is the same at another desk
+pub told_at : (jobs : List Job) (ends : List ℕ) (count : ℕ) (d e : DeskShape) (a : Answered) → IsToldTo jobs ends count (told_of d a) → IsToldTo jobs ends count (told_of e a)
+told_at jobs ends count d e a is = record { known = is.known; all_jobs = is.all_jobs; all_ends = is.all_ends }
+
+-- its jobs are answered, but a fault ended the session
+pub first_fails : (jobs : List Job) (ends : List ℕ) (count : ℕ) (held aft : Option (List ℕ)) (d e : DeskShape) (a : Answered) (ending : RunFault) → IsToldTo jobs ends count (told_of d a)
+    → HasAnsweredPart (setting_of e) held aft (told_of e a) → 0 < length e.entries → FileTo held aft jobs ends e (told_of e a) (Err ending)
+first_fails jobs ends count held aft d e a ending is part some =
+    let size = part.fills.whole in
+    (record { count = count; to = told_at jobs ends count d e a is; some = λ _. omega (arith, size, some) }, part)

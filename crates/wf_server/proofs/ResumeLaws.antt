@@ -1,0 +1,329 @@
+-- A session behind the entries that were taken up, and the run of its command.
+use Rattle.std.proofs.Common.{◌≡◌, ◌≢◌, ℕ, zero, suc, ◌+◌, ◌<◌, ◌≤◌, nat_lt, Bool, true, false, List, [], ◌∷◌, ◌++◌, length, take, drop, slice_index_or, Option, None, Result, Ok, Err, inl, inr, refl, sym, ap, subst, ◌∙◌, arith, ◌⊎◌}
+use Rattle.std.proofs.lemmas.Bool.{le-ltb}
+use Rattle.std.proofs.lemmas.List.{drop_all, take_all}
+use Rattle.wf_outside.specs.Outside.{Filed, HasPart, HasTaken, with_bytes}
+use Rattle.wf_outside.proofs.OutsideLaws.{nothing_taken}
+use Rattle.policy_book.specs.Shapes.{PolicyShape}
+use Rattle.policy_reader.specs.FilePolicies.{IsFilePolicy}
+use Rattle.wf_talk.specs.declared.entry.Entry.{Entry}
+use Rattle.wf_talk.specs.declared.job.Job.{Job}
+use Rattle.wf_board.specs.Histories.{AreAnsweredOnce, AreWantsRightful, IsLegal, batch_start}
+use Rattle.wf_board.specs.Laws.{HistoriesAreExact, HistoriesKeepCompletable}
+use Rattle.wf_board.specs.States.{opening_state}
+use Rattle.wf_desk.specs.Desks.{AreOfLanes, DeskShape}
+use Rattle.line_cutter.specs.Cutter.{after_handing}
+use Rattle.line_cutter.specs.Jobs.{Cut, UpToAnEnd, end_batch, flush, jobs_from, last_or, next_input, start_at}
+use Rattle.line_cutter.specs.Laws.{AreInOrder, GoesOn}
+use Rattle.batch_reader.specs.Reading.{Handed, HasRead, IsReadUp, ReaderShape}
+use Rattle.run_record.specs.declared.fault.RunFault.{RunFault}
+use Rattle.run_record.specs.declared.fault.RunFault.TheVariants as fault
+use Rattle.run_record.specs.Fault.{how_of, is_before_input, CountsLoads, CountsReads, CountsWrites}
+use Rattle.run_record.specs.Report.{Told, nothing_told}
+use Rattle.run_record.specs.Run.{Run, IsOrderly, IsUntouched, Streams}
+use Rattle.transcript_audit.specs.declared.fault.AuditKind.{AuditKind}
+use Rattle.audit_command.specs.Auditing.{fault_line}
+use Rattle.transcript_resume.specs.Resumed.{IsRefused, Session}
+use Rattle.resume_command.specs.declared.begin.Beginning.{Beginning}
+use Rattle.resume_command.specs.declared.begin.TheConstants.{PIECE}
+use Rattle.resume_command.specs.declared.refusal.Refusal.TheVariants.{Ends, Line}
+use Rattle.resume_command.specs.Begun.{BeginsBy, EndsBeginning, HasBegun, StopsBy, session_of}
+use Rattle.resume_command.specs.Loading.{Names, OverFiles}
+use Rattle.resume_command.proofs.Files.{files_goal, files_map}
+use Rattle.command_words.specs.Words.{AreOptions, Options}
+use Rattle.transcript_audit.proofs.Batches.{last_start}
+use Rattle.wf_server.specs.Sessions.{IsWithinFirst, ReadsFor, Served, Setting, handed_in}
+use Rattle.wf_server.specs.Ways.{setting_of}
+use Rattle.wf_server.specs.declared.batch.Answered.{Answered}
+use Rattle.wf_server.specs.Batches.{Serves, told_of, AreInOrderFrom, HasAnswered, HasAnsweredPart, IsServing, IsWriteEnding}
+use Rattle.wf_server.specs.Files.{FileTo, IsToldTo, StopsIn}
+use Rattle.wf_server.specs.Resuming.{EndsBy, ResumesFrom, ResumesRun, TellsAs, setting_behind}
+use Rattle.wf_server.proofs.SessionLaws.{lanes_of, late_reads, serves_kept}
+use Rattle.wf_server.proofs.ServeLaws.{loads_late}
+use Rattle.wf_server.proofs.WayLaws.{once_legal}
+use Rattle.wf_server.proofs.Endings.{reads_so, writes_so}
+
+-- ---- behind the jobs of a file
+
+-- the last of the first so many ends
+last_first : (d : ℕ) (ends : List ℕ) (k : ℕ) → k ≤ length ends → last_or d (take k ends) ≡ slice_index_or (d ∷ ends) k 0
+last_first d ends zero known = refl
+last_first d [] (suc k) known = absurd (omega (arith, known))
+last_first d (x ∷ xs) (suc k) known = last_first x xs k (omega (arith, known))
+
+-- no batch is open where the input goes on
+pub nothing_open : (lanes : ℕ) (cut : Cut) → GoesOn lanes cut → jobs_from (next_input cut) [] false ≡ next_input cut
+unfolding jobs_from end_batch flush
+nothing_open lanes cut goes =
+    let from : length cut.jobs + 0 ≡ cut.from = ap (λ (c : Cut). c.from) goes.begins in
+    let none : nat_lt cut.from (length cut.jobs) ≡ false = le-ltb cut.from (length cut.jobs) (omega (arith, from)) in
+    rw none refl
+
+up_to : (s : Session) (cut : Cut) (count : ℕ) (told : Told) → s.jobs ≡ cut.jobs → s.batch_ends ≡ cut.ends → IsToldTo s.jobs s.batch_ends count told → UpToAnEnd told.jobs told.batch_ends (next_input cut)
+up_to s cut count told jobs ends is = record {
+  ends = (count, is.all_ends ∙ ap (take count) ends);
+  within = is.all_jobs ∙ ap (λ js. take (batch_start s.batch_ends count) js) jobs
+      ∙ ap (λ n. take n cut.jobs) (sym (ap (last_or 0) is.all_ends ∙ last_first 0 s.batch_ends count is.known));
+}
+
+-- a fault ended the session while the jobs of the file were answered
+pub stops_serves : (s : Session) (cut : Cut) (lanes room : ℕ) (before after : Streams) (d : DeskShape) (told : Told) (ending : RunFault) → GoesOn lanes cut → s.jobs ≡ cut.jobs → s.batch_ends ≡ cut.ends
+    → after.input ≡ before.input → after.read_faults ≡ before.read_faults → CountsWrites ending before.write_faults after.write_faults
+    → FileTo before.output after.output s.jobs s.batch_ends d told (Err ending) → IsWriteEnding ending → Serves (setting_of d) (next_input cut) room before after told ending
+stops_serves s cut lanes room before after d told fault.Write goes jobs ends unread reads writes stops end = record {
+  reads = inr (record { unread = unread; some = stops.0.some refl; up = up_to s cut stops.0.count told jobs ends stops.0.to });
+  fills = stops.1.fills;
+  writes = stops.1.written;
+  read_faults = omega (arith, reads);
+  write_faults = writes;
+}
+stops_serves s cut lanes room before after d told fault.NoMemory goes jobs ends unread reads writes stops end = record {
+  reads = record {
+    bytes = [];
+    ended = false;
+    taken = subst (λ x. HasTaken before.input x []) (sym unread) (nothing_taken before.input);
+    at_end = λ is. absurd cc;
+    up = subst (UpToAnEnd told.jobs told.batch_ends) (sym (nothing_open lanes cut goes)) (up_to s cut stops.0.count told jobs ends stops.0.to);
+  };
+  fills = stops.1.fills;
+  writes = stops.1.written;
+  read_faults = omega (arith, reads);
+  write_faults = writes;
+}
+stops_serves s cut lanes room before after d told ending goes jobs ends unread reads writes stops end = absurd end
+
+-- all jobs of the file are told
+whole_told : (s : Session) (told : Told) → AreInOrder s.lanes s.jobs s.batch_ends → IsToldTo s.jobs s.batch_ends (length s.batch_ends) told → (told.jobs ≡ s.jobs) × (told.batch_ends ≡ s.batch_ends)
+whole_told s told order is = (
+  is.all_jobs ∙ ap (λ n. take n s.jobs) (last_start s.batch_ends (length s.jobs) order.ends) ∙ take_all (length s.jobs) s.jobs (omega arith),
+  is.all_ends ∙ take_all (length s.batch_ends) s.batch_ends (omega arith),
+)
+
+-- the input is read behind them
+pub serving_on : (s : Session) (cut : Cut) (before after : Streams) (r : ReaderShape) (d : DeskShape) (told : Told) → AreInOrder s.lanes s.jobs s.batch_ends → GoesOn s.lanes cut
+    → s.jobs ≡ cut.jobs → s.batch_ends ≡ cut.ends → d.lanes ≡ s.lanes → r ≡ record { cut = start_at s.lanes (next_input cut).number; pending = []; room = PIECE }
+    → after.input ≡ before.input → after.read_faults ≡ before.read_faults → after.write_faults ≡ before.write_faults
+    → IsToldTo s.jobs s.batch_ends (length s.batch_ends) told → HasAnswered before.output after.output d told → IsServing (next_input cut) before after r d told
+serving_on s cut before after r d told order goes jobs ends lanes reads unread counts writes is answered =
+    let whole = whole_told s told order is in
+    let all_jobs : told.jobs ≡ cut.jobs = whole.0 ∙ jobs in
+    let all_ends : told.batch_ends ≡ cut.ends = whole.1 ∙ ends in
+    record {
+      order = subst (λ n. AreInOrderFrom n (next_input cut)) (sym lanes) goes.order;
+      read = record {
+        bytes = [];
+        taken = subst (λ xs. HasTaken before.input after.input xs) (sym (ap (λ (x : ReaderShape). x.pending) reads))
+            (subst (λ x. HasTaken before.input x []) (sym unread) (nothing_taken before.input));
+        cut = (λ i. after_handing (all_jobs i) (all_ends i) ((ap (λ (x : ReaderShape). x.cut) reads) i)) ∙ goes.begins;
+        closed = ap (last_or 0) all_ends ∙ goes.closed ∙ ap length (sym all_jobs);
+      };
+      answered = answered;
+      read_faults = counts;
+      write_faults = writes;
+    }
+
+-- ---- what begins a session
+
+-- how its desk serves
+pub set_behind : (s : Session) (cut : Cut) (transcript : List ℕ) (b : Beginning) (d : DeskShape) → HasBegun s cut transcript b → setting_of d ≡ setting_of b.desk
+    → setting_of d ≡ setting_behind s (length b.desk.entries)
+set_behind s cut transcript b d h same = same ∙ rw (h.opening, h.lanes, h.rounds, h.restored) refl
+
+pub begun_lanes : (s : Session) (cut : Cut) (transcript : List ℕ) (b : Beginning) → HasBegun s cut transcript b → AreOfLanes b.desk.lanes b.desk.jobs
+begun_lanes s cut transcript b h = subst (λ n. AreOfLanes n b.desk.jobs) (sym h.lanes) h.of_lanes
+
+pub begun_order : (s : Session) (cut : Cut) (transcript : List ℕ) (b : Beginning) → HasBegun s cut transcript b → AreInOrder b.desk.lanes b.file.jobs b.file.ends
+begun_order s cut transcript b h =
+    subst (λ n. AreInOrder n b.file.jobs b.file.ends) (sym h.lanes)
+    (subst (λ js. AreInOrder s.lanes js b.file.ends) (sym h.file_jobs) (subst (AreInOrder s.lanes s.jobs) (sym h.file_ends) h.order))
+
+pub begun_told : (s : Session) (cut : Cut) (transcript : List ℕ) (b : Beginning) (told : Told) → HasBegun s cut transcript b → told.jobs ≡ b.jobs → told.batch_ends ≡ b.ends
+    → IsToldTo b.file.jobs b.file.ends b.count told
+begun_told s cut transcript b told h jobs ends =
+    subst (λ js. IsToldTo js b.file.ends b.count told) (sym h.file_jobs)
+    (subst (λ es. IsToldTo s.jobs es b.count told) (sym h.file_ends)
+    (record { known = h.known; all_jobs = jobs ∙ h.first_jobs; all_ends = ends ∙ h.first_ends }))
+
+file_of : (s : Session) (cut : Cut) (transcript : List ℕ) (b : Beginning) (held aft : Option (List ℕ)) (d : DeskShape) (told : Told) (result : Result (Unit {0}) RunFault) → HasBegun s cut transcript b
+    → FileTo held aft b.file.jobs b.file.ends d told result → FileTo held aft s.jobs s.batch_ends d told result
+file_of s cut transcript b held aft d told result h to =
+    subst (λ js. FileTo held aft js s.batch_ends d told result) h.file_jobs (subst (λ es. FileTo held aft b.file.jobs es d told result) h.file_ends to)
+
+-- a fault ended it at the requests
+pub stops_begun : (s : Session) (cut : Cut) (transcript : List ℕ) (b : Beginning) (before after : Streams) (d : DeskShape) (told : Told) (ending : RunFault) → HasBegun s cut transcript b
+    → after.input ≡ before.input → after.read_faults ≡ before.read_faults → CountsWrites ending before.write_faults after.write_faults
+    → FileTo before.output after.output b.file.jobs b.file.ends d told (Err ending) → IsWriteEnding ending → Serves (setting_of d) (next_input cut) PIECE before after told ending
+stops_begun s cut transcript b before after d told ending h unread reads writes to end =
+    stops_serves s cut s.lanes PIECE before after d told ending h.goes_on h.cut_jobs h.cut_ends unread reads writes (file_of s cut transcript b before.output after.output d told (Err ending) h to) end
+
+-- or it reads on
+pub serving_begun : (s : Session) (cut : Cut) (transcript : List ℕ) (b : Beginning) (before after : Streams) (d : DeskShape) (told : Told) → HasBegun s cut transcript b
+    → setting_of d ≡ setting_of b.desk → after.input ≡ before.input → after.read_faults ≡ before.read_faults → after.write_faults ≡ before.write_faults
+    → FileTo before.output after.output b.file.jobs b.file.ends d told (Ok tt) → IsServing (next_input cut) before after b.reader d told
+serving_begun s cut transcript b before after d told h same unread reads writes to =
+    let file = file_of s cut transcript b before.output after.output d told (Ok tt) h to in
+    serving_on s cut before after b.reader d told h.order h.goes_on h.cut_jobs h.cut_ends (lanes_of b.desk d same ∙ h.lanes) h.reader unread reads writes file.0 file.1
+
+-- a session behind it is one as it is promised
+pub served_begun : (s : Session) (cut : Cut) (transcript : List ℕ) (b : Beginning) (d : DeskShape) (room : ℕ) (before after : Streams) (told : Told) (ending : RunFault) → HasBegun s cut transcript b
+    → HistoriesKeepCompletable → HistoriesAreExact → setting_of d ≡ setting_of b.desk → room ≡ PIECE → IsLegal (opening_state d.opening) d.rounds told.entries
+    → Serves (setting_of d) (next_input cut) room before after told ending → Served (setting_behind s (length b.desk.entries)) (next_input cut) PIECE before after told ending
+served_begun s cut transcript b d room before after told ending h keeps exact same size legal serves =
+    let set = setting_behind s (length b.desk.entries) in
+    let is = set_behind s cut transcript b d h same in
+    serves_kept set (next_input cut) PIECE before after told ending h.policy keeps exact
+    (subst (λ (x : Setting). IsLegal (opening_state x.policy) x.rounds told.entries) is legal)
+    (subst (λ n. Serves set (next_input cut) n before after told ending) size (subst (λ (x : Setting). Serves x (next_input cut) room before after told ending) is serves))
+
+-- how it ends
+pub late_begun : (set : Setting) (first : Cut) (room : ℕ) (before after : Streams) (told : Told) (ending : RunFault) → Served set first room before after told ending → is_before_input ending ≡ false
+late_begun set first room before after told ending served = late_reads before.input after.input room (handed_in first told) ending served.reads
+
+-- ---- what was taken up
+
+pub begins_behind : (b d : DeskShape) (es : List Entry) → b.restored ≡ length b.entries → d.restored ≡ b.restored → take d.restored es ≡ take d.restored d.entries
+    → take b.restored d.entries ≡ take b.restored b.entries → take (length b.entries) es ≡ b.entries
+begins_behind b d es size same later first =
+    ap (λ n. take n es) (sym (same ∙ size)) ∙ later ∙ ap (λ n. take n d.entries) same ∙ first ∙ ap (λ n. take n b.entries) size ∙ take_all (length b.entries) b.entries (omega arith)
+
+pub none_before : (b : DeskShape) → b.restored ≡ length b.entries → AreAnsweredOnce (drop b.restored b.entries)
+none_before b size = subst AreAnsweredOnce (sym (drop_all b.restored b.entries (omega (arith, size)))) tt
+
+-- ---- the run
+
+-- what a run is, over a shelf and streams that are told
+pub is_untouched : (r : Run) → r.after.input ≡ r.before.input → r.after.output ≡ r.before.output → r.told ≡ nothing_told → IsUntouched r
+is_untouched r unread unwritten untold = record { unread = unread; unwritten = unwritten; untold = untold }
+
+-- a run that ends before its session keeps what every run keeps
+pub ended_orderly : (r : Run) → IsUntouched r → EndsBeginning (how_of r.fault) → CountsLoads r.fault r.load_faults r.load_faults_after → r.after.read_faults ≡ r.before.read_faults
+    → r.after.write_faults ≡ r.before.write_faults → IsOrderly r
+ended_orderly r nothing ending loads reads writes = record {
+  early = λ early. nothing;
+  loads = loads;
+  reads = subst (λ n. CountsReads r.fault r.before.read_faults n) (sym reads) (reads_so (how_of r.fault) r.before.read_faults ending);
+  writes = subst (λ n. CountsWrites r.fault r.before.write_faults n) (sym writes) (writes_so (how_of r.fault) r.before.write_faults ending);
+}
+
+-- the run of a transcript that is refused does too
+tells_late : (text : List ℕ) (before after : Option (List ℕ)) (ending : RunFault) → TellsAs text before after ending → is_before_input ending ≡ false
+tells_late text before after fault.Found tells = refl
+tells_late text before after fault.Write tells = refl
+tells_late text before after fault.NoMemory tells = refl
+tells_late text before after ending tells = absurd tells
+
+tells_reads : (text : List ℕ) (before after : Option (List ℕ)) (ending : RunFault) (count : ℕ) → TellsAs text before after ending → CountsReads ending count count
+tells_reads text before after fault.Found count tells = refl
+tells_reads text before after fault.Write count tells = omega arith
+tells_reads text before after fault.NoMemory count tells = omega arith
+tells_reads text before after ending count tells = absurd tells
+
+tells_loads : (text : List ℕ) (before after : Option (List ℕ)) (ending : RunFault) (count : ℕ) → TellsAs text before after ending → CountsLoads ending count count
+tells_loads text before after fault.Found count tells = refl
+tells_loads text before after fault.Write count tells = refl
+tells_loads text before after fault.NoMemory count tells = refl
+tells_loads text before after ending count tells = absurd tells
+
+pub told_orderly : (text : List ℕ) (r : Run) → TellsAs text r.before.output r.after.output r.fault → r.load_faults_after ≡ r.load_faults → r.after.read_faults ≡ r.before.read_faults
+    → CountsWrites r.fault r.before.write_faults r.after.write_faults → IsOrderly r
+told_orderly text r tells loads reads writes = record {
+  early = λ early. let late = tells_late text r.before.output r.after.output r.fault tells in absurd cc;
+  loads = subst (λ n. CountsLoads r.fault r.load_faults n) (sym loads) (tells_loads text r.before.output r.after.output r.fault r.load_faults tells);
+  reads = subst (λ n. CountsReads r.fault r.before.read_faults n) (sym reads) (tells_reads text r.before.output r.after.output r.fault r.before.read_faults tells);
+  writes = writes;
+}
+
+-- a transcript that is refused
+told_refusal : (s : Session) (cut : Cut) (transcript : List ℕ) (repeats : Bool) (number : ℕ) (kind : AuditKind) (r : Run) → IsRefused s transcript number kind
+    → r.after.input ≡ r.before.input → r.told ≡ nothing_told → (ending : RunFault) → r.fault ≡ ending → TellsAs (fault_line number kind) r.before.output r.after.output ending
+    → ResumesFrom s cut transcript repeats r
+told_refusal s cut transcript repeats number kind r refused unread untold fault.NoMemory is tells = inl (is, record { unread = unread; unwritten = tells; untold = untold })
+told_refusal s cut transcript repeats number kind r refused unread untold ending is tells =
+    inr (inl (record { number = number; kind = kind; refused = refused; unread = unread; untold = untold; tells = subst (TellsAs (fault_line number kind) r.before.output r.after.output) (sym is) tells }))
+
+-- entries behind a place are answered once where all are
+once_behind : (n : ℕ) (es : List Entry) → AreAnsweredOnce es → AreAnsweredOnce (drop n es)
+once_behind zero es once = once
+once_behind (suc n) [] once = tt
+once_behind (suc n) (e ∷ es) once = once_behind n es once.1
+
+-- ---- over the files
+
+-- a run that ended before its session
+pub ended_run : (names : Names) (options : Options) (repeats : Bool) (ending : RunFault) (r : Run) → AreOptions options → r.fault ≡ ending → IsUntouched r → IsOrderly r
+    → OverFiles r.files names options.lanes (StopsBy (Err (Ends ending))) (λ p cut transcript. BeginsBy (session_of p options.lanes options.rounds cut) cut transcript (Err (Ends ending)))
+    → ResumesRun names options repeats r
+ended_run names options repeats ending r within is nothing orderly over = record {
+  within = within;
+  resumes = files_map r.files names options.lanes (StopsBy (Err (Ends ending))) (EndsBy r)
+      (λ p cut transcript. BeginsBy (session_of p options.lanes options.rounds cut) cut transcript (Err (Ends ending)))
+      (λ p cut transcript. ResumesFrom (session_of p options.lanes options.rounds cut) cut transcript repeats r)
+      (λ x stops. let same : ending ≡ x = cc in (is ∙ same, nothing))
+      (λ p cut transcript sound lacks. inl (is ∙ lacks, nothing)) over;
+  orderly = orderly;
+}
+
+-- a run that told the first line of the transcript that is none
+pub refused_run : (names : Names) (options : Options) (repeats : Bool) (number : ℕ) (kind : AuditKind) (r : Run) → AreOptions options
+    → r.after.input ≡ r.before.input → r.told ≡ nothing_told → TellsAs (fault_line number kind) r.before.output r.after.output r.fault → IsOrderly r
+    → OverFiles r.files names options.lanes (StopsBy (Err (Line number kind))) (λ p cut transcript. BeginsBy (session_of p options.lanes options.rounds cut) cut transcript (Err (Line number kind)))
+    → ResumesRun names options repeats r
+refused_run names options repeats number kind r within unread untold tells orderly over = record {
+  within = within;
+  resumes = files_map r.files names options.lanes (StopsBy (Err (Line number kind))) (EndsBy r)
+      (λ p cut transcript. BeginsBy (session_of p options.lanes options.rounds cut) cut transcript (Err (Line number kind)))
+      (λ p cut transcript. ResumesFrom (session_of p options.lanes options.rounds cut) cut transcript repeats r)
+      (λ x stops. absurd cc)
+      (λ p cut transcript sound refused. told_refusal (session_of p options.lanes options.rounds cut) cut transcript repeats number kind r refused unread untold r.fault refl tells) over;
+  orderly = orderly;
+}
+
+-- what begins a session is there
+pub begun_there : (files : List ℕ → Filed) (names : Names) (options : Options) (b : Beginning)
+    → OverFiles files names options.lanes (StopsBy (Ok b)) (λ p cut transcript. BeginsBy (session_of p options.lanes options.rounds cut) cut transcript (Ok b))
+    → (s : Session) × ((cut : Cut) × ((transcript : List ℕ) × HasBegun s cut transcript b))
+begun_there files names options b over =
+    files_goal files names options.lanes (StopsBy (Ok b)) (λ p cut transcript. BeginsBy (session_of p options.lanes options.rounds cut) cut transcript (Ok b))
+    ((s : Session) × ((cut : Cut) × ((transcript : List ℕ) × HasBegun s cut transcript b)))
+    (λ x stops. absurd cc)
+    (λ p cut transcript begun. (session_of p options.lanes options.rounds cut, (cut, (transcript, begun)))) over
+
+went_orderly : (s : Session) (cut : Cut) (n : ℕ) (r : Run) → Served (setting_behind s n) (next_input cut) PIECE r.before r.after r.told r.fault → r.load_faults_after ≡ r.load_faults → IsOrderly r
+went_orderly s cut n r served loads =
+    let late = late_begun (setting_behind s n) (next_input cut) PIECE r.before r.after r.told r.fault served in
+    record {
+      early = λ early. absurd cc;
+      loads = loads_late r.fault r.load_faults r.load_faults_after late loads;
+      reads = served.read_faults;
+      writes = served.write_faults;
+    }
+
+-- a run whose session went on
+pub gone_on : (names : Names) (options : Options) (repeats : Bool) (b : Beginning) (r : Run) → AreOptions options → r.load_faults_after ≡ r.load_faults
+    → ((s : Session) (cut : Cut) (transcript : List ℕ) → HasBegun s cut transcript b → Served (setting_behind s (length b.desk.entries)) (next_input cut) PIECE r.before r.after r.told r.fault)
+    → take (length b.desk.entries) r.told.entries ≡ b.desk.entries → AreWantsRightful (drop (length b.desk.entries) r.told.entries)
+    → (repeats ≡ false → AreAnsweredOnce (drop (length b.desk.entries) r.told.entries) ⊎ (options.rounds ≡ 0))
+    → OverFiles r.files names options.lanes (StopsBy (Ok b)) (λ p cut transcript. BeginsBy (session_of p options.lanes options.rounds cut) cut transcript (Ok b))
+    → ResumesRun names options repeats r
+gone_on names options repeats b r within loads served begins wants once over = record {
+  within = within;
+  resumes = files_map r.files names options.lanes (StopsBy (Ok b)) (EndsBy r)
+      (λ p cut transcript. BeginsBy (session_of p options.lanes options.rounds cut) cut transcript (Ok b))
+      (λ p cut transcript. ResumesFrom (session_of p options.lanes options.rounds cut) cut transcript repeats r)
+      (λ x stops. absurd cc)
+      (λ p cut transcript sound begun.
+      let s = session_of p options.lanes options.rounds cut in
+      let all = served s cut transcript begun in
+      inr (inr (record {
+        entries = b.desk.entries;
+        taken = begun.taken;
+        begins = begins;
+        served = all;
+        wants = wants;
+        once = λ never. elim (once never) [
+          | inl so ↦ so
+          | inr none ↦ once_behind (length b.desk.entries) r.told.entries (once_legal (opening_state p) options.rounds r.told.entries all.legal none)
+        ];
+      }))) over;
+  orderly = let h = begun_there r.files names options b over in went_orderly h.0 h.1.0 (length b.desk.entries) r (served h.0 h.1.0 h.1.1.0 h.1.1.1) loads;
+}

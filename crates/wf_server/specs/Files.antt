@@ -1,0 +1,29 @@
+-- Inside: answering the jobs of a requests file, batch after batch.
+use Rattle.std.specs.Prelude.{◌≡◌, ℕ, ◌<◌, ◌≤◌, List, length, take, Option, Result, Ok, Err}
+use Rattle.wf_talk.specs.declared.job.Job.{Job}
+use Rattle.wf_board.specs.Histories.{batch_start}
+use Rattle.wf_desk.specs.Desks.{DeskShape}
+use Rattle.run_record.specs.declared.fault.RunFault.{RunFault}
+use Rattle.run_record.specs.declared.fault.RunFault.TheVariants.{Write}
+use Rattle.run_record.specs.Report.{Told}
+use Rattle.wf_server.specs.Batches.{HasAnswered, HasAnsweredPart}
+use Rattle.wf_server.specs.Ways.{setting_of}
+
+-- the jobs of so many batches of a file are told, from the first on
+pub record IsToldTo (jobs : List Job) (batch_ends : List ℕ) (count : ℕ) (told : Told) : Type 0 where
+  pub known : count ≤ length batch_ends
+  pub all_jobs : told.jobs ≡ take (batch_start batch_ends count) jobs
+  pub all_ends : told.batch_ends ≡ take count batch_ends
+
+-- the jobs of some batches are told, where a fault ends the session; where writing failed there are some
+pub record StopsIn (jobs : List Job) (batch_ends : List ℕ) (fault : RunFault) (told : Told) : Type 0 where
+  pub count : ℕ
+  pub to : IsToldTo jobs batch_ends count told
+  pub some : fault ≡ Write → 0 < length told.jobs
+
+-- what came of answering the jobs of a file
+abbrev pub FileTo : Option (List ℕ) → Option (List ℕ) → List Job → List ℕ → DeskShape → Told → Result (Unit {0}) RunFault → Type 0
+FileTo held held-after jobs batch_ends d told (Ok done) =
+    IsToldTo jobs batch_ends (length batch_ends) told × HasAnswered held held-after d told
+FileTo held held-after jobs batch_ends d told (Err fault) =
+    StopsIn jobs batch_ends fault told × HasAnsweredPart (setting_of d) held held-after told

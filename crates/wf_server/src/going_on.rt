@@ -1,0 +1,134 @@
+//! The command `resume`: it goes on from the transcript of an earlier session.
+ghost use Rattle.std.specs.Prelude.{◌≡◌, Bool, true, false, ℕ, List, length, take, drop};
+ghost use Rattle.std.proofs.Common.{◌⊎◌};
+ghost use Rattle.run_record.specs.Fault.{status_of, CountsWrites};
+ghost use Rattle.run_record.specs.Report.{told_by};
+ghost use Rattle.run_record.specs.Run.{run_of, streams_of};
+ghost use Rattle.wf_board.specs.Histories.{AreAnsweredOnce, AreWantsRightful};
+ghost use Rattle.line_cutter.specs.Jobs.{Cut, next_input};
+ghost use Rattle.transcript_resume.specs.Resumed.{Session};
+ghost use Rattle.resume_command.specs.declared.begin.TheConstants.{PIECE};
+ghost use Rattle.resume_command.specs.Begun.{HasBegun};
+ghost use Rattle.audit_command.specs.Auditing.{fault_line};
+ghost use Rattle.command_words.specs.Words.{AreOptions};
+ghost use Rattle.command_words.specs.Asked.{options_in};
+ghost use Rattle.wf_server.specs.Sessions.{Served};
+ghost use Rattle.wf_server.specs.Resuming.{ResumesRun, TellsAs, setting_behind};
+ghost use Rattle.wf_server.specs.Ways.{IsWay, ServesOnce};
+
+use crate::batch::Answered;
+use crate::file::answer_requests;
+use crate::session::{report_of, serve_batches};
+use audit_command::fault_text;
+use case_views::PlainDecider;
+use command_words::Options;
+use resume_command::{Beginning, Refusal, begin};
+use run_record::{Report, RunFault, bare_report};
+use std::alloc::Global;
+use transcript_audit::AuditKind;
+use wf_board::laws::{histories_are_exact, histories_keep_completable};
+use wf_desk::Desk;
+use wf_outside::{Shelf, Sink, Source, put_and_flush};
+
+/// Takes up the transcript of an earlier session over a policy and requests, answers the requests
+/// that have no entry, and then those in the input, in a way of serving.
+pub(crate) fn run_resume<F: Shelf, S: Source, K: Sink, W: Fn(Desk) -> Desk>(
+    alloc: Global,
+    way: &W,
+    policy: &str,
+    requests: &str,
+    transcript: &str,
+    options: Options,
+    shelf: &mut F,
+    source: &mut S,
+    sink: &mut K,
+) -> Report
+    requires way { IsWay (W.pre way.now) (W.post way.now) }
+    requires options { AreOptions (options_in options) }
+    ensures status { result.status ≡ status_of result.fault }
+    ensures usage { result.fault ≡ RunFault.Usage → ⊥ }
+    ensures resumes { (repeats : Bool) →
+        (repeats ≡ false → ServesOnce (W.post way.now) ⊎ (options.rounds ≡ 0)) →
+        ResumesRun (record
+        { policy = policy.now; requests = requests.now; transcript = transcript.now })
+        (options_in options) repeats (
+        run_of F.file F.faults shelf.old shelf.new
+        (streams_of S.left S.faults K.held K.faults source.old sink.old)
+        (streams_of S.left S.faults K.held K.faults source.new sink.new) result) }
+{
+    match begin(
+        alloc,
+        &PlainDecider,
+        policy,
+        requests,
+        transcript,
+        options.lanes,
+        options.rounds,
+        shelf,
+    ) {
+        Ok(beginning) => go_on(alloc, way, beginning, source, sink),
+        Err(Refusal::Ends(fault)) => bare_report(alloc, fault),
+        Err(Refusal::Line(n, kind)) => bare_report(alloc, tell_fault(alloc, n, kind, sink)),
+    }
+}
+
+// The session behind the entries that were taken up.
+fn go_on<S: Source, K: Sink, W: Fn(Desk) -> Desk>(
+    alloc: Global,
+    way: &W,
+    beginning: Beginning,
+    source: &mut S,
+    sink: &mut K,
+) -> Report
+    requires way { IsWay (W.pre way.now) (W.post way.now) }
+    requires some { 0 < beginning.desk.lanes }
+    requires begun { (s : Session) × ((cut : Cut) × ((transcript : List ℕ)
+        × HasBegun s cut transcript beginning)) }
+    ensures served { (s : Session) (cut : Cut) (transcript : List ℕ) →
+        HasBegun s cut transcript beginning →
+        Served (setting_behind s (length beginning.desk.entries)) (next_input cut) PIECE
+        (streams_of S.left S.faults K.held K.faults source.old sink.old)
+        (streams_of S.left S.faults K.held K.faults source.new sink.new)
+        (told_by result) result.fault }
+    ensures begins { take (length beginning.desk.entries) (told_by result).entries
+        ≡ beginning.desk.entries }
+    ensures once { ServesOnce (W.post way.now)
+        → AreAnsweredOnce (drop (length beginning.desk.entries) (told_by result).entries) }
+    ensures wants { AreWantsRightful
+        (drop (length beginning.desk.entries) (told_by result).entries) }
+    ensures status { result.status ≡ status_of result.fault }
+{
+    histories_keep_completable();
+    histories_are_exact();
+    let Beginning {
+        desk,
+        file,
+        count,
+        jobs,
+        ends,
+        mut reader,
+    } = beginning;
+    let mut told = Answered {
+        jobs,
+        batch_ends: ends,
+    };
+    let (served, answered) = answer_requests(alloc, way, desk, &mut told, &file, count, sink);
+    match answered {
+        Ok(()) => serve_batches(alloc, way, &mut reader, served, told, source, sink),
+        Err(fault) => report_of(fault, served, told),
+    }
+}
+
+// Writes the line that tells the fault of a transcript; how the run ends.
+fn tell_fault<K: Sink>(alloc: Global, n: u32, kind: AuditKind, sink: &mut K) -> RunFault
+    ensures tells { TellsAs (fault_line n kind) (K.held sink.old) (K.held sink.new) result }
+    ensures counts { CountsWrites result (K.faults sink.old) (K.faults sink.new) }
+{
+    let Ok(text) = fault_text(alloc, n, kind) else {
+        return RunFault::NoMemory;
+    };
+    match put_and_flush(sink, text.as_bytes()) {
+        Ok(()) => RunFault::Found,
+        Err(_) => RunFault::Write,
+    }
+}
