@@ -8,13 +8,13 @@ use Rattle.cnf_export.specs.Encoders.{EncoderShape}
 use Rattle.cnf_text.specs.Dimacs.{dimacs_text}
 use Rattle.run_record.specs.declared.fault.RunFault.{RunFault}
 use Rattle.run_record.specs.declared.fault.RunFault.TheVariants.{Nothing, Write, NoMemory, Load}
-use Rattle.run_record.specs.Fault.{CountsLoads, CountsReadsAlone}
+use Rattle.run_record.specs.Fault.{fault_in, CountsLoads, CountsReadsAlone}
 use Rattle.run_record.specs.Report.{nothing_told}
 use Rattle.run_record.specs.Run.{Run, OverFile}
 use Rattle.wf_commands.specs.Answer.{AnswersFile, IsCommandEnding}
 use Rattle.wf_commands.specs.Once.{Ends, HasReadAll, OverPolicy, ReadsInput, RunsOnce}
-use Rattle.wf_commands.specs.Load.{EndsTooLong}
-use Rattle.wf_commands.proofs.Runs.{loaded, without_answer, WritesNothing}
+use Rattle.wf_commands.specs.Load.{EndsTooLong, IsLoadEnding}
+use Rattle.wf_commands.proofs.Runs.{loaded, unread, without_answer, WritesNothing}
 use Rattle.cnf_command.specs.Running.{BreaksOff, EndsEarly, EndsWithout, HasWritten}
 use Rattle.cnf_command.specs.Steps.{EncodesFile}
 
@@ -120,3 +120,9 @@ pub model_stays : (filed : Filed) (fault : RunFault) → EndsWithout filed Nothi
 model_stays untold fault h = tt
 model_stays missing fault h = absurd (early_nothing h)
 model_stays (told file) fault h = λ long. absurd (early_nothing (h long))
+
+-- where no policy was loaded nothing is read
+pub unread_clauses : (result : Result EncoderShape RunFault) (fault : RunFault) (left : Option (List ℕ)) → IsErrAnd result (λ e. e ≡ fault) → IsLoadEnding fault
+    → ReadsInput (Some LINE_LIMIT) (fault_in result) left left
+unread_clauses (Ok e) fault left is ending = absurd is
+unread_clauses (Err e) fault left is ending = rw is (unread (Some LINE_LIMIT) fault left ending)

@@ -20,7 +20,7 @@ use Rattle.run_record.specs.declared.fault.RunFault.TheVariants.{Nothing, Found,
 use Rattle.run_record.specs.declared.fault.InputFault.TheVariants.{NoFlow, Syntax, Length, NoUser, Model}
 use Rattle.run_record.specs.Fault.{How, unasked, answered, misfiled, refused, unloaded, unread, unwritten, lacking, how_of}
 use Rattle.wf_commands.specs.declared.answer.Answer.{Answer}
-use Rattle.wf_commands.specs.Answer.{ending_with, AnswersAs, RefusesSo}
+use Rattle.wf_commands.specs.Answer.{ending_with, AnswersAs, AnswersFile, RefusesSo}
 use Rattle.wf_commands.specs.Input.{number_named}
 use Rattle.wf_commands.specs.Given.{GivesInput, IsInputEnding}
 use Rattle.wf_commands.specs.Once.{OverPolicy}
@@ -92,8 +92,8 @@ case_given p f input (Err TooManyLines) within h = absurd h
 case_given p f input (Err TooLarge) within h = absurd h
 
 -- an input that was taken is read as a case
-pub case_taken : (p : PolicyShape) (f : ℕ) (told : Option (List ℕ)) (bytes : List ℕ) (result : Result Case RunFault)
-    → IfSome told (λ input. GivesInput LINE_LIMIT input (Ok bytes)) → ReadsCase p f bytes result → IfSome told (λ input. GivesCase p f input result)
+pub case_taken : (p : PolicyShape) (f : ℕ) (seen : Option (List ℕ)) (bytes : List ℕ) (result : Result Case RunFault)
+    → IfSome seen (λ input. GivesInput LINE_LIMIT input (Ok bytes)) → ReadsCase p f bytes result → IfSome seen (λ input. GivesCase p f input result)
 case_taken p f None bytes result given h = tt
 case_taken p f (Some input) bytes result given h =
     subst (λ (x : List ℕ). GivesCase p f x result) given.1 (case_given p f bytes result (subst (λ (x : List ℕ). length x ≤ LINE_LIMIT) (sym given.1) given.0) h)
@@ -103,8 +103,8 @@ over_case : (p : PolicyShape) (f : ℕ) (input : List ℕ) (c : Case) (A : Case 
 over_case p f input c A fault text given h = rw (le-ltb LINE_LIMIT (length input) given.0, given.1) h
 
 -- the answers about a case are answers about its input
-pub over_told : (p : PolicyShape) (f : ℕ) (told : Option (List ℕ)) (c : Case) (A : Case → RunFault → List ℕ → Type 0) (fault : RunFault) (text : List ℕ)
-    → IfSome told (λ input. GivesCase p f input (Ok c)) → A c fault text → IfSome told (λ input. OverCase p f A input fault text)
+pub over_told : (p : PolicyShape) (f : ℕ) (seen : Option (List ℕ)) (c : Case) (A : Case → RunFault → List ℕ → Type 0) (fault : RunFault) (text : List ℕ)
+    → IfSome seen (λ input. GivesCase p f input (Ok c)) → A c fault text → IfSome seen (λ input. OverCase p f A input fault text)
 over_told p f None c A fault text given h = tt
 over_told p f (Some input) c A fault text given h = over_case p f input c A fault text given h
 
@@ -113,23 +113,23 @@ too_long : (p : PolicyShape) (f : ℕ) (A : Case → RunFault → List ℕ → T
 too_long p f A input line given = rw (lt-ltb LINE_LIMIT (length input) given.0) (ap LineTooLong given.1, refl)
 
 -- an input that is no case is refused
-pub case_refused : (p : PolicyShape) (f : ℕ) (told : Option (List ℕ)) (fault : RunFault) (A : Case → RunFault → List ℕ → Type 0)
-    → IfSome told (λ input. GivesCase p f input (Err fault)) → IsCaseEnding fault → RefusesSo (how_of fault) (λ fault text. IfSome told (λ input. OverCase p f A input fault text)) fault
-case_refused p f told Read A given ending = tt
-case_refused p f told NoMemory A given ending = tt
+pub case_refused : (p : PolicyShape) (f : ℕ) (seen : Option (List ℕ)) (fault : RunFault) (A : Case → RunFault → List ℕ → Type 0)
+    → IfSome seen (λ input. GivesCase p f input (Err fault)) → IsCaseEnding fault → RefusesSo (how_of fault) (λ fault text. IfSome seen (λ input. OverCase p f A input fault text)) fault
+case_refused p f seen Read A given ending = tt
+case_refused p f seen NoMemory A given ending = tt
 case_refused p f None (LineTooLong line) A given ending = tt
 case_refused p f (Some input) (LineTooLong line) A given ending = too_long p f A input line given
 case_refused p f None (BadInput e) A given ending = tt
 case_refused p f (Some input) (BadInput e) A given ending = rw (le-ltb LINE_LIMIT (length input) given.0, given.1) (refl, refl)
-case_refused p f told Nothing A given ending = absurd ending
-case_refused p f told Found A given ending = absurd ending
-case_refused p f told Usage A given ending = absurd ending
-case_refused p f told (Policy e) A given ending = absurd ending
-case_refused p f told Write A given ending = absurd ending
-case_refused p f told Load A given ending = absurd ending
-case_refused p f told FileTooLong A given ending = absurd ending
-case_refused p f told TooManyLines A given ending = absurd ending
-case_refused p f told TooLarge A given ending = absurd ending
+case_refused p f seen Nothing A given ending = absurd ending
+case_refused p f seen Found A given ending = absurd ending
+case_refused p f seen Usage A given ending = absurd ending
+case_refused p f seen (Policy e) A given ending = absurd ending
+case_refused p f seen Write A given ending = absurd ending
+case_refused p f seen Load A given ending = absurd ending
+case_refused p f seen FileTooLong A given ending = absurd ending
+case_refused p f seen TooManyLines A given ending = absurd ending
+case_refused p f seen TooLarge A given ending = absurd ending
 
 -- ---- the clauses
 
@@ -166,33 +166,33 @@ clauses_written p f c e law sound known given = record {
 
 -- the answers about the case in the input
 abbrev AboutCase : PolicyShape → ℕ → Option (List ℕ) → (Case → RunFault → List ℕ → Type 0) → RunFault → List ℕ → Type 0
-AboutCase p f told A fault text = IfSome told (λ input. OverCase p f A input fault text)
+AboutCase p f seen A fault text = IfSome seen (λ input. OverCase p f A input fault text)
 
 abbrev ClausesOf : PolicyShape → ℕ → Case → RunFault → List ℕ → Type 0
 ClausesOf p f c fault text = UnlessLarge p f c (TellsClauses p f c) fault text
 
-asked_clauses : (p : PolicyShape) (word : List ℕ) (f : ℕ) (told : Option (List ℕ)) (fault : RunFault) (text : List ℕ) → number_named p.flow_names word ≡ Some f
-    → AboutCase p f told (ClausesOf p f) fault text → ClausesAsked p word told fault text
-asked_clauses p word f told fault text named h = rw named h
+asked_clauses : (p : PolicyShape) (word : List ℕ) (f : ℕ) (seen : Option (List ℕ)) (fault : RunFault) (text : List ℕ) → number_named p.flow_names word ≡ Some f
+    → AboutCase p f seen (ClausesOf p f) fault text → ClausesAsked p word seen fault text
+asked_clauses p word f seen fault text named h = rw named h
 
-pub encodes_case : (p : PolicyShape) (word : List ℕ) (f : ℕ) (c : Case) (told : Option (List ℕ)) (result : Result EncoderShape RunFault) → number_named p.flow_names word ≡ Some f
-    → SatisfiableIsCompletable → AreSound (problem_of p f) → IsCaseOf (problem_of p f) c → IfSome told (λ input. GivesCase p f input (Ok c)) → GivesEncoder p f c result
-    → EncodesAs (ClausesAsked p word told) result
-encodes_case p word f c told (Ok e) named law sound known taken given =
+pub encodes_case : (p : PolicyShape) (word : List ℕ) (f : ℕ) (c : Case) (seen : Option (List ℕ)) (result : Result EncoderShape RunFault) → number_named p.flow_names word ≡ Some f
+    → SatisfiableIsCompletable → AreSound (problem_of p f) → IsCaseOf (problem_of p f) c → IfSome seen (λ input. GivesCase p f input (Ok c)) → GivesEncoder p f c result
+    → EncodesAs (ClausesAsked p word seen) result
+encodes_case p word f c seen (Ok e) named law sound known taken given =
     let text = dimacs_text e.variables e.all in
-    asked_clauses p word f told Nothing text named
-    (over_told p f told c (ClausesOf p f) Nothing text taken
+    asked_clauses p word f seen Nothing text named
+    (over_told p f seen c (ClausesOf p f) Nothing text taken
     (few_literals p f c (TellsClauses p f c) Nothing text given.0 (clauses_written p f c e law sound known given)))
-encodes_case p word f c told (Err fault) named law sound known taken given =
-    refuses_by (UnlessLarge p f c (TellsClauses p f c)) (ClausesAsked p word told) (how_of fault) fault
-    (λ h. asked_clauses p word f told fault [] named (over_told p f told c (ClausesOf p f) fault [] taken h)) (large_refused p f c (TellsClauses p f c) fault given)
+encodes_case p word f c seen (Err fault) named law sound known taken given =
+    refuses_by (UnlessLarge p f c (TellsClauses p f c)) (ClausesAsked p word seen) (how_of fault) fault
+    (λ h. asked_clauses p word f seen fault [] named (over_told p f seen c (ClausesOf p f) fault [] taken h)) (large_refused p f c (TellsClauses p f c) fault given)
 
-pub encodes_no_case : (p : PolicyShape) (word : List ℕ) (f : ℕ) (told : Option (List ℕ)) (result : Result EncoderShape RunFault) (fault : RunFault) → IsErrAnd result (λ e. e ≡ fault)
-    → number_named p.flow_names word ≡ Some f → IfSome told (λ input. GivesCase p f input (Err fault)) → IsCaseEnding fault → EncodesAs (ClausesAsked p word told) result
-encodes_no_case p word f told result fault is named given ending =
-    encodes_failed (ClausesAsked p word told) result fault is
-    (refuses_by (AboutCase p f told (ClausesOf p f)) (ClausesAsked p word told) (how_of fault) fault
-    (λ h. asked_clauses p word f told fault [] named h) (case_refused p f told fault (ClausesOf p f) given ending))
+pub encodes_no_case : (p : PolicyShape) (word : List ℕ) (f : ℕ) (seen : Option (List ℕ)) (result : Result EncoderShape RunFault) (fault : RunFault) → IsErrAnd result (λ e. e ≡ fault)
+    → number_named p.flow_names word ≡ Some f → IfSome seen (λ input. GivesCase p f input (Err fault)) → IsCaseEnding fault → EncodesAs (ClausesAsked p word seen) result
+encodes_no_case p word f seen result fault is named given ending =
+    encodes_failed (ClausesAsked p word seen) result fault is
+    (refuses_by (AboutCase p f seen (ClausesOf p f)) (ClausesAsked p word seen) (how_of fault) fault
+    (λ h. asked_clauses p word f seen fault [] named h) (case_refused p f seen fault (ClausesOf p f) given ending))
 
 -- ---- the policy in a file
 
@@ -231,6 +231,16 @@ pub encodes_no_policy : (A : PolicyShape → RunFault → List ℕ → Type 0) (
     → GivesPolicy f (Err fault) → IsLoadEnding fault → EncodesFile A f result
 encodes_no_policy A f (Ok x) fault is gives ending = absurd is
 encodes_no_policy A f (Err e) fault is gives ending = rw is (encodes_none A f fault gives ending)
+
+answers_none : (A : PolicyShape → RunFault → List ℕ → Type 0) (f : Filed) (fault : RunFault) → GivesPolicy f (Err fault) → IsLoadEnding fault → AnswersFile A f (Err fault)
+answers_none A untold fault gives ending = (gives.0, policy_refused A gives.0 fault gives.1 ending)
+answers_none A missing fault gives ending = cc
+answers_none A (told file) fault gives ending = policy_refused A file fault gives ending
+
+pub answers_no_policy : (A : PolicyShape → RunFault → List ℕ → Type 0) (f : Filed) (result : Result Answer RunFault) (fault : RunFault) → IsErrAnd result (λ e. e ≡ fault)
+    → GivesPolicy f (Err fault) → IsLoadEnding fault → AnswersFile A f result
+answers_no_policy A f (Ok x) fault is gives ending = absurd is
+answers_no_policy A f (Err e) fault is gives ending = rw is (answers_none A f fault gives ending)
 
 -- ---- the model
 
@@ -317,37 +327,37 @@ abbrev ModelOf : PolicyShape → ℕ → List ℕ → Case → RunFault → List
 ModelOf p f model c fault text = UnlessLarge p f c (ReadsModel p f model c) fault text
 
 abbrev AboutModel : PolicyShape → ℕ → Option (List ℕ) → List ℕ → RunFault → List ℕ → Type 0
-AboutModel p f told model fault text = AboutCase p f told (ModelOf p f model) fault text
+AboutModel p f seen model fault text = AboutCase p f seen (ModelOf p f model) fault text
 
-asked_model : (p : PolicyShape) (word : List ℕ) (f : ℕ) (filed : Filed) (told : Option (List ℕ)) (fault : RunFault) (text : List ℕ) → number_named p.flow_names word ≡ Some f
-    → OverModel (AboutModel p f told) filed fault text → ModelAsked p word filed told fault text
-asked_model p word f filed told fault text named h = rw named h
+asked_model : (p : PolicyShape) (word : List ℕ) (f : ℕ) (filed : Filed) (seen : Option (List ℕ)) (fault : RunFault) (text : List ℕ) → number_named p.flow_names word ≡ Some f
+    → OverModel (AboutModel p f seen) filed fault text → ModelAsked p word filed seen fault text
+asked_model p word f filed seen fault text named h = rw named h
 
 -- the model was not loaded
-pub answers_no_model : (p : PolicyShape) (word : List ℕ) (f : ℕ) (filed : Filed) (told : Option (List ℕ)) (result : Result Answer RunFault) (fault : RunFault) → IsErrAnd result (λ e. e ≡ fault)
-    → number_named p.flow_names word ≡ Some f → GivesBytes MODEL_FILE_LIMIT filed (Err fault) → IsLoadEnding fault → AnswersAs (ModelAsked p word filed told) result
-answers_no_model p word f filed told result fault is named gives ending =
-    answers_failed (ModelAsked p word filed told) result fault is
-    (refuses_by (OverModel (AboutModel p f told) filed) (ModelAsked p word filed told) (how_of fault) fault
-    (λ h. asked_model p word f filed told fault [] named h) (model_refused (AboutModel p f told) filed fault gives ending))
+pub answers_no_model : (p : PolicyShape) (word : List ℕ) (f : ℕ) (filed : Filed) (seen : Option (List ℕ)) (result : Result Answer RunFault) (fault : RunFault) → IsErrAnd result (λ e. e ≡ fault)
+    → number_named p.flow_names word ≡ Some f → GivesBytes MODEL_FILE_LIMIT filed (Err fault) → IsLoadEnding fault → AnswersAs (ModelAsked p word filed seen) result
+answers_no_model p word f filed seen result fault is named gives ending =
+    answers_failed (ModelAsked p word filed seen) result fault is
+    (refuses_by (OverModel (AboutModel p f seen) filed) (ModelAsked p word filed seen) (how_of fault) fault
+    (λ h. asked_model p word f filed seen fault [] named h) (model_refused (AboutModel p f seen) filed fault gives ending))
 
 -- the input is no case
-pub answers_no_case : (p : PolicyShape) (word : List ℕ) (f : ℕ) (filed : Filed) (bytes : List ℕ) (told : Option (List ℕ)) (result : Result Answer RunFault) (fault : RunFault) → IsErrAnd result (λ e. e ≡ fault)
-    → number_named p.flow_names word ≡ Some f → GivesBytes MODEL_FILE_LIMIT filed (Ok bytes) → IfSome told (λ input. GivesCase p f input (Err fault)) → IsCaseEnding fault
-    → AnswersAs (ModelAsked p word filed told) result
-answers_no_case p word f filed bytes told result fault is named gives given ending =
-    answers_failed (ModelAsked p word filed told) result fault is
-    (refuses_by (AboutModel p f told bytes) (ModelAsked p word filed told) (how_of fault) fault
-    (λ h. asked_model p word f filed told fault [] named (over_model (AboutModel p f told) filed bytes fault [] gives h))
-    (case_refused p f told fault (ModelOf p f bytes) given ending))
+pub answers_no_case : (p : PolicyShape) (word : List ℕ) (f : ℕ) (filed : Filed) (bytes : List ℕ) (seen : Option (List ℕ)) (result : Result Answer RunFault) (fault : RunFault) → IsErrAnd result (λ e. e ≡ fault)
+    → number_named p.flow_names word ≡ Some f → GivesBytes MODEL_FILE_LIMIT filed (Ok bytes) → IfSome seen (λ input. GivesCase p f input (Err fault)) → IsCaseEnding fault
+    → AnswersAs (ModelAsked p word filed seen) result
+answers_no_case p word f filed bytes seen result fault is named gives given ending =
+    answers_failed (ModelAsked p word filed seen) result fault is
+    (refuses_by (AboutModel p f seen bytes) (ModelAsked p word filed seen) (how_of fault) fault
+    (λ h. asked_model p word f filed seen fault [] named (over_model (AboutModel p f seen) filed bytes fault [] gives h))
+    (case_refused p f seen fault (ModelOf p f bytes) given ending))
 
 -- the model is read for the case
-pub answers_told : (p : PolicyShape) (word : List ℕ) (f : ℕ) (filed : Filed) (bytes : List ℕ) (told : Option (List ℕ)) (c : Case) (result : Result Answer RunFault)
-    → number_named p.flow_names word ≡ Some f → GivesBytes MODEL_FILE_LIMIT filed (Ok bytes) → IfSome told (λ input. GivesCase p f input (Ok c))
-    → AnswersAs (UnlessLarge p f c (ReadsModel p f bytes c)) result → AnswersAs (ModelAsked p word filed told) result
-answers_told p word f filed bytes told c result named gives given h =
-    answers_by (UnlessLarge p f c (ReadsModel p f bytes c)) (ModelAsked p word filed told) result
-    (λ fault text says. asked_model p word f filed told fault text named (over_model (AboutModel p f told) filed bytes fault text gives (over_told p f told c (ModelOf p f bytes) fault text given says))) h
+pub answers_told : (p : PolicyShape) (word : List ℕ) (f : ℕ) (filed : Filed) (bytes : List ℕ) (seen : Option (List ℕ)) (c : Case) (result : Result Answer RunFault)
+    → number_named p.flow_names word ≡ Some f → GivesBytes MODEL_FILE_LIMIT filed (Ok bytes) → IfSome seen (λ input. GivesCase p f input (Ok c))
+    → AnswersAs (UnlessLarge p f c (ReadsModel p f bytes c)) result → AnswersAs (ModelAsked p word filed seen) result
+answers_told p word f filed bytes seen c result named gives given h =
+    answers_by (UnlessLarge p f c (ReadsModel p f bytes c)) (ModelAsked p word filed seen) result
+    (λ fault text says. asked_model p word f filed seen fault text named (over_model (AboutModel p f seen) filed bytes fault text gives (over_told p f seen c (ModelOf p f bytes) fault text given says))) h
 
 -- ---- a run whose model is not there
 

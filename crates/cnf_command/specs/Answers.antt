@@ -54,9 +54,9 @@ pub record TellsClauses (p : PolicyShape) (f : ℕ) (c : Case) (fault : RunFault
 
 -- the clauses of the case in the input, where it is told, and of the workflow that is named
 abbrev pub ClausesAsked : PolicyShape → List ℕ → Option (List ℕ) → RunFault → List ℕ → Type 0
-ClausesAsked p word told fault text =
+ClausesAsked p word seen fault text =
     MatchOption (number_named p.flow_names word) (Refuses (BadInput NoFlow) fault text)
-    (λ f. IfSome told (λ input.
+    (λ f. IfSome seen (λ input.
     OverCase p f (λ c. UnlessLarge p f c (TellsClauses p f c)) input fault text))
 
 -- the line of a plan: the JSON array of its users' names in the order of the steps
@@ -103,8 +103,8 @@ OverModel Answers (told model) fault text = OverText Answers model fault text
 
 -- what a model says of the case in the input, where it is told, and of the workflow that is named
 abbrev pub ModelAsked : PolicyShape → List ℕ → Filed → Option (List ℕ) → RunFault → List ℕ → Type 0
-ModelAsked p word filed told fault text =
+ModelAsked p word filed seen fault text =
     MatchOption (number_named p.flow_names word) (Refuses (BadInput NoFlow) fault text)
-    (λ f. OverModel (λ model fault text. IfSome told (λ input.
+    (λ f. OverModel (λ model fault text. IfSome seen (λ input.
     OverCase p f (λ c. UnlessLarge p f c (ReadsModel p f model c)) input fault text))
     filed fault text)

@@ -15,7 +15,7 @@ use Rattle.wf_commands.specs.Load.{EndsLoading, GivesBytes, GivesPolicy}
 use Rattle.transcript_audit.specs.declared.fault.AuditFault.{AuditFault}
 use Rattle.transcript_audit.specs.declared.fault.AuditFault.TheVariants as audit
 use Rattle.transcript_resume.specs.Resumed.{first_long, whole_lines}
-use Rattle.resume_command.specs.declared.begin.TheConstants.{TRANSCRIPT_FILE_LIMIT}
+use Rattle.resume_command.specs.declared.start.TheConstants.{TRANSCRIPT_FILE_LIMIT}
 use Rattle.resume_command.specs.Loading.{GivesCut, IsCutOf, Names, OverBoth, OverFiled, OverFiles, OverLong, OverPolicy, OverRequests, OverStop, OverText, OverTranscript, OverTranscriptFile, ending_at}
 use Rattle.resume_command.specs.Begun.{EndsBeginning, EndsLoaded, fault_by}
 use Rattle.resume_command.specs.Refusing.{refused_by}

@@ -11,8 +11,8 @@ use Rattle.batch_reader.specs.Reading.{ReaderShape}
 use Rattle.transcript_audit.specs.declared.fault.AuditFault.{AuditFault}
 use Rattle.transcript_audit.specs.declared.fault.AuditFault.TheVariants.{At, NoMemory}
 use Rattle.transcript_resume.specs.Resumed.{HasResumed, RefusesBy, Session}
-use Rattle.resume_command.specs.declared.begin.Beginning.{Beginning}
-use Rattle.resume_command.specs.declared.begin.TheConstants.{PIECE}
+use Rattle.resume_command.specs.declared.start.Beginning.{Beginning}
+use Rattle.resume_command.specs.declared.start.TheConstants.{PIECE}
 use Rattle.resume_command.specs.Begun.{BeginsBy, HasBegun, StandsAt, ends_to, session_of}
 use Rattle.resume_command.specs.Loading.{IsCutOf}
 use Rattle.resume_command.specs.Refusing.{refused_by}

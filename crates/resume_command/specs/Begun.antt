@@ -14,8 +14,8 @@ use Rattle.run_record.specs.declared.fault.RunFault.{RunFault}
 use Rattle.run_record.specs.declared.fault.RunFault.TheVariants.{Nothing, NoMemory}
 use Rattle.run_record.specs.Fault.{How, unasked, answered, refused, unread, unwritten, lacking}
 use Rattle.transcript_resume.specs.Resumed.{IsRefused, IsTakenUp, Session}
-use Rattle.resume_command.specs.declared.begin.Beginning.{Beginning}
-use Rattle.resume_command.specs.declared.begin.TheConstants.{PIECE}
+use Rattle.resume_command.specs.declared.start.Beginning.{Beginning}
+use Rattle.resume_command.specs.declared.start.TheConstants.{PIECE}
 use Rattle.resume_command.specs.declared.refusal.Refusal.{Refusal}
 use Rattle.resume_command.specs.declared.refusal.Refusal.TheVariants.{Ends, Line}
 

@@ -14,7 +14,7 @@ use Rattle.run_record.specs.declared.fault.RunFault.{RunFault}
 use Rattle.run_record.specs.declared.fault.RunFault.TheVariants.{Load, LineTooLong, TooManyLines}
 use Rattle.wf_commands.specs.Load.{BytesOf, PolicyOf}
 use Rattle.transcript_resume.specs.Resumed.{first_long, whole_lines}
-use Rattle.resume_command.specs.declared.begin.TheConstants.{TRANSCRIPT_FILE_LIMIT}
+use Rattle.resume_command.specs.declared.start.TheConstants.{TRANSCRIPT_FILE_LIMIT}
 
 -- the names of the files
 pub record Names : Type 0 where

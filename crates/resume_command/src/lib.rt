@@ -2,9 +2,9 @@
 //! audited and taken up.
 #![tactic(auto)]
 
-mod begin;
 mod load;
 mod refusal;
+mod start;
 
-pub use begin::{Beginning, begin};
 pub use refusal::Refusal;
+pub use start::{Beginning, begin};

@@ -24,8 +24,8 @@ use Rattle.run_record.specs.Run.{Run, IsOrderly, IsUntouched, Streams}
 use Rattle.transcript_audit.specs.declared.fault.AuditKind.{AuditKind}
 use Rattle.audit_command.specs.Auditing.{fault_line}
 use Rattle.transcript_resume.specs.Resumed.{IsRefused, Session}
-use Rattle.resume_command.specs.declared.begin.Beginning.{Beginning}
-use Rattle.resume_command.specs.declared.begin.TheConstants.{PIECE}
+use Rattle.resume_command.specs.declared.start.Beginning.{Beginning}
+use Rattle.resume_command.specs.declared.start.TheConstants.{PIECE}
 use Rattle.resume_command.specs.declared.refusal.Refusal.TheVariants.{Ends, Line}
 use Rattle.resume_command.specs.Begun.{BeginsBy, EndsBeginning, HasBegun, StopsBy, session_of}
 use Rattle.resume_command.specs.Loading.{Names, OverFiles}

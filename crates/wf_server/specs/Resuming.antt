@@ -13,7 +13,7 @@ use Rattle.run_record.specs.Run.{Run, IsOrderly, IsUntouched}
 use Rattle.transcript_audit.specs.declared.fault.AuditKind.{AuditKind}
 use Rattle.audit_command.specs.Auditing.{fault_line}
 use Rattle.transcript_resume.specs.Resumed.{IsRefused, IsTakenUp, Session}
-use Rattle.resume_command.specs.declared.begin.TheConstants.{PIECE}
+use Rattle.resume_command.specs.declared.start.TheConstants.{PIECE}
 use Rattle.resume_command.specs.Begun.{session_of}
 use Rattle.resume_command.specs.Loading.{Names, OverFiles}
 use Rattle.command_words.specs.Words.{AreOptions, Options}

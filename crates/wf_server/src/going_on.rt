@@ -7,7 +7,7 @@ ghost use Rattle.run_record.specs.Run.{run_of, streams_of};
 ghost use Rattle.wf_board.specs.Histories.{AreAnsweredOnce, AreWantsRightful};
 ghost use Rattle.line_cutter.specs.Jobs.{Cut, next_input};
 ghost use Rattle.transcript_resume.specs.Resumed.{Session};
-ghost use Rattle.resume_command.specs.declared.begin.TheConstants.{PIECE};
+ghost use Rattle.resume_command.specs.declared.start.TheConstants.{PIECE};
 ghost use Rattle.resume_command.specs.Begun.{HasBegun};
 ghost use Rattle.audit_command.specs.Auditing.{fault_line};
 ghost use Rattle.command_words.specs.Words.{AreOptions};

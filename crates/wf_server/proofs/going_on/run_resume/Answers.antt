@@ -1,5 +1,8 @@
 use Rattle.std.proofs.Common.{◌≡◌, false, inl, inr, refl, sym, subst, ◌∙◌, ◌⊎◌}
-use Rattle.run_record.specs.Run.{Run}
+use Rattle.audit_command.specs.Auditing.{fault_line}
+use Rattle.run_record.specs.declared.fault.RunFault.{RunFault}
+use Rattle.run_record.specs.Fault.{CountsWrites}
+use Rattle.wf_server.specs.Resuming.{TellsAs}
 use Rattle.command_words.specs.Asked.{options_in}
 use Rattle.resume_command.specs.Loading.{Names}
 use Rattle.wf_server.proofs.ResumeLaws.{begun_there, ended_orderly, ended_run, gone_on, is_untouched, refused_run, told_orderly}
@@ -30,6 +33,10 @@ returns-in-Ends-clause-resumes g c repeats once =
 pub returns-in-Line-clause-resumes : goal.returns-in-Line-clause-resumes
 returns-in-Line-clause-resumes g c repeats once =
     let names : Names = record { policy = c.args.policy.now; requests = c.args.requests.now; transcript = c.args.transcript.now } in
-    refused_run names (options_in c.args.options) repeats c.in-Line.n c.in-Line.kind _ c.requires.options refl c.bare_report-in-Line.ensures.told ?
-    (told_orderly _ _ ? ? refl ?)
+    let text = fault_line c.in-Line.n c.in-Line.kind in
+    let ends = sym c.bare_report-in-Line.ensures.fault in
+    let tells = subst (TellsAs text (g.K.Sink.held c.args.sink.now) (g.K.Sink.held c.tell_fault.new.sink)) ends c.tell_fault.ensures.tells in
+    let writes = subst (λ (x : RunFault). CountsWrites x (g.K.Sink.faults c.args.sink.now) (g.K.Sink.faults c.tell_fault.new.sink)) ends c.tell_fault.ensures.counts in
+    refused_run names (options_in c.args.options) repeats c.in-Line.n c.in-Line.kind _ c.requires.options refl c.bare_report-in-Line.ensures.told tells
+    (told_orderly text _ tells c.in-Line.ensures.loads refl writes)
     c.in-Line.ensures.begins

@@ -1,6 +1,6 @@
 use Rattle.std.proofs.Common.{◌≡◌, ◌+◌, ◌≤◌, drop, length}
 use Rattle.resume_command.specs.Begun.{ends_to}
-use Rattle.resume_command.proofs.begin.count_ends.Given as goal
+use Rattle.resume_command.proofs.start.count_ends.Given as goal
 
 abbrev pub invariant-ends : goal.invariant-ends
 invariant-ends l =

@@ -4,7 +4,7 @@ use Rattle.wf_outside.specs.Outside.{Filed}
 use Rattle.resume_command.specs.Begun.{BeginsBy, StopsBy, session_of}
 use Rattle.resume_command.specs.Loading.{OverBoth}
 use Rattle.resume_command.proofs.Files.{loading_quietly, policy_fails, policy_there}
-use Rattle.resume_command.proofs.begin.begin.Goals as goal
+use Rattle.resume_command.proofs.start.begin.Goals as goal
 
 pub returns-clause-begins : goal.returns-clause-begins
 returns-clause-begins g c =
