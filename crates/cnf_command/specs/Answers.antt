@@ -1,5 +1,5 @@
 -- The answers of the command `cnf` for a policy: its clauses, or what a model of them says.
-use Rattle.std.specs.Prelude.{◌≡◌, ◌↔◌, ℕ, ◌<◌, ◌++◌, ℤ, Bool, List, length, codes, decimal, Option, IfSome, MatchOption, MatchResult, MatchBool, nat_lt}
+use Rattle.std.specs.Prelude.{◌≡◌, ◌↔◌, ℕ, ◌++◌, ℤ, Bool, List, length, codes, decimal, Option, IfSome, MatchOption, MatchResult, MatchBool, nat_lt}
 use Rattle.wf_names.specs.declared.limits.TheConstants.{LINE_LIMIT}
 use Rattle.wf_outside.specs.Outside.{Filed, told, missing, untold}
 use Rattle.serde_json.specs.Written.{compact_text}
@@ -73,8 +73,8 @@ abbrev pub Tells : List (List ℕ) → Reading → RunFault → List ℕ → Typ
 Tells users (Plan plan) fault text = (fault ≡ Nothing) × (text ≡ plan_line users plan)
 Tells users (Clause k) fault text = (fault ≡ Found) × (text ≡ clause_line k)
 
--- the plan that a model says, which is valid, where it satisfies all clauses of the case; or the first
--- one that it does not satisfy
+-- the plan that a model says, which is valid, where it satisfies all clauses of the case; or the
+-- first one that it does not satisfy
 pub record TellsReading (p : PolicyShape) (f : ℕ) (c : Case) (model : ℕ → Bool) (fault : RunFault)
     (text : List ℕ) : Type 0 where
   pub reading : Reading
@@ -94,8 +94,8 @@ OverText Answers model fault text =
     MatchBool (nat_lt MODEL_FILE_LIMIT (length model)) (Refuses FileTooLong fault text)
     (Answers model fault text)
 
--- .. by what is told of the file; where it is missing nothing is answered, and one of which nothing is
--- told has some content
+-- .. by what is told of the file; where it is missing nothing is answered, and one of which nothing
+-- is told has some content
 abbrev pub OverModel : (List ℕ → RunFault → List ℕ → Type 0) → Filed → RunFault → List ℕ → Type 0
 OverModel Answers untold fault text = (model : List ℕ) × OverText Answers model fault text
 OverModel Answers missing fault text = ⊥

@@ -34,7 +34,8 @@ pub(crate) fn answer_case(
     requires flow { f < length p.now.flows }
     requires sound { IsCaseOf (problem_of p.now f) c.now }
     requires short { length text.now ≤ MODEL_FILE_LIMIT }
-    ensures answer { AnswersAs (UnlessLarge p.now f c.now (ReadsModel p.now f text.now c.now)) result }
+    ensures answer { AnswersAs
+        (UnlessLarge p.now f c.now (ReadsModel p.now f text.now c.now)) result }
     ensures ending { IfErr result IsLateEnding }
 {
     let encoder = encode(alloc, p, f, c)?;

@@ -7,7 +7,8 @@ use Rattle.cnf_command.proofs.answer.answer_case.Goals as goal
 
 pub returns-in_err-encoder-clause-answer : goal.returns-in_err-encoder-clause-answer
 returns-in_err-encoder-clause-answer c =
-    answers_large c.args.p.now c.args.f c.args.c.now (ReadsModel c.args.p.now c.args.f c.args.text.now c.args.c.now) c.from_residual.result c.in_err-encoder.field-0.0
+    answers_large c.args.p.now c.args.f c.args.c.now
+    (ReadsModel c.args.p.now c.args.f c.args.text.now c.args.c.now) c.from_residual.result c.in_err-encoder.field-0.0
     c.from_residual.ensures.1 c.in_err-encoder.ensures.encoder
 
 pub returns-in_err-m-clause-answer : goal.returns-in_err-m-clause-answer

@@ -13,11 +13,13 @@ use Rattle.cnf_command.proofs.model.find_reading.Goals as goal
 pub returns-in_err-p-clause-answer : goal.returns-in_err-p-clause-answer
 returns-in_err-p-clause-answer g c =
     answers_no_policy (λ p. ModelAsked p c.args.flow.now (g.F.Shelf.file c.args.shelf.now c.args.model.now) (g.S.Source.left c.args.source.now))
-    (g.F.Shelf.file c.args.shelf.now c.args.policy.now) c.from_residual.result c.in_err-p.field-0.0 c.from_residual.ensures.1 c.in_err-p.ensures.policy c.in_err-p.ensures.ending
+    (g.F.Shelf.file c.args.shelf.now c.args.policy.now) c.from_residual.result c.in_err-p.field-0.0 c.from_residual.ensures.1 c.in_err-p.ensures.policy
+    c.in_err-p.ensures.ending
 
 pub returns-in_err-p-clause-input : goal.returns-in_err-p-clause-input
 returns-in_err-p-clause-input g c =
-    unread_after (Some LINE_LIMIT) c.from_residual.result c.in_err-p.field-0.0 (g.S.Source.left c.args.source.now) c.from_residual.ensures.1 c.in_err-p.ensures.ending
+    unread_after (Some LINE_LIMIT) c.from_residual.result c.in_err-p.field-0.0
+    (g.S.Source.left c.args.source.now) c.from_residual.ensures.1 c.in_err-p.ensures.ending
 
 pub returns-clause-answer : goal.returns-clause-answer
 returns-clause-answer g c =
