@@ -186,12 +186,7 @@ fn push_rule(
     push_line(out, front, line.as_str())
 }
 
-fn rule_advice(
-    alloc: Global,
-    p: &Policy,
-    f: FlowId,
-    k: usize,
-) -> Result<Option<String>, AllocError>
+fn rule_advice(alloc: Global, p: &Policy, f: FlowId, k: usize) -> Result<Option<String>, AllocError>
     requires { f < length p.now.flows }
 {
     match p.rules(f).as_slice().get(k) {
@@ -207,18 +202,11 @@ fn rule_advice(
 }
 
 // A step that is to be done by others than those who do it.
-fn own_group(
-    alloc: Global,
-    p: &Policy,
-    f: FlowId,
-    s: StepId,
-) -> Result<Option<String>, AllocError>
+fn own_group(alloc: Global, p: &Policy, f: FlowId, s: StepId) -> Result<Option<String>, AllocError>
     requires { f < length p.now.flows }
 {
     let step = step_text(alloc, p, f, s)?;
-    Ok(Some(
-        format!(in alloc; "{step} is in its own group, so nobody can meet the rule")?,
-    ))
+    Ok(Some(format!(in alloc; "{step} is in its own group, so nobody can meet the rule")?))
 }
 
 fn pair_advice(
@@ -231,15 +219,15 @@ fn pair_advice(
 ) -> Result<Option<String>, AllocError>
     requires { f < length p.now.flows }
 {
-    let (from, to) = (
-        p.authorised_users(f, first),
-        p.authorised_users(f, second),
-    );
+    let (from, to) = (p.authorised_users(f, first), p.authorised_users(f, second));
     if p.relations().complement_of(rho).is_some() {
         return both_advice(alloc, p, f, rho, &from, &to, (first, second));
     }
     if !leads(p, rho, &from, &to) && leads(p, rho, &to, &from) {
-        let (x, y) = (step_text(alloc, p, f, first)?, step_text(alloc, p, f, second)?);
+        let (x, y) = (
+            step_text(alloc, p, f, first)?,
+            step_text(alloc, p, f, second)?,
+        );
         return Ok(Some(format!(in alloc;
             "the relation leads from nobody who may do {x} to anybody who may do {y}, but the \
              other way; exchange first and second?"

@@ -22,7 +22,8 @@ pub fn fault_text(
         Err(e) => {
             let spot = spot_of(bytes, e.valid_up_to());
             format!(in alloc;
-                "{file}:{}:{}: syntax: the file is no UTF-8 from here on\n", spot.line, spot.column
+                "{file}:{}:{}: syntax: the file is no UTF-8 from here on\n",
+                spot.line, spot.column
             )
         }
     }
@@ -73,7 +74,10 @@ fn told(
 ) -> Result<String, AllocError> {
     let spot = spot_of(text.as_bytes(), span.start);
     let line = shown(alloc, text, span)?;
-    format!(in alloc; "{file}:{}:{}: {kind}: {words}\n{line}", spot.line, spot.column)
+    format!(in alloc;
+        "{file}:{}:{}: {kind}: {words}\n{line}",
+        spot.line, spot.column
+    )
 }
 
 // What is wrong, and where by name.

@@ -9,11 +9,7 @@ mod marks;
 mod nearest;
 mod place;
 mod rules;
-mod shown;
-mod why;
-
-#[cfg(test)]
-mod tests;
+mod shown;mod why;
 
 pub use advice::push_advice;
 pub use fault::fault_text;

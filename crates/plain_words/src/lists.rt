@@ -81,11 +81,7 @@ pub(crate) fn steps_text(
 }
 
 /// The names of a set's users; of many the first ones, and how many others there are.
-pub(crate) fn users_text(
-    alloc: Global,
-    p: &Policy,
-    users: &UserSet,
-) -> Result<String, AllocError> {
+pub(crate) fn users_text(alloc: Global, p: &Policy, users: &UserSet) -> Result<String, AllocError> {
     let count = users.count();
     let shown = if count > MOST_NAMED { NAMED } else { count };
     let mut text = String::new(alloc);

@@ -81,7 +81,19 @@ fn token_end(text: &[u8], at: usize) -> usize
 fn is_plain(byte: u8) -> bool {
     !matches!(
         byte,
-        b' ' | b'\t' | b'\r' | b'\n' | b'=' | b'.' | b',' | b'[' | b']' | b'{' | b'}' | b'#' | b'"' | b'\''
+        b' ' | b'\t'
+            | b'\r'
+            | b'\n'
+            | b'='
+            | b'.'
+            | b','
+            | b'['
+            | b']'
+            | b'{'
+            | b'}'
+            | b'#'
+            | b'"'
+            | b'\''
     )
 }
 

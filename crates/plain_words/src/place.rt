@@ -60,24 +60,14 @@ fn key_at(value: Option<&Value>, n: u32) -> &str {
 
 /// The place that a fault is about: the item that it names, or what seems to be meant, and else the
 /// key of its part.
-pub(crate) fn place_of(
-    text: &[u8],
-    marks: &[Mark],
-    keys: Keys<'_>,
-    fault: &PolicyFault,
-) -> Span {
+pub(crate) fn place_of(text: &[u8], marks: &[Mark], keys: Keys<'_>, fault: &PolicyFault) -> Span {
     match item_place(text, marks, keys, fault) {
         Some(span) => span,
         None => key_place(text, marks, keys),
     }
 }
 
-fn item_place(
-    text: &[u8],
-    marks: &[Mark],
-    keys: Keys<'_>,
-    fault: &PolicyFault,
-) -> Option<Span> {
+fn item_place(text: &[u8], marks: &[Mark], keys: Keys<'_>, fault: &PolicyFault) -> Option<Span> {
     if matches!(fault.table, PolicyPart::Roles) {
         return role_place(text, marks, fault);
     }
@@ -165,7 +155,11 @@ fn depth_under(text: &[u8], marks: &[Mark], mark: Mark, keys: Keys<'_>) -> u8 {
     if !is_named(text, path[0], keys.table) {
         return 0;
     }
-    if is_named(text, path[1], keys.item) { 2 } else { 1 }
+    if is_named(text, path[1], keys.item) {
+        2
+    } else {
+        1
+    }
 }
 
 fn parent(marks: &[Mark], mark: Mark) -> Option<Mark> {
@@ -239,12 +233,7 @@ fn named_mark(
 }
 
 // Under the keys, where an item of this name, or a pair whose first it is, stands again in its list.
-fn second_place(
-    text: &[u8],
-    marks: &[Mark],
-    keys: Keys<'_>,
-    name: Option<Name>,
-) -> Option<Span> {
+fn second_place(text: &[u8], marks: &[Mark], keys: Keys<'_>, name: Option<Name>) -> Option<Span> {
     let name = name?;
     for i in 0..marks.len() {
         let mark = marks[i];
@@ -264,8 +253,8 @@ fn stands_before(text: &[u8], marks: &[Mark], i: usize) -> bool
     requires { i < length marks.now }
 {
     let mark = marks[i];
-    let is_pair =
-        is_value_of(text, marks, mark, "order") || is_value_of(text, marks, mark, "pairs");
+    let is_pair = is_value_of(text, marks, mark, "order")
+        || is_value_of(text, marks, mark, "pairs");
     for j in mark.under..i {
         if marks[j].under == mark.under && is_again(text, marks, j, i, is_pair) {
             return true;

@@ -32,12 +32,7 @@ enum Form {
 }
 
 /// What a rule of a workflow wants, as a sentence without its full stop.
-pub fn rule_text(
-    alloc: Global,
-    p: &Policy,
-    f: FlowId,
-    rule: &Rule,
-) -> Result<String, AllocError>
+pub fn rule_text(alloc: Global, p: &Policy, f: FlowId, rule: &Rule) -> Result<String, AllocError>
     requires { f < length p.now.flows }
 {
     match *rule {
@@ -112,7 +107,10 @@ fn pair_words(alloc: Global, sense: Sense, x: &str, y: &str) -> Result<String, A
             format!(in alloc; "who does {x} has \"{}\" to who does {y}", name.as_str())
         }
         Sense::Lacks(name) => {
-            format!(in alloc; "who does {x} does not have \"{}\" to who does {y}", name.as_str())
+            format!(in alloc;
+                "who does {x} does not have \"{}\" to who does {y}",
+                name.as_str()
+            )
         }
         Sense::Nothing => format!(in alloc; "{x} and {y} are related"),
     }
@@ -192,24 +190,31 @@ fn other_words(alloc: Global, form: Form, m: Members<'_>) -> Result<String, Allo
     }
 }
 
-fn has_words(
-    alloc: Global,
-    form: Form,
-    name: &str,
-    m: Members<'_>,
-) -> Result<String, AllocError> {
+fn has_words(alloc: Global, form: Form, name: &str, m: Members<'_>) -> Result<String, AllocError> {
     match form {
         Form::SomeOf => {
-            format!(in alloc; "somebody who does {} has \"{name}\" to who does {}", m.any, m.step)
+            format!(in alloc;
+                "somebody who does {} has \"{name}\" to who does {}",
+                m.any, m.step
+            )
         }
         Form::AllOf => {
-            format!(in alloc; "everybody who does {} has \"{name}\" to who does {}", m.any, m.step)
+            format!(in alloc;
+                "everybody who does {} has \"{name}\" to who does {}",
+                m.any, m.step
+            )
         }
         Form::SomeTo => {
-            format!(in alloc; "who does {} has \"{name}\" to somebody who does {}", m.step, m.any)
+            format!(in alloc;
+                "who does {} has \"{name}\" to somebody who does {}",
+                m.step, m.any
+            )
         }
         Form::AllTo => {
-            format!(in alloc; "who does {} has \"{name}\" to everybody who does {}", m.step, m.any)
+            format!(in alloc;
+                "who does {} has \"{name}\" to everybody who does {}",
+                m.step, m.any
+            )
         }
     }
 }
@@ -222,16 +227,24 @@ fn lacks_words(
 ) -> Result<String, AllocError> {
     match form {
         Form::SomeOf => format!(in alloc;
-            "somebody who does {} does not have \"{name}\" to who does {}", m.any, m.step
+            "somebody who does {} does not have \"{name}\" to who does {}",
+            m.any, m.step
         ),
         Form::AllOf => {
-            format!(in alloc; "nobody who does {} has \"{name}\" to who does {}", m.any, m.step)
+            format!(in alloc;
+                "nobody who does {} has \"{name}\" to who does {}",
+                m.any, m.step
+            )
         }
         Form::SomeTo => format!(in alloc;
-            "to somebody who does {} who does {} does not have \"{name}\"", m.any, m.step
+            "to somebody who does {} who does {} does not have \"{name}\"",
+            m.any, m.step
         ),
         Form::AllTo => {
-            format!(in alloc; "who does {} has \"{name}\" to nobody who does {}", m.step, m.any)
+            format!(in alloc;
+                "who does {} has \"{name}\" to nobody who does {}",
+                m.step, m.any
+            )
         }
     }
 }

@@ -45,7 +45,11 @@ pub(crate) fn shown(alloc: Global, text: &str, span: Span) -> Result<String, All
     out.push_str("\n    ")?;
     push_times(&mut out, " ", number.len())?;
     out.push_str(" | ")?;
-    push_times(&mut out, " ", spot.column.saturating_sub(1).saturating_sub(from))?;
+    push_times(
+        &mut out,
+        " ",
+        spot.column.saturating_sub(1).saturating_sub(from),
+    )?;
     push_times(&mut out, "^", width_of(bytes, span).min(AROUND))?;
     out.push_str("\n")?;
     Ok(out)

@@ -68,12 +68,7 @@ fn takers(p: &Policy, f: FlowId, steps: &[StepId]) -> UserSet
 }
 
 /// That a workflow has no plan, with the rules of these numbers, which cannot be met together.
-pub fn clash_text(
-    alloc: Global,
-    p: &Policy,
-    f: FlowId,
-    rules: &[u8],
-) -> Result<String, AllocError>
+pub fn clash_text(alloc: Global, p: &Policy, f: FlowId, rules: &[u8]) -> Result<String, AllocError>
     requires { f < length p.now.flows }
 {
     let mut text = clash_head(alloc, p, f, rules.len())?;

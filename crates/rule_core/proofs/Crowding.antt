@@ -89,10 +89,14 @@ abbrev IsRelatedBy : Problem → Rule → ℕ → ℕ → Type 0
 IsRelatedBy p r u v = (rho : ℕ) × (relation_of r ≡ Some rho) × ((p.related rho u v ≡ true) ⊎ (p.related rho v u ≡ true))
 
 turned_by : (p : Problem) (r : Rule) (u v : ℕ) → IsRelatedBy p r v u → IsRelatedBy p r u v
-turned_by p r u v by = (by.0, by.1, elim by.2 [
-  | inl ahead ↦ inr ahead
-  | inr back ↦ inl back
-])
+turned_by p r u v by = (
+  by.0,
+  by.1,
+  elim by.2 [
+    | inl ahead ↦ inr ahead
+    | inr back ↦ inl back
+  ],
+)
 
 -- a rule that a plan satisfies relates the users of its steps
 related_by : (p : Problem) (r : Rule) (g : ℕ → ℕ) (s t : ℕ) → is_satisfied p.related r g ≡ true → relates r s t ≡ true → IsRelatedBy p r (g s) (g t)

@@ -2,10 +2,10 @@
 //! status.
 #![tactic(auto)]
 
+use run_record::RunFault;
 use std::io::BufWriter;
 use std::process::ExitCode;
 use std::{env, io};
-use run_record::RunFault;
 use tell_run::{Ended, end, run_alone};
 use wf_system::{DiskShelf, StdinSource, StdoutSink, after_name, all_words};
 

@@ -9,8 +9,5 @@ mod run;
 mod why;
 mod words;
 
-#[cfg(test)]
-mod tests;
-
 pub use ended::{Ended, end};
 pub use run::run_alone;

@@ -49,6 +49,8 @@ fn push_line(
 {
     let name = p.flows().name(f);
     let flow = name.as_str();
-    let line = format!(in alloc; "{front}workflow {flow}: it has no plan; wftell why tells more\n")?;
+    let line = format!(in alloc;
+        "{front}workflow {flow}: it has no plan; wftell why tells more\n"
+    )?;
     out.push_str(line.as_str())
 }

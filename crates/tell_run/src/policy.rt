@@ -30,11 +30,7 @@ pub(crate) fn run_policy<F: Shelf, K: Sink>(
     }
 }
 
-fn load_and_tell<F: Shelf>(
-    alloc: Global,
-    policy: &str,
-    shelf: &mut F,
-) -> Result<Answer, RunFault> {
+fn load_and_tell<F: Shelf>(alloc: Global, policy: &str, shelf: &mut F) -> Result<Answer, RunFault> {
     let file = load_file(alloc, shelf, policy, POLICY_FILE_LIMIT)?;
     Ok(tell_file(alloc, policy, file.as_bytes())?)
 }

@@ -25,21 +25,21 @@ pub fn run_alone<F: Shelf, S: Source, K: Sink>(
     match read_words(alloc, words) {
         Ok(asked) => {
             let fault = run_asked(alloc, asked, shelf, source, sink);
-            ended(alloc, fault)
+            with_fault(alloc, fault)
         }
         Err(Unread::Help(text)) => match put_and_flush(sink, text.as_bytes()) {
-            Ok(()) => ended(alloc, RunFault::Nothing),
-            Err(_) => ended(alloc, RunFault::Write),
+            Ok(()) => with_fault(alloc, RunFault::Nothing),
+            Err(_) => with_fault(alloc, RunFault::Write),
         },
         Err(Unread::Usage(usage)) => Ended {
             fault: RunFault::Usage,
             usage,
         },
-        Err(Unread::NoMemory) => ended(alloc, RunFault::NoMemory),
+        Err(Unread::NoMemory) => with_fault(alloc, RunFault::NoMemory),
     }
 }
 
-fn ended(alloc: Global, fault: RunFault) -> Ended {
+fn with_fault(alloc: Global, fault: RunFault) -> Ended {
     Ended {
         fault,
         usage: String::new(alloc),

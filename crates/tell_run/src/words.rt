@@ -8,14 +8,9 @@ use std::alloc::{AllocError, Global};
 #[derive(Clone, Copy)]
 pub(crate) enum Asked<'a> {
     /// What is wrong with a policy file, or probably not meant.
-    Policy {
-        policy: &'a str,
-    },
+    Policy { policy: &'a str },
     /// Why a workflow can or cannot be done.
-    Why {
-        policy: &'a str,
-        flow: &'a str,
-    },
+    Why { policy: &'a str, flow: &'a str },
 }
 
 /// Why words are no command.
@@ -39,11 +34,11 @@ impl From<AllocError> for Unread {
 pub(crate) fn read_words<'a>(alloc: Global, words: &'a [String]) -> Result<Asked<'a>, Unread> {
     let mut command = form(alloc)?;
     match command.try_get_matches_from_mut(words) {
-        Ok(matches) => match asked(&matches) {
+        Ok(matches) => match asked_in(&matches) {
             Some(asked) => Ok(asked),
             None => Err(Unread::Usage(String::new(alloc))),
         },
-        Err(e) => Err(unread(alloc, &e)),
+        Err(e) => Err(refused(alloc, &e)),
     }
 }
 
@@ -81,7 +76,7 @@ fn file_word<'a>(alloc: Global) -> Arg<'a> {
         .help("A policy file")
 }
 
-fn asked<'a>(matches: &ArgMatches<'a>) -> Option<Asked<'a>> {
+fn asked_in<'a>(matches: &ArgMatches<'a>) -> Option<Asked<'a>> {
     match matches.subcommand() {
         Some(("policy", found)) => Some(Asked::Policy {
             policy: found.get_str("POLICY")?,
@@ -94,7 +89,7 @@ fn asked<'a>(matches: &ArgMatches<'a>) -> Option<Asked<'a>> {
     }
 }
 
-fn unread(alloc: Global, e: &clap::Error) -> Unread {
+fn refused(alloc: Global, e: &clap::Error) -> Unread {
     if e.kind() == ErrorKind::OutOfMemory {
         return Unread::NoMemory;
     }

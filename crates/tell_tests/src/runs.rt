@@ -1,7 +1,7 @@
 //! What is told of small policies, worked out by hand.
 
-use crate::run_alone;
 use std::alloc::{AllocError, Global};
+use tell_run::run_alone;
 use wf_outside::{MemFile, MemShelf, MemSink, MemSource};
 
 // Words, what follows the lines that all policies here begin with, and what comes of it.

@@ -1,7 +1,7 @@
 //! Sentences of rules, worked out by hand.
 
-use crate::rule_text;
 use constraint_forms::Rules;
+use plain_words::rule_text;
 use policy_book::Policy;
 use policy_reader::{ReadFault, read};
 use std::alloc::{AllocError, Global};
