@@ -9,7 +9,8 @@ mod marks;
 mod nearest;
 mod place;
 mod rules;
-mod shown;mod why;
+mod shown;
+mod why;
 
 pub use advice::push_advice;
 pub use fault::fault_text;
