@@ -9,9 +9,9 @@ use Rattle.policy_book.specs.Plans.{AreAssigned, IsCompletable, IsWellFormed, Pr
 use Rattle.policy_book.specs.Refuting.{refutes}
 use Rattle.policy_book.specs.Twins.{is_one_of}
 use Rattle.certificate_check.proofs.Refuted.{refutes_soundly}
-use Rattle.rule_core.specs.Cores.{AreAscending, IsBlocked, IsCore, problem_with, rules_at, without}
+use Rattle.rule_core.specs.Cores.{AreAscending, FewerIsEasier, IsBlocked, IsCore, problem_with, rules_at, without}
 use Rattle.rule_core.specs.Leaves.{uses_rule}
-use Rattle.rule_core.specs.Trials.{FewerIsEasier, HasTried, kept_at, numbers_from}
+use Rattle.rule_core.specs.Trials.{HasTried, kept_at, numbers_from}
 use Rattle.rule_core.proofs.Listing.{ascending_kept, ascending_numbers, ascending_without, kept_among, kept_first, known_ascending, without_among, without_within, without_other}
 use Rattle.rule_core.proofs.Picking.{picked_among, picked_at, picked_rules, picked_there}
 use Rattle.rule_core.proofs.Sufficing.{leaves_suffice}
