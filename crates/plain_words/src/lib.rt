@@ -8,13 +8,11 @@ mod lists;
 mod marks;
 mod nearest;
 mod place;
-mod reasons;
 mod rules;
 mod shown;
 mod why;
 
 pub use advice::push_advice;
 pub use fault::fault_text;
-pub use reasons::tree_text;
 pub use rules::rule_text;
 pub use why::{clash_text, crowd_text, plan_text};

@@ -72,8 +72,9 @@ pub(crate) fn steps_text(
 {
     let mut text = String::new(alloc);
     let mut place = 0u32;
+    let count = some.len().min(256) as u32;
     for s in some {
-        push_gap(&mut text, place, some.len() as u32, "and")?;
+        push_gap(&mut text, place, count, "and")?;
         push_name(&mut text, p.flow(f).steps(), s.0 as u16)?;
         place = place.saturating_add(1);
     }

@@ -9,34 +9,41 @@ use wf_names::Name;
 /// How many edits may lead to a name that was meant.
 const MOST_EDITS: usize = 2;
 
-/// The keys that a policy file may have.
-const KEYS: [&str; 19] = [
-    "format",
-    "admin",
-    "roles",
-    "users",
-    "relations",
-    "flows",
-    "pairs",
-    "complement",
-    "steps",
-    "order",
-    "permit",
-    "rules",
-    "form",
-    "relation",
-    "first",
-    "second",
-    "group",
-    "step",
-    "limit",
-];
+/// How many keys a policy file may have.
+const KEYS: u8 = 19;
+
+// One of these keys.
+fn key_at(n: u8) -> &'static str {
+    match n {
+        0 => "format",
+        1 => "admin",
+        2 => "roles",
+        3 => "users",
+        4 => "relations",
+        5 => "flows",
+        6 => "pairs",
+        7 => "complement",
+        8 => "steps",
+        9 => "order",
+        10 => "permit",
+        11 => "rules",
+        12 => "form",
+        13 => "relation",
+        14 => "first",
+        15 => "second",
+        16 => "group",
+        17 => "step",
+        18 => "limit",
+        _ => "",
+    }
+}
 
 /// Of the keys that there may be the one that is nearest to a word; empty where none is near.
 pub(crate) fn nearest_key(alloc: Global, word: &str) -> Result<&'static str, AllocError> {
     let mut best = "";
     let mut edits = most_edits(word).saturating_add(1);
-    for key in KEYS {
+    for n in 0..KEYS {
+        let key = key_at(n);
         let needed = levenshtein(alloc, word, key)?;
         if needed > 0 && needed < edits {
             edits = needed;

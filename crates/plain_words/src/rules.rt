@@ -7,18 +7,18 @@ use policy_book::Policy;
 use std::alloc::{AllocError, Global};
 use wf_names::{FlowId, Name, RelId, StepId};
 
-/// What a relation says of two people.
+// What a relation says of two people.
 #[derive(Clone, Copy)]
-pub(crate) enum Sense {
-    /// That they are one.
+enum Sense {
+    // That they are one.
     Same,
-    /// That they are two.
+    // That they are two.
     Other,
-    /// That the first has a listed relation of this name to the second.
+    // That the first has a listed relation of this name to the second.
     Has(Name),
-    /// That the first does not have it.
+    // That the first does not have it.
     Lacks(Name),
-    /// Nothing that has a name.
+    // Nothing that has a name.
     Nothing,
 }
 
@@ -56,8 +56,8 @@ pub fn rule_text(alloc: Global, p: &Policy, f: FlowId, rule: &Rule) -> Result<St
     }
 }
 
-/// What a relation says of two people.
-pub(crate) fn sense_of(p: &Policy, rho: RelId) -> Sense {
+// What a relation says of two people.
+fn sense_of(p: &Policy, rho: RelId) -> Sense {
     if rho == RelId::SAME {
         return Sense::Same;
     }

@@ -1,5 +1,5 @@
 //! The workflows of a policy that cannot be done.
-ghost use Rattle.std.specs.Prelude.{◌≡◌, ◌<◌, length, true, false, IfOk};
+ghost use Rattle.std.specs.Prelude.{◌≡◌, ◌<◌, ◌||◌, length, true, false, IfOk};
 ghost use Rattle.tell_run.specs.Policy.{CanAllBeDone};
 ghost use Rattle.tell_run.specs.Why.{CanBeDone};
 
@@ -19,12 +19,35 @@ pub(crate) fn push_planless(
 {
     let mut some = false;
     'flows: for f in 0..p.flows().len() {
-        if !can_be_done(alloc, p, FlowId(f as u8))? {
-            some = true;
-            push_line(alloc, out, front, p, f)?;
-        }
+        let lacks = push_lacking(alloc, out, front, p, FlowId(f as u8))?;
+        some = either(some, lacks);
     }
     Ok(some)
+}
+
+/// Whether one of two things is so.
+pub(crate) fn either(a: bool, b: bool) -> bool
+    ensures { result ≡ (a || b) }
+{
+    a || b
+}
+
+// Adds the line of a workflow, where it has no plan; whether it has none.
+fn push_lacking(
+    alloc: Global,
+    out: &mut String,
+    front: &str,
+    p: &Policy,
+    f: FlowId,
+) -> Result<bool, AllocError>
+    requires { f < length p.now.flows }
+    ensures { IfOk result (λ lacks. lacks ≡ false → CanBeDone p.now f) }
+{
+    if can_be_done(alloc, p, f)? {
+        return Ok(false);
+    }
+    push_line(alloc, out, front, p, f.0 as u16)?;
+    Ok(true)
 }
 
 // Whether a workflow has a valid plan.

@@ -3,7 +3,7 @@ ghost use Rattle.std.specs.Prelude.{◌≡◌, ℕ, List, Ok, IfOk};
 ghost use Rattle.policy_reader.specs.Files.{policy_of_file};
 ghost use Rattle.tell_run.specs.Policy.{JudgesFile};
 
-use crate::planless::push_planless;
+use crate::planless::{either, push_planless};
 use plain_words::{fault_text, push_advice};
 use policy_book::Policy;
 use policy_reader::ReadFault;
@@ -40,7 +40,10 @@ fn tell_file(alloc: Global, policy: &str, bytes: &[u8]) -> Result<Answer, AllocE
     ensures { IfOk result (λ answer. JudgesFile bytes.now answer.found) }
 {
     match policy_reader::read(alloc, bytes) {
-        Ok(p) => tell_policy(alloc, policy, &p),
+        Ok(p) => {
+            let answer = tell_policy(alloc, policy, &p)?;
+            Ok(answer)
+        }
         Err(ReadFault::Policy(fault)) => Ok(Answer {
             found: true,
             text: fault_text(alloc, policy, bytes, &fault)?.into_bytes(),
@@ -56,15 +59,29 @@ fn tell_policy(alloc: Global, policy: &str, p: &Policy) -> Result<Answer, AllocE
 {
     let front = format!(in alloc; "{policy}: ")?;
     let mut text = String::new(alloc);
-    push_advice(alloc, &mut text, front.as_str(), p)?;
-    let lacks_plan = push_planless(alloc, &mut text, front.as_str(), p)?;
-    let found = lacks_plan || !text.is_empty();
-    if !found {
-        text.push_str(front.as_str())?;
-        text.push_str("nothing to tell\n")?;
-    }
+    let found = push_all(alloc, &mut text, front.as_str(), p)?;
     Ok(Answer {
         found,
         text: text.into_bytes(),
     })
+}
+
+// Adds all lines; whether there is something to tell.
+fn push_all(alloc: Global, out: &mut String, front: &str, p: &Policy) -> Result<bool, AllocError>
+    ensures { IfOk result (λ found. (file : List ℕ) → policy_of_file file ≡ Ok p.now
+        → JudgesFile file found) }
+{
+    push_advice(alloc, out, front, p)?;
+    let lacks = push_planless(alloc, out, front, p)?;
+    let tells = !out.is_empty();
+    push_nothing(out, front, either(lacks, tells))?;
+    Ok(either(lacks, tells))
+}
+
+fn push_nothing(out: &mut String, front: &str, found: bool) -> Result<(), AllocError> {
+    if found {
+        return Ok(());
+    }
+    out.push_str(front)?;
+    out.push_str("nothing to tell\n")
 }

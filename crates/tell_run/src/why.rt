@@ -3,18 +3,14 @@ ghost use Rattle.std.specs.Prelude.{◌<◌, length, None, IfOk};
 ghost use Rattle.wf_commands.specs.Answer.{ending_with};
 ghost use Rattle.tell_run.specs.Why.{AnswersWhy, TellsWhy};
 
-use plain_words::{clash_text, crowd_text, plan_text, tree_text};
+use plain_words::{clash_text, crowd_text, plan_text};
 use policy_book::{Assign, Policy, StepSet};
-use rule_core::{RuleList, Why, why_of, with_rules};
+use rule_core::{Why, why_of};
 use run_record::RunFault;
 use std::alloc::{AllocError, Global};
 use wf_commands::{Answer, Answers, find_flow};
-use wf_names::{FlowId, RULE_LIMIT};
+use wf_names::FlowId;
 use wf_outside::Source;
-use wsp_solver::{Outcome, solve};
-
-/// A tree with more leaves and nodes is not told.
-const MOST_NODES: u64 = 40;
 
 /// `why`: can this workflow be done, and why?
 #[derive(Clone, Copy)]
@@ -54,37 +50,7 @@ fn tell_why(alloc: Global, p: &Policy, f: FlowId) -> Result<Answer, AllocError>
         }),
         Why::Clash(rules) => Ok(Answer {
             found: true,
-            text: tell_clash(alloc, p, f, &rules)?.into_bytes(),
+            text: clash_text(alloc, p, f, rules.as_slice())?.into_bytes(),
         }),
-    }
-}
-
-// The rules that cannot be met together, and a tree that shows it, where it is small.
-fn tell_clash(alloc: Global, p: &Policy, f: FlowId, rules: &RuleList) -> Result<String, AllocError>
-    requires { f < length p.now.flows }
-{
-    let mut text = clash_text(alloc, p, f, rules.as_slice())?;
-    if rules.len() <= RULE_LIMIT {
-        let left = with_rules(alloc, p, f, rules)?;
-        push_tree(alloc, &mut text, &left, rules)?;
-    }
-    Ok(text)
-}
-
-fn push_tree(
-    alloc: Global,
-    text: &mut String,
-    left: &Policy,
-    rules: &RuleList,
-) -> Result<(), AllocError> {
-    if left.flows().is_empty() {
-        return Ok(());
-    }
-    match solve(alloc, left, FlowId(0), &Assign::empty(), &StepSet::empty())? {
-        Outcome::Refuted(tree) if tree.nodes() <= MOST_NODES => {
-            let reasons = tree_text(alloc, left, FlowId(0), rules.as_slice(), &tree)?;
-            text.push_str(reasons.as_str())
-        }
-        _ => Ok(()),
     }
 }
