@@ -74,8 +74,9 @@ fn push_all(alloc: Global, out: &mut String, front: &str, p: &Policy) -> Result<
     push_advice(alloc, out, front, p)?;
     let lacks = push_planless(alloc, out, front, p)?;
     let tells = !out.is_empty();
-    push_nothing(out, front, either(lacks, tells))?;
-    Ok(either(lacks, tells))
+    let found = either(lacks, tells);
+    push_nothing(out, front, found)?;
+    Ok(found)
 }
 
 fn push_nothing(out: &mut String, front: &str, found: bool) -> Result<(), AllocError> {

@@ -5,4 +5,4 @@ use Rattle.tell_run.proofs.policy.push_all.Goals as goal
 
 pub returns : goal.returns
 returns c file is =
-    subst (λ (found : Bool). JudgesFile file found) (sym c.either-2.ensures) (judged c.args.p.now file c.in_ok-lacks.lacks _ c.in_ok-lacks.ensures is)
+    subst (λ (found : Bool). JudgesFile file found) (sym c.either-found.ensures) (judged c.args.p.now file c.in_ok-lacks.lacks _ c.in_ok-lacks.ensures is)
