@@ -10,7 +10,7 @@ use Rattle.line_cutter.specs.Jobs.{Cut, jobs_of_input}
 use Rattle.line_reader.specs.Lines.{lines_of}
 use Rattle.run_record.specs.declared.fault.RunFault.{RunFault}
 use Rattle.run_record.specs.declared.fault.RunFault.TheVariants.{Load, LineTooLong}
-use Rattle.run_record.specs.Fault.{How, unasked, answered, misfiled, refused, unloaded, unread, unwritten, lacking, how_of, LoadsSo}
+use Rattle.run_record.specs.Fault.{How, unasked, answered, misfiled, refused, unloaded, unread, unwritten, lacking, how_of, CountsLoads, LoadsSo}
 use Rattle.wf_commands.specs.Load.{EndsLoading, GivesBytes, GivesPolicy}
 use Rattle.transcript_audit.specs.declared.fault.AuditFault.{AuditFault}
 use Rattle.transcript_audit.specs.declared.fault.AuditFault.TheVariants as audit
@@ -85,6 +85,14 @@ line_long Stops Goes transcript found line is some stops = subst (OverLong Stops
 pub lines_short : (Stops : RunFault → Type 0) (Goes : List ℕ → Type 0) (transcript : List ℕ) (found : Option ℕ) → found ≡ first_long 0 (lines_of (whole_lines transcript)) → found ≡ None
     → Goes transcript → OverTranscript Stops Goes transcript
 lines_short Stops Goes transcript found is none goes = subst (OverLong Stops (Goes transcript)) (sym none ∙ is) goes
+
+-- ---- what is told of files stays
+
+pub moved : (Over : Filed → Filed → Type 0) (a b x y : Filed) → a ≡ x → b ≡ y → Over a b → Over x y
+moved Over a b x y first second at = subst (λ f. Over f y) first (subst (Over a) second at)
+
+pub loads_refused : (fault : RunFault) (count after : ℕ) → how_of fault ≡ refused → after ≡ count → CountsLoads fault count after
+loads_refused fault count after how same = subst (λ h. LoadsSo h count after) (sym how) same
 
 -- ---- counts of faults
 

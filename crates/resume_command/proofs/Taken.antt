@@ -1,5 +1,6 @@
 -- A session that was taken up.
-use Rattle.std.proofs.Common.{◌≡◌, ℕ, ◌≤◌, true, List, [], None, Err, length, take, refl, sym, ap, subst, ◌∙◌}
+use Rattle.std.proofs.Common.{◌≡◌, ℕ, ◌≤◌, true, List, [], None, Result, Ok, Err, length, take, refl, sym, ap, subst, ◌∙◌}
+use Rattle.std.specs.Prelude.{IsErrAnd}
 use Rattle.policy_book.specs.Shapes.{PolicyShape}
 use Rattle.policy_book.specs.Facts.{IsSoundPolicy}
 use Rattle.line_cutter.specs.declared.whole.CutText.{CutText}
@@ -8,12 +9,16 @@ use Rattle.line_cutter.specs.Laws.{AreInOrder, GoesOn, InputsGoOn}
 use Rattle.wf_board.specs.Histories.{batch_start}
 use Rattle.wf_desk.specs.Desks.{DeskShape}
 use Rattle.batch_reader.specs.Reading.{ReaderShape}
+use Rattle.run_record.specs.declared.fault.RunFault.{RunFault}
+use Rattle.run_record.specs.declared.fault.RunFault.TheVariants as run
 use Rattle.transcript_audit.specs.declared.fault.AuditFault.{AuditFault}
 use Rattle.transcript_audit.specs.declared.fault.AuditFault.TheVariants.{At, NoMemory}
 use Rattle.transcript_resume.specs.Resumed.{HasResumed, RefusesBy, Session}
 use Rattle.resume_command.specs.declared.start.Beginning.{Beginning}
 use Rattle.resume_command.specs.declared.start.TheConstants.{PIECE}
-use Rattle.resume_command.specs.Begun.{BeginsBy, HasBegun, StandsAt, ends_to, session_of}
+use Rattle.resume_command.specs.declared.refusal.Refusal.{Refusal}
+use Rattle.resume_command.specs.declared.refusal.Refusal.TheVariants.{Ends}
+use Rattle.resume_command.specs.Begun.{BeginsBy, HasBegun, StandsAt, StopsBy, ends_to, session_of}
 use Rattle.resume_command.specs.Loading.{IsCutOf}
 use Rattle.resume_command.specs.Refusing.{refused_by}
 use Rattle.resume_command.proofs.Stands.{desk_lanes, reaches, stands}
@@ -91,3 +96,21 @@ refused_at p lanes rounds requests transcript text e is refused =
 -- how far the batch reaches
 pub next_within : (s : Session) (transcript : List ℕ) (next : ℕ) (d : DeskShape) → AreInOrder s.lanes s.jobs s.batch_ends → HasResumed s transcript next d → next ≤ length s.jobs
 next_within s transcript next d order resumed = (reaches s d.entries next d order.ends resumed.taken.part resumed.goes_on).within
+
+-- the answer of a call that failed so
+pub stopped : (result : Result Beginning Refusal) (fault : RunFault) → IsErrAnd result (λ x. x ≡ Ends fault) → StopsBy result fault
+stopped (Ok b) fault is = absurd is
+stopped (Err e) fault is = ap Err is
+
+pub lacked : (s : Session) (cut : Cut) (transcript : List ℕ) (result : Result Beginning Refusal) → IsErrAnd result (λ x. x ≡ Ends run.NoMemory) → BeginsBy s cut transcript result
+lacked s cut transcript (Ok b) is = absurd is
+lacked s cut transcript (Err e) is = subst (λ x. BeginsBy s cut transcript (Err x)) (sym is) refl
+
+pub refused_so : (p : PolicyShape) (lanes rounds : ℕ) (requests transcript : List ℕ) (text : CutText) (e : AuditFault) (result : Result Beginning Refusal) → IsCutOf requests lanes text
+    → RefusesBy (record { policy = p; lanes = lanes; rounds = rounds; jobs = text.batch.jobs; batch_ends = text.batch.ends }) transcript e
+    → IsErrAnd result (λ x. x ≡ refused_by e)
+    → BeginsBy (session_of p lanes rounds (jobs_of_input requests true lanes)) (jobs_of_input requests true lanes) transcript result
+refused_so p lanes rounds requests transcript text e (Ok b) is refused err = absurd err
+refused_so p lanes rounds requests transcript text e (Err x) is refused err =
+    let cut = jobs_of_input requests true lanes in
+    subst (λ y. BeginsBy (session_of p lanes rounds cut) cut transcript (Err y)) (sym err) (refused_at p lanes rounds requests transcript text e is refused)

@@ -3,8 +3,8 @@ ghost use Rattle.std.specs.Prelude.{◌≡◌, ◌<◌, ◌≤◌, ℕ, true, Li
 ghost use Rattle.wf_names.specs.declared.limits.TheConstants.{LANE_LIMIT, ROUND_LIMIT, SESSION_LINE_LIMIT};
 ghost use Rattle.line_cutter.specs.Jobs.{jobs_of_input};
 ghost use Rattle.line_cutter.specs.Laws.{AreInOrder, AreNamedJobs};
-ghost use Rattle.run_record.specs.Fault.{how_of, CountsLoads};
-ghost use Rattle.resume_command.specs.Loading.{IsCutOf, OverBoth, OverFiles, OverTranscript, OverTranscriptFile};
+ghost use Rattle.run_record.specs.Fault.{how_of, refused, CountsLoads};
+ghost use Rattle.resume_command.specs.Loading.{IsCutOf, ending_at, OverBoth, OverFiles, OverTranscript, OverTranscriptFile};
 ghost use Rattle.resume_command.specs.Begun.{BeginsBy, EndsBeginning, EndsLoaded, StopsBy, ends_to, fault_by, session_of};
 
 use crate::Refusal;
@@ -95,11 +95,22 @@ fn begin_under<V: Decider, F: Shelf>(
 {
     let text = load_requests(alloc, shelf, requests, lanes)?;
     match text.stop {
-        Some(Stop::LineTooLong(line)) => Err(Refusal::Ends(RunFault::LineTooLong(line))),
-        Some(Stop::TooManyLines) => Err(Refusal::Ends(RunFault::TooManyLines)),
+        Some(stop) => Err(Refusal::Ends(ending_at(stop))),
         None => begin_behind(
             alloc, decider, policy, text, transcript, lanes, rounds, shelf,
         ),
+    }
+}
+
+// How a run ends that stops at a limit of lines.
+fn ending_at(stop: Stop) -> RunFault
+    ensures fault { result ≡ ending_at stop }
+    ensures ending { EndsBeginning (how_of result) }
+    ensures loads { how_of result ≡ refused }
+{
+    match stop {
+        Stop::LineTooLong(line) => RunFault::LineTooLong(line),
+        Stop::TooManyLines => RunFault::TooManyLines,
     }
 }
 

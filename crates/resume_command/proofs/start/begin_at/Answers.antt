@@ -1,0 +1,25 @@
+use Rattle.std.proofs.Common.{Result, Err, true, refl, ap, ◌∙◌}
+use Rattle.line_cutter.specs.Jobs.{jobs_of_input}
+use Rattle.line_reader.specs.Lines.{lines_of}
+use Rattle.transcript_resume.specs.Resumed.{first_long, whole_lines}
+use Rattle.run_record.specs.declared.fault.RunFault.TheVariants.{LineTooLong}
+use Rattle.resume_command.specs.declared.start.Beginning.{Beginning}
+use Rattle.resume_command.specs.declared.refusal.Refusal.{Refusal}
+use Rattle.resume_command.specs.declared.refusal.Refusal.TheVariants.{Ends}
+use Rattle.resume_command.specs.Begun.{BeginsBy, StopsBy, session_of}
+use Rattle.resume_command.proofs.Files.{line_long, lines_short}
+use Rattle.resume_command.proofs.start.begin_at.Goals as goal
+
+pub returns-in-Some-clause-begins : goal.returns-in-Some-clause-begins
+returns-in-Some-clause-begins g c requests cut =
+    let file = jobs_of_input requests true c.args.lanes in
+    let result : Result Beginning Refusal = Err (Ends (LineTooLong c.in-Some.line)) in
+    line_long (StopsBy result) (λ xs. BeginsBy (session_of c.args.policy c.args.lanes c.args.rounds file) file xs result) c.args.transcript c.first_long.result c.in-Some.line
+    (c.first_long.ensures ∙ ap (λ xs. first_long 0 (lines_of (whole_lines xs))) c.as_bytes.ensures) c.in-Some.is refl
+
+pub returns-in-None-clause-begins : goal.returns-in-None-clause-begins
+returns-in-None-clause-begins g c requests cut =
+    let file = jobs_of_input requests true c.args.lanes in
+    let result = c.take_up.result in
+    lines_short (StopsBy result) (λ xs. BeginsBy (session_of c.args.policy c.args.lanes c.args.rounds file) file xs result) c.args.transcript c.first_long.result
+    (c.first_long.ensures ∙ ap (λ xs. first_long 0 (lines_of (whole_lines xs))) c.as_bytes.ensures) c.in-None.is (c.take_up.ensures.begins requests cut)

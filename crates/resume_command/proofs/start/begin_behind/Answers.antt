@@ -1,0 +1,21 @@
+use Rattle.std.proofs.Common.{ℕ, List, true}
+use Rattle.line_cutter.specs.Jobs.{jobs_of_input}
+use Rattle.resume_command.specs.declared.start.TheConstants.{TRANSCRIPT_FILE_LIMIT}
+use Rattle.resume_command.specs.Begun.{BeginsBy, StopsBy, session_of}
+use Rattle.resume_command.specs.Loading.{OverTranscript}
+use Rattle.resume_command.proofs.Files.{text_fails, text_there}
+use Rattle.resume_command.proofs.Taken.{stopped}
+use Rattle.resume_command.proofs.start.begin_behind.Goals as goal
+
+pub returns-in_err-file-clause-begins : goal.returns-in_err-file-clause-begins
+returns-in_err-file-clause-begins g c requests cut =
+    text_fails TRANSCRIPT_FILE_LIMIT _ _ (g.F.Shelf.file c.args.shelf.now c.args.transcript.now) c.in_err-file.field-0.0 c.in_err-file.ensures.bytes
+    (stopped c.from_residual.result c.in_err-file.field-0.0 c.from_residual.ensures.1)
+
+pub returns-clause-begins : goal.returns-clause-begins
+returns-clause-begins g c requests cut =
+    let file = jobs_of_input requests true c.args.lanes in
+    let result = c.begin_at.result in
+    text_there TRANSCRIPT_FILE_LIMIT (StopsBy result)
+    (OverTranscript (StopsBy result) (λ xs. BeginsBy (session_of c.args.policy c.args.lanes c.args.rounds file) file xs result))
+    (g.F.Shelf.file c.args.shelf.now c.args.transcript.now) c.in_ok-file.file c.in_ok-file.ensures.bytes (c.begin_at.ensures.begins requests cut)
