@@ -1,18 +1,15 @@
 -- What a case keeps while its steps are said.
-use Rattle.std.proofs.Common.{◌≡◌, ℕ, ◌+◌, ◌<◌, Bool, true, false, List, length, Option, None, Some, slice_set, refl, sym, ap, subst, ◌∙◌, arith, ◌⊎◌, ◌≢◌, inl, inr}
-use Rattle.std.proofs.lemmas.Bool.{false≢true}
+use Rattle.std.proofs.Common.{◌≡◌, ℕ, ◌+◌, ◌<◌, Bool, true, false, List, length, Option, Some, slice_set, sym, subst, ◌∙◌, arith}
 use Rattle.std.proofs.lemmas.Bool.Decides.{eqb_tells}
 use Rattle.std.proofs.lemmas.List.{get_or-set_other, length-set}
 use Rattle.wf_names.specs.declared.limits.TheConstants.{STEP_LIMIT}
 use Rattle.wf_names.specs.declared.states.StepState.{StepState}
 use Rattle.wf_names.specs.declared.states.StepState.TheVariants.{Free, Held, Finished}
 use Rattle.constraint_forms.specs.Assigned.{is_member, user_at}
-use Rattle.policy_book.specs.Shapes.{PolicyShape}
-use Rattle.policy_book.specs.Plans.{AreAssigned, Problem}
-use Rattle.policy_book.specs.Policies.{flow_at, problem_of}
-use Rattle.certificate_check.proofs.Assigned.{either, given, given_other, given_same, none_not_some}
+use Rattle.policy_book.specs.Plans.{AreAssigned}
+use Rattle.certificate_check.proofs.Assigned.{either, given, given_other, given_same}
 use Rattle.cnf_command.specs.declared.case.Case.{Case}
-use Rattle.cnf_command.specs.Cases.{with_state, IsCaseOf, IsCaseSoFar, IsOfUsers}
+use Rattle.cnf_command.specs.Cases.{with_state, IsCaseSoFar, IsOfUsers}
 
 -- finished steps stay assigned where one more step is given to a user
 still_assigned : (done : List Bool) (a : List (Option ℕ)) (t u : ℕ) → t < length a → AreAssigned done a → AreAssigned done (slice_set a t (Some u))
@@ -21,7 +18,8 @@ still_assigned done a t u below are s is = either (eqb_tells s t)
     (λ apart. (let w = are s is in (w.0, given_other a t u s apart.1 ∙ w.1)))
 
 -- and so do they where that step is finished
-also_finished : (done : List Bool) (a : List (Option ℕ)) (t u : ℕ) → t < length a → AreAssigned done a → AreAssigned (slice_set done t true) (slice_set a t (Some u))
+also_finished : (done : List Bool) (a : List (Option ℕ)) (t u : ℕ) → t < length a → AreAssigned done a
+    → AreAssigned (slice_set done t true) (slice_set a t (Some u))
 also_finished done a t u below are s is = either (eqb_tells s t)
     (λ same. (u, subst (λ k. user_at (slice_set a t (Some u)) k ≡ Some u) (sym same.1) (given_same a t u below)))
     (λ apart.
@@ -52,33 +50,4 @@ said_on n c (Finished u) below sofar known = record {
   all_assigned = also_finished c.finished c.assigned c.said u (subst (λ k. c.said < k) (sym sofar.places) below) sofar.all_assigned;
   places = length-set c.assigned c.said (Some u) ∙ sofar.places;
   flags = length-set c.finished c.said true ∙ sofar.flags;
-}
-
--- one more step is said
-pub said_more : (c : Case) (x : StepState) → (with_state c x).said ≡ c.said + 1
-said_more c Free = refl
-said_more c (Held u) = refl
-said_more c (Finished u) = refl
-
--- where nobody has a step, all users are among the first so many
-pub none_yet : (n : ℕ) (c : Case) → IsCaseSoFar 0 c → IsCaseSoFar n c
-none_yet n c none = record {
-  within = λ s u h. (let w = none.within s u h in (w.0, absurd (omega (arith, w.1))));
-  all_assigned = none.all_assigned;
-  places = none.places;
-  flags = none.flags;
-}
-
--- a case whose steps are all free is one of each workflow
-pub case_free : (p : Problem) (c : Case) → IsCaseSoFar 0 c → IsCaseOf p c
-case_free p c none = record {
-  within = record { steps = λ s u h. (let w = (none.within s u h).1 in absurd (omega (arith, w))); users = λ s u h. (let w = (none.within s u h).1 in absurd (omega (arith, w))) };
-  all_assigned = none.all_assigned;
-}
-
--- a case whose steps were all said
-pub case_whole : (p : PolicyShape) (f : ℕ) (c : Case) → c.said ≡ length (flow_at p f).flow.steps → IsCaseSoFar (length p.roster.users) c → IsCaseOf (problem_of p f) c
-case_whole p f c said sofar = record {
-  within = record { steps = λ s u h. subst (λ n. s < n) said (sofar.within s u h).0; users = λ s u h. (sofar.within s u h).1 };
-  all_assigned = sofar.all_assigned;
 }

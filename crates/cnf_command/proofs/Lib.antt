@@ -1,4 +1,4 @@
-pub mod Said
+pub mod ItemsSaid
 pub mod CaseLaws
 pub mod Telling
 pub mod Runs

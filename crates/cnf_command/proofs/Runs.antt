@@ -1,5 +1,5 @@
 -- How the steps of a run compose.
-use Rattle.std.proofs.Common.{◌≡◌, ℕ, ◌≤◌, true, List, [], length, Option, Some, Result, Ok, Err, refl, subst, ◌∙◌, arith, inl, inr}
+use Rattle.std.proofs.Common.{◌≡◌, ℕ, List, Option, Some, Result, Ok, Err, arith, inl, inr}
 use Rattle.std.specs.Prelude.{IsErrAnd}
 use Rattle.wf_names.specs.declared.limits.TheConstants.{LINE_LIMIT, POLICY_FILE_LIMIT}
 use Rattle.wf_outside.specs.Outside.{Filed, told, missing, untold, HasPart, Rose, with_bytes}
@@ -7,14 +7,14 @@ use Rattle.policy_book.specs.Shapes.{PolicyShape}
 use Rattle.cnf_export.specs.Encoders.{EncoderShape}
 use Rattle.cnf_text.specs.Dimacs.{dimacs_text}
 use Rattle.run_record.specs.declared.fault.RunFault.{RunFault}
-use Rattle.run_record.specs.declared.fault.RunFault.TheVariants.{Nothing, Write, NoMemory, Load}
-use Rattle.run_record.specs.Fault.{CountsLoads, CountsReadsAlone}
+use Rattle.run_record.specs.declared.fault.RunFault.TheVariants.{Nothing, Write, NoMemory}
+use Rattle.run_record.specs.Fault.{fault_in, CountsLoads, CountsReadsAlone}
 use Rattle.run_record.specs.Report.{nothing_told}
 use Rattle.run_record.specs.Run.{Run, OverFile}
 use Rattle.wf_commands.specs.Answer.{AnswersFile, IsCommandEnding}
 use Rattle.wf_commands.specs.Once.{Ends, HasReadAll, OverPolicy, ReadsInput, RunsOnce}
-use Rattle.wf_commands.specs.Load.{EndsTooLong}
-use Rattle.wf_commands.proofs.Runs.{loaded, without_answer, WritesNothing}
+use Rattle.wf_commands.specs.Load.{EndsTooLong, IsLoadEnding}
+use Rattle.wf_commands.proofs.Runs.{loaded, unread, without_answer, WritesNothing}
 use Rattle.cnf_command.specs.Running.{BreaksOff, EndsEarly, EndsWithout, HasWritten}
 use Rattle.cnf_command.specs.Steps.{EncodesFile}
 
@@ -24,7 +24,8 @@ AnswersWith A untold text = (file : List ℕ) × OverPolicy A file Nothing text
 AnswersWith A missing text = ⊥
 AnswersWith A (told file) text = OverPolicy A file Nothing text
 
-encoded : (A : PolicyShape → RunFault → List ℕ → Type 0) (f : Filed) (e : EncoderShape) → EncodesFile A f (Ok e) → AnswersWith A f (dimacs_text e.variables e.all)
+encoded : (A : PolicyShape → RunFault → List ℕ → Type 0) (f : Filed) (e : EncoderShape) → EncodesFile A f (Ok e)
+    → AnswersWith A f (dimacs_text e.variables e.all)
 encoded A untold e h = h
 encoded A missing e h = cc
 encoded A (told file) e h = h
@@ -57,12 +58,15 @@ over_break A missing before after text h part = absurd h
 over_break A (told file) before after text h part = (text, h, part)
 
 -- all clauses are written
-pub all_written : (policy : List ℕ) (A : Option (List ℕ) → PolicyShape → RunFault → List ℕ → Type 0) (e : EncoderShape) (r : Run) → HasClauses policy (A r.before.input) e r → r.fault ≡ Nothing
-    → r.after.output ≡ with_bytes r.before.output (dimacs_text e.variables e.all) → r.after.write_faults ≡ r.before.write_faults → RunsOnce (Some LINE_LIMIT) policy A r
+pub all_written : (policy : List ℕ) (A : Option (List ℕ) → PolicyShape → RunFault → List ℕ → Type 0) (e : EncoderShape) (r : Run)
+    → HasClauses policy (A r.before.input) e r → r.fault ≡ Nothing
+    → r.after.output ≡ with_bytes r.before.output (dimacs_text e.variables e.all) → r.after.write_faults ≡ r.before.write_faults
+    → RunsOnce (Some LINE_LIMIT) policy A r
 all_written policy A e r has is wrote writes = record {
   orderly = record { early = λ early. cc; loads = rw is has.loads; reads = rw is has.reads; writes = rw is writes };
   once = record {
-    answer = rw is (over_all (A r.before.input) (r.files policy) r.before.output r.after.output _ (encoded (A r.before.input) (r.files policy) e has.given) wrote);
+    answer = rw is (over_all (A r.before.input) (r.files policy) r.before.output r.after.output _
+        (encoded (A r.before.input) (r.files policy) e has.given) wrote);
     named = loaded POLICY_FILE_LIMIT (r.files policy) r.fault has.named;
     quiet = rw is tt;
     untold = has.untold;
@@ -72,12 +76,15 @@ all_written policy A e r has is wrote writes = record {
 }
 
 -- writing failed
-pub part_written : (policy : List ℕ) (A : Option (List ℕ) → PolicyShape → RunFault → List ℕ → Type 0) (e : EncoderShape) (r : Run) → HasClauses policy (A r.before.input) e r → r.fault ≡ Write
-    → HasPart r.before.output r.after.output (dimacs_text e.variables e.all) → Rose r.before.write_faults r.after.write_faults → RunsOnce (Some LINE_LIMIT) policy A r
+pub part_written : (policy : List ℕ) (A : Option (List ℕ) → PolicyShape → RunFault → List ℕ → Type 0) (e : EncoderShape) (r : Run)
+    → HasClauses policy (A r.before.input) e r → r.fault ≡ Write
+    → HasPart r.before.output r.after.output (dimacs_text e.variables e.all) → Rose r.before.write_faults r.after.write_faults
+    → RunsOnce (Some LINE_LIMIT) policy A r
 part_written policy A e r has is part rose = record {
   orderly = record { early = λ early. cc; loads = rw is has.loads; reads = rw is (let reads = has.reads in omega (arith, reads)); writes = rw is rose };
   once = record {
-    answer = rw is (over_part (A r.before.input) (r.files policy) r.before.output r.after.output _ (encoded (A r.before.input) (r.files policy) e has.given) part);
+    answer = rw is (over_part (A r.before.input) (r.files policy) r.before.output r.after.output _
+        (encoded (A r.before.input) (r.files policy) e has.given) part);
     named = loaded POLICY_FILE_LIMIT (r.files policy) r.fault has.named;
     quiet = rw is tt;
     untold = has.untold;
@@ -105,8 +112,10 @@ unencoded A untold fault h = h
 unencoded A missing fault h = cc
 unencoded A (told file) fault h = h
 
-pub none_written : (policy : List ℕ) (A : Option (List ℕ) → PolicyShape → RunFault → List ℕ → Type 0) (r : Run) → EncodesFile (A r.before.input) (r.files policy) (Err r.fault) → IsCommandEnding r.fault
-    → EndsTooLong POLICY_FILE_LIMIT (r.files policy) r.fault → CountsLoads r.fault r.load_faults r.load_faults_after → CountsReadsAlone r.fault r.before.read_faults r.after.read_faults
+pub none_written : (policy : List ℕ) (A : Option (List ℕ) → PolicyShape → RunFault → List ℕ → Type 0) (r : Run)
+    → EncodesFile (A r.before.input) (r.files policy) (Err r.fault) → IsCommandEnding r.fault
+    → EndsTooLong POLICY_FILE_LIMIT (r.files policy) r.fault → CountsLoads r.fault r.load_faults r.load_faults_after
+    → CountsReadsAlone r.fault r.before.read_faults r.after.read_faults
     → ReadsInput (Some LINE_LIMIT) r.fault r.before.input r.after.input → WritesNothing r → RunsOnce (Some LINE_LIMIT) policy A r
 none_written policy A r given ending named loads reads input nothing =
     without_answer (Some LINE_LIMIT) policy A r (unencoded (A r.before.input) (r.files policy) r.fault given) ending named loads reads input nothing
@@ -120,3 +129,9 @@ pub model_stays : (filed : Filed) (fault : RunFault) → EndsWithout filed Nothi
 model_stays untold fault h = tt
 model_stays missing fault h = absurd (early_nothing h)
 model_stays (told file) fault h = λ long. absurd (early_nothing (h long))
+
+-- where no policy was loaded nothing is read
+pub unread_clauses : (result : Result EncoderShape RunFault) (fault : RunFault) (left : Option (List ℕ)) → IsErrAnd result (λ e. e ≡ fault) → IsLoadEnding fault
+    → ReadsInput (Some LINE_LIMIT) (fault_in result) left left
+unread_clauses (Ok e) fault left is ending = absurd is
+unread_clauses (Err e) fault left is ending = rw is (unread (Some LINE_LIMIT) fault left ending)

@@ -1,12 +1,11 @@
 -- How the answers for a case follow from what the steps of a run give.
-use Rattle.std.proofs.Common.{◌≡◌, ℕ, ◌<◌, ◌≤◌, Bool, true, false, List, [], length, Option, None, Some, Result, Ok, Err, refl, sym, ap, ap₂, subst, ◌∙◌, arith, inl, inr}
-use Rattle.std.specs.Prelude.{IfOk, IfSome, IsErrAnd, MatchBool, nat_lt}
+use Rattle.std.proofs.Common.{◌≡◌, ℕ, ◌<◌, ◌≤◌, Bool, true, false, List, [], length, Option, None, Some, Result, Ok, Err, refl, ap, ap₂, subst}
+use Rattle.std.specs.Prelude.{IfSome, IsErrAnd, nat_lt}
 use Rattle.std.proofs.lemmas.Bool.{le-ltb, lt-ltb}
 use Rattle.wf_names.specs.declared.limits.TheConstants.{LINE_LIMIT, POLICY_FILE_LIMIT}
 use Rattle.wf_outside.specs.Outside.{Filed, told, missing, untold}
 use Rattle.policy_book.specs.Shapes.{PolicyShape}
-use Rattle.policy_book.specs.Policies.{flow_at, problem_of}
-use Rattle.policy_reader.specs.Files.{policy_of_file}
+use Rattle.policy_book.specs.Policies.{problem_of}
 use Rattle.cnf_export.specs.Encodings.{literals, variables_of}
 use Rattle.cnf_export.specs.Encoders.{EncoderShape}
 use Rattle.cnf_export.specs.Models.{AreSound}
@@ -20,18 +19,16 @@ use Rattle.run_record.specs.declared.fault.RunFault.TheVariants.{Nothing, Found,
 use Rattle.run_record.specs.declared.fault.InputFault.TheVariants.{NoFlow, Syntax, Length, NoUser, Model}
 use Rattle.run_record.specs.Fault.{How, unasked, answered, misfiled, refused, unloaded, unread, unwritten, lacking, how_of}
 use Rattle.wf_commands.specs.declared.answer.Answer.{Answer}
-use Rattle.wf_commands.specs.Answer.{ending_with, AnswersAs, RefusesSo}
+use Rattle.wf_commands.specs.Answer.{ending_with, AnswersAs, AnswersFile, RefusesSo}
 use Rattle.wf_commands.specs.Input.{number_named}
-use Rattle.wf_commands.specs.Given.{GivesInput, IsInputEnding}
 use Rattle.wf_commands.specs.Once.{OverPolicy}
 use Rattle.wf_commands.specs.Load.{BytesOf, GivesBytes, GivesPolicy, IsLoadEnding, PolicyOf}
 use Rattle.wf_commands.proofs.Loading.{answers_file}
 use Rattle.cnf_command.specs.declared.case.Case.{Case}
 use Rattle.cnf_command.specs.declared.load.TheConstants.{MODEL_FILE_LIMIT}
-use Rattle.cnf_command.specs.Cases.{case_of_input, IsCaseOf}
+use Rattle.cnf_command.specs.Cases.{IsCaseOf}
 use Rattle.cnf_command.specs.Answers.{clauses_for, ClausesAsked, ModelAsked, OverCase, OverModel, OverText, ReadsModel, TellsClauses, TellsReading, UnlessLarge}
-use Rattle.cnf_command.specs.Running.{EndsEarly, EndsWithout}
-use Rattle.cnf_command.specs.Steps.{EncodesAs, EncodesFile, GivesCase, GivesEncoder, GivesModel, IsCaseEnding, IsLateEnding, ReadsCase}
+use Rattle.cnf_command.specs.Steps.{EncodesAs, EncodesFile, GivesCase, GivesEncoder, GivesModel, IsCaseEnding}
 
 -- ---- in general
 
@@ -45,17 +42,6 @@ refuses_by A B answered fault to h = to h
 refuses_by A B misfiled fault to h = to h
 refuses_by A B refused fault to h = to h
 refuses_by A B unwritten fault to h = to h
-
--- an ending that is an answer is one, however it is met
-pub refuses_so : (A : RunFault → List ℕ → Type 0) (how : How) (fault : RunFault) → A fault [] → RefusesSo how A fault
-refuses_so A unloaded fault h = tt
-refuses_so A unread fault h = tt
-refuses_so A lacking fault h = tt
-refuses_so A unasked fault h = h
-refuses_so A answered fault h = h
-refuses_so A misfiled fault h = h
-refuses_so A refused fault h = h
-refuses_so A unwritten fault h = h
 
 -- answers in one sense are answers in another
 pub answers_by : (A B : RunFault → List ℕ → Type 0) (result : Result Answer RunFault) → ((fault : RunFault) (text : List ℕ) → A fault text → B fault text)
@@ -75,36 +61,13 @@ encodes_failed A (Err e) fault is h = rw is h
 
 -- ---- the case in the input
 
-case_given : (p : PolicyShape) (f : ℕ) (input : List ℕ) (result : Result Case RunFault) → length input ≤ LINE_LIMIT → ReadsCase p f input result → GivesCase p f input result
-case_given p f input (Ok c) within h = (within, h)
-case_given p f input (Err (BadInput e)) within h = (within, h)
-case_given p f input (Err NoMemory) within h = tt
-case_given p f input (Err Nothing) within h = absurd h
-case_given p f input (Err Found) within h = absurd h
-case_given p f input (Err Usage) within h = absurd h
-case_given p f input (Err (Policy e)) within h = absurd h
-case_given p f input (Err Read) within h = absurd h
-case_given p f input (Err Write) within h = absurd h
-case_given p f input (Err Load) within h = absurd h
-case_given p f input (Err FileTooLong) within h = absurd h
-case_given p f input (Err (LineTooLong line)) within h = absurd h
-case_given p f input (Err TooManyLines) within h = absurd h
-case_given p f input (Err TooLarge) within h = absurd h
-
--- an input that was taken is read as a case
-pub case_taken : (p : PolicyShape) (f : ℕ) (told : Option (List ℕ)) (bytes : List ℕ) (result : Result Case RunFault)
-    → IfSome told (λ input. GivesInput LINE_LIMIT input (Ok bytes)) → ReadsCase p f bytes result → IfSome told (λ input. GivesCase p f input result)
-case_taken p f None bytes result given h = tt
-case_taken p f (Some input) bytes result given h =
-    subst (λ (x : List ℕ). GivesCase p f x result) given.1 (case_given p f bytes result (subst (λ (x : List ℕ). length x ≤ LINE_LIMIT) (sym given.1) given.0) h)
-
 over_case : (p : PolicyShape) (f : ℕ) (input : List ℕ) (c : Case) (A : Case → RunFault → List ℕ → Type 0) (fault : RunFault) (text : List ℕ)
     → GivesCase p f input (Ok c) → A c fault text → OverCase p f A input fault text
 over_case p f input c A fault text given h = rw (le-ltb LINE_LIMIT (length input) given.0, given.1) h
 
 -- the answers about a case are answers about its input
-pub over_told : (p : PolicyShape) (f : ℕ) (told : Option (List ℕ)) (c : Case) (A : Case → RunFault → List ℕ → Type 0) (fault : RunFault) (text : List ℕ)
-    → IfSome told (λ input. GivesCase p f input (Ok c)) → A c fault text → IfSome told (λ input. OverCase p f A input fault text)
+pub over_told : (p : PolicyShape) (f : ℕ) (seen : Option (List ℕ)) (c : Case) (A : Case → RunFault → List ℕ → Type 0) (fault : RunFault) (text : List ℕ)
+    → IfSome seen (λ input. GivesCase p f input (Ok c)) → A c fault text → IfSome seen (λ input. OverCase p f A input fault text)
 over_told p f None c A fault text given h = tt
 over_told p f (Some input) c A fault text given h = over_case p f input c A fault text given h
 
@@ -113,23 +76,24 @@ too_long : (p : PolicyShape) (f : ℕ) (A : Case → RunFault → List ℕ → T
 too_long p f A input line given = rw (lt-ltb LINE_LIMIT (length input) given.0) (ap LineTooLong given.1, refl)
 
 -- an input that is no case is refused
-pub case_refused : (p : PolicyShape) (f : ℕ) (told : Option (List ℕ)) (fault : RunFault) (A : Case → RunFault → List ℕ → Type 0)
-    → IfSome told (λ input. GivesCase p f input (Err fault)) → IsCaseEnding fault → RefusesSo (how_of fault) (λ fault text. IfSome told (λ input. OverCase p f A input fault text)) fault
-case_refused p f told Read A given ending = tt
-case_refused p f told NoMemory A given ending = tt
+pub case_refused : (p : PolicyShape) (f : ℕ) (seen : Option (List ℕ)) (fault : RunFault) (A : Case → RunFault → List ℕ → Type 0)
+    → IfSome seen (λ input. GivesCase p f input (Err fault)) → IsCaseEnding fault
+    → RefusesSo (how_of fault) (λ fault text. IfSome seen (λ input. OverCase p f A input fault text)) fault
+case_refused p f seen Read A given ending = tt
+case_refused p f seen NoMemory A given ending = tt
 case_refused p f None (LineTooLong line) A given ending = tt
 case_refused p f (Some input) (LineTooLong line) A given ending = too_long p f A input line given
 case_refused p f None (BadInput e) A given ending = tt
 case_refused p f (Some input) (BadInput e) A given ending = rw (le-ltb LINE_LIMIT (length input) given.0, given.1) (refl, refl)
-case_refused p f told Nothing A given ending = absurd ending
-case_refused p f told Found A given ending = absurd ending
-case_refused p f told Usage A given ending = absurd ending
-case_refused p f told (Policy e) A given ending = absurd ending
-case_refused p f told Write A given ending = absurd ending
-case_refused p f told Load A given ending = absurd ending
-case_refused p f told FileTooLong A given ending = absurd ending
-case_refused p f told TooManyLines A given ending = absurd ending
-case_refused p f told TooLarge A given ending = absurd ending
+case_refused p f seen Nothing A given ending = absurd ending
+case_refused p f seen Found A given ending = absurd ending
+case_refused p f seen Usage A given ending = absurd ending
+case_refused p f seen (Policy e) A given ending = absurd ending
+case_refused p f seen Write A given ending = absurd ending
+case_refused p f seen Load A given ending = absurd ending
+case_refused p f seen FileTooLong A given ending = absurd ending
+case_refused p f seen TooManyLines A given ending = absurd ending
+case_refused p f seen TooLarge A given ending = absurd ending
 
 -- ---- the clauses
 
@@ -137,11 +101,13 @@ few_literals : (p : PolicyShape) (f : ℕ) (c : Case) (A : RunFault → List ℕ
     → literals (clauses_for p f c) ≤ LITERAL_LIMIT → A fault text → UnlessLarge p f c A fault text
 few_literals p f c A fault text few h = rw (le-ltb LITERAL_LIMIT (literals (clauses_for p f c)) few) h
 
-many_literals : (p : PolicyShape) (f : ℕ) (c : Case) (A : RunFault → List ℕ → Type 0) → LITERAL_LIMIT < literals (clauses_for p f c) → UnlessLarge p f c A TooLarge []
+many_literals : (p : PolicyShape) (f : ℕ) (c : Case) (A : RunFault → List ℕ → Type 0) → LITERAL_LIMIT < literals (clauses_for p f c)
+    → UnlessLarge p f c A TooLarge []
 many_literals p f c A many = rw (lt-ltb LITERAL_LIMIT (literals (clauses_for p f c)) many) (refl, refl)
 
 -- clauses that are too large are refused
-pub large_refused : (p : PolicyShape) (f : ℕ) (c : Case) (A : RunFault → List ℕ → Type 0) (fault : RunFault) → GivesEncoder p f c (Err fault) → RefusesSo (how_of fault) (UnlessLarge p f c A) fault
+pub large_refused : (p : PolicyShape) (f : ℕ) (c : Case) (A : RunFault → List ℕ → Type 0) (fault : RunFault) → GivesEncoder p f c (Err fault)
+    → RefusesSo (how_of fault) (UnlessLarge p f c A) fault
 large_refused p f c A TooLarge given = many_literals p f c A given
 large_refused p f c A NoMemory given = tt
 large_refused p f c A Nothing given = absurd given
@@ -166,37 +132,43 @@ clauses_written p f c e law sound known given = record {
 
 -- the answers about the case in the input
 abbrev AboutCase : PolicyShape → ℕ → Option (List ℕ) → (Case → RunFault → List ℕ → Type 0) → RunFault → List ℕ → Type 0
-AboutCase p f told A fault text = IfSome told (λ input. OverCase p f A input fault text)
+AboutCase p f seen A fault text = IfSome seen (λ input. OverCase p f A input fault text)
 
 abbrev ClausesOf : PolicyShape → ℕ → Case → RunFault → List ℕ → Type 0
 ClausesOf p f c fault text = UnlessLarge p f c (TellsClauses p f c) fault text
 
-asked_clauses : (p : PolicyShape) (word : List ℕ) (f : ℕ) (told : Option (List ℕ)) (fault : RunFault) (text : List ℕ) → number_named p.flow_names word ≡ Some f
-    → AboutCase p f told (ClausesOf p f) fault text → ClausesAsked p word told fault text
-asked_clauses p word f told fault text named h = rw named h
+asked_clauses : (p : PolicyShape) (word : List ℕ) (f : ℕ) (seen : Option (List ℕ)) (fault : RunFault) (text : List ℕ) → number_named p.flow_names word ≡ Some f
+    → AboutCase p f seen (ClausesOf p f) fault text → ClausesAsked p word seen fault text
+asked_clauses p word f seen fault text named h = rw named h
 
-pub encodes_case : (p : PolicyShape) (word : List ℕ) (f : ℕ) (c : Case) (told : Option (List ℕ)) (result : Result EncoderShape RunFault) → number_named p.flow_names word ≡ Some f
-    → SatisfiableIsCompletable → AreSound (problem_of p f) → IsCaseOf (problem_of p f) c → IfSome told (λ input. GivesCase p f input (Ok c)) → GivesEncoder p f c result
-    → EncodesAs (ClausesAsked p word told) result
-encodes_case p word f c told (Ok e) named law sound known taken given =
+pub encodes_case : (p : PolicyShape) (word : List ℕ) (f : ℕ) (c : Case) (seen : Option (List ℕ)) (result : Result EncoderShape RunFault)
+    → number_named p.flow_names word ≡ Some f
+    → SatisfiableIsCompletable → AreSound (problem_of p f) → IsCaseOf (problem_of p f) c → IfSome seen (λ input. GivesCase p f input (Ok c))
+    → GivesEncoder p f c result
+    → EncodesAs (ClausesAsked p word seen) result
+encodes_case p word f c seen (Ok e) named law sound known taken given =
     let text = dimacs_text e.variables e.all in
-    asked_clauses p word f told Nothing text named
-    (over_told p f told c (ClausesOf p f) Nothing text taken
+    asked_clauses p word f seen Nothing text named
+    (over_told p f seen c (ClausesOf p f) Nothing text taken
     (few_literals p f c (TellsClauses p f c) Nothing text given.0 (clauses_written p f c e law sound known given)))
-encodes_case p word f c told (Err fault) named law sound known taken given =
-    refuses_by (UnlessLarge p f c (TellsClauses p f c)) (ClausesAsked p word told) (how_of fault) fault
-    (λ h. asked_clauses p word f told fault [] named (over_told p f told c (ClausesOf p f) fault [] taken h)) (large_refused p f c (TellsClauses p f c) fault given)
+encodes_case p word f c seen (Err fault) named law sound known taken given =
+    refuses_by (UnlessLarge p f c (TellsClauses p f c)) (ClausesAsked p word seen) (how_of fault) fault
+    (λ h. asked_clauses p word f seen fault [] named (over_told p f seen c (ClausesOf p f) fault [] taken h))
+    (large_refused p f c (TellsClauses p f c) fault given)
 
-pub encodes_no_case : (p : PolicyShape) (word : List ℕ) (f : ℕ) (told : Option (List ℕ)) (result : Result EncoderShape RunFault) (fault : RunFault) → IsErrAnd result (λ e. e ≡ fault)
-    → number_named p.flow_names word ≡ Some f → IfSome told (λ input. GivesCase p f input (Err fault)) → IsCaseEnding fault → EncodesAs (ClausesAsked p word told) result
-encodes_no_case p word f told result fault is named given ending =
-    encodes_failed (ClausesAsked p word told) result fault is
-    (refuses_by (AboutCase p f told (ClausesOf p f)) (ClausesAsked p word told) (how_of fault) fault
-    (λ h. asked_clauses p word f told fault [] named h) (case_refused p f told fault (ClausesOf p f) given ending))
+pub encodes_no_case : (p : PolicyShape) (word : List ℕ) (f : ℕ) (seen : Option (List ℕ)) (result : Result EncoderShape RunFault) (fault : RunFault)
+    → IsErrAnd result (λ e. e ≡ fault)
+    → number_named p.flow_names word ≡ Some f → IfSome seen (λ input. GivesCase p f input (Err fault)) → IsCaseEnding fault
+    → EncodesAs (ClausesAsked p word seen) result
+encodes_no_case p word f seen result fault is named given ending =
+    encodes_failed (ClausesAsked p word seen) result fault is
+    (refuses_by (AboutCase p f seen (ClausesOf p f)) (ClausesAsked p word seen) (how_of fault) fault
+    (λ h. asked_clauses p word f seen fault [] named h) (case_refused p f seen fault (ClausesOf p f) given ending))
 
 -- ---- the policy in a file
 
-over : (A : PolicyShape → RunFault → List ℕ → Type 0) (file : List ℕ) (p : PolicyShape) (e : EncoderShape) → PolicyOf file (Ok p) → EncodesAs (A p) (Ok e) → EncodesAs (OverPolicy A file) (Ok e)
+over : (A : PolicyShape → RunFault → List ℕ → Type 0) (file : List ℕ) (p : PolicyShape) (e : EncoderShape) → PolicyOf file (Ok p) → EncodesAs (A p) (Ok e)
+    → EncodesAs (OverPolicy A file) (Ok e)
 over A file p e gives h = rw (le-ltb POLICY_FILE_LIMIT (length file) gives.0, gives.1) h
 
 pub encodes_file : (A : PolicyShape → RunFault → List ℕ → Type 0) (f : Filed) (p : PolicyShape) (result : Result EncoderShape RunFault)
@@ -207,7 +179,8 @@ encodes_file A untold p (Err fault) gives h = answers_file A untold p (Err fault
 encodes_file A (told file) p (Ok e) gives h = over A file p e gives h
 encodes_file A (told file) p (Err fault) gives h = answers_file A (told file) p (Err fault) gives (λ file read. h)
 
-policy_refused : (A : PolicyShape → RunFault → List ℕ → Type 0) (file : List ℕ) (fault : RunFault) → PolicyOf file (Err fault) → IsLoadEnding fault → RefusesSo (how_of fault) (OverPolicy A file) fault
+policy_refused : (A : PolicyShape → RunFault → List ℕ → Type 0) (file : List ℕ) (fault : RunFault) → PolicyOf file (Err fault) → IsLoadEnding fault
+    → RefusesSo (how_of fault) (OverPolicy A file) fault
 policy_refused A file FileTooLong gives ending = rw (lt-ltb POLICY_FILE_LIMIT (length file) gives) (refl, refl)
 policy_refused A file (Policy e) gives ending = rw (le-ltb POLICY_FILE_LIMIT (length file) gives.0, gives.1) (refl, refl)
 policy_refused A file Load gives ending = tt
@@ -222,20 +195,35 @@ policy_refused A file TooManyLines gives ending = absurd ending
 policy_refused A file (BadInput e) gives ending = absurd ending
 policy_refused A file TooLarge gives ending = absurd ending
 
-encodes_none : (A : PolicyShape → RunFault → List ℕ → Type 0) (f : Filed) (fault : RunFault) → GivesPolicy f (Err fault) → IsLoadEnding fault → EncodesFile A f (Err fault)
+encodes_none : (A : PolicyShape → RunFault → List ℕ → Type 0) (f : Filed) (fault : RunFault) → GivesPolicy f (Err fault) → IsLoadEnding fault
+    → EncodesFile A f (Err fault)
 encodes_none A untold fault gives ending = (gives.0, policy_refused A gives.0 fault gives.1 ending)
 encodes_none A missing fault gives ending = cc
 encodes_none A (told file) fault gives ending = policy_refused A file fault gives ending
 
-pub encodes_no_policy : (A : PolicyShape → RunFault → List ℕ → Type 0) (f : Filed) (result : Result EncoderShape RunFault) (fault : RunFault) → IsErrAnd result (λ e. e ≡ fault)
+pub encodes_no_policy : (A : PolicyShape → RunFault → List ℕ → Type 0) (f : Filed) (result : Result EncoderShape RunFault) (fault : RunFault)
+    → IsErrAnd result (λ e. e ≡ fault)
     → GivesPolicy f (Err fault) → IsLoadEnding fault → EncodesFile A f result
 encodes_no_policy A f (Ok x) fault is gives ending = absurd is
 encodes_no_policy A f (Err e) fault is gives ending = rw is (encodes_none A f fault gives ending)
 
+answers_none : (A : PolicyShape → RunFault → List ℕ → Type 0) (f : Filed) (fault : RunFault) → GivesPolicy f (Err fault) → IsLoadEnding fault
+    → AnswersFile A f (Err fault)
+answers_none A untold fault gives ending = (gives.0, policy_refused A gives.0 fault gives.1 ending)
+answers_none A missing fault gives ending = cc
+answers_none A (told file) fault gives ending = policy_refused A file fault gives ending
+
+pub answers_no_policy : (A : PolicyShape → RunFault → List ℕ → Type 0) (f : Filed) (result : Result Answer RunFault) (fault : RunFault)
+    → IsErrAnd result (λ e. e ≡ fault)
+    → GivesPolicy f (Err fault) → IsLoadEnding fault → AnswersFile A f result
+answers_no_policy A f (Ok x) fault is gives ending = absurd is
+answers_no_policy A f (Err e) fault is gives ending = rw is (answers_none A f fault gives ending)
+
 -- ---- the model
 
 large_by : (p : PolicyShape) (f : ℕ) (c : Case) (A B : RunFault → List ℕ → Type 0) (fault : RunFault) (text : List ℕ) (large : Bool)
-    → nat_lt LITERAL_LIMIT (literals (clauses_for p f c)) ≡ large → (A fault text → B fault text) → UnlessLarge p f c A fault text → UnlessLarge p f c B fault text
+    → nat_lt LITERAL_LIMIT (literals (clauses_for p f c)) ≡ large → (A fault text → B fault text) → UnlessLarge p f c A fault text
+    → UnlessLarge p f c B fault text
 large_by p f c A B fault text true is to h = rw is (rw is at h)
 large_by p f c A B fault text false is to h = rw is (to (rw is at h))
 
@@ -260,44 +248,54 @@ word_refused p f c text TooManyLines given = absurd given
 word_refused p f c text TooLarge given = absurd given
 
 -- the clauses are too large
-pub answers_large : (p : PolicyShape) (f : ℕ) (c : Case) (A : RunFault → List ℕ → Type 0) (result : Result Answer RunFault) (fault : RunFault) → IsErrAnd result (λ e. e ≡ fault)
+pub answers_large : (p : PolicyShape) (f : ℕ) (c : Case) (A : RunFault → List ℕ → Type 0) (result : Result Answer RunFault) (fault : RunFault)
+    → IsErrAnd result (λ e. e ≡ fault)
     → GivesEncoder p f c (Err fault) → AnswersAs (UnlessLarge p f c A) result
 answers_large p f c A result fault is given = answers_failed (UnlessLarge p f c A) result fault is (large_refused p f c A fault given)
 
 -- the text has a word that is none
 pub answers_word : (p : PolicyShape) (f : ℕ) (c : Case) (text : List ℕ) (result : Result Answer RunFault) (fault : RunFault) → IsErrAnd result (λ e. e ≡ fault)
-    → literals (clauses_for p f c) ≤ LITERAL_LIMIT → GivesModel (variables_of (problem_of p f)) text (Err fault) → AnswersAs (UnlessLarge p f c (ReadsModel p f text c)) result
+    → literals (clauses_for p f c) ≤ LITERAL_LIMIT → GivesModel (variables_of (problem_of p f)) text (Err fault)
+    → AnswersAs (UnlessLarge p f c (ReadsModel p f text c)) result
 answers_word p f c text result fault is few given =
     answers_failed (UnlessLarge p f c (ReadsModel p f text c)) result fault is
-    (refuses_by (ReadsModel p f text c) (UnlessLarge p f c (ReadsModel p f text c)) (how_of fault) fault (few_literals p f c (ReadsModel p f text c) fault [] few) (word_refused p f c text fault given))
+    (refuses_by (ReadsModel p f text c) (UnlessLarge p f c (ReadsModel p f text c)) (how_of fault) fault
+    (few_literals p f c (ReadsModel p f text c) fault [] few) (word_refused p f c text fault given))
 
 -- what a model says is what its text says
-pub answers_model : (p : PolicyShape) (f : ℕ) (c : Case) (text : List ℕ) (flags : List Bool) (result : Result Answer RunFault) → model_of_text (variables_of (problem_of p f)) text ≡ Ok flags
+pub answers_model : (p : PolicyShape) (f : ℕ) (c : Case) (text : List ℕ) (flags : List Bool) (result : Result Answer RunFault)
+    → model_of_text (variables_of (problem_of p f)) text ≡ Ok flags
     → AnswersAs (UnlessLarge p f c (TellsReading p f c (has_variable flags))) result → AnswersAs (UnlessLarge p f c (ReadsModel p f text c)) result
 answers_model p f c text flags result read h =
     answers_by (UnlessLarge p f c (TellsReading p f c (has_variable flags))) (UnlessLarge p f c (ReadsModel p f text c)) result
-    (λ fault line. large_by p f c (TellsReading p f c (has_variable flags)) (ReadsModel p f text c) fault line (nat_lt LITERAL_LIMIT (literals (clauses_for p f c))) refl (λ says. rw read says)) h
+    (λ fault line. large_by p f c (TellsReading p f c (has_variable flags)) (ReadsModel p f text c) fault line
+    (nat_lt LITERAL_LIMIT (literals (clauses_for p f c))) refl (λ says. rw read says)) h
 
-over_text : (A : List ℕ → RunFault → List ℕ → Type 0) (file bytes : List ℕ) (fault : RunFault) (text : List ℕ) → BytesOf MODEL_FILE_LIMIT file (Ok bytes) → A bytes fault text → OverText A file fault text
+over_text : (A : List ℕ → RunFault → List ℕ → Type 0) (file bytes : List ℕ) (fault : RunFault) (text : List ℕ) → BytesOf MODEL_FILE_LIMIT file (Ok bytes)
+    → A bytes fault text → OverText A file fault text
 over_text A file bytes fault text gives h = rw (le-ltb MODEL_FILE_LIMIT (length file) gives.0) (subst (λ (x : List ℕ). A x fault text) gives.1 h)
 
-over_model : (A : List ℕ → RunFault → List ℕ → Type 0) (filed : Filed) (bytes : List ℕ) (fault : RunFault) (text : List ℕ) → GivesBytes MODEL_FILE_LIMIT filed (Ok bytes) → A bytes fault text
+over_model : (A : List ℕ → RunFault → List ℕ → Type 0) (filed : Filed) (bytes : List ℕ) (fault : RunFault) (text : List ℕ)
+    → GivesBytes MODEL_FILE_LIMIT filed (Ok bytes) → A bytes fault text
     → OverModel A filed fault text
 over_model A untold bytes fault text gives h = (gives.0, over_text A gives.0 bytes fault text gives.1 h)
 over_model A missing bytes fault text gives h = cc
 over_model A (told file) bytes fault text gives h = over_text A file bytes fault text gives h
 
-model_too_long : (A : List ℕ → RunFault → List ℕ → Type 0) (filed : Filed) → GivesBytes MODEL_FILE_LIMIT filed (Err FileTooLong) → OverModel A filed FileTooLong []
+model_too_long : (A : List ℕ → RunFault → List ℕ → Type 0) (filed : Filed) → GivesBytes MODEL_FILE_LIMIT filed (Err FileTooLong)
+    → OverModel A filed FileTooLong []
 model_too_long A untold gives = (gives.0, rw (lt-ltb MODEL_FILE_LIMIT (length gives.0) gives.1) (refl, refl))
 model_too_long A missing gives = cc
 model_too_long A (told file) gives = rw (lt-ltb MODEL_FILE_LIMIT (length file) gives) (refl, refl)
 
-no_policy_there : (filed : Filed) (limit : ℕ) (fault : RunFault) → ((file : List ℕ) → BytesOf limit file (Err fault) → ⊥) → (fault ≡ Load → ⊥) → GivesBytes limit filed (Err fault) → ⊥
+no_policy_there : (filed : Filed) (limit : ℕ) (fault : RunFault) → ((file : List ℕ) → BytesOf limit file (Err fault) → ⊥) → (fault ≡ Load → ⊥)
+    → GivesBytes limit filed (Err fault) → ⊥
 no_policy_there untold limit fault never other gives = never gives.0 gives.1
 no_policy_there missing limit fault never other gives = other (let is = gives in cc)
 no_policy_there (told file) limit fault never other gives = never file gives
 
-model_refused : (A : List ℕ → RunFault → List ℕ → Type 0) (filed : Filed) (fault : RunFault) → GivesBytes MODEL_FILE_LIMIT filed (Err fault) → IsLoadEnding fault
+model_refused : (A : List ℕ → RunFault → List ℕ → Type 0) (filed : Filed) (fault : RunFault) → GivesBytes MODEL_FILE_LIMIT filed (Err fault)
+    → IsLoadEnding fault
     → RefusesSo (how_of fault) (OverModel A filed) fault
 model_refused A filed FileTooLong gives ending = model_too_long A filed gives
 model_refused A filed Load gives ending = tt
@@ -317,67 +315,41 @@ abbrev ModelOf : PolicyShape → ℕ → List ℕ → Case → RunFault → List
 ModelOf p f model c fault text = UnlessLarge p f c (ReadsModel p f model c) fault text
 
 abbrev AboutModel : PolicyShape → ℕ → Option (List ℕ) → List ℕ → RunFault → List ℕ → Type 0
-AboutModel p f told model fault text = AboutCase p f told (ModelOf p f model) fault text
+AboutModel p f seen model fault text = AboutCase p f seen (ModelOf p f model) fault text
 
-asked_model : (p : PolicyShape) (word : List ℕ) (f : ℕ) (filed : Filed) (told : Option (List ℕ)) (fault : RunFault) (text : List ℕ) → number_named p.flow_names word ≡ Some f
-    → OverModel (AboutModel p f told) filed fault text → ModelAsked p word filed told fault text
-asked_model p word f filed told fault text named h = rw named h
+asked_model : (p : PolicyShape) (word : List ℕ) (f : ℕ) (filed : Filed) (seen : Option (List ℕ)) (fault : RunFault) (text : List ℕ)
+    → number_named p.flow_names word ≡ Some f
+    → OverModel (AboutModel p f seen) filed fault text → ModelAsked p word filed seen fault text
+asked_model p word f filed seen fault text named h = rw named h
 
 -- the model was not loaded
-pub answers_no_model : (p : PolicyShape) (word : List ℕ) (f : ℕ) (filed : Filed) (told : Option (List ℕ)) (result : Result Answer RunFault) (fault : RunFault) → IsErrAnd result (λ e. e ≡ fault)
-    → number_named p.flow_names word ≡ Some f → GivesBytes MODEL_FILE_LIMIT filed (Err fault) → IsLoadEnding fault → AnswersAs (ModelAsked p word filed told) result
-answers_no_model p word f filed told result fault is named gives ending =
-    answers_failed (ModelAsked p word filed told) result fault is
-    (refuses_by (OverModel (AboutModel p f told) filed) (ModelAsked p word filed told) (how_of fault) fault
-    (λ h. asked_model p word f filed told fault [] named h) (model_refused (AboutModel p f told) filed fault gives ending))
+pub answers_no_model : (p : PolicyShape) (word : List ℕ) (f : ℕ) (filed : Filed) (seen : Option (List ℕ)) (result : Result Answer RunFault)
+    (fault : RunFault) → IsErrAnd result (λ e. e ≡ fault)
+    → number_named p.flow_names word ≡ Some f → GivesBytes MODEL_FILE_LIMIT filed (Err fault) → IsLoadEnding fault
+    → AnswersAs (ModelAsked p word filed seen) result
+answers_no_model p word f filed seen result fault is named gives ending =
+    answers_failed (ModelAsked p word filed seen) result fault is
+    (refuses_by (OverModel (AboutModel p f seen) filed) (ModelAsked p word filed seen) (how_of fault) fault
+    (λ h. asked_model p word f filed seen fault [] named h) (model_refused (AboutModel p f seen) filed fault gives ending))
 
 -- the input is no case
-pub answers_no_case : (p : PolicyShape) (word : List ℕ) (f : ℕ) (filed : Filed) (bytes : List ℕ) (told : Option (List ℕ)) (result : Result Answer RunFault) (fault : RunFault) → IsErrAnd result (λ e. e ≡ fault)
-    → number_named p.flow_names word ≡ Some f → GivesBytes MODEL_FILE_LIMIT filed (Ok bytes) → IfSome told (λ input. GivesCase p f input (Err fault)) → IsCaseEnding fault
-    → AnswersAs (ModelAsked p word filed told) result
-answers_no_case p word f filed bytes told result fault is named gives given ending =
-    answers_failed (ModelAsked p word filed told) result fault is
-    (refuses_by (AboutModel p f told bytes) (ModelAsked p word filed told) (how_of fault) fault
-    (λ h. asked_model p word f filed told fault [] named (over_model (AboutModel p f told) filed bytes fault [] gives h))
-    (case_refused p f told fault (ModelOf p f bytes) given ending))
+pub answers_no_case : (p : PolicyShape) (word : List ℕ) (f : ℕ) (filed : Filed) (bytes : List ℕ) (seen : Option (List ℕ)) (result : Result Answer RunFault)
+    (fault : RunFault) → IsErrAnd result (λ e. e ≡ fault)
+    → number_named p.flow_names word ≡ Some f → GivesBytes MODEL_FILE_LIMIT filed (Ok bytes) → IfSome seen (λ input. GivesCase p f input (Err fault))
+    → IsCaseEnding fault
+    → AnswersAs (ModelAsked p word filed seen) result
+answers_no_case p word f filed bytes seen result fault is named gives given ending =
+    answers_failed (ModelAsked p word filed seen) result fault is
+    (refuses_by (AboutModel p f seen bytes) (ModelAsked p word filed seen) (how_of fault) fault
+    (λ h. asked_model p word f filed seen fault [] named (over_model (AboutModel p f seen) filed bytes fault [] gives h))
+    (case_refused p f seen fault (ModelOf p f bytes) given ending))
 
 -- the model is read for the case
-pub answers_told : (p : PolicyShape) (word : List ℕ) (f : ℕ) (filed : Filed) (bytes : List ℕ) (told : Option (List ℕ)) (c : Case) (result : Result Answer RunFault)
-    → number_named p.flow_names word ≡ Some f → GivesBytes MODEL_FILE_LIMIT filed (Ok bytes) → IfSome told (λ input. GivesCase p f input (Ok c))
-    → AnswersAs (UnlessLarge p f c (ReadsModel p f bytes c)) result → AnswersAs (ModelAsked p word filed told) result
-answers_told p word f filed bytes told c result named gives given h =
-    answers_by (UnlessLarge p f c (ReadsModel p f bytes c)) (ModelAsked p word filed told) result
-    (λ fault text says. asked_model p word f filed told fault text named (over_model (AboutModel p f told) filed bytes fault text gives (over_told p f told c (ModelOf p f bytes) fault text given says))) h
-
--- ---- a run whose model is not there
-
-pub model_there : (filed : Filed) (bytes : List ℕ) (fault : RunFault) → GivesBytes MODEL_FILE_LIMIT filed (Ok bytes) → EndsWithout filed fault
-model_there untold bytes fault gives = tt
-model_there missing bytes fault gives = cc
-model_there (told file) bytes fault gives = λ long. let short : length file ≤ MODEL_FILE_LIMIT = gives.0 in absurd (omega arith)
-
-load_early : (fault : RunFault) → IsLoadEnding fault → EndsEarly fault
-load_early FileTooLong ending = inl refl
-load_early Load ending = inl refl
-load_early (Policy e) ending = inl refl
-load_early NoMemory ending = inr refl
-load_early Nothing ending = absurd ending
-load_early Found ending = absurd ending
-load_early Usage ending = absurd ending
-load_early Read ending = absurd ending
-load_early Write ending = absurd ending
-load_early (LineTooLong line) ending = absurd ending
-load_early TooManyLines ending = absurd ending
-load_early (BadInput e) ending = absurd ending
-load_early TooLarge ending = absurd ending
-
-early_without : (filed : Filed) (fault : RunFault) → EndsEarly fault → EndsWithout filed fault
-early_without untold fault early = tt
-early_without missing fault early = early
-early_without (told file) fault early = λ long. early
-
-pub no_flow_without : (filed : Filed) → EndsWithout filed (BadInput NoFlow)
-no_flow_without filed = early_without filed (BadInput NoFlow) (inl refl)
-
-pub load_without : (filed : Filed) (fault : RunFault) → IsLoadEnding fault → EndsWithout filed fault
-load_without filed fault ending = early_without filed fault (load_early fault ending)
+pub answers_told : (p : PolicyShape) (word : List ℕ) (f : ℕ) (filed : Filed) (bytes : List ℕ) (seen : Option (List ℕ)) (c : Case)
+    (result : Result Answer RunFault)
+    → number_named p.flow_names word ≡ Some f → GivesBytes MODEL_FILE_LIMIT filed (Ok bytes) → IfSome seen (λ input. GivesCase p f input (Ok c))
+    → AnswersAs (UnlessLarge p f c (ReadsModel p f bytes c)) result → AnswersAs (ModelAsked p word filed seen) result
+answers_told p word f filed bytes seen c result named gives given h =
+    answers_by (UnlessLarge p f c (ReadsModel p f bytes c)) (ModelAsked p word filed seen) result
+    (λ fault text says. asked_model p word f filed seen fault text named
+    (over_model (AboutModel p f seen) filed bytes fault text gives (over_told p f seen c (ModelOf p f bytes) fault text given says))) h

@@ -1,5 +1,5 @@
 -- The answers of the command `cnf` for a policy: its clauses, or what a model of them says.
-use Rattle.std.specs.Prelude.{◌≡◌, ◌↔◌, ℕ, ◌<◌, ◌++◌, ℤ, Bool, List, length, codes, decimal, Option, IfSome, MatchOption, MatchResult, MatchBool, nat_lt}
+use Rattle.std.specs.Prelude.{◌≡◌, ◌↔◌, ℕ, ◌++◌, ℤ, Bool, List, length, codes, decimal, Option, IfSome, MatchOption, MatchResult, MatchBool, nat_lt}
 use Rattle.wf_names.specs.declared.limits.TheConstants.{LINE_LIMIT}
 use Rattle.wf_outside.specs.Outside.{Filed, told, missing, untold}
 use Rattle.serde_json.specs.Written.{compact_text}
@@ -54,9 +54,9 @@ pub record TellsClauses (p : PolicyShape) (f : ℕ) (c : Case) (fault : RunFault
 
 -- the clauses of the case in the input, where it is told, and of the workflow that is named
 abbrev pub ClausesAsked : PolicyShape → List ℕ → Option (List ℕ) → RunFault → List ℕ → Type 0
-ClausesAsked p word told fault text =
+ClausesAsked p word seen fault text =
     MatchOption (number_named p.flow_names word) (Refuses (BadInput NoFlow) fault text)
-    (λ f. IfSome told (λ input.
+    (λ f. IfSome seen (λ input.
     OverCase p f (λ c. UnlessLarge p f c (TellsClauses p f c)) input fault text))
 
 -- the line of a plan: the JSON array of its users' names in the order of the steps
@@ -73,8 +73,8 @@ abbrev pub Tells : List (List ℕ) → Reading → RunFault → List ℕ → Typ
 Tells users (Plan plan) fault text = (fault ≡ Nothing) × (text ≡ plan_line users plan)
 Tells users (Clause k) fault text = (fault ≡ Found) × (text ≡ clause_line k)
 
--- the plan that a model says, which is valid, where it satisfies all clauses of the case; or the first
--- one that it does not satisfy
+-- the plan that a model says, which is valid, where it satisfies all clauses of the case; or the
+-- first one that it does not satisfy
 pub record TellsReading (p : PolicyShape) (f : ℕ) (c : Case) (model : ℕ → Bool) (fault : RunFault)
     (text : List ℕ) : Type 0 where
   pub reading : Reading
@@ -94,8 +94,8 @@ OverText Answers model fault text =
     MatchBool (nat_lt MODEL_FILE_LIMIT (length model)) (Refuses FileTooLong fault text)
     (Answers model fault text)
 
--- .. by what is told of the file; where it is missing nothing is answered, and one of which nothing is
--- told has some content
+-- .. by what is told of the file; where it is missing nothing is answered, and one of which nothing
+-- is told has some content
 abbrev pub OverModel : (List ℕ → RunFault → List ℕ → Type 0) → Filed → RunFault → List ℕ → Type 0
 OverModel Answers untold fault text = (model : List ℕ) × OverText Answers model fault text
 OverModel Answers missing fault text = ⊥
@@ -103,8 +103,8 @@ OverModel Answers (told model) fault text = OverText Answers model fault text
 
 -- what a model says of the case in the input, where it is told, and of the workflow that is named
 abbrev pub ModelAsked : PolicyShape → List ℕ → Filed → Option (List ℕ) → RunFault → List ℕ → Type 0
-ModelAsked p word filed told fault text =
+ModelAsked p word filed seen fault text =
     MatchOption (number_named p.flow_names word) (Refuses (BadInput NoFlow) fault text)
-    (λ f. OverModel (λ model fault text. IfSome told (λ input.
+    (λ f. OverModel (λ model fault text. IfSome seen (λ input.
     OverCase p f (λ c. UnlessLarge p f c (ReadsModel p f model c)) input fault text))
     filed fault text)

@@ -1,5 +1,5 @@
--- The state of a case in the input: the JSON array `steps` of the reply to a view, or nothing at all.
-use Rattle.std.specs.Prelude.{◌≡◌, ℕ, ◌+◌, ◌<◌, nat_eq, ◌==◌, true, List, [], ◌∷◌, length, codes, Option, None, Some, is_some, option_map, option_and_then, Result, Ok, if◌then◌else◌, slice_set}
+-- The state of a case in the input: the JSON array `steps` of the reply to a view, or nothing.
+use Rattle.std.specs.Prelude.{◌≡◌, ℕ, ◌+◌, ◌<◌, nat_eq, ◌==◌, Bool, true, List, [], ◌∷◌, length, codes, Option, None, Some, is_some, option_map, option_and_then, Result, Ok, if◌then◌else◌, slice_set}
 use Rattle.std.specs.List.{list_all}
 use Rattle.std.specs.Cmp.Lexicographic.{pointwise}
 use Rattle.serde_json.specs.Data.{Data, Items, no_items, item}
@@ -25,8 +25,10 @@ free_said w = if pointwise nat_eq w (codes "free") then Some (Some Free) else No
 -- such a user
 abbrev pub user_said : PolicyShape → List ℕ → List ℕ → Option (Option StepState)
 user_said p w name =
-    if pointwise nat_eq w (codes "held") then Some (option_map Held (number_named p.roster.users name)) else
-    if pointwise nat_eq w (codes "finished") then Some (option_map Finished (number_named p.roster.users name)) else None
+    if pointwise nat_eq w (codes "held")
+    then Some (option_map Held (number_named p.roster.users name)) else
+    if pointwise nat_eq w (codes "finished")
+    then Some (option_map Finished (number_named p.roster.users name)) else None
 
 -- what the items of an array say of a step, as a view shows it: where it stands, unless its user is
 -- not known; nothing where they are of no such form
@@ -54,7 +56,8 @@ no_case = record { said = 0; assigned = no_users; finished = no_steps }
 -- one more step was said
 abbrev pub with_state : Case → StepState → Case
 with_state c Free = record c { said = c.said + 1 }
-with_state c (Held u) = record c { said = c.said + 1; assigned = slice_set c.assigned c.said (Some u) }
+with_state c (Held u) =
+    record c { said = c.said + 1; assigned = slice_set c.assigned c.said (Some u) }
 with_state c (Finished u) = record {
   said = c.said + 1;
   assigned = slice_set c.assigned c.said (Some u);

@@ -33,7 +33,7 @@ pub record BreaksOff (policy : List ℕ) (Answers : PolicyShape → RunFault →
 -- a run of `cnf` with a policy file and the name of a workflow
 abbrev pub WritesClauses : List ℕ → List ℕ → Run → Type 0
 WritesClauses policy flow r =
-    RunsOnce (Some LINE_LIMIT) policy (λ told p. ClausesAsked p flow told) r
+    RunsOnce (Some LINE_LIMIT) policy (λ seen p. ClausesAsked p flow seen) r
     ⊎ BreaksOff policy (λ p. ClausesAsked p flow r.before.input) r
 
 -- a run ends before its input, or without memory
@@ -48,5 +48,5 @@ EndsWithout (told model) fault = MODEL_FILE_LIMIT < length model → EndsEarly f
 
 -- a run of `cnf` with a policy file, the name of a workflow and the file of a model
 pub record ReadsModelFile (policy flow model : List ℕ) (r : Run) : Type 0 where
-  pub once : RunsOnce (Some LINE_LIMIT) policy (λ told p. ModelAsked p flow (r.files model) told) r
+  pub once : RunsOnce (Some LINE_LIMIT) policy (λ seen p. ModelAsked p flow (r.files model) seen) r
   pub without : EndsWithout (r.files model) r.fault

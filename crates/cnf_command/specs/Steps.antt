@@ -12,7 +12,6 @@ use Rattle.cnf_text.specs.Dimacs.{dimacs_text}
 use Rattle.run_record.specs.declared.fault.RunFault.{RunFault}
 use Rattle.run_record.specs.declared.fault.RunFault.TheVariants.{Nothing, Load, Read, NoMemory, LineTooLong, BadInput, TooLarge}
 use Rattle.run_record.specs.declared.fault.InputFault.TheVariants.{NoFlow, Model}
-use Rattle.run_record.specs.Fault.{how_of}
 use Rattle.wf_commands.specs.Answer.{AnswersAs}
 use Rattle.wf_commands.specs.Once.{OverPolicy}
 use Rattle.cnf_command.specs.declared.case.Case.{Case}
@@ -57,8 +56,7 @@ IsCaseEnding (BadInput NoFlow) = ⊥
 IsCaseEnding (BadInput e) = Unit {0}
 IsCaseEnding fault = ⊥
 
--- an encoder of the clauses of a case, before its first one; or the clauses have too many literals, or
--- memory failed
+-- an encoder of the clauses of a case; or they have too many literals, or memory failed
 abbrev pub GivesEncoder : PolicyShape → ℕ → Case → Result EncoderShape RunFault → Type 0
 GivesEncoder p f c (Ok e) =
     (literals (clauses_for p f c) ≤ LITERAL_LIMIT)
@@ -67,7 +65,8 @@ GivesEncoder p f c (Err TooLarge) = LITERAL_LIMIT < literals (clauses_for p f c)
 GivesEncoder p f c (Err NoMemory) = Unit {0}
 GivesEncoder p f c (Err fault) = ⊥
 
--- a text is read as a model of so many variables, or has its first word that is none, or memory failed
+-- a text is read as a model of so many variables, or has its first word that is none, or memory
+-- failed
 abbrev pub GivesModel : ℕ → List ℕ → Result (List Bool) RunFault → Type 0
 GivesModel variables text (Ok m) = model_of_text variables text ≡ Ok m
 GivesModel variables text (Err (BadInput (Model k))) = model_of_text variables text ≡ Err k

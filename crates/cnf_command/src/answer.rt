@@ -1,6 +1,7 @@
 //! What a model says, as it is written.
 ghost use Rattle.std.specs.Prelude.{◌≡◌, ◌<◌, ◌≤◌, ◌++◌, length, codes, string_bytes, IfErr, IfOk};
 ghost use Rattle.serde_json.specs.View.{view};
+ghost use Rattle.serde_json.specs.Written.{compact_text};
 ghost use Rattle.policy_book.specs.Policies.{problem_of};
 ghost use Rattle.cnf_export.specs.Encodings.{variables_of};
 ghost use Rattle.cnf_models.specs.Flags.{has_variable};
@@ -33,7 +34,8 @@ pub(crate) fn answer_case(
     requires flow { f < length p.now.flows }
     requires sound { IsCaseOf (problem_of p.now f) c.now }
     requires short { length text.now ≤ MODEL_FILE_LIMIT }
-    ensures answer { AnswersAs (UnlessLarge p.now f c.now (ReadsModel p.now f text.now c.now)) result }
+    ensures answer { AnswersAs
+        (UnlessLarge p.now f c.now (ReadsModel p.now f text.now c.now)) result }
     ensures ending { IfErr result IsLateEnding }
 {
     let encoder = encode(alloc, p, f, c)?;
@@ -103,8 +105,18 @@ fn clause_text(alloc: Global, k: u32) -> Result<String, AllocError>
 fn plan_text(alloc: Global, users: &NameTable, plan: &Plan) -> Result<String, AllocError>
     ensures { IfOk result (λ text. string_bytes text ≡ plan_line users.now.names plan.now) }
 {
-    let mut text = plan_value(alloc, users, plan)?.to_string(alloc)?;
+    let mut text = plan_array(alloc, users, plan)?;
     text.push_str("\n")?;
+    Ok(text)
+}
+
+// The same without its line end.
+fn plan_array(alloc: Global, users: &NameTable, plan: &Plan) -> Result<String, AllocError>
+    ensures { IfOk result (λ text. string_bytes text
+        ≡ compact_text (plan_data users.now.names plan.now)) }
+{
+    let value = plan_value(alloc, users, plan)?;
+    let text = value.to_string(alloc)?;
     Ok(text)
 }
 

@@ -19,8 +19,8 @@ use std::alloc::Global;
 use wf_commands::{Answer, find_flow, load_file, load_policy};
 use wf_outside::{Shelf, Sink, Source, put_and_flush};
 
-/// Reads the model in a file for the case in the input and a workflow of the policy in another file,
-/// and writes the plan that it says, or the first clause that it does not satisfy.
+/// Reads the model in a file, for the case in the input and a workflow of the policy in another
+/// file, and writes the plan that it says, or the first clause that it does not satisfy.
 pub fn run_model<F: Shelf, S: Source, K: Sink>(
     alloc: Global,
     policy: &str,

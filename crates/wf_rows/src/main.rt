@@ -1,4 +1,5 @@
-//! Runs each row of its files over a source, a sink and a shelf in memory, and says which do not hold.
+//! Runs each row of its files over a source, a sink and a shelf in memory, and says which do not
+//! hold.
 #![tactic(auto)]
 
 mod disk;

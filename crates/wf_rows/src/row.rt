@@ -31,15 +31,16 @@ pub fn of_outside<'a>(row: &'a Value, key: &str) -> Option<&'a Value> {
     row.get("outside")?.get(key)
 }
 
-/// Whether a row has these keys alone, each with a value of its kind. It is a command with its input,
-/// and what must come of it. The row's own policy stands under the name `here`: the texts that `after`
-/// names, and then its own. Its files `requests`, `transcript` and `model` stand under these names.
-/// Pieces stand behind the text that they are more of.
+/// Whether a row has these keys alone, each with a value of its kind. It is a command with its
+/// input, and what must come of it. The row's own policy stands under the name `here`: the texts
+/// that `after` names, and then its own. Its files `requests`, `transcript` and `model` stand under
+/// these names. Pieces stand behind the text that they are more of.
 ///
-/// A piece is so many copies, `times`, of a `text` with `bytes` behind it. Each `@` of the text stands
-/// for the number of the copy, from 0, with zeros in front where the piece has a `width`. The `outside` says how many bytes the source gives and the sink
-/// takes at once, `piece` and `most`, how many the sink takes in all, `room`, and the numbers, from 0,
-/// of the calls that fail: `failing_takes`, `failing_puts` and `failing_loads`.
+/// A piece is so many copies, `times`, of a `text` with `bytes` behind it. Each `@` of the text
+/// stands for the number of the copy, from 0, with zeros in front where the piece has a `width`.
+/// The `outside` says how many bytes the source gives and the sink takes at once, `piece` and
+/// `most`, how many the sink takes in all, `room`, and the numbers, from 0, of the calls that fail:
+/// `failing_takes`, `failing_puts` and `failing_loads`.
 pub fn is_row(row: &Value) -> bool {
     let Some(keys) = row.as_table() else {
         return false;

@@ -1,5 +1,5 @@
 -- What the items of an array say, by how many there are.
-use Rattle.std.proofs.Common.{◌≡◌, ℕ, List, [], ◌∷◌, length, get_or, refl, sym, ap, ap₂, arith}
+use Rattle.std.proofs.Common.{◌≡◌, List, [], ◌∷◌, length, get_or, refl, sym, ap, ap₂, arith}
 use Rattle.std.specs.Prelude.{None, option_and_then}
 use Rattle.serde_json.specs.declared.value.Value.{Value}
 use Rattle.serde_json.specs.Find.{as_str}
@@ -13,7 +13,8 @@ said_none p (a ∷ []) h g = absurd (h refl)
 said_none p (a ∷ b ∷ []) h g = absurd (g refl)
 said_none p (a ∷ b ∷ c ∷ vs) h g = refl
 
-pub said_one : (p : PolicyShape) (vs : List Value) (a : Value) → length vs ≡ 1 → a ≡ get_or vs 0 a → said_at p (items_view vs) ≡ option_and_then free_said (as_str (view a))
+pub said_one : (p : PolicyShape) (vs : List Value) (a : Value) → length vs ≡ 1 → a ≡ get_or vs 0 a
+    → said_at p (items_view vs) ≡ option_and_then free_said (as_str (view a))
 said_one p [] a h i = absurd (omega (arith, h))
 said_one p (x ∷ []) a h i = ap (λ v. option_and_then free_said (as_str (view v))) (sym i)
 said_one p (x ∷ y ∷ vs) a h i = absurd (omega (arith, h))

@@ -1,0 +1,18 @@
+//! What a policy says, and what is wrong with it, in plain words. Nothing here decides anything: the
+//! words tell what was decided.
+#![tactic(auto)]
+
+mod advice;
+mod fault;
+mod lists;
+mod marks;
+mod nearest;
+mod place;
+mod rules;
+mod shown;
+mod why;
+
+pub use advice::push_advice;
+pub use fault::fault_text;
+pub use rules::rule_text;
+pub use why::{clash_text, crowd_text, plan_text};

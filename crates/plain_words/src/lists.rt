@@ -1,0 +1,135 @@
+//! Names, and lists of names, as texts.
+ghost use Rattle.std.specs.Prelude.{◌<◌, length};
+
+use constraint_forms::StepSet;
+use policy_book::Policy;
+use std::alloc::{AllocError, Global};
+use wf_names::{FlowId, NameTable, StepId, UserId, UserSet};
+
+/// Of more users than this only some are named.
+const MOST_NAMED: u32 = 12;
+
+/// How many are named of more.
+const NAMED: u32 = 10;
+
+/// The name with a number; the empty text where there is none.
+pub(crate) fn name_text(alloc: Global, names: &NameTable, n: u16) -> Result<String, AllocError> {
+    if n < names.len() {
+        String::from_str(alloc, names.name(n).as_str())
+    } else {
+        Ok(String::new(alloc))
+    }
+}
+
+/// The name of a step.
+pub(crate) fn step_text(
+    alloc: Global,
+    p: &Policy,
+    f: FlowId,
+    s: StepId,
+) -> Result<String, AllocError>
+    requires { f < length p.now.flows }
+{
+    name_text(alloc, p.flow(f).steps(), s.0 as u16)
+}
+
+/// The name of a workflow.
+pub(crate) fn flow_text(alloc: Global, p: &Policy, f: FlowId) -> Result<String, AllocError> {
+    name_text(alloc, p.flows(), f.0 as u16)
+}
+
+/// The names of a set's steps, the last one behind this word.
+pub(crate) fn group_text(
+    alloc: Global,
+    p: &Policy,
+    f: FlowId,
+    group: &StepSet,
+    last: &str,
+) -> Result<String, AllocError>
+    requires { f < length p.now.flows }
+{
+    let mut text = String::new(alloc);
+    let mut place = 0u32;
+    let steps = p.flow(f).steps();
+    for s in 0..steps.len().min(256) {
+        if group.has(StepId(s as u8)) {
+            push_gap(&mut text, place, group.count() as u32, last)?;
+            push_name(&mut text, steps, s)?;
+            place = place.saturating_add(1);
+        }
+    }
+    Ok(text)
+}
+
+/// The names of some steps.
+pub(crate) fn steps_text(
+    alloc: Global,
+    p: &Policy,
+    f: FlowId,
+    some: &[StepId],
+) -> Result<String, AllocError>
+    requires { f < length p.now.flows }
+{
+    let mut text = String::new(alloc);
+    let mut place = 0u32;
+    let count = some.len().min(256) as u32;
+    for s in some {
+        push_gap(&mut text, place, count, "and")?;
+        push_name(&mut text, p.flow(f).steps(), s.0 as u16)?;
+        place = place.saturating_add(1);
+    }
+    Ok(text)
+}
+
+/// The names of a set's users; of many the first ones, and how many others there are.
+pub(crate) fn users_text(alloc: Global, p: &Policy, users: &UserSet) -> Result<String, AllocError> {
+    let count = users.count();
+    let shown = if count > MOST_NAMED { NAMED } else { count };
+    let mut text = String::new(alloc);
+    let mut place = 0u32;
+    for u in 0..p.roster().users().len() {
+        if users.has(UserId(u)) && place < shown {
+            push_gap(&mut text, place, count, "and")?;
+            push_name(&mut text, p.roster().users(), u)?;
+            place = place.saturating_add(1);
+        }
+    }
+    if shown < count {
+        let others = format!(in alloc; " and {} others", count - shown)?;
+        text.push_str(others.as_str())?;
+    }
+    Ok(text)
+}
+
+/// A number of things, as `1 step` and `2 steps`.
+pub(crate) fn counted(alloc: Global, count: u64, what: &str) -> Result<String, AllocError> {
+    match count {
+        1 => format!(in alloc; "1 {what}"),
+        count => format!(in alloc; "{count} {what}s"),
+    }
+}
+
+fn push_name(text: &mut String, names: &NameTable, n: u16) -> Result<(), AllocError> {
+    if n < names.len() {
+        text.push_str(names.name(n).as_str())?;
+    }
+    Ok(())
+}
+
+/// Adds what stands before the item at a place of so many.
+pub(crate) fn push_gap(
+    text: &mut String,
+    place: u32,
+    count: u32,
+    last: &str,
+) -> Result<(), AllocError> {
+    if place == 0 {
+        return Ok(());
+    }
+    if place.saturating_add(1) < count {
+        return text.push_str(", ");
+    }
+    text.push_str(" ")?;
+    text.push_str(last)?;
+    text.push_str(" ")
+}

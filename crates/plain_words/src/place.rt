@@ -1,0 +1,345 @@
+//! Where a fault of a policy file stands. The place is looked up for a fault that was found already;
+//! where several items could be meant, the first of them is taken.
+ghost use Rattle.std.specs.Prelude.{◌<◌, length};
+
+use crate::marks::Mark;
+use policy_reader::{PolicyFault, PolicyKind, PolicyPart};
+use toml::{Table, Value};
+use wf_names::Name;
+
+/// A part of a text, by the numbers of its bytes.
+#[derive(Clone, Copy)]
+pub(crate) struct Span {
+    pub start: usize,
+    pub end: usize,
+}
+
+// The keys under which a fault lies: that of its table, and that of its item there.
+#[derive(Clone, Copy)]
+pub(crate) struct Keys<'a> {
+    pub table: &'a str,
+    pub item: &'a str,
+}
+
+/// The keys of the part that has a fault; empty where there is none.
+pub(crate) fn keys_of<'a>(file: &'a Table, fault: &PolicyFault) -> Keys<'a> {
+    let table = match fault.table {
+        PolicyPart::File => "",
+        PolicyPart::Roles => "roles",
+        PolicyPart::Users => "users",
+        PolicyPart::Relations => "relations",
+        PolicyPart::Flows => "flows",
+    };
+    // Declared relations are numbered behind the two that are built in.
+    let built_in = if matches!(fault.table, PolicyPart::Relations) {
+        2
+    } else {
+        0
+    };
+    let item = match fault.kind {
+        PolicyKind::NoAdmin => "",
+        _ => key_at(file.get(table), fault.index.saturating_sub(built_in)),
+    };
+    Keys { table, item }
+}
+
+// The key with a number in a table, in byte order.
+fn key_at(value: Option<&Value>, n: u32) -> &str {
+    let Some(Value::Table(table)) = value else {
+        return "";
+    };
+    let mut place = 0u32;
+    for (key, _) in table {
+        if place == n {
+            return key.as_str();
+        }
+        place = place.saturating_add(1);
+    }
+    ""
+}
+
+/// The place that a fault is about: the item that it names, or what seems to be meant, and else the
+/// key of its part.
+pub(crate) fn place_of(text: &[u8], marks: &[Mark], keys: Keys<'_>, fault: &PolicyFault) -> Span {
+    match item_place(text, marks, keys, fault) {
+        Some(span) => span,
+        None => key_place(text, marks, keys),
+    }
+}
+
+fn item_place(text: &[u8], marks: &[Mark], keys: Keys<'_>, fault: &PolicyFault) -> Option<Span> {
+    if matches!(fault.table, PolicyPart::Roles) {
+        return role_place(text, marks, fault);
+    }
+    match fault.kind {
+        PolicyKind::Version => value_of_key(text, marks, "format"),
+        PolicyKind::NoAdmin => value_of_key(text, marks, "admin"),
+        PolicyKind::Missing => None,
+        PolicyKind::Name => first_bad(text, marks, keys),
+        PolicyKind::Twice => second_place(text, marks, keys, fault.name),
+        PolicyKind::Form => form_place(text, marks, keys),
+        PolicyKind::Unknown => match fault.name {
+            Some(name) => named_place(text, marks, keys, name),
+            None => first_bad(text, marks, keys),
+        },
+        _ => match fault.name {
+            Some(name) => named_place(text, marks, keys, name),
+            None => None,
+        },
+    }
+}
+
+// The role with the number of a fault, unless the fault is that of the list.
+fn role_place(text: &[u8], marks: &[Mark], fault: &PolicyFault) -> Option<Span> {
+    if matches!(fault.kind, PolicyKind::Empty | PolicyKind::TooMany) {
+        return None;
+    }
+    let mut place = 0u32;
+    for mark in marks {
+        if is_value_of(text, marks, *mark, "roles") && is_at_top(marks, *mark) {
+            if place == fault.index {
+                return Some(span_of(*mark));
+            }
+            place = place.saturating_add(1);
+        }
+    }
+    None
+}
+
+// Whether a mark is a value of a key with this name.
+fn is_value_of(text: &[u8], marks: &[Mark], mark: Mark, key: &str) -> bool {
+    !mark.is_key && is_named(text, parent(marks, mark), key)
+}
+
+// Whether the key of a mark stands at the top.
+fn is_at_top(marks: &[Mark], mark: Mark) -> bool {
+    match parent(marks, mark) {
+        Some(above) => above.under == 0,
+        None => false,
+    }
+}
+
+// The key of a fault's item, or of its table; the front of the text where neither is there.
+fn key_place(text: &[u8], marks: &[Mark], keys: Keys<'_>) -> Span {
+    let mut found = Span { start: 0, end: 0 };
+    let mut depth = 0;
+    for mark in marks {
+        let here = depth_under(text, marks, *mark, keys);
+        if mark.is_key && here > depth {
+            depth = here;
+            found = span_of(*mark);
+        }
+    }
+    found
+}
+
+fn span_of(mark: Mark) -> Span {
+    Span {
+        start: mark.start,
+        end: mark.end,
+    }
+}
+
+// How many of the two keys a mark is under, or is: 2 where it belongs to the item, 1 to the table.
+fn depth_under(text: &[u8], marks: &[Mark], mark: Mark, keys: Keys<'_>) -> u8 {
+    let mut path = [None; 2];
+    let mut now = mark;
+    for _ in 0..marks.len() {
+        path[1] = path[0];
+        path[0] = Some(now);
+        match parent(marks, now) {
+            Some(above) => now = above,
+            None => break,
+        }
+    }
+    if !is_named(text, path[0], keys.table) {
+        return 0;
+    }
+    if is_named(text, path[1], keys.item) {
+        2
+    } else {
+        1
+    }
+}
+
+fn parent(marks: &[Mark], mark: Mark) -> Option<Mark> {
+    if mark.under == 0 {
+        return None;
+    }
+    match marks.get(mark.under - 1) {
+        Some(above) => Some(*above),
+        None => None,
+    }
+}
+
+// Whether there is a mark whose text is this name, with quotes or without; the empty name is none.
+fn is_named(text: &[u8], mark: Option<Mark>, name: &str) -> bool {
+    match mark {
+        Some(mark) => !name.is_empty() && words_at(text, mark) == name.as_bytes(),
+        None => false,
+    }
+}
+
+/// The bytes at a mark, without quotes.
+pub(crate) fn words_at(text: &[u8], mark: Mark) -> &[u8] {
+    let whole = match text.get(mark.start..mark.end) {
+        Some(whole) => whole,
+        None => return &[],
+    };
+    match whole {
+        [b'"', inner @ .., b'"'] => inner,
+        [b'\'', inner @ .., b'\''] => inner,
+        _ => whole,
+    }
+}
+
+// Whether a mark lies under the keys: all marks do where there are none.
+fn is_within(text: &[u8], marks: &[Mark], mark: Mark, keys: Keys<'_>) -> bool {
+    let wanted = if keys.table.is_empty() {
+        0
+    } else if keys.item.is_empty() {
+        1
+    } else {
+        2
+    };
+    depth_under(text, marks, mark, keys) >= wanted
+}
+
+// Under the keys, the value with this name that is no step's declaration; else the key with it.
+fn named_place(text: &[u8], marks: &[Mark], keys: Keys<'_>, name: Name) -> Option<Span> {
+    match named_mark(text, marks, keys, name, false) {
+        Some(span) => Some(span),
+        None => named_mark(text, marks, keys, name, true),
+    }
+}
+
+fn named_mark(
+    text: &[u8],
+    marks: &[Mark],
+    keys: Keys<'_>,
+    name: Name,
+    is_key: bool,
+) -> Option<Span> {
+    for mark in marks {
+        if mark.is_key == is_key
+            && is_named(text, Some(*mark), name.as_str())
+            && is_within(text, marks, *mark, keys)
+            && !is_value_of(text, marks, *mark, "steps")
+        {
+            return Some(span_of(*mark));
+        }
+    }
+    None
+}
+
+// Under the keys, where an item of this name, or a pair whose first it is, stands again in its list.
+fn second_place(text: &[u8], marks: &[Mark], keys: Keys<'_>, name: Option<Name>) -> Option<Span> {
+    let name = name?;
+    for i in 0..marks.len() {
+        let mark = marks[i];
+        if !mark.is_key
+            && is_named(text, Some(mark), name.as_str())
+            && is_within(text, marks, mark, keys)
+            && stands_before(text, marks, i)
+        {
+            return Some(span_of(mark));
+        }
+    }
+    None
+}
+
+// Whether the item at a place, or the pair that begins there, stands earlier in the same list.
+fn stands_before(text: &[u8], marks: &[Mark], i: usize) -> bool
+    requires { i < length marks.now }
+{
+    let mark = marks[i];
+    let is_pair = is_value_of(text, marks, mark, "order")
+        || is_value_of(text, marks, mark, "pairs");
+    for j in mark.under..i {
+        if marks[j].under == mark.under && is_again(text, marks, j, i, is_pair) {
+            return true;
+        }
+    }
+    false
+}
+
+// Whether two items of a list are the same, or two pairs that begin there.
+fn is_again(text: &[u8], marks: &[Mark], j: usize, i: usize, is_pair: bool) -> bool
+    requires before { j < i }
+    requires there { i < length marks.now }
+{
+    if words_at(text, marks[j]) != words_at(text, marks[i]) {
+        return false;
+    }
+    if !is_pair {
+        return true;
+    }
+    let under = marks[i].under;
+    let begins = i >= under && (i - under) % 2 == 0 && j >= under && (j - under) % 2 == 0;
+    match (marks.get(j + 1), marks.get(i + 1)) {
+        (Some(one), Some(other)) => begins && words_at(text, *one) == words_at(text, *other),
+        _ => false,
+    }
+}
+
+// Under the keys, the first form that no format has, or else that the first format lacks.
+fn form_place(text: &[u8], marks: &[Mark], keys: Keys<'_>) -> Option<Span> {
+    match form_but(text, marks, keys, true) {
+        Some(span) => Some(span),
+        None => form_but(text, marks, keys, false),
+    }
+}
+
+fn form_but(text: &[u8], marks: &[Mark], keys: Keys<'_>, has_later: bool) -> Option<Span> {
+    for mark in marks {
+        if is_value_of(text, marks, *mark, "form")
+            && is_within(text, marks, *mark, keys)
+            && !is_form(words_at(text, *mark), has_later)
+        {
+            return Some(span_of(*mark));
+        }
+    }
+    None
+}
+
+fn is_form(word: &[u8], has_later: bool) -> bool {
+    match std::str::from_utf8(word) {
+        Ok("pair" | "some" | "all") => true,
+        Ok("some_to" | "all_to" | "at_most" | "at_least") => has_later,
+        _ => false,
+    }
+}
+
+// Under the keys, the first key or text in quotes that is of no name's form.
+fn first_bad(text: &[u8], marks: &[Mark], keys: Keys<'_>) -> Option<Span> {
+    for mark in marks {
+        if (mark.is_key || is_quoted(text, *mark))
+            && !is_name(words_at(text, *mark))
+            && is_within(text, marks, *mark, keys)
+        {
+            return Some(span_of(*mark));
+        }
+    }
+    None
+}
+
+fn is_quoted(text: &[u8], mark: Mark) -> bool {
+    matches!(text.get(mark.start), Some(b'"' | b'\''))
+}
+
+fn is_name(bytes: &[u8]) -> bool {
+    match std::str::from_utf8(bytes) {
+        Ok(text) => Name::read(text).is_some(),
+        Err(_) => false,
+    }
+}
+
+// What stands behind a key at the top.
+fn value_of_key(text: &[u8], marks: &[Mark], key: &str) -> Option<Span> {
+    for mark in marks {
+        if is_value_of(text, marks, *mark, key) && is_at_top(marks, *mark) {
+            return Some(span_of(*mark));
+        }
+    }
+    None
+}

@@ -1,0 +1,104 @@
+//! A place in a text: its line, its column, and the line itself with a mark below it.
+
+use crate::marks::line_end;
+use crate::place::Span;
+use std::alloc::{AllocError, Global};
+
+/// How many characters of a line are shown before and behind the place.
+const AROUND: usize = 60;
+
+/// Where a place stands: the line and the column in characters, both from 1.
+#[derive(Clone, Copy)]
+pub(crate) struct Spot {
+    pub line: usize,
+    pub column: usize,
+}
+
+/// The line and the column of a place.
+pub(crate) fn spot_of(text: &[u8], at: usize) -> Spot {
+    let mut spot = Spot { line: 1, column: 1 };
+    for i in 0..at.min(text.len()) {
+        if text[i] == b'\n' {
+            spot.line = spot.line.saturating_add(1);
+            spot.column = 1;
+        } else if is_first(text[i]) {
+            spot.column = spot.column.saturating_add(1);
+        }
+    }
+    spot
+}
+
+// Whether a byte is the first of a character.
+fn is_first(byte: u8) -> bool {
+    byte & 0xC0 != 0x80
+}
+
+/// The line of a place with its number, and below it marks under the place.
+pub(crate) fn shown(alloc: Global, text: &str, span: Span) -> Result<String, AllocError> {
+    let bytes = text.as_bytes();
+    let spot = spot_of(bytes, span.start);
+    let number = format!(in alloc; "{}", spot.line)?;
+    let line = line_at(text, span.start);
+    let from = spot.column.saturating_sub(AROUND.saturating_add(1));
+    let mut out = format!(in alloc; "    {number} | ")?;
+    push_part(&mut out, line, from)?;
+    out.push_str("\n    ")?;
+    push_times(&mut out, " ", number.len())?;
+    out.push_str(" | ")?;
+    push_times(
+        &mut out,
+        " ",
+        spot.column.saturating_sub(1).saturating_sub(from),
+    )?;
+    push_times(&mut out, "^", width_of(bytes, span).min(AROUND))?;
+    out.push_str("\n")?;
+    Ok(out)
+}
+
+// How many characters of its line a place has, at least one.
+fn width_of(text: &[u8], span: Span) -> usize {
+    let mut width = 0usize;
+    for i in span.start..span.end.min(line_end(text, span.start)) {
+        match text.get(i) {
+            Some(byte) if is_first(*byte) => width = width.saturating_add(1),
+            _ => {}
+        }
+    }
+    width.max(1)
+}
+
+// The line that a place stands in, without its end.
+fn line_at(text: &str, at: usize) -> &str {
+    let bytes = text.as_bytes();
+    let mut start = 0;
+    for i in 0..at.min(bytes.len()) {
+        if bytes[i] == b'\n' {
+            start = i + 1;
+        }
+    }
+    match text.get(start..line_end(bytes, at)) {
+        Some(line) => line,
+        None => "",
+    }
+}
+
+// Adds the characters of a line from one on, as many as are shown; a blank for one that is no letter,
+// digit or sign.
+fn push_part(out: &mut String, line: &str, from: usize) -> Result<(), AllocError> {
+    let mut place = 0usize;
+    let until = from.saturating_add(AROUND).saturating_add(AROUND);
+    for c in line.chars() {
+        if place >= from && place < until {
+            out.push(if c.is_control() { ' ' } else { c })?;
+        }
+        place = place.saturating_add(1);
+    }
+    Ok(())
+}
+
+fn push_times(out: &mut String, what: &str, times: usize) -> Result<(), AllocError> {
+    for _ in 0..times {
+        out.push_str(what)?;
+    }
+    Ok(())
+}

@@ -1,0 +1,5 @@
+pub mod Cores
+pub mod Leaves
+pub mod Trials
+pub mod Crowds
+pub mod Whys

@@ -1,0 +1,15 @@
+//! Why a workflow has no valid plan: the rules that cannot be met together, none of which can be left
+//! out, or steps that want more different users than there are for them.
+#![tactic(auto)]
+
+mod crowd;
+mod fewer;
+mod find;
+pub mod laws;
+mod leaves;
+mod numbers;
+mod search;
+
+pub use crowd::{StepList, are_parted};
+pub use fewer::{RuleList, with_rules};
+pub use search::{Why, why_of};
