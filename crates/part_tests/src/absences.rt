@@ -4,10 +4,8 @@ ghost use Rattle.resilience_check.specs.Absences.{AreUsers};
 
 use crate::clauses::{FLOW, LONE};
 use crate::models::PAY;
-use certificate_check::{check_tree, is_valid_plan};
-use constraint_forms::{Assign, Plan, StepSet};
+use constraint_forms::Plan;
 use policy_book::Policy;
-use refutation_tree::Tree;
 use resilience_check::{AbsenceAnswer, Absent, Plans, covers, resilience, without};
 use std::alloc::{AllocError, Global};
 use std::test::Fail;
@@ -90,33 +88,91 @@ rules = [
 ]
 "#;
 
+// A policy, how many users may be absent, whether its first workflow stands that, and where it does
+// not, of how many of the first users the least absence is that breaks it.
+type Row = (&'static str, u8, bool, usize);
+
+// Who may perform no step breaks a workflow with nobody absent. Under a rule of each form one plan
+// alone is valid, and it has kim and lee.
+const ROWS: [Row; 6] = [
+    (PAY, 1, false, 1),
+    (TRIO, 2, true, 0),
+    (TRIO, 3, false, 3),
+    (LONE, 3, false, 0),
+    (FORMS, 0, true, 0),
+    (FORMS, 1, false, 1),
+];
+
 #[test]
-fn no_plan_covers_no_absence(rt: HostRuntime) -> Result<(), Fail> {
-    let plans = Plans::new(rt.alloc());
-    assert!(rt; !covers(&plans, 0));
+fn workflows_stand_absences_or_break(rt: HostRuntime) -> Result<(), Fail> {
+    for row in &ROWS {
+        assert!(rt; is_answered_so(rt.alloc(), row)?, "{} {}", row.0, row.1);
+    }
     Ok(())
 }
 
-#[test]
-fn a_plan_of_no_steps_covers_every_absence(rt: HostRuntime) -> Result<(), Fail> {
-    let mut plans = Plans::new(rt.alloc());
-    plans.push(Plan::of(&[]))?;
-    assert!(rt; covers(&plans, 0) && covers(&plans, 255));
-    Ok(())
+fn is_answered_so(alloc: Global, row: &Row) -> Result<bool, Fail> {
+    let p = policy_reader::read(alloc, row.0.as_bytes())?;
+    Ok(is_resilient_so(alloc, &p, row)?)
+}
+
+fn is_resilient_so(alloc: Global, p: &Policy, row: &Row) -> Result<bool, AllocError> {
+    if p.flows().len() == 0 {
+        return Ok(false);
+    }
+    let answer = resilience(alloc, p, FLOW, row.1)?;
+    Ok(is_so(&answer, row))
+}
+
+fn is_so(answer: &AbsenceAnswer, row: &Row) -> bool {
+    let (_, _, stands, count) = *row;
+    match answer {
+        AbsenceAnswer::Holds(_) => stands,
+        AbsenceAnswer::Breaks { absent, .. } => !stands && are_the_first(absent.as_slice(), count),
+    }
+}
+
+// Whether these are so many users, from the first on.
+fn are_the_first(users: &[UserId], count: usize) -> bool {
+    let mut next = 0u16;
+    for u in users {
+        if u.0 != next {
+            return false;
+        }
+        next = next.wrapping_add(1);
+    }
+    users.len() == count
 }
 
 #[test]
-fn three_plans_of_one_user_each_cover_two_absences(rt: HostRuntime) -> Result<(), Fail> {
-    let mut plans = Plans::new(rt.alloc());
-    add_three(&mut plans)?;
-    assert!(rt; covers(&plans, 0) && covers(&plans, 2) && !covers(&plans, 3));
+fn families_cover_absences(rt: HostRuntime) -> Result<(), Fail> {
+    assert!(rt; cover_so(rt.alloc(), &[], &[(0, false)])?);
+    let empty = [Plan::of(&[])];
+    assert!(rt; cover_so(rt.alloc(), &empty, &[(0, true), (255, true)])?);
+    let three = [one_user(KIM), one_user(LEE), one_user(MAX)];
+    assert!(rt; cover_so(rt.alloc(), &three, &[(0, true), (2, true), (3, false)])?);
     Ok(())
 }
 
-fn add_three(plans: &mut Plans) -> Result<(), AllocError> {
-    plans.push(Plan::of(&[KIM, KIM, KIM]))?;
-    plans.push(Plan::of(&[LEE, LEE, LEE]))?;
-    plans.push(Plan::of(&[MAX, MAX, MAX]))
+// The plan of three steps that gives all to one user.
+fn one_user(u: UserId) -> Plan {
+    Plan::of(&[u, u, u])
+}
+
+// Whether these plans cover each absence of so many users or do not, as is said.
+fn cover_so(alloc: Global, given: &[Plan], rows: &[(u8, bool)]) -> Result<bool, AllocError> {
+    let mut plans = Plans::new(alloc);
+    plans.push_all(given)?;
+    Ok(cover_each(&plans, rows))
+}
+
+fn cover_each(plans: &Plans, rows: &[(u8, bool)]) -> bool {
+    for (t, wanted) in rows {
+        if covers(plans, *t) != *wanted {
+            return false;
+        }
+    }
+    true
 }
 
 #[test]
@@ -155,83 +211,6 @@ fn have_the_same(p: &Policy, left: &Policy) -> bool {
     left.roster().users().len() == p.roster().users().len()
         && left.roster().roles().len() == p.roster().roles().len()
         && left.rules(FLOW).as_slice() == p.rules(FLOW).as_slice()
-}
-
-#[test]
-fn pay_breaks_without_ann(rt: HostRuntime) -> Result<(), Fail> {
-    let p = policy_reader::read(rt.alloc(), PAY.as_bytes())?;
-    assert!(rt; breaks_without(rt.alloc(), &p, 1, &[ANN])?);
-    Ok(())
-}
-
-#[test]
-fn three_clerks_stand_two_absences(rt: HostRuntime) -> Result<(), Fail> {
-    let p = policy_reader::read(rt.alloc(), TRIO.as_bytes())?;
-    assert!(rt; stands(rt.alloc(), &p, 2)?);
-    assert!(rt; breaks_without(rt.alloc(), &p, 3, &[KIM, LEE, MAX])?);
-    Ok(())
-}
-
-#[test]
-fn a_step_for_nobody_breaks_with_nobody_absent(rt: HostRuntime) -> Result<(), Fail> {
-    let p = policy_reader::read(rt.alloc(), LONE.as_bytes())?;
-    assert!(rt; breaks_without(rt.alloc(), &p, 3, &[])?);
-    Ok(())
-}
-
-// One plan alone is valid, and it has kim and lee.
-#[test]
-fn one_rule_of_each_form_leaves_one_plan(rt: HostRuntime) -> Result<(), Fail> {
-    let p = policy_reader::read(rt.alloc(), FORMS.as_bytes())?;
-    assert!(rt; stands(rt.alloc(), &p, 0)?);
-    assert!(rt; breaks_without(rt.alloc(), &p, 1, &[KIM])?);
-    Ok(())
-}
-
-// Whether the first workflow stands so many absences, with valid plans that cover them.
-fn stands(alloc: Global, p: &Policy, t: u8) -> Result<bool, AllocError> {
-    if p.flows().len() == 0 {
-        return Ok(false);
-    }
-    match resilience(alloc, p, FLOW, t)? {
-        AbsenceAnswer::Holds(plans) => Ok(are_valid(p, plans.as_slice()) && covers(&plans, t)),
-        AbsenceAnswer::Breaks { .. } => Ok(false),
-    }
-}
-
-fn are_valid(p: &Policy, plans: &[Plan]) -> bool
-    requires { 0 < length p.now.flows }
-{
-    for plan in plans {
-        if !is_valid_plan(p, FLOW, &Assign::empty(), &StepSet::empty(), plan) {
-            return false;
-        }
-    }
-    true
-}
-
-// Whether these users are the least absence that the first workflow does not stand, of so many at
-// most, and the tree refutes what is left of it.
-fn breaks_without(alloc: Global, p: &Policy, t: u8, users: &[UserId]) -> Result<bool, AllocError> {
-    if p.flows().len() == 0 {
-        return Ok(false);
-    }
-    match resilience(alloc, p, FLOW, t)? {
-        AbsenceAnswer::Holds(_) => Ok(false),
-        AbsenceAnswer::Breaks { absent, tree } => {
-            Ok(absent.as_slice() == users && is_refuted_without(p, &absent, &tree)?)
-        }
-    }
-}
-
-fn is_refuted_without(p: &Policy, absent: &Absent, tree: &Tree) -> Result<bool, AllocError>
-    requires { 0 < length p.now.flows }
-{
-    if !are_users(p, absent) {
-        return Ok(false);
-    }
-    let left = without(p, absent)?;
-    Ok(check_tree(&left, FLOW, &Assign::empty(), &StepSet::empty(), tree))
 }
 
 // Whether each of these is a user of the policy.

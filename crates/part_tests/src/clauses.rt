@@ -8,7 +8,6 @@ use cnf_text::write_clauses;
 use constraint_forms::{Assign, StepSet};
 use policy_book::Policy;
 use std::alloc::{AllocError, Global};
-use std::process::Abort;
 use std::test::Fail;
 use wf_names::{FlowId, StepId, UserId};
 use wf_outside::MemSink;
@@ -142,26 +141,62 @@ const GONE_CLAUSES: &str = "8 13
 -4 -7 0
 ";
 
+// A policy, whether all steps of a case of its first workflow are free, and the case's clauses, which
+// are a front and a last line. Where they are not free, the two steps are with the second user, who has
+// finished the first.
+type Row = (&'static str, bool, &'static str, &'static str);
+
+// A step for nobody has an empty clause. Counts of users are counters, and least counts end the
+// other way. Finished steps keep a user without the role.
+const ROWS: [Row; 4] = [
+    (LONE, true, LONE_CLAUSES, ""),
+    (MOST, true, COUNTED_CLAUSES, "-14 0\n"),
+    (LEAST, true, COUNTED_CLAUSES, "14 0\n"),
+    (GONE, false, GONE_CLAUSES, ""),
+];
+
 #[test]
 fn clauses_are_those_by_hand(rt: HostRuntime) -> Result<(), Fail> {
-    free_cases_have_theirs(&rt, rt.alloc())?;
-    assert!(rt; finished_steps_keep_a_user_without_the_role(rt.alloc())?);
+    for row in &ROWS {
+        assert!(rt; are_right(rt.alloc(), row)?, "{}", row.0);
+    }
     Ok(())
 }
 
-#[test]
-fn clauses_are_written_as_the_text_by_hand(rt: HostRuntime) -> Result<(), Fail> {
-    assert!(rt; is_written_whole(rt.alloc())?);
-    Ok(())
+fn are_right(alloc: Global, row: &Row) -> Result<bool, Fail> {
+    let p = policy_reader::read(alloc, row.0.as_bytes())?;
+    are_told_and_written(alloc, &p, row)
 }
 
-// Whether the text of the clauses where all steps are free goes out over a sink that takes a part of
-// it at a time.
-fn is_written_whole(alloc: Global) -> Result<bool, Fail> {
-    let p = policy_reader::read(alloc, LONE.as_bytes())?;
-    let mut sink = MemSink::new(alloc, 200, 7, Vec::new(alloc))?;
-    let text = format!(in alloc; "p cnf {LONE_CLAUSES}")?;
-    Ok(writes_all_free(alloc, &p, &mut sink)? && sink.bytes() == text.as_bytes())
+fn are_told_and_written(alloc: Global, p: &Policy, row: &Row) -> Result<bool, Fail> {
+    if row.1 {
+        Ok(are_free(alloc, p, row)? && are_written(alloc, p, row)?)
+    } else {
+        are_lees(alloc, p, row)
+    }
+}
+
+fn are_free(alloc: Global, p: &Policy, row: &Row) -> Result<bool, Fail> {
+    if p.flows().len() == 0 {
+        return Ok(false);
+    }
+    let mut encoder = Encoder::new(alloc, p, FLOW, &Assign::empty(), &StepSet::empty())?;
+    is_text_of(alloc, &mut encoder, row)
+}
+
+fn are_lees(alloc: Global, p: &Policy, row: &Row) -> Result<bool, Fail> {
+    if !has_two(p) {
+        return Ok(false);
+    }
+    let done = StepSet::empty().with(StepId(0));
+    let mut encoder = Encoder::new(alloc, p, FLOW, &both_lees(), &done)?;
+    is_text_of(alloc, &mut encoder, row)
+}
+
+// Whether the text goes out over a sink that takes a part of it at a time.
+fn are_written(alloc: Global, p: &Policy, row: &Row) -> Result<bool, Fail> {
+    let mut sink = MemSink::new(alloc, 1_000, 7, Vec::new(alloc))?;
+    Ok(writes_all_free(alloc, p, &mut sink)? && is_written(alloc, &sink, row)?)
 }
 
 // Writes the clauses of a case of the first workflow whose steps are all free.
@@ -173,48 +208,9 @@ fn writes_all_free(alloc: Global, p: &Policy, sink: &mut MemSink) -> Result<bool
     Ok(write_clauses(alloc, &mut encoder, sink).is_ok())
 }
 
-// A step for nobody has an empty clause. Counts of users are counters, and least counts end the
-// other way.
-fn free_cases_have_theirs(rt: &impl Abort, alloc: Global) -> Result<(), Fail> {
-    let rows = [
-        (LONE, LONE_CLAUSES, ""),
-        (MOST, COUNTED_CLAUSES, "-14 0\n"),
-        (LEAST, COUNTED_CLAUSES, "14 0\n"),
-    ];
-    for (policy, front, last) in rows {
-        assert!(rt; are_of_all_free(alloc, policy, front, last)?, "{last}");
-    }
-    Ok(())
-}
-
-// Whether the clauses of a case of the policy's first workflow, whose steps are all free, are these.
-fn are_of_all_free(alloc: Global, policy: &str, front: &str, last: &str) -> Result<bool, Fail> {
-    let p = policy_reader::read(alloc, policy.as_bytes())?;
-    Ok(clauses_of_all_free(alloc, &p)?.as_str().strip_prefix(front) == Some(last))
-}
-
-fn finished_steps_keep_a_user_without_the_role(alloc: Global) -> Result<bool, Fail> {
-    let p = policy_reader::read(alloc, GONE.as_bytes())?;
-    Ok(clauses_of_lees(alloc, &p)?.as_str() == GONE_CLAUSES)
-}
-
-// The clauses of a case of the first workflow whose steps are all free; no text where there is none.
-fn clauses_of_all_free(alloc: Global, p: &Policy) -> Result<String, Fail> {
-    if p.flows().len() == 0 {
-        return Ok(String::new(alloc));
-    }
-    let mut encoder = Encoder::new(alloc, p, FLOW, &Assign::empty(), &StepSet::empty())?;
-    text_of(alloc, &mut encoder)
-}
-
-// The clauses of a case whose two steps are with the second user, who has finished the first.
-fn clauses_of_lees(alloc: Global, p: &Policy) -> Result<String, Fail> {
-    if !has_two(p) {
-        return Ok(String::new(alloc));
-    }
-    let done = StepSet::empty().with(StepId(0));
-    let mut encoder = Encoder::new(alloc, p, FLOW, &both_lees(), &done)?;
-    text_of(alloc, &mut encoder)
+fn is_written(alloc: Global, sink: &MemSink, row: &Row) -> Result<bool, AllocError> {
+    let text = format!(in alloc; "p cnf {}{}", row.2, row.3)?;
+    Ok(sink.bytes() == text.as_bytes())
 }
 
 fn both_lees() -> Assign
@@ -234,12 +230,12 @@ fn has_two(p: &Policy) -> bool
     p.flows().len() > 0 && p.flow(FLOW).steps().len() > 1 && p.roster().users().len() > 1
 }
 
-// How many variables and clauses there are, and each clause in a line.
-fn text_of(alloc: Global, encoder: &mut Encoder) -> Result<String, Fail> {
+// Whether the row's text is how many variables and clauses there are, and each clause in a line.
+fn is_text_of(alloc: Global, encoder: &mut Encoder, row: &Row) -> Result<bool, Fail> {
     let (variables, clauses) = (encoder.variables(), encoder.clauses());
     let mut text = format!(in alloc; "{variables} {clauses}\n")?;
     add_all(alloc, encoder, &mut text)?;
-    Ok(text)
+    Ok(text.as_str().strip_prefix(row.2) == Some(row.3))
 }
 
 fn add_all(alloc: Global, encoder: &mut Encoder, text: &mut String) -> Result<(), AllocError> {

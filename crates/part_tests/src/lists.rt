@@ -7,20 +7,15 @@ use std::test::Fail;
 #[test]
 fn a_list_keeps_what_it_takes(rt: HostRuntime) -> Result<(), Fail> {
     let mut list = List::new(rt.alloc());
-    fill(&mut list)?;
-    assert!(rt; copies_three(&list)?);
+    assert!(rt; keeps_three(&mut list)?);
     Ok(())
 }
 
-fn fill(list: &mut List<u32>) -> Result<(), Fail> {
+fn keeps_three(list: &mut List<u32>) -> Result<bool, AllocError> {
     list.push(3)?;
     list.add(&5)?;
     list.push_all(&[8, 9])?;
     list.truncate(3);
-    Ok(())
-}
-
-fn copies_three(list: &List<u32>) -> Result<bool, Fail> {
     let copy = list.copy()?;
     Ok(copy.as_slice() == [3u32, 5, 8].as_slice() && copy.len() == 3 && *copy.get(1) == 5)
 }
@@ -28,18 +23,14 @@ fn copies_three(list: &List<u32>) -> Result<bool, Fail> {
 #[test]
 fn a_log_with_room_takes_its_entries(rt: HostRuntime) -> Result<(), Fail> {
     let mut log = Log::new(rt.alloc());
-    note_both(&mut log)?;
-    assert!(rt; copies_both(&log)?);
+    assert!(rt; keeps_both(&mut log)?);
     Ok(())
 }
 
-fn note_both(log: &mut Log<u32>) -> Result<(), AllocError> {
+fn keeps_both(log: &mut Log<u32>) -> Result<bool, AllocError> {
     log.reserve(2)?;
     log.push(3)?;
-    log.add(&5)
-}
-
-fn copies_both(log: &Log<u32>) -> Result<bool, AllocError> {
+    log.add(&5)?;
     let copy = log.copy()?;
     Ok(copy.as_slice() == [3u32, 5].as_slice() && copy.len() == 2 && *copy.get(1) == 5)
 }

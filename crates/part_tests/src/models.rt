@@ -4,7 +4,6 @@ use cnf_models::{Model, ModelFault, Reading, model_of, plan_of, read_model};
 use constraint_forms::{Assign, Plan, StepSet};
 use policy_book::Policy;
 use std::alloc::{AllocError, Global};
-use std::process::Abort;
 use std::test::Fail;
 use wf_names::UserId;
 
@@ -29,85 +28,77 @@ rules = [
 ]
 "#;
 
-// The variables that the model of a plan has.
-const MODEL: [u32; 12] = [1, 7, 10, 13, 14, 15, 16, 19, 20, 22, 23, 24];
+// What a model of a case whose steps are all free is read from: a text, or a plan that it says.
+#[derive(Clone, Copy)]
+enum Given {
+    Text(&'static str),
+    Plan(Plan),
+}
+
+// Texts of models of pay, and what they are read as: one that says its plan, and without 13 it breaks
+// clause 3.
+fn text_rows() -> [(&'static str, Reading); 2] {
+    let said = Plan::of(&[UserId(0), UserId(2), UserId(1)]);
+    [
+        ("1 7 10 13 14 15 16 19 20 22 23 24 0", Reading::Plan(said)),
+        ("1 7 10 14 15 16 19 20 22 23 24 0", Reading::Clause(3)),
+    ]
+}
 
 #[test]
 fn models_of_pay_are_read(rt: HostRuntime) -> Result<(), Fail> {
-    let p = policy_reader::read(rt.alloc(), PAY.as_bytes())?;
-    read_of_pay(&rt, rt.alloc(), &p)
-}
-
-// A model says its plan; without 13 it breaks clause 3; the model of the plan is read back.
-fn read_of_pay(rt: &impl Abort, alloc: Global, p: &Policy) -> Result<(), Fail> {
-    let said = Some(Reading::Plan(Plan::of(&[UserId(0), UserId(2), UserId(1)])));
-    let without = [1, 7, 10, 14, 15, 16, 19, 20, 22, 23, 24];
-    assert!(rt; read_of(alloc, p, &MODEL)? == said);
-    assert!(rt; read_of(alloc, p, &without)? == Some(Reading::Clause(3)));
-    assert!(rt; read_back(alloc, p, &Plan::of(&[UserId(0), UserId(2), UserId(1)]))? == said);
-    texts_say_theirs(rt, alloc, p)
-}
-
-// A text is read as a model.
-fn texts_say_theirs(rt: &impl Abort, alloc: Global, p: &Policy) -> Result<(), Fail> {
-    let said = Reading::Plan(Plan::of(&[UserId(0), UserId(2), UserId(1)]));
-    let rows = [
-        ("1 7 10 13 14 15 16 19 20 22 23 24 0", said),
-        ("1 7 10 14 15 16 19 20 22 23 24 0", Reading::Clause(3)),
-    ];
-    for (text, wanted) in rows {
-        assert!(rt; read_of_text(alloc, p, text)? == Some(wanted), "{text}");
+    for (text, wanted) in text_rows() {
+        let read = read_under(rt.alloc(), PAY, &Given::Text(text))?;
+        assert!(rt; read == Some(wanted), "{text}");
     }
     Ok(())
 }
 
-// What the model of 24 variables that has these is read as.
-fn read_of(alloc: Global, p: &Policy, words: &[u32]) -> Result<Option<Reading>, Fail> {
-    let m = model_with(alloc, 24, words)?;
-    read(alloc, p, &m)
+// A policy, a plan, and what the model that says it is read as: counting rules hold at their edges.
+fn plan_rows() -> [(&'static str, Plan, Reading); 5] {
+    let pays = Plan::of(&[UserId(0), UserId(2), UserId(1)]);
+    let one = Plan::of(&[UserId(1), UserId(1)]);
+    let two = Plan::of(&[UserId(0), UserId(1)]);
+    [
+        (PAY, pays, Reading::Plan(pays)),
+        (MOST, one, Reading::Plan(one)),
+        (MOST, two, Reading::Clause(27)),
+        (LEAST, one, Reading::Clause(27)),
+        (LEAST, two, Reading::Plan(two)),
+    ]
 }
 
+#[test]
+fn models_of_plans_are_read_back(rt: HostRuntime) -> Result<(), Fail> {
+    for (policy, plan, wanted) in plan_rows() {
+        let read = read_under(rt.alloc(), policy, &Given::Plan(plan))?;
+        assert!(rt; read == Some(wanted), "{policy}");
+    }
+    Ok(())
+}
+
+fn read_under(alloc: Global, policy: &str, given: &Given) -> Result<Option<Reading>, Fail> {
+    let p = policy_reader::read(alloc, policy.as_bytes())?;
+    read_of(alloc, &p, given)
+}
+
+fn read_of(alloc: Global, p: &Policy, given: &Given) -> Result<Option<Reading>, Fail> {
+    match given {
+        Given::Text(text) => read_of_text(alloc, p, text),
+        Given::Plan(plan) => read_back(alloc, p, plan),
+    }
+}
+
+// What the model of 24 variables with a text is read as.
 fn read_of_text(alloc: Global, p: &Policy, text: &str) -> Result<Option<Reading>, Fail> {
     let m = read_model(alloc, text.as_bytes(), 24)?;
     read(alloc, p, &m)
 }
 
 #[test]
-fn counting_rules_hold_at_their_edges(rt: HostRuntime) -> Result<(), Fail> {
-    plans_are_read_back(&rt, rt.alloc())
-}
-
-fn plans_are_read_back(rt: &impl Abort, alloc: Global) -> Result<(), Fail> {
-    let one = Plan::of(&[UserId(1), UserId(1)]);
-    let two = Plan::of(&[UserId(0), UserId(1)]);
-    let rows = [
-        (MOST, one, Reading::Plan(one)),
-        (MOST, two, Reading::Clause(27)),
-        (LEAST, one, Reading::Clause(27)),
-        (LEAST, two, Reading::Plan(two)),
-    ];
-    for (policy, plan, wanted) in rows {
-        assert!(rt;
-            read_back_under(alloc, policy, &plan)? == Some(wanted),
-            "{policy}"
-        );
-    }
-    Ok(())
-}
-
-fn read_back_under(alloc: Global, policy: &str, plan: &Plan) -> Result<Option<Reading>, Fail> {
-    let p = policy_reader::read(alloc, policy.as_bytes())?;
-    read_back(alloc, &p, plan)
-}
-
-#[test]
 fn texts_are_read_to_their_end(rt: HostRuntime) -> Result<(), Fail> {
-    are_read_to_their_end(&rt, rt.alloc())
-}
-
-fn are_read_to_their_end(rt: &impl Abort, alloc: Global) -> Result<(), Fail> {
     for (text, has) in &TEXTS {
-        assert!(rt; has_of_four(alloc, text, has)?, "{text}");
+        assert!(rt; has_of_four(rt.alloc(), text, has)?, "{text}");
     }
     Ok(())
 }
@@ -137,12 +128,8 @@ fn has_of_four(alloc: Global, text: &str, has: &[bool; 4]) -> Result<bool, Fail>
 
 #[test]
 fn the_first_bad_word_is_named(rt: HostRuntime) -> Result<(), Fail> {
-    bad_words_are_named(&rt, rt.alloc())
-}
-
-fn bad_words_are_named(rt: &impl Abort, alloc: Global) -> Result<(), Fail> {
     for (text, word) in &BAD_WORDS {
-        assert!(rt; bad_word(alloc, text)? == Some(*word), "{text}");
+        assert!(rt; bad_word(rt.alloc(), text)? == Some(*word), "{text}");
     }
     Ok(())
 }
@@ -192,13 +179,4 @@ fn read_back(alloc: Global, p: &Policy, plan: &Plan) -> Result<Option<Reading>, 
     }
     let m = model_of(alloc, p, FLOW, plan)?;
     read(alloc, p, &m)
-}
-
-// The model that has these variables, numbered from 1, of so many.
-fn model_with(alloc: Global, variables: u32, has: &[u32]) -> Result<Model, AllocError> {
-    let mut m = Model::new(alloc);
-    for v in 0..variables {
-        m.push(has.contains(&(v + 1)))?;
-    }
-    Ok(m)
 }

@@ -1,7 +1,6 @@
 //! What no clause shows: which texts are names, and that a table's calls succeed while there is memory.
-ghost use Rattle.std.specs.Prelude.{◌≡◌, ◌≤◌, IfOk, length};
+ghost use Rattle.std.specs.Prelude.{◌≡◌, IfOk};
 
-use std::process::Abort;
 use std::test::Fail;
 use wf_names::words::{count_words, join_words, meet_words, strike_words};
 use wf_names::{Name, NameFault, NameTable, UserId, UserSet};
@@ -30,18 +29,18 @@ fn names_are_read_by_their_form(rt: HostRuntime) {
 #[test]
 fn a_table_numbers_its_names(rt: HostRuntime) -> Result<(), Fail> {
     let mut table = NameTable::new(rt.alloc(), 2)?;
-    add_names(&rt, &mut table)?;
-    assert!(rt; copies_both(&table)?);
+    assert!(rt; adds_both(&mut table)? && copies_both(&table)?);
     Ok(())
 }
 
-fn add_names(rt: &impl Abort, table: &mut NameTable) -> Result<(), Fail> {
-    assert!(rt; add(table, "ann")? == Ok(0));
-    assert!(rt; add(table, "ann")? == Err(NameFault::Twice));
-    assert!(rt; add(table, "bob")? == Ok(1));
-    assert!(rt; add(table, "bob")? == Err(NameFault::Twice));
-    assert!(rt; add(table, "cyd")? == Err(NameFault::Full));
-    Ok(())
+fn adds_both(table: &mut NameTable) -> Result<bool, Fail> {
+    Ok(
+        add(table, "ann")? == Ok(0)
+            && add(table, "ann")? == Err(NameFault::Twice)
+            && add(table, "bob")? == Ok(1)
+            && add(table, "bob")? == Err(NameFault::Twice)
+            && add(table, "cyd")? == Err(NameFault::Full),
+    )
 }
 
 fn add(table: &mut NameTable, text: &str) -> Result<Result<u16, NameFault>, Fail> {
@@ -50,13 +49,9 @@ fn add(table: &mut NameTable, text: &str) -> Result<Result<u16, NameFault>, Fail
 
 // Whether a copy has two names, the second of them bob, and not cyd.
 fn copies_both(table: &NameTable) -> Result<bool, Fail> {
+    let (there, other) = (read("bob")?, read("cyd")?);
     let copy = table.copy()?;
-    Ok(has_both(&copy)?)
-}
-
-fn has_both(table: &NameTable) -> Result<bool, Fail> {
-    let (there, other) = (table.find(&read("bob")?), table.find(&read("cyd")?));
-    Ok(table.len() == 2 && there == Some(1) && other.is_none())
+    Ok(copy.len() == 2 && copy.find(&there) == Some(1) && copy.find(&other).is_none())
 }
 
 /// A name.
@@ -104,86 +99,14 @@ fn of(users: &[u16]) -> UserSet {
     set
 }
 
-// Each kernel beside one word after the other, at every length up to eight vectors and six words.
+// Nine words are a vector of eight, and a word behind it.
 #[test]
-fn kernels_do_as_one_word_does(rt: HostRuntime) {
-    let own: [u64; 70] = drawn(1);
-    let by: [u64; 70] = drawn(7);
-    for len in 0..71 {
-        assert!(rt; kernels_agree(&own[..len], &by[..len]), "{len}");
-    }
-}
-
-fn kernels_agree(own: &[u64], by: &[u64]) -> bool
-    requires lengths { length own.now ≡ length by.now }
-    requires room { length own.now ≤ 70 }
-{
-    let mut room = [0; 70];
-    let words = &mut room[..own.len()];
-    meets(words, own, by) && strikes(words, own, by) && joins(words, own, by) && counts(own)
-}
-
-fn meets(words: &mut [u64], own: &[u64], by: &[u64]) -> bool
-    requires own { length own.now ≡ length words.old }
-    requires by { length by.now ≡ length words.old }
-{
-    words.copy_from_slice(own);
-    meet_words(words, by);
-    for i in 0..words.len() {
-        if words[i] != own[i] & by[i] {
-            return false;
-        }
-    }
-    true
-}
-
-fn strikes(words: &mut [u64], own: &[u64], by: &[u64]) -> bool
-    requires own { length own.now ≡ length words.old }
-    requires by { length by.now ≡ length words.old }
-{
-    words.copy_from_slice(own);
-    strike_words(words, by);
-    for i in 0..words.len() {
-        if words[i] != own[i] & !by[i] {
-            return false;
-        }
-    }
-    true
-}
-
-fn joins(words: &mut [u64], own: &[u64], by: &[u64]) -> bool
-    requires own { length own.now ≡ length words.old }
-    requires by { length by.now ≡ length words.old }
-{
-    words.copy_from_slice(own);
-    join_words(words, by);
-    for i in 0..words.len() {
-        if words[i] != own[i] | by[i] {
-            return false;
-        }
-    }
-    true
-}
-
-fn counts(own: &[u64]) -> bool
-    requires { length own.now ≤ 70 }
-{
-    let mut ones: u64 = 0;
-    for word in own {
-        ones = ones.wrapping_add(word.count_ones() as u64);
-    }
-    count_words(own) == ones
-}
-
-// Words drawn from a seed.
-fn drawn(seed: u64) -> [u64; 70] {
-    let mut words = [0; 70];
-    let mut state = seed;
-    for word in &mut words {
-        state = state
-            .wrapping_mul(6_364_136_223_846_793_005)
-            .wrapping_add(1);
-        *word = state ^ state >> 29;
-    }
-    words
+fn words_are_met_struck_joined_and_counted(rt: HostRuntime) {
+    let (own, by) = ([0b1100u64; 9], [0b1010u64; 9]);
+    let (mut both, mut rest, mut some) = (own, own, own);
+    meet_words(&mut both, &by);
+    strike_words(&mut rest, &by);
+    join_words(&mut some, &by);
+    assert!(rt; both == [0b1000; 9] && rest == [0b0100; 9] && some == [0b1110; 9]);
+    assert!(rt; count_words(&some) == 27);
 }

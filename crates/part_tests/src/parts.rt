@@ -1,84 +1,41 @@
-//! A part that is changed by one holder, and what the others see; and that it goes between threads.
-ghost use Rattle.std.specs.Prelude.{◌≡◌};
+//! A part that is changed by one holder, and what the others see; and that it, trees and policies go
+//! between threads.
 
-use shared_part::{Copied, Shared};
-use std::alloc::{AllocError, Global};
-use std::marker::Model;
+use pair_set::PairSet;
+use policy_book::Policy;
+use refutation_tree::Tree;
+use shared_part::Shared;
+use std::alloc::AllocError;
 use std::test::Fail;
 
-// Counts, each a block of memory of its own.
-#[derive(Drop)]
-struct Counts {
-    counts: Vec<u16>,
-}
-
-impl Model for Counts {
-    ghost use Rattle.std.specs.Prelude.{List, ℕ};
-
-    ghost Value = { List ℕ };
-
-    ghost view = { λ c. c.counts.items };
-}
-
-impl Clone for Counts {
-    ghost is_clone = { λ x y. y ≡ x };
-
-    fn clone(&self) -> Result<Counts, AllocError> {
-        Ok(Counts {
-            counts: self.counts.clone()?,
-        })
-    }
-}
-
-impl Copied for Counts {
-    ghost equal = { λ x y h. h };
-}
-
+// A change is seen by its holder alone, and a sole holder goes on in place.
 #[test]
 fn a_change_is_seen_by_its_holder_alone(rt: HostRuntime) -> Result<(), Fail> {
-    let mut first = one_count(rt.alloc())?;
+    let mut first = Shared::new(rt.alloc(), PairSet::new(rt.alloc()))?;
     assert!(rt; changes_alone(&mut first)?);
     Ok(())
 }
 
-fn changes_alone(first: &mut Shared<Counts>) -> Result<bool, AllocError> {
+fn changes_alone(first: &mut Shared<PairSet>) -> Result<bool, AllocError> {
+    put(first, 1, 2)?;
+    let apart = is_apart(first)?;
+    put(first, 5, 6)?;
+    Ok(apart && first.get().as_slice() == [(1, 2), (3, 4), (5, 6)].as_slice())
+}
+
+fn is_apart(first: &mut Shared<PairSet>) -> Result<bool, AllocError> {
     let second = first.share()?;
-    change(first)?;
-    Ok(count_and_last(first) == (2, 7) && count_and_last(&second) == (1, 3))
-}
-
-#[test]
-fn a_sole_holder_changes_the_part_in_place(rt: HostRuntime) -> Result<(), Fail> {
-    let mut only = one_count(rt.alloc())?;
-    assert!(rt; changes_twice(&mut only)? == (3, 7));
-    Ok(())
-}
-
-fn changes_twice(only: &mut Shared<Counts>) -> Result<(usize, u16), AllocError> {
-    change(only)?;
-    change(only)?;
-    Ok(count_and_last(only))
-}
-
-fn one_count(alloc: Global) -> Result<Shared<Counts>, Fail> {
-    let mut counts = Vec::new(alloc);
-    counts.push(3)?;
-    Ok(Shared::new(alloc, Counts { counts })?)
-}
-
-fn change(shared: &mut Shared<Counts>) -> Result<(), AllocError> {
-    let own = shared.edit()?;
-    own.counts.push(7)?;
-    Ok(())
-}
-
-// How many counts there are, and the last of them.
-fn count_and_last(shared: &Shared<Counts>) -> (usize, u16) {
-    let counts = shared.get();
-    (
-        counts.counts.len(),
-        counts.counts.last().copied().unwrap_or(0),
+    put(first, 3, 4)?;
+    Ok(
+        first.get().as_slice() == [(1, 2), (3, 4)].as_slice()
+            && second.get().as_slice() == [(1, 2)].as_slice(),
     )
+}
+
+fn put(shared: &mut Shared<PairSet>, a: u16, b: u16) -> Result<(), AllocError> {
+    let own = shared.edit()?;
+    own.insert(a, b)?;
+    Ok(())
 }
 
 fn goes_between_threads<T: Send + Sync>() -> bool {
@@ -86,6 +43,7 @@ fn goes_between_threads<T: Send + Sync>() -> bool {
 }
 
 #[test]
-fn parts_go_between_threads(rt: HostRuntime) {
-    assert!(rt; goes_between_threads::<Shared<Counts>>());
+fn values_go_between_threads(rt: HostRuntime) {
+    assert!(rt; goes_between_threads::<Shared<PairSet>>());
+    assert!(rt; goes_between_threads::<Tree>() && goes_between_threads::<Policy>());
 }

@@ -1,12 +1,10 @@
-//! What no clause shows: that a policy may be lent to threads and handed from one to another, and
-//! that it answers while there is memory.
+//! What no clause shows: that a policy answers while there is memory.
 ghost use Rattle.std.specs.Prelude.{◌<◌, IsTrue, length};
-ghost use Rattle.wf_names.specs.declared.limits.TheConstants.{STEP_LIMIT};
 ghost use Rattle.policy_book.specs.Policies.{flow_at, problem_of};
 ghost use Rattle.policy_book.specs.Refuting.{is_unassigned};
 
-use constraint_forms::falsified;
-use policy_book::{Assign, Policy, RelatedRows, Rules};
+use crate::roster::answers_its_calls;
+use policy_book::{Assign, Policy, RelatedRows};
 use std::test::Fail;
 use wf_names::{FlowId, RelId, RoleId, StepId, UserId};
 
@@ -41,20 +39,11 @@ permit = {}
 rules = [{ form = "pair", relation = "other", first = "a", second = "b" }]
 "#;
 
-fn is_shared<T: Send + Sync>() -> bool {
-    true
-}
-
-#[test]
-fn policies_are_shared(rt: HostRuntime) {
-    assert!(rt; is_shared::<Policy>());
-}
-
 // Ann and bob are clerks, cyd is none; clerks may do both steps, which one user may not do both.
 #[test]
 fn candidates_are_clerks_who_have_not_done_the_other_step(rt: HostRuntime) -> Result<(), Fail> {
     let mut p = policy_reader::read(rt.alloc(), APART.as_bytes())?;
-    assert!(rt; finds_its_clerks(&mut p));
+    assert!(rt; answers_its_calls(p.roster())? && finds_its_clerks(&mut p));
     Ok(())
 }
 
@@ -96,7 +85,7 @@ fn candidates_are_right(p: &Policy) -> bool {
     let given = empty.with(A, ANN);
     are_candidates(p, B, &empty, [true, true, false])
         && are_candidates(p, B, &given, [false, true, false])
-        && agree_with_tests(p, B, &given)
+        && authorised_are_right(p)
 }
 
 fn are_candidates(p: &Policy, s: StepId, a: &Assign, wanted: [bool; 3]) -> bool {
@@ -114,40 +103,15 @@ fn is_free(p: &Policy, s: StepId, a: &Assign) -> bool
     p.flows().len() != 0 && (s.0 as u16) < p.flow(PAY).steps().len() && a.at(s).is_none()
 }
 
-// Whether the candidates are those who pass each test alone.
-fn agree_with_tests(p: &Policy, s: StepId, a: &Assign) -> bool {
-    if !is_free(p, s, a) || p.roster().users().len() != USERS || s.0 > 1 {
+// Whether ann and bob alone are authorised for the second step.
+fn authorised_are_right(p: &Policy) -> bool {
+    if !has_step(p, B) || p.roster().users().len() != USERS {
         return false;
     }
-    let found = p.candidates(PAY, s, a);
-    let authorised = p.authorised_users(PAY, s);
-    for u in 0..USERS {
-        let told = (authorised.has(UserId(u)), found.has(UserId(u)));
-        if told != passed(p, s, a, UserId(u)) {
-            return false;
-        }
-    }
-    true
-}
-
-// Whether a user is authorised for a free step, and whether no rule is broken by it, too.
-fn passed(p: &Policy, s: StepId, a: &Assign, u: UserId) -> (bool, bool)
-    requires flow { 0 < length p.now.flows }
-    requires step { s < length (flow_at p.now 0).flow.steps }
-    requires user { u < length p.now.roster.users }
-    requires within { s < STEP_LIMIT }
-{
-    let passes = p.authorised(PAY, s, u);
-    (passes, passes && !is_broken(p, &a.with(s, u)))
-}
-
-fn is_broken(p: &Policy, a: &Assign) -> bool
-    requires { 0 < length p.now.flows }
-{
-    match p.rules(PAY).as_slice().first() {
-        Some(rule) => falsified(rule, p, a),
-        None => true,
-    }
+    let found = p.authorised_users(PAY, B);
+    [found.has(ANN), found.has(BOB), found.has(UserId(2))] == [true, true, false]
+        && p.authorised(PAY, B, BOB)
+        && !p.authorised(PAY, B, UserId(2))
 }
 
 fn rows_are_right(p: &Policy) -> bool {

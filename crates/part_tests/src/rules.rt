@@ -7,7 +7,7 @@ ghost use Rattle.wf_names.specs.declared.limits.TheConstants.{STEP_LIMIT, USER_L
 use constraint_forms::{
     Assign, Holds, Plan, RelatedRows, Rule, Rules, StepSet, falsified, keep_unfalsified, satisfied,
 };
-use std::process::Abort;
+use std::alloc::AllocError;
 use std::test::Fail;
 use wf_names::{RelId, STEP_LIMIT, StepId, UserId, UserSet};
 
@@ -111,169 +111,174 @@ fn assigned(row: &str) -> Assign {
     given
 }
 
-#[test]
-fn duo_falsifies_a_pair_once_both_steps_are_assigned(rt: HostRuntime) {
-    let (rho, first, second) = (RelId::OTHER, A, B);
-    let other = Rule::Pair { rho, first, second };
-    let rho = RelId::SAME;
-    let same = Rule::Pair { rho, first, second };
-    let rows = [
-        ("--", false, false),
-        ("k-", false, false),
-        ("-k", false, false),
-        ("kk", true, false),
-        ("kl", false, true),
-    ];
-    are_broken_so(&rt, &other, &same, &rows);
+// Rules over the first three steps.
+#[derive(Clone, Copy)]
+enum Form {
+    // Of the first and the second step.
+    Other,
+    Same,
+    // Of the first and the third step.
+    Mentor,
+    // Of the group of the first two steps, and the third.
+    Some,
+    All,
+    SomeTo,
+    AllTo,
+    // Of all three steps.
+    LeastTwo,
+    MostTwo,
+    // Of the first and the third step.
+    OuterLeastTwo,
+    OuterMostOne,
 }
 
-// Each row says whether its assignment falsifies each of two rules.
-fn are_broken_so(rt: &impl Abort, first: &Rule, second: &Rule, rows: &[(&str, bool, bool)]) {
-    for (row, breaks_first, breaks_second) in rows {
-        let broken = broken_by(first, second, row);
-        assert!(rt; broken == (*breaks_first, *breaks_second), "{row}");
+fn rule(form: Form) -> Rule
+    ensures { IsRuleOf 3 result }
+{
+    match form {
+        Form::Other => Rule::Pair {
+            rho: RelId::OTHER,
+            first: A,
+            second: B,
+        },
+        Form::Same => Rule::Pair {
+            rho: RelId::SAME,
+            first: A,
+            second: B,
+        },
+        Form::Mentor => Rule::Pair {
+            rho: LISTED,
+            first: A,
+            second: C,
+        },
+        Form::Some | Form::All | Form::SomeTo | Form::AllTo => over_group(form),
+        _ => over_count(form),
+    }
+}
+
+fn over_group(form: Form) -> Rule
+    ensures { IsRuleOf 3 result }
+{
+    let (rho, group, step) = (LISTED, StepSet::empty().with(A).with(B), C);
+    match form {
+        Form::Some => Rule::SomeOf { rho, group, step },
+        Form::All => Rule::AllOf { rho, group, step },
+        Form::SomeTo => Rule::SomeTo { rho, step, group },
+        _ => Rule::AllTo { rho, step, group },
+    }
+}
+
+fn over_count(form: Form) -> Rule
+    ensures { IsRuleOf 3 result }
+{
+    let outer = StepSet::empty().with(A).with(C);
+    let group = StepSet::empty().with(A).with(B).with(C);
+    match form {
+        Form::LeastTwo => Rule::AtLeast { limit: 2, group },
+        Form::MostTwo => Rule::AtMost { limit: 2, group },
+        Form::OuterLeastTwo => Rule::AtLeast {
+            limit: 2,
+            group: outer,
+        },
+        _ => Rule::AtMost {
+            limit: 1,
+            group: outer,
+        },
+    }
+}
+
+// Two rules, an assignment, and whether it falsifies each of them.
+const FALSIFIED: [(Form, Form, &str, bool, bool); 38] = [
+    // A pair, once both steps are assigned.
+    (Form::Other, Form::Same, "--", false, false),
+    (Form::Other, Form::Same, "k-", false, false),
+    (Form::Other, Form::Same, "-k", false, false),
+    (Form::Other, Form::Same, "kk", true, false),
+    (Form::Other, Form::Same, "kl", false, true),
+    // Some, once all are assigned.
+    (Form::Some, Form::All, "---", false, false),
+    (Form::Some, Form::All, "--l", false, false),
+    (Form::Some, Form::All, "k-l", false, false),
+    (Form::Some, Form::All, "m-l", false, true),
+    (Form::Some, Form::All, "mml", true, true),
+    (Form::Some, Form::All, "kml", false, true),
+    (Form::Some, Form::All, "kkl", false, false),
+    (Form::Some, Form::All, "--k", false, false),
+    (Form::Some, Form::All, "-lk", false, true),
+    (Form::Some, Form::All, "klk", true, true),
+    (Form::Some, Form::All, "kl-", false, false),
+    // The same where the relation is read back.
+    (Form::SomeTo, Form::AllTo, "---", false, false),
+    (Form::SomeTo, Form::AllTo, "--k", false, false),
+    (Form::SomeTo, Form::AllTo, "l-k", false, false),
+    (Form::SomeTo, Form::AllTo, "m-k", false, true),
+    (Form::SomeTo, Form::AllTo, "mmk", true, true),
+    (Form::SomeTo, Form::AllTo, "lmk", false, true),
+    (Form::SomeTo, Form::AllTo, "llk", false, false),
+    (Form::SomeTo, Form::AllTo, "--l", false, false),
+    (Form::SomeTo, Form::AllTo, "-kl", false, true),
+    (Form::SomeTo, Form::AllTo, "lkl", true, true),
+    (Form::SomeTo, Form::AllTo, "lk-", false, false),
+    // Counts are of users, and free steps may get others.
+    (Form::LeastTwo, Form::MostTwo, "---", false, false),
+    (Form::LeastTwo, Form::MostTwo, "k--", false, false),
+    (Form::LeastTwo, Form::MostTwo, "kk-", false, false),
+    (Form::LeastTwo, Form::MostTwo, "kkk", true, false),
+    (Form::LeastTwo, Form::MostTwo, "kl-", false, false),
+    (Form::LeastTwo, Form::MostTwo, "klk", false, false),
+    (Form::LeastTwo, Form::MostTwo, "klm", false, true),
+    // Steps outside a group are not counted.
+    (Form::OuterLeastTwo, Form::OuterMostOne, "kl-", false, false),
+    (Form::OuterLeastTwo, Form::OuterMostOne, "klk", true, false),
+    (Form::OuterLeastTwo, Form::OuterMostOne, "kkl", false, true),
+    (Form::OuterLeastTwo, Form::OuterMostOne, "-kl", false, false),
+];
+
+#[test]
+fn rules_are_falsified_where_they_should(rt: HostRuntime) {
+    for (first, second, row, by_first, by_second) in &FALSIFIED {
+        let broken = broken_by(*first, *second, row);
+        assert!(rt; broken == (*by_first, *by_second), "{row}");
     }
 }
 
 // Whether the assignment of a row falsifies each of two rules.
-fn broken_by(first: &Rule, second: &Rule, row: &str) -> (bool, bool) {
+fn broken_by(first: Form, second: Form, row: &str) -> (bool, bool) {
     let a = assigned(row);
     (
-        falsified(first, &Mentors, &a),
-        falsified(second, &Mentors, &a),
+        falsified(&rule(first), &Mentors, &a),
+        falsified(&rule(second), &Mentors, &a),
     )
 }
 
-#[test]
-fn trio_mentor_falsifies_some_once_all_are_assigned(rt: HostRuntime) {
-    let (rho, group, step) = (LISTED, StepSet::empty().with(A).with(B), C);
-    let some = Rule::SomeOf { rho, group, step };
-    let all = Rule::AllOf { rho, group, step };
-    let rows = [
-        ("---", false, false),
-        ("--l", false, false),
-        ("k-l", false, false),
-        ("m-l", false, true),
-        ("mml", true, true),
-        ("kml", false, true),
-        ("kkl", false, false),
-        ("--k", false, false),
-        ("-lk", false, true),
-        ("klk", true, true),
-        ("kl-", false, false),
-    ];
-    are_broken_so(&rt, &some, &all, &rows);
-}
+// Two rules, a plan, and whether it satisfies each of them.
+const SATISFIED: [(Form, Form, [UserId; 3], bool, bool); 9] = [
+    (Form::Some, Form::All, [KIM, MAX, LEE], true, false),
+    (Form::Some, Form::All, [MAX, MAX, LEE], false, false),
+    (Form::Some, Form::All, [KIM, KIM, LEE], true, true),
+    (Form::SomeTo, Form::AllTo, [LEE, MAX, KIM], true, false),
+    (Form::SomeTo, Form::AllTo, [KIM, MAX, LEE], false, false),
+    (Form::SomeTo, Form::AllTo, [LEE, LEE, KIM], true, true),
+    (Form::LeastTwo, Form::MostTwo, [KIM, KIM, KIM], false, true),
+    (Form::LeastTwo, Form::MostTwo, [KIM, LEE, KIM], true, true),
+    (Form::LeastTwo, Form::MostTwo, [KIM, LEE, MAX], true, false),
+];
 
 #[test]
-fn trio_mentor_read_back_falsifies_some_once_all_are_assigned(rt: HostRuntime) {
-    let (rho, group, step) = (LISTED, StepSet::empty().with(A).with(B), C);
-    let some = Rule::SomeTo { rho, step, group };
-    let all = Rule::AllTo { rho, step, group };
-    let rows = [
-        ("---", false, false),
-        ("--k", false, false),
-        ("l-k", false, false),
-        ("m-k", false, true),
-        ("mmk", true, true),
-        ("lmk", false, true),
-        ("llk", false, false),
-        ("--l", false, false),
-        ("-kl", false, true),
-        ("lkl", true, true),
-        ("lk-", false, false),
-    ];
-    are_broken_so(&rt, &some, &all, &rows);
-}
-
-#[test]
-fn counts_are_of_users_and_free_steps_may_get_others(rt: HostRuntime) {
-    let (limit, group) = (2, StepSet::empty().with(A).with(B).with(C));
-    let least = Rule::AtLeast { limit, group };
-    let most = Rule::AtMost { limit, group };
-    let rows = [
-        ("---", false, false),
-        ("k--", false, false),
-        ("kk-", false, false),
-        ("kkk", true, false),
-        ("kl-", false, false),
-        ("klk", false, false),
-        ("klm", false, true),
-    ];
-    are_broken_so(&rt, &least, &most, &rows);
-}
-
-#[test]
-fn steps_outside_a_group_are_not_counted(rt: HostRuntime) {
-    let group = StepSet::empty().with(A).with(C);
-    let least = Rule::AtLeast { limit: 2, group };
-    let most = Rule::AtMost { limit: 1, group };
-    let rows = [
-        ("kl-", false, false),
-        ("klk", true, false),
-        ("kkl", false, true),
-        ("-kl", false, false),
-    ];
-    are_broken_so(&rt, &least, &most, &rows);
-}
-
-#[test]
-fn trio_plans_satisfy_or_not(rt: HostRuntime) {
-    let (rho, group, step) = (LISTED, StepSet::empty().with(A).with(B), C);
-    let some = Rule::SomeOf { rho, group, step };
-    let all = Rule::AllOf { rho, group, step };
-    let rows = [
-        ([KIM, MAX, LEE], true, false),
-        ([MAX, MAX, LEE], false, false),
-        ([KIM, KIM, LEE], true, true),
-    ];
-    are_satisfied_so(&rt, &some, &all, &rows);
-}
-
-#[test]
-fn trio_plans_satisfy_what_is_read_back_or_not(rt: HostRuntime) {
-    let (rho, group, step) = (LISTED, StepSet::empty().with(A).with(B), C);
-    let some = Rule::SomeTo { rho, step, group };
-    let all = Rule::AllTo { rho, step, group };
-    let rows = [
-        ([LEE, MAX, KIM], true, false),
-        ([KIM, MAX, LEE], false, false),
-        ([LEE, LEE, KIM], true, true),
-    ];
-    are_satisfied_so(&rt, &some, &all, &rows);
-}
-
-#[test]
-fn trio_plans_have_so_many_users_or_not(rt: HostRuntime) {
-    let (limit, group) = (2, StepSet::empty().with(A).with(B).with(C));
-    let least = Rule::AtLeast { limit, group };
-    let most = Rule::AtMost { limit, group };
-    let rows = [
-        ([KIM, KIM, KIM], false, true),
-        ([KIM, LEE, KIM], true, true),
-        ([KIM, LEE, MAX], true, false),
-    ];
-    are_satisfied_so(&rt, &least, &most, &rows);
-}
-
-// Each row says whether its plan satisfies each of two rules.
-fn are_satisfied_so(
-    rt: &impl Abort,
-    first: &Rule,
-    second: &Rule,
-    rows: &[([UserId; 3], bool, bool)],
-)
-    requires first { IsRuleOf 3 first.now }
-    requires second { IsRuleOf 3 second.now }
-{
-    for (users, by_first, by_second) in rows {
-        let plan = Plan::of(users);
-        let satisfies = (
-            satisfied(first, &Mentors, &plan),
-            satisfied(second, &Mentors, &plan),
-        );
+fn plans_satisfy_rules_or_not(rt: HostRuntime) {
+    for (first, second, users, by_first, by_second) in &SATISFIED {
+        let satisfies = satisfied_by(*first, *second, users);
         assert!(rt; satisfies == (*by_first, *by_second));
     }
+}
+
+// Whether a plan satisfies each of two rules.
+fn satisfied_by(first: Form, second: Form, users: &[UserId; 3]) -> (bool, bool) {
+    let plan = Plan::of(users);
+    (
+        satisfied(&rule(first), &Mentors, &plan),
+        satisfied(&rule(second), &Mentors, &plan),
+    )
 }
 
 #[test]
@@ -292,31 +297,47 @@ fn rules_are_listed(rt: HostRuntime) -> Result<(), Fail> {
     Ok(())
 }
 
-fn lists_both(rules: &mut Rules) -> Result<bool, Fail> {
-    rules.push(pair())?;
+fn lists_both(rules: &mut Rules) -> Result<bool, AllocError> {
+    rules.push(outer_pair())?;
     rules.push(some())?;
-    copies_both(rules)
+    let copy = rules.copy()?;
+    Ok(copy.as_slice() == [outer_pair(), some()].as_slice())
 }
 
 #[test]
-fn rules_know_their_steps(rt: HostRuntime) {
-    assert!(rt; names_of(&pair()) == [true, false, true]);
-    assert!(rt; names_of(&some()) == [false, true, true]);
-    assert!(rt; pair().reads(RelId::OTHER) && !pair().reads(LISTED) && some().reads(LISTED));
+fn rules_and_cells_hold_what_they_are_given(rt: HostRuntime) {
+    assert!(rt; know_their_steps());
+    assert!(rt; counts_read_no_relation());
+    assert!(rt; is_read_back());
+    assert!(rt; cells_hold_what_is_put_in());
+    assert!(rt; a_plan_holds_its_users());
 }
 
-#[test]
-fn rules_over_counts_read_no_relation(rt: HostRuntime) {
-    let (rho, step, group) = (LISTED, C, StepSet::empty().with(A).with(B));
+fn know_their_steps() -> bool {
+    let (outer, last) = (outer_pair(), some());
+    names_of(&outer) == [true, false, true]
+        && names_of(&last) == [false, true, true]
+        && outer.reads(RelId::OTHER)
+        && !outer.reads(LISTED)
+        && last.reads(LISTED)
+}
+
+fn counts_read_no_relation() -> bool {
+    let group = StepSet::empty().with(A).with(B);
     let most = Rule::AtMost { limit: 1, group };
-    let back = Rule::SomeTo { rho, step, group };
-    assert!(rt; names_of(&most) == [true, true, false] && names_of(&back) == [true, true, true]);
-    assert!(rt; most.relation().is_none() && !most.reads(RelId::SAME) && !most.reads(LISTED));
-    assert!(rt; back.relation() == Some(LISTED) && back.reads(LISTED));
+    names_of(&most) == [true, true, false]
+        && most.relation().is_none()
+        && !most.reads(RelId::SAME)
+        && !most.reads(LISTED)
+}
+
+fn is_read_back() -> bool {
+    let back = rule(Form::SomeTo);
+    names_of(&back) == [true, true, true] && back.relation() == Some(LISTED) && back.reads(LISTED)
 }
 
 // A pair over the first and the last step.
-fn pair() -> Rule {
+fn outer_pair() -> Rule {
     Rule::Pair {
         rho: RelId::OTHER,
         first: A,
@@ -333,30 +354,19 @@ fn some() -> Rule {
     }
 }
 
-fn copies_both(rules: &Rules) -> Result<bool, Fail> {
-    let copy = rules.copy()?;
-    Ok(matches!(copy.as_slice(), [first, second] if *first == pair() && *second == some()))
-}
-
 fn names_of(rule: &Rule) -> [bool; 3] {
     [rule.names(A), rule.names(B), rule.names(C)]
 }
 
-#[test]
-fn cells_hold_what_is_put_in(rt: HostRuntime) {
-    assert!(rt; a_set_holds_its_step());
-    assert!(rt; an_assignment_holds_its_user());
-    assert!(rt; a_plan_holds_its_users());
-}
-
-fn a_set_holds_its_step() -> bool {
+fn cells_hold_what_is_put_in() -> bool {
     let group = StepSet::empty().with(B);
-    !group.has(A) && group.has(B) && group.count() == 1 && group.limit() == STEP_LIMIT
-}
-
-fn an_assignment_holds_its_user() -> bool {
     let assign = Assign::empty().with(A, KIM).with(C, MAX).without(A);
-    assign.at(A).is_none() && assign.at(C) == Some(MAX)
+    !group.has(A)
+        && group.has(B)
+        && group.count() == 1
+        && group.limit() == STEP_LIMIT
+        && assign.at(A).is_none()
+        && assign.at(C) == Some(MAX)
 }
 
 fn a_plan_holds_its_users() -> bool {
@@ -364,88 +374,43 @@ fn a_plan_holds_its_users() -> bool {
     plan.len() == 2 && plan.at(A) == MAX && plan.at(B) == LEE && plan != Plan::of(&[MAX])
 }
 
+// A rule, an assignment, a free step, and whom of the three users the rule leaves for it.
+const LEFT: [(Form, &str, StepId, [bool; 3]); 24] = [
+    (Form::Some, "k--", C, [true, true, true]),
+    (Form::All, "k--", C, [false, true, false]),
+    (Form::Mentor, "k--", C, [false, true, false]),
+    (Form::Some, "km-", C, [false, true, false]),
+    (Form::All, "km-", C, [false, false, false]),
+    (Form::Mentor, "km-", C, [false, true, false]),
+    (Form::Some, "-ml", A, [true, false, false]),
+    (Form::All, "-ml", A, [false, false, false]),
+    (Form::Mentor, "-ml", A, [true, false, false]),
+    (Form::Some, "-kl", A, [true, true, true]),
+    (Form::All, "-kl", A, [true, false, false]),
+    (Form::Mentor, "-kl", A, [true, false, false]),
+    (Form::Some, "--l", A, [true, true, true]),
+    (Form::All, "--l", A, [true, false, false]),
+    (Form::Mentor, "--l", A, [true, false, false]),
+    (Form::Some, "-m-", A, [true, true, true]),
+    (Form::All, "-m-", A, [true, true, true]),
+    (Form::Mentor, "-m-", A, [true, true, true]),
+    (Form::SomeTo, "lm-", C, [true, false, false]),
+    (Form::AllTo, "lm-", C, [false, false, false]),
+    (Form::SomeTo, "l--", C, [true, true, true]),
+    (Form::AllTo, "l--", C, [true, false, false]),
+    (Form::MostTwo, "kl-", C, [true, true, false]),
+    (Form::LeastTwo, "kk-", C, [false, true, true]),
+];
+
 #[test]
 fn rules_leave_the_users_who_do_not_falsify_them(rt: HostRuntime) {
-    for (given, s, wanted) in left_rows() {
-        assert!(rt; leave_those(given, s, &wanted), "{given}");
+    for (form, given, s, wanted) in &LEFT {
+        assert!(rt; leaves(*form, given, *s, wanted), "{given}");
     }
 }
 
-// An assignment, a free step, and whom of the three users the rules leave for it: one over some of a
-// group, one over all of it, and a pair.
-fn left_rows() -> [(&'static str, StepId, [[bool; 3]; 3]); 6] {
-    [
-        (
-            "k--",
-            C,
-            [
-                [true, true, true],
-                [false, true, false],
-                [false, true, false],
-            ],
-        ),
-        (
-            "km-",
-            C,
-            [
-                [false, true, false],
-                [false, false, false],
-                [false, true, false],
-            ],
-        ),
-        (
-            "-ml",
-            A,
-            [
-                [true, false, false],
-                [false, false, false],
-                [true, false, false],
-            ],
-        ),
-        (
-            "-kl",
-            A,
-            [
-                [true, true, true],
-                [true, false, false],
-                [true, false, false],
-            ],
-        ),
-        (
-            "--l",
-            A,
-            [
-                [true, true, true],
-                [true, false, false],
-                [true, false, false],
-            ],
-        ),
-        (
-            "-m-",
-            A,
-            [[true, true, true], [true, true, true], [true, true, true]],
-        ),
-    ]
-}
-
-fn leave_those(given: &str, s: StepId, wanted: &[[bool; 3]; 3]) -> bool {
-    let a = assigned(given);
-    s.0 < 3 && groups_leave(&a, s, &wanted[0], &wanted[1]) && pair_leaves(&a, s, &wanted[2])
-}
-
-fn groups_leave(a: &Assign, s: StepId, by_some: &[bool; 3], by_all: &[bool; 3]) -> bool
-    requires { s < STEP_LIMIT }
-{
-    let (rho, group, step) = (LISTED, StepSet::empty().with(A).with(B), C);
-    left(&Rule::SomeOf { rho, group, step }, a, s) == *by_some
-        && left(&Rule::AllOf { rho, group, step }, a, s) == *by_all
-}
-
-fn pair_leaves(a: &Assign, s: StepId, by_pair: &[bool; 3]) -> bool
-    requires { s < STEP_LIMIT }
-{
-    let (rho, first, second) = (LISTED, A, C);
-    left(&Rule::Pair { rho, first, second }, a, s) == *by_pair
+fn leaves(form: Form, given: &str, s: StepId, wanted: &[bool; 3]) -> bool {
+    s.0 < 3 && left(&rule(form), &assigned(given), s) == *wanted
 }
 
 // Which of the three users a rule leaves for a step.
@@ -455,99 +420,4 @@ fn left(rule: &Rule, a: &Assign, s: StepId) -> [bool; 3]
     let mut set = UserSet::up_to(3);
     keep_unfalsified(rule, &Mentors, a, s, 3, &mut set);
     [set.has(KIM), set.has(LEE), set.has(MAX)]
-}
-
-#[test]
-fn every_form_leaves_those_by_whom_it_is_not_falsified(rt: HostRuntime) {
-    for row in 0..64u8 {
-        for groups in 0..8u8 {
-            let (a, group) = (row_of(row), group_of(groups));
-            assert!(rt;
-                leaves_as_falsified(&a, &group) && counts_leave_right(&a, &group),
-                "{row} {groups}"
-            );
-        }
-    }
-}
-
-// The assignment of a number: two bits a step, 3 for a free one.
-fn row_of(row: u8) -> Assign {
-    let mut given = Assign::empty();
-    for step in 0..3u8 {
-        let user = row >> (2 * step) & 3;
-        if user < 3 {
-            given = given.with(StepId(step), UserId(user as u16));
-        }
-    }
-    given
-}
-
-// The set of a number: one bit a step.
-fn group_of(bits: u8) -> StepSet {
-    let mut group = StepSet::empty();
-    for step in 0..3u8 {
-        if bits >> step & 1 == 1 {
-            group = group.with(StepId(step));
-        }
-    }
-    group
-}
-
-// Whether each form over each relation leaves the users with whom it is not falsified.
-fn leaves_as_falsified(a: &Assign, group: &StepSet) -> bool {
-    for rho in 0..3u8 {
-        for step in 0..3u8 {
-            let (rho, group, step) = (RelId(rho), *group, StepId(step));
-            let some = Rule::SomeOf { rho, group, step };
-            let all = Rule::AllOf { rho, group, step };
-            if !leaves_right(&some, a)
-                || !leaves_right(&all, a)
-                || !pairs_leave_right(rho, step, a)
-                || !backs_leave_right(rho, step, &group, a)
-            {
-                return false;
-            }
-        }
-    }
-    true
-}
-
-fn backs_leave_right(rho: RelId, step: StepId, group: &StepSet, a: &Assign) -> bool {
-    let group = *group;
-    leaves_right(&Rule::SomeTo { rho, step, group }, a)
-        && leaves_right(&Rule::AllTo { rho, step, group }, a)
-}
-
-fn counts_leave_right(a: &Assign, group: &StepSet) -> bool {
-    let group = *group;
-    for limit in 0..4u8 {
-        if !leaves_right(&Rule::AtMost { limit, group }, a)
-            || !leaves_right(&Rule::AtLeast { limit, group }, a)
-        {
-            return false;
-        }
-    }
-    true
-}
-
-fn pairs_leave_right(rho: RelId, first: StepId, a: &Assign) -> bool {
-    for second in 0..3u8 {
-        let second = StepId(second);
-        if !leaves_right(&Rule::Pair { rho, first, second }, a) {
-            return false;
-        }
-    }
-    true
-}
-
-fn leaves_right(rule: &Rule, a: &Assign) -> bool {
-    for s in 0..3u8 {
-        let left = left(rule, a, StepId(s));
-        for u in 0..3u16 {
-            if left[u as usize] == falsified(rule, &Mentors, &a.with(StepId(s), UserId(u))) {
-                return false;
-            }
-        }
-    }
-    true
 }

@@ -61,12 +61,3 @@ fn twin_at(branches: &Branches, place: usize) -> Option<UserId> {
         None => None,
     }
 }
-
-#[test]
-fn trees_are_shared(rt: HostRuntime) {
-    assert!(rt; is_shared::<Tree>());
-}
-
-fn is_shared<T: Send + Sync>() -> bool {
-    true
-}

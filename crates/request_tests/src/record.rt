@@ -4,7 +4,6 @@ ghost use Rattle.std.specs.Prelude.{◌≡◌, length, IfOk, OnOk};
 use case_record::Case;
 use constraint_forms::{Assign, StepSet};
 use std::alloc::Global;
-use std::process::Abort;
 use std::test::Fail;
 use wf_names::{FlowId, Name, NameTable, Phase, StepId, StepState, UserId};
 use workflow_schema::{Flow, FlowFault};
@@ -22,51 +21,65 @@ const BOB: UserId = UserId(1);
 #[test]
 fn steps_are_ready_in_their_order(rt: HostRuntime) -> Result<(), Fail> {
     let flow = chain(rt.alloc())?;
-    go_along(&rt, &flow);
+    assert!(rt; goes_along(&flow));
     Ok(())
 }
 
-fn go_along(rt: &impl Abort, flow: &Flow)
+fn goes_along(flow: &Flow) -> bool
     requires { length flow.now.steps ≡ 3 }
 {
     let mut case = Case::fresh(FlowId(4), 3);
-    assert!(rt; case.ready(flow, FIRST) && !case.ready(flow, THIRD));
-    assert!(rt; case.first_missing(flow, THIRD) == Some(FIRST));
+    let fresh = case.ready(flow, FIRST)
+        && !case.ready(flow, THIRD)
+        && case.first_missing(flow, THIRD) == Some(FIRST);
     case.hold(FIRST, ANN);
-    assert!(rt; !case.ready(flow, FIRST));
+    let held = !case.ready(flow, FIRST);
     case.finish(FIRST);
-    assert!(rt; case.ready(flow, SECOND) && !case.ready(flow, THIRD));
-    assert!(rt; case.first_missing(flow, THIRD) == Some(SECOND));
-    assert!(rt; case.first_missing(flow, SECOND).is_none());
+    fresh
+        && held
+        && case.ready(flow, SECOND)
+        && !case.ready(flow, THIRD)
+        && case.first_missing(flow, THIRD) == Some(SECOND)
+        && case.first_missing(flow, SECOND).is_none()
 }
 
 #[test]
 fn a_case_is_done_with_its_last_step(rt: HostRuntime) {
+    assert!(rt; is_done_with_its_last_step());
+    assert!(rt; keeps_its_steps_when_withdrawn());
+}
+
+fn is_done_with_its_last_step() -> bool {
     let mut case = Case::fresh(FlowId(4), 2);
     case.hold(FIRST, BOB);
     case.release(FIRST);
     case.hold(FIRST, ANN);
     case.hold(SECOND, BOB);
-    assert!(rt; !case.finish(FIRST));
-    assert!(rt; case.phase() == Phase::Live && case.state(SECOND) == StepState::Held(BOB));
-    assert!(rt; is_half_done(&case));
-    assert!(rt; case.finish(SECOND));
-    assert!(rt; (case.phase(), case.flow(), case.steps()) == (Phase::Done, FlowId(4), 2));
+    let first = case.finish(FIRST);
+    let half = is_half_done(&case);
+    let last = case.finish(SECOND);
+    !first
+        && half
+        && last
+        && (case.phase(), case.flow(), case.steps()) == (Phase::Done, FlowId(4), 2)
 }
 
 // The first step is finished, the second one is held.
 fn is_half_done(case: &Case) -> bool {
     let users = Assign::empty().with(FIRST, ANN).with(SECOND, BOB);
-    case.assigned() == users && case.finished() == StepSet::empty().with(FIRST)
+    case.phase() == Phase::Live
+        && case.state(SECOND) == StepState::Held(BOB)
+        && case.assigned() == users
+        && case.finished() == StepSet::empty().with(FIRST)
 }
 
-#[test]
-fn a_withdrawn_case_keeps_its_steps(rt: HostRuntime) {
+fn keeps_its_steps_when_withdrawn() -> bool {
     let mut case = Case::fresh(FlowId(0), 1);
     case.hold(FIRST, ANN);
     case.withdraw();
-    assert!(rt; case.phase() == Phase::Withdrawn);
-    assert!(rt; case.state(FIRST) == StepState::Held(ANN) && case.state(SECOND) == StepState::Free);
+    case.phase() == Phase::Withdrawn
+        && case.state(FIRST) == StepState::Held(ANN)
+        && case.state(SECOND) == StepState::Free
 }
 
 // Three steps, one after the other.

@@ -1,12 +1,45 @@
 //! What no clause shows: that a session goes on from a transcript while there is memory.
 
-use crate::audits::{FINISHED, GRANTED, Idle, OPENED, REQUESTS, STRANDED};
+use crate::audits::{FINISHED, GRANTED, OPENED, REQUESTS, STRANDED};
 use crate::fixture::policy;
+use grant_table::Cases;
 use line_cutter::{Stop, cut_text, jobs_of};
+use policy_book::Policy;
 use std::alloc::{AllocError, Global};
 use std::test::Fail;
 use transcript_audit::{AuditFault, AuditKind};
 use transcript_resume::{Resumed, resume, whole};
+use wf_board::{Decider, Deed, Snap, Verdict, decision_aside};
+use wf_talk::Ask;
+
+// Finds no verdict for want of memory.
+struct Idle;
+
+impl Decider for Idle {
+    fn decide(&self, alloc: Global, snap: &Snap, ask: &Ask) -> Verdict {
+        match decision_aside(alloc, snap.policy(), snap.cases(), ask) {
+            Ok(
+                Deed::Open { .. }
+                | Deed::Claim { .. }
+                | Deed::Change { .. }
+                | Deed::Work { .. }
+                | Deed::WhatIf { .. },
+            ) => Verdict::NoMemory,
+            _ => Verdict::Nothing,
+        }
+    }
+
+    fn decide_deed(&self, _alloc: Global, _p: &Policy, _cases: &Cases, deed: &Deed) -> Verdict {
+        match deed {
+            Deed::Open { .. }
+            | Deed::Claim { .. }
+            | Deed::Change { .. }
+            | Deed::Work { .. }
+            | Deed::WhatIf { .. } => Verdict::NoMemory,
+            _ => Verdict::Nothing,
+        }
+    }
+}
 
 // Where a session goes on: how many entries it has, how many jobs the lane has left in its batch, and
 // how many jobs there are up to the batch's end.

@@ -14,7 +14,6 @@ use constraint_forms::{Assign, Plan, StepSet};
 use grant_table::Cases;
 use policy_book::Policy;
 use std::alloc::{AllocError, Global};
-use std::process::Abort;
 use std::test::Fail;
 use wf_names::{
     CASE_LIMIT, CaseId, FlowId, Name, OPEN_CASE_LIMIT, Phase, STEP_LIMIT, StepId, StepState, UserId,
@@ -46,43 +45,74 @@ const BOB: UserId = UserId(1);
 
 const CYD: UserId = UserId(2);
 
+// What is done with a table of three open cases.
+#[derive(Clone, Copy)]
+enum Scene {
+    Work,
+    Count,
+    GiveBack,
+    Replan,
+}
+
 #[test]
-fn cases_keep_their_numbers_and_plans(rt: HostRuntime) -> Result<(), Fail> {
+fn tables_keep_their_cases(rt: HostRuntime) -> Result<(), Fail> {
     let p = policy_reader::read(rt.alloc(), TWO.as_bytes())?;
-    keep_numbers(&rt, rt.alloc(), &p)?;
+    assert!(rt; all_play(rt.alloc(), &p)?);
     Ok(())
 }
 
-fn keep_numbers(rt: &impl Abort, alloc: Global, p: &Policy) -> Result<(), AllocError> {
+fn all_play(alloc: Global, p: &Policy) -> Result<bool, AllocError> {
+    Ok(
+        plays(alloc, p, Scene::Work)?
+            && plays(alloc, p, Scene::Count)?
+            && plays(alloc, p, Scene::GiveBack)?
+            && plays(alloc, p, Scene::Replan)?,
+    )
+}
+
+fn plays(alloc: Global, p: &Policy, scene: Scene) -> Result<bool, AllocError> {
     let mut table = table_with_room(alloc, 3)?;
-    three_are_apart(rt, p, &mut table);
-    Ok(())
+    plays_at(alloc, p, &mut table, scene)
 }
 
-fn three_are_apart(rt: &impl Abort, p: &Policy, table: &mut Cases) {
-    open_three(rt, p, table);
-    work_on_two(rt, p, table);
-    keep_apart(rt, table);
-}
-
-fn open_three(rt: &impl Abort, p: &Policy, table: &mut Cases) {
-    for number in 0..3 {
-        assert!(rt; opened(p, table, Plan::of(&[ANN, BOB])) == Some(CaseId(number)));
+fn plays_at(
+    alloc: Global,
+    p: &Policy,
+    table: &mut Cases,
+    scene: Scene,
+) -> Result<bool, AllocError> {
+    if !opens_three(p, table) {
+        return Ok(false);
+    }
+    match scene {
+        Scene::Work => Ok(works_on_two(p, table) && are_apart(table)),
+        Scene::Count => Ok(counts_the_open(p, table) && copies_in_part(alloc, table)?),
+        Scene::GiveBack => Ok(takes_back(p, table)),
+        Scene::Replan => Ok(replans(table)),
     }
 }
 
-fn work_on_two(rt: &impl Abort, p: &Policy, table: &mut Cases) {
-    assert!(rt; held(p, table, CaseId(1), FIRST, ANN, Plan::of(&[ANN, CYD])));
-    assert!(rt; held(p, table, CaseId(2), SECOND, BOB, Plan::of(&[ANN, BOB])));
-    assert!(rt; finished(table, CaseId(1), FIRST) == Some(false));
+fn opens_three(p: &Policy, table: &mut Cases) -> bool {
+    for number in 0..3 {
+        if opened(p, table, Plan::of(&[ANN, BOB])) != Some(CaseId(number)) {
+            return false;
+        }
+    }
+    true
 }
 
-fn keep_apart(rt: &impl Abort, table: &Cases) {
+fn works_on_two(p: &Policy, table: &mut Cases) -> bool {
+    held(p, table, CaseId(1), FIRST, ANN, Plan::of(&[ANN, CYD]))
+        && held(p, table, CaseId(2), SECOND, BOB, Plan::of(&[ANN, BOB]))
+        && finished(table, CaseId(1), FIRST) == Some(false)
+}
+
+fn are_apart(table: &Cases) -> bool {
     let (plan, other) = (Plan::of(&[ANN, BOB]), Plan::of(&[ANN, CYD]));
     let (done, held) = (StepState::Finished(ANN), StepState::Held(BOB));
-    assert!(rt; is_live_with(table, CaseId(0), StepState::Free, StepState::Free, &plan));
-    assert!(rt; is_live_with(table, CaseId(1), done, StepState::Free, &other));
-    assert!(rt; is_live_with(table, CaseId(2), StepState::Free, held, &plan));
+    is_live_with(table, CaseId(0), StepState::Free, StepState::Free, &plan)
+        && is_live_with(table, CaseId(1), done, StepState::Free, &other)
+        && is_live_with(table, CaseId(2), StepState::Free, held, &plan)
 }
 
 // Whether a case is open with these steps and this plan.
@@ -96,40 +126,25 @@ fn is_live_with(
     seen(table, c) == Some((Phase::Live, first, second, Some(*plan)))
 }
 
-#[test]
-fn a_table_counts_its_open_cases(rt: HostRuntime) -> Result<(), Fail> {
-    let p = policy_reader::read(rt.alloc(), TWO.as_bytes())?;
-    count_and_copy(&rt, rt.alloc(), &p)?;
-    Ok(())
-}
-
-fn count_and_copy(rt: &impl Abort, alloc: Global, p: &Policy) -> Result<(), AllocError> {
-    let mut table = table_with_room(alloc, 3)?;
-    count_the_open(rt, p, &mut table);
-    copy_in_part(rt, alloc, &table)
-}
-
-fn count_the_open(rt: &impl Abort, p: &Policy, table: &mut Cases) {
-    open_three(rt, p, table);
-    finish_the_first(rt, p, table);
-    assert!(rt; (table.live(), table.ever()) == (2, 3));
-    assert!(rt; table.next_live(0) == Some(CaseId(1)) && table.next_live(3).is_none());
-}
-
-fn copy_in_part(rt: &impl Abort, alloc: Global, table: &Cases) -> Result<(), AllocError> {
-    assert!(rt; copies_all(table)?);
-    assert!(rt; copies_one(alloc, table)?);
-    assert!(rt; copies_open(alloc, table)?);
-    assert!(rt; remembers_the_plan(&table.copy_none(alloc)));
-    Ok(())
-}
-
-fn finish_the_first(rt: &impl Abort, p: &Policy, table: &mut Cases) {
+// Finishes the first case.
+fn counts_the_open(p: &Policy, table: &mut Cases) -> bool {
     let plan = Plan::of(&[ANN, BOB]);
-    assert!(rt; held(p, table, CaseId(0), FIRST, ANN, plan));
-    assert!(rt; held(p, table, CaseId(0), SECOND, BOB, plan));
-    assert!(rt; finished(table, CaseId(0), FIRST) == Some(false));
-    assert!(rt; finished(table, CaseId(0), SECOND) == Some(true));
+    held(p, table, CaseId(0), FIRST, ANN, plan)
+        && held(p, table, CaseId(0), SECOND, BOB, plan)
+        && finished(table, CaseId(0), FIRST) == Some(false)
+        && finished(table, CaseId(0), SECOND) == Some(true)
+        && (table.live(), table.ever()) == (2, 3)
+        && table.next_live(0) == Some(CaseId(1))
+        && table.next_live(3).is_none()
+}
+
+fn copies_in_part(alloc: Global, table: &Cases) -> Result<bool, AllocError> {
+    Ok(
+        copies_all(table)?
+            && copies_one(alloc, table)?
+            && copies_open(alloc, table)?
+            && remembers_the_plan(&table.copy_none(alloc)),
+    )
 }
 
 fn copies_all(table: &Cases) -> Result<bool, AllocError> {
@@ -164,33 +179,16 @@ fn has_the_open_cases(copy: &Cases) -> bool {
     copy.live() == 2 && seen(copy, CaseId(0)).is_none()
 }
 
-#[test]
-fn steps_are_given_back_and_cases_withdrawn(rt: HostRuntime) -> Result<(), Fail> {
-    let p = policy_reader::read(rt.alloc(), TWO.as_bytes())?;
-    take_two_back(&rt, rt.alloc(), &p)?;
-    Ok(())
-}
-
-fn take_two_back(rt: &impl Abort, alloc: Global, p: &Policy) -> Result<(), AllocError> {
-    let mut table = table_with_room(alloc, 3)?;
-    take_back(rt, p, &mut table);
-    Ok(())
-}
-
-fn take_back(rt: &impl Abort, p: &Policy, table: &mut Cases) {
-    open_three(rt, p, table);
-    give_back_and_withdraw(p, table);
+fn takes_back(p: &Policy, table: &mut Cases) -> bool {
     let plan = Plan::of(&[ANN, CYD]);
-    assert!(rt; is_live_with(table, CaseId(0), StepState::Free, StepState::Free, &plan));
-    assert!(rt; is_withdrawn(table, CaseId(1)) && table.live() == 2);
-}
-
-fn give_back_and_withdraw(p: &Policy, table: &mut Cases) {
-    held(p, table, CaseId(0), FIRST, ANN, Plan::of(&[ANN, CYD]));
+    held(p, table, CaseId(0), FIRST, ANN, plan);
     if holds(table, CaseId(0), FIRST) {
         table.give_back(CaseId(0), FIRST);
     }
     withdraw_the_second(table);
+    is_live_with(table, CaseId(0), StepState::Free, StepState::Free, &plan)
+        && is_withdrawn(table, CaseId(1))
+        && table.live() == 2
 }
 
 fn withdraw_the_second(table: &mut Cases) {
@@ -199,28 +197,14 @@ fn withdraw_the_second(table: &mut Cases) {
     }
 }
 
-#[test]
-fn open_cases_get_other_plans_in_order(rt: HostRuntime) -> Result<(), Fail> {
-    let p = policy_reader::read(rt.alloc(), TWO.as_bytes())?;
-    replan_two(&rt, rt.alloc(), &p)?;
-    Ok(())
-}
-
-fn replan_two(rt: &impl Abort, alloc: Global, p: &Policy) -> Result<(), AllocError> {
-    let mut table = table_with_room(alloc, 3)?;
-    open_three(rt, p, &mut table);
-    withdraw_the_second(&mut table);
-    replan_the_others(rt, &mut table);
-    Ok(())
-}
-
-fn replan_the_others(rt: &impl Abort, table: &mut Cases) {
+fn replans(table: &mut Cases) -> bool {
     let (first, third) = (Plan::of(&[CYD, BOB]), Plan::of(&[BOB, CYD]));
+    withdraw_the_second(table);
     table.replace_plans(&[first, third]);
-    assert!(rt; table.plan(CaseId(0)) == Some(first));
-    assert!(rt; table.plan(CaseId(1)).is_none());
-    assert!(rt; table.plan(CaseId(2)) == Some(third));
-    assert!(rt; shows_its_rows(table));
+    table.plan(CaseId(0)) == Some(first)
+        && table.plan(CaseId(1)).is_none()
+        && table.plan(CaseId(2)) == Some(third)
+        && shows_its_rows(table)
 }
 
 // Whether the rows are those of the three cases, of which the second is withdrawn.

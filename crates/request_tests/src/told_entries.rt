@@ -24,9 +24,17 @@ impl FlowOf for OneFlow {
 }
 
 #[test]
-fn replies_are_read(rt: HostRuntime) -> Result<(), Fail> {
+fn lines_are_read_back(rt: HostRuntime) -> Result<(), Fail> {
     let p = policy(rt.alloc())?;
-    read_replies(&rt, rt.alloc(), &p)
+    read_back(&rt, rt.alloc(), &p)
+}
+
+fn read_back(rt: &impl Abort, alloc: Global, p: &Policy) -> Result<(), Fail> {
+    read_replies(rt, alloc, p)?;
+    read_denials(rt, alloc, p)?;
+    guess_granted(rt, alloc, p)?;
+    refuse_others(rt, alloc, p)?;
+    read_rules(rt, alloc, p)
 }
 
 fn read_replies(rt: &impl Abort, alloc: Global, p: &Policy) -> Result<(), Fail> {
@@ -61,12 +69,6 @@ fn replies() -> [&'static str; 20] {
     ]
 }
 
-#[test]
-fn denials_are_read(rt: HostRuntime) -> Result<(), Fail> {
-    let p = policy(rt.alloc())?;
-    read_denials(&rt, rt.alloc(), &p)
-}
-
 fn read_denials(rt: &impl Abort, alloc: Global, p: &Policy) -> Result<(), Fail> {
     for denial in denials() {
         assert!(rt; is_denied(alloc, p, denial)?, "{denial}");
@@ -84,14 +86,8 @@ const PLACE: Place = Place {
 const GRANTED: &str =
     "{\"at\":4,\"lane\":1,\"line\":7,\"reply\":{\"granted\":{\"plan\":[\"ann\",\"cyd\",\"bob\"]}}}\n";
 
-#[test]
-fn plain_lines_are_guessed(rt: HostRuntime) -> Result<(), Fail> {
-    assert!(rt; guess_place(GRANTED.as_bytes()) == Some(PLACE));
-    let p = policy(rt.alloc())?;
-    guess_granted(&rt, rt.alloc(), &p)
-}
-
 fn guess_granted(rt: &impl Abort, alloc: Global, p: &Policy) -> Result<(), Fail> {
+    assert!(rt; guess_place(GRANTED.as_bytes()) == Some(PLACE));
     assert!(rt; is_guessed(alloc, p, PLACE, GRANTED)?);
     assert!(rt; !is_guessed(alloc, p, PLACE, &GRANTED[..GRANTED.len() - 1])?);
     assert!(rt; !is_guessed(alloc, p, Place { at: 5, ..PLACE }, GRANTED)?);
@@ -116,12 +112,6 @@ fn denials() -> [&'static str; 9] {
         r#"{"not_held":{"held":"ann"}}"#,
         r#"{"not_held":{"finished":"eve"}}"#,
     ]
-}
-
-#[test]
-fn other_texts_are_not_read(rt: HostRuntime) -> Result<(), Fail> {
-    let p = policy(rt.alloc())?;
-    refuse_others(&rt, rt.alloc(), &p)
 }
 
 fn refuse_others(rt: &impl Abort, alloc: Global, p: &Policy) -> Result<(), Fail> {
@@ -191,12 +181,6 @@ fn places_are_read(rt: HostRuntime) -> Result<(), Fail> {
     let other = b"{\"at\":4.0,\"lane\":1,\"line\":7}\n";
     assert!(rt; read_place(rt.alloc(), other.as_slice()) == Err(TextFault::NotText));
     Ok(())
-}
-
-#[test]
-fn a_tree_is_read(rt: HostRuntime) -> Result<(), Fail> {
-    let p = policy(rt.alloc())?;
-    read_rules(&rt, rt.alloc(), &p)
 }
 
 fn read_rules(rt: &impl Abort, alloc: Global, p: &Policy) -> Result<(), Fail> {

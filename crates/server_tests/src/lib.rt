@@ -5,7 +5,6 @@
 #[cfg(test)]
 mod changes;
 #[cfg(test)]
-mod copies;
 #[cfg(test)]
 mod desks;
 #[cfg(test)]

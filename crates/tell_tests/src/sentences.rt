@@ -3,7 +3,7 @@
 use constraint_forms::Rules;
 use plain_words::rule_text;
 use policy_book::Policy;
-use policy_reader::{ReadFault, read};
+use policy_reader::read;
 use std::alloc::{AllocError, Global};
 use wf_names::FlowId;
 
@@ -42,10 +42,17 @@ const SENTENCES: [&str; 13] = [
 ];
 
 #[test]
-fn rules_are_sentences(rt: HostRuntime) -> Result<(), ReadFault> {
-    let p = read(rt.alloc(), POLICY.as_bytes())?;
-    assert!(rt; count_right(rt.alloc(), &p)? == 13);
+fn rules_are_sentences(rt: HostRuntime) -> Result<(), AllocError> {
+    assert!(rt; count_in(rt.alloc(), POLICY)? == 13);
     Ok(())
+}
+
+// How many rules of a policy file read as their sentences do.
+fn count_in(alloc: Global, file: &str) -> Result<u32, AllocError> {
+    match read(alloc, file.as_bytes()) {
+        Ok(p) => count_right(alloc, &p),
+        Err(_) => Ok(0),
+    }
 }
 
 // How many rules of the first workflow read as their sentences do.
