@@ -141,9 +141,9 @@ const GONE_CLAUSES: &str = "8 13
 -4 -7 0
 ";
 
-// A policy, whether all steps of a case of its first workflow are free, and the case's clauses, which
-// are a front and a last line. Where they are not free, the two steps are with the second user, who has
-// finished the first.
+// A policy, whether all steps of a case of its first workflow are free, and the case's clauses,
+// which are a front and a last line. Where they are not free, the two steps are with the second
+// user, who has finished the first.
 type Row = (&'static str, bool, &'static str, &'static str);
 
 // A step for nobody has an empty clause. Counts of users are counters, and least counts end the

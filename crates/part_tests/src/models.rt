@@ -35,8 +35,8 @@ enum Given {
     Plan(Plan),
 }
 
-// Texts of models of pay, and what they are read as: one that says its plan, and without 13 it breaks
-// clause 3.
+// Texts of models of pay, and what they are read as: one that says its plan, and without 13 it
+// breaks clause 3.
 fn text_rows() -> [(&'static str, Reading); 2] {
     let said = Plan::of(&[UserId(0), UserId(2), UserId(1)]);
     [

@@ -1,5 +1,5 @@
-//! A part that is changed by one holder, and what the others see; and that it, trees and policies go
-//! between threads.
+//! A part that is changed by one holder, and what the others see; and that it, trees and policies
+//! go between threads.
 
 use pair_set::PairSet;
 use policy_book::Policy;

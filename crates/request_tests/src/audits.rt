@@ -1,4 +1,5 @@
-//! What no clause and no row of a file shows: that an audit that has found a fault answers it again.
+//! What no clause and no row of a file shows: that an audit that has found a fault answers it
+//! again.
 
 use crate::fixture::policy;
 use case_views::PlainDecider;

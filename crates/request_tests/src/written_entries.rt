@@ -1,5 +1,6 @@
 //! What no clause shows: that entries are written while there is memory. Rows of files have most of
-//! their texts; here are numbers that no session of a file reaches, and what it meets with no memory.
+//! their texts; here are numbers that no session of a file reaches, and what is written with no
+//! memory.
 use crate::fixture::{line_with, policy};
 use policy_book::{Plan, Policy};
 use refutation_tree::Tree;

@@ -5,6 +5,7 @@
 #[cfg(test)]
 mod changes;
 #[cfg(test)]
+mod copies;
 #[cfg(test)]
 mod desks;
 #[cfg(test)]
