@@ -1,5 +1,5 @@
 //! The command `resume`: it goes on from the transcript of an earlier session.
-ghost use Rattle.std.specs.Prelude.{◌≡◌, Bool, true, false, ℕ, List, length, take, drop};
+ghost use Rattle.std.specs.Prelude.{◌≡◌, ◌<◌, Bool, false, ℕ, List, length, take, drop};
 ghost use Rattle.std.proofs.Common.{◌⊎◌};
 ghost use Rattle.run_record.specs.Fault.{status_of, CountsWrites};
 ghost use Rattle.run_record.specs.Report.{told_by};
