@@ -8,4 +8,4 @@ pub returns-in-Resilience-clause-does : goal.returns-in-Resilience-clause-does
 returns-in-Resilience-clause-does g c repeats = rw c.in-Resilience.is c.answer_once-in-Resilience.ensures.answers
 
 pub returns-in-Resume-clause-does : goal.returns-in-Resume-clause-does
-returns-in-Resume-clause-does g c repeats = rw c.in-Resume.is (c.run_resume.ensures.resumes repeats (λ never. inl (λ d e leaves. leaves.0)))
+returns-in-Resume-clause-does g c repeats = rw c.in-Resume.is (c.run_resume.ensures.resumes repeats (λ never. inl (λ d e leaves. search rules)))
