@@ -1,6 +1,7 @@
 -- A session behind the entries that were taken up, and the run of its command.
 use Rattle.std.proofs.Common.{◌≡◌, ◌≢◌, ℕ, zero, suc, ◌+◌, ◌<◌, ◌≤◌, nat_lt, Bool, true, false, List, [], ◌∷◌, ◌++◌, length, take, drop, slice_index_or, Option, None, Some, Result, Ok, Err, ◌&&◌, inl, inr, refl, sym, ap, subst, ◌∙◌, arith, ◌⊎◌}
 use Rattle.std.proofs.lemmas.Bool.{le-ltb}
+use Rattle.std.proofs.lemmas.Grind.{common_steps}
 use Rattle.std.proofs.lemmas.List.{drop_all, take_all}
 use Rattle.wf_outside.specs.Outside.{Filed, HasPart, HasTaken, with_bytes}
 use Rattle.wf_outside.proofs.OutsideLaws.{nothing_taken}
@@ -362,6 +363,5 @@ threaded command names options r is lanes resumes =
     (inr (resumes (nat_lt 1 options.lanes && nat_lt 0 options.rounds) (λ never. inr (no_rounds (nat_lt 1 options.lanes) options.rounds lanes never))))
   where
     no_rounds : (b : Bool) (n : ℕ) → b ≡ true → (b && nat_lt 0 n) ≡ false → n ≡ 0
-    no_rounds true zero is never = refl
-    no_rounds true (suc n) is never = absurd cc
+    no_rounds true n is never = let none : nat_lt 0 n ≡ false = never in grind (arith, common_steps)
     no_rounds false n is never = absurd cc

@@ -38,9 +38,14 @@ pub serve_batches-requires-clause-serving : goal.serve_batches-requires-clause-s
 serve_batches-requires-clause-serving g c =
     let before : Streams = record { input = g.S.Source.left c.args.source.now; output = g.K.Sink.held c.args.sink.now; read_faults = g.S.Source.faults c.args.source.now; write_faults = g.K.Sink.faults c.args.sink.now } in
     let mid : Streams = record { input = g.S.Source.left c.args.source.now; output = g.K.Sink.held c.answer_requests-served.new.sink; read_faults = g.S.Source.faults c.args.source.now; write_faults = g.K.Sink.faults c.answer_requests-served.new.sink } in
-    let cut = c.requires.begun.1.0 in
-    (next_input cut, (before, serving_begun _ cut _ c.args.beginning before mid c.answer_requests-served.result.0 (told_of c.answer_requests-served.result.0 c.answer_requests-served.new.told)
-    c.requires.begun.1.1.1 c.answer_requests-served.ensures.setting refl refl (rw c.in-Ok.is at c.answer_requests-served.ensures.counts) (rw c.in-Ok.is at c.answer_requests-served.ensures.answers)))
+    let cut = c.requires.begun.1.0 in (
+      next_input cut,
+      (
+        before,
+        serving_begun _ cut _ c.args.beginning before mid c.answer_requests-served.result.0 (told_of c.answer_requests-served.result.0 c.answer_requests-served.new.told)
+            c.requires.begun.1.1.1 c.answer_requests-served.ensures.setting refl refl (rw c.in-Ok.is at c.answer_requests-served.ensures.counts) (rw c.in-Ok.is at c.answer_requests-served.ensures.answers),
+      ),
+    )
 
 pub returns-in-Ok-clause-served : goal.returns-in-Ok-clause-served
 returns-in-Ok-clause-served g c s cut transcript h =
