@@ -1,6 +1,7 @@
 -- A session behind the entries that were taken up, and the run of its command.
-use Rattle.std.proofs.Common.{◌≡◌, ◌≢◌, ℕ, zero, suc, ◌+◌, ◌<◌, ◌≤◌, nat_lt, Bool, true, false, List, [], ◌∷◌, ◌++◌, length, take, drop, slice_index_or, Option, None, Result, Ok, Err, inl, inr, refl, sym, ap, subst, ◌∙◌, arith, ◌⊎◌}
+use Rattle.std.proofs.Common.{◌≡◌, ◌≢◌, ℕ, zero, suc, ◌+◌, ◌<◌, ◌≤◌, nat_lt, Bool, true, false, List, [], ◌∷◌, ◌++◌, length, take, drop, slice_index_or, Option, None, Some, Result, Ok, Err, ◌&&◌, inl, inr, refl, sym, ap, subst, ◌∙◌, arith, ◌⊎◌}
 use Rattle.std.proofs.lemmas.Bool.{le-ltb}
+use Rattle.std.proofs.lemmas.Grind.{common_steps}
 use Rattle.std.proofs.lemmas.List.{drop_all, take_all}
 use Rattle.wf_outside.specs.Outside.{Filed, HasPart, HasTaken, with_bytes}
 use Rattle.wf_outside.proofs.OutsideLaws.{nothing_taken}
@@ -26,18 +27,20 @@ use Rattle.audit_command.specs.Auditing.{fault_line}
 use Rattle.transcript_resume.specs.Resumed.{IsRefused, Session}
 use Rattle.resume_command.specs.declared.start.Beginning.{Beginning}
 use Rattle.resume_command.specs.declared.start.TheConstants.{PIECE}
+use Rattle.resume_command.specs.declared.refusal.Refusal.{Refusal}
 use Rattle.resume_command.specs.declared.refusal.Refusal.TheVariants.{Ends, Line}
-use Rattle.resume_command.specs.Begun.{BeginsBy, EndsBeginning, HasBegun, StopsBy, session_of}
+use Rattle.resume_command.specs.Begun.{BeginsBy, EndsBeginning, HasBegun, StopsBy, fault_by, session_of}
 use Rattle.resume_command.specs.Loading.{Names, OverFiles}
 use Rattle.resume_command.proofs.Files.{files_goal, files_map}
-use Rattle.command_words.specs.Words.{AreOptions, Options}
+use Rattle.command_words.specs.Words.{AreOptions, Command, Options, may_repeat, resume}
+use Rattle.wf_server.specs.Run.{HasRun}
 use Rattle.transcript_audit.proofs.Batches.{last_start}
 use Rattle.wf_server.specs.Sessions.{IsWithinFirst, ReadsFor, Served, Setting, handed_in}
 use Rattle.wf_server.specs.Ways.{setting_of}
 use Rattle.wf_server.specs.declared.batch.Answered.{Answered}
 use Rattle.wf_server.specs.Batches.{Serves, told_of, AreInOrderFrom, HasAnswered, HasAnsweredPart, IsServing, IsWriteEnding}
 use Rattle.wf_server.specs.Files.{FileTo, IsToldTo, StopsIn}
-use Rattle.wf_server.specs.Resuming.{EndsBy, ResumesFrom, ResumesRun, TellsAs, setting_behind}
+use Rattle.wf_server.specs.Resuming.{CountsRefusal, EndsBy, RefusesAs, ResumesFrom, ResumesRun, TellsAs, setting_behind}
 use Rattle.wf_server.proofs.SessionLaws.{lanes_of, late_reads, serves_kept}
 use Rattle.wf_server.proofs.ServeLaws.{loads_late}
 use Rattle.wf_server.proofs.WayLaws.{once_legal}
@@ -327,3 +330,38 @@ gone_on names options repeats b r within loads served begins wants once over = r
       }))) over;
   orderly = let h = begun_there r.files names options b over in went_orderly h.0 h.1.0 (length b.desk.entries) r (served h.0 h.1.0 h.1.1.0 h.1.1.1) loads;
 }
+
+-- a run whose session does not go on, whatever the cause
+pub all_refused : (names : Names) (options : Options) (repeats : Bool) (refusal : Refusal) (r : Run) → AreOptions options → r.after.input ≡ r.before.input → r.told ≡ nothing_told
+    → r.after.read_faults ≡ r.before.read_faults → EndsBeginning (how_of (fault_by (Err refusal))) → CountsLoads (fault_by (Err refusal)) r.load_faults r.load_faults_after
+    → RefusesAs refusal r.before.output r.after.output r.fault → CountsRefusal refusal r.before.write_faults r.after.write_faults r.fault
+    → OverFiles r.files names options.lanes (StopsBy (Err refusal)) (λ p cut transcript. BeginsBy (session_of p options.lanes options.rounds cut) cut transcript (Err refusal))
+    → ResumesRun names options repeats r
+all_refused names options repeats (Ends ending) r within still untold reads quiet loads refuses counts over =
+    let nothing = is_untouched r still refuses.1 untold in
+    ended_run names options repeats ending r within refuses.0 nothing
+    (ended_orderly r nothing (subst (λ f. EndsBeginning (how_of f)) (sym refuses.0) quiet) (subst (λ f. CountsLoads f r.load_faults r.load_faults_after) (sym refuses.0) loads) reads counts) over
+all_refused names options repeats (Line number kind) r within still untold reads quiet loads refuses counts over =
+    refused_run names options repeats number kind r within still untold refuses (told_orderly (fault_line number kind) r refuses loads reads counts) over
+
+-- the words are a command
+tells_usage : (text : List ℕ) (before after : Option (List ℕ)) (ending : RunFault) → TellsAs text before after ending → ending ≡ fault.Usage → ⊥
+tells_usage text before after ending tells is = subst (TellsAs text before after) is tells
+
+pub refused_usage : (refusal : Refusal) (before after : Option (List ℕ)) (ending : RunFault) → EndsBeginning (how_of (fault_by (Err refusal))) → RefusesAs refusal before after ending → ending ≡ fault.Usage → ⊥
+refused_usage (Ends fault) before after ending quiet refuses is = subst (λ f. EndsBeginning (how_of f)) (sym refuses.0 ∙ is) quiet
+refused_usage (Line number kind) before after ending quiet refuses is = tells_usage (fault_line number kind) before after ending refuses is
+
+pub served_usage : (set : Setting) (first : Cut) (room : ℕ) (before after : Streams) (told : Told) (ending : RunFault) → Served set first room before after told ending → ending ≡ fault.Usage → ⊥
+served_usage set first room before after told ending served is = subst (ReadsFor before.input after.input room (handed_in first told)) is served.reads
+
+-- on threads
+pub threaded : {A : Type 0} (command : Option Command) (names : Names) (options : Options) (r : Run) → command ≡ Some (resume names.policy names.requests names.transcript options)
+    → nat_lt 1 options.lanes ≡ true → ((repeats : Bool) → (repeats ≡ false → A ⊎ (options.rounds ≡ 0)) → ResumesRun names options repeats r) → HasRun (may_repeat command) command r
+threaded command names options r is lanes resumes =
+    subst (λ c. HasRun (may_repeat c) c r) (sym is)
+    (inr (resumes (nat_lt 1 options.lanes && nat_lt 0 options.rounds) (λ never. inr (no_rounds (nat_lt 1 options.lanes) options.rounds lanes never))))
+  where
+    no_rounds : (b : Bool) (n : ℕ) → b ≡ true → (b && nat_lt 0 n) ≡ false → n ≡ 0
+    no_rounds true n is never = let none : nat_lt 0 n ≡ false = never in grind (arith, common_steps)
+    no_rounds false n is never = absurd cc

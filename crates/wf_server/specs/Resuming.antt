@@ -8,12 +8,15 @@ use Rattle.wf_board.specs.Histories.{AreAnsweredOnce, AreWantsRightful}
 use Rattle.line_cutter.specs.Jobs.{Cut, next_input}
 use Rattle.run_record.specs.declared.fault.RunFault.{RunFault}
 use Rattle.run_record.specs.declared.fault.RunFault.TheVariants.{Found, Write, NoMemory}
+use Rattle.run_record.specs.Fault.{CountsWrites}
 use Rattle.run_record.specs.Report.{nothing_told}
 use Rattle.run_record.specs.Run.{Run, IsOrderly, IsUntouched}
 use Rattle.transcript_audit.specs.declared.fault.AuditKind.{AuditKind}
 use Rattle.audit_command.specs.Auditing.{fault_line}
 use Rattle.transcript_resume.specs.Resumed.{IsRefused, IsTakenUp, Session}
 use Rattle.resume_command.specs.declared.start.TheConstants.{PIECE}
+use Rattle.resume_command.specs.declared.refusal.Refusal.{Refusal}
+use Rattle.resume_command.specs.declared.refusal.Refusal.TheVariants.{Ends, Line}
 use Rattle.resume_command.specs.Begun.{session_of}
 use Rattle.resume_command.specs.Loading.{Names, OverFiles}
 use Rattle.command_words.specs.Words.{AreOptions, Options}
@@ -67,3 +70,12 @@ pub record ResumesRun (names : Names) (options : Options) (repeats : Bool) (r : 
   pub resumes : OverFiles r.files names options.lanes (EndsBy r)
       (λ p cut transcript. ResumesFrom (session_of p options.lanes options.rounds cut) cut transcript repeats r)
   pub orderly : IsOrderly r
+
+-- Inside: what a run writes whose session does not go on
+abbrev pub RefusesAs : Refusal → Option (List ℕ) → Option (List ℕ) → RunFault → Type 0
+RefusesAs (Ends fault) before after ending = (ending ≡ fault) × (after ≡ before)
+RefusesAs (Line number kind) before after ending = TellsAs (fault_line number kind) before after ending
+
+abbrev pub CountsRefusal : Refusal → ℕ → ℕ → RunFault → Type 0
+CountsRefusal (Ends fault) before after ending = after ≡ before
+CountsRefusal (Line number kind) before after ending = CountsWrites ending before after

@@ -1,8 +1,8 @@
 //! The command `resume`: it goes on from the transcript of an earlier session.
-ghost use Rattle.std.specs.Prelude.{◌≡◌, Bool, true, false, ℕ, List, length, take, drop};
+ghost use Rattle.std.specs.Prelude.{◌≡◌, ◌<◌, Bool, false, ℕ, List, length, take, drop};
 ghost use Rattle.std.proofs.Common.{◌⊎◌};
 ghost use Rattle.run_record.specs.Fault.{status_of, CountsWrites};
-ghost use Rattle.run_record.specs.Report.{told_by};
+ghost use Rattle.run_record.specs.Report.{nothing_told, told_by};
 ghost use Rattle.run_record.specs.Run.{run_of, streams_of};
 ghost use Rattle.wf_board.specs.Histories.{AreAnsweredOnce, AreWantsRightful};
 ghost use Rattle.line_cutter.specs.Jobs.{Cut, next_input};
@@ -13,7 +13,7 @@ ghost use Rattle.audit_command.specs.Auditing.{fault_line};
 ghost use Rattle.command_words.specs.Words.{AreOptions};
 ghost use Rattle.command_words.specs.Asked.{options_in};
 ghost use Rattle.wf_server.specs.Sessions.{Served};
-ghost use Rattle.wf_server.specs.Resuming.{ResumesRun, TellsAs, setting_behind};
+ghost use Rattle.wf_server.specs.Resuming.{CountsRefusal, RefusesAs, ResumesRun, TellsAs, setting_behind};
 ghost use Rattle.wf_server.specs.Ways.{IsWay, ServesOnce};
 
 use crate::batch::Answered;
@@ -67,8 +67,23 @@ pub(crate) fn run_resume<F: Shelf, S: Source, K: Sink, W: Fn(Desk) -> Desk>(
         shelf,
     ) {
         Ok(beginning) => go_on(alloc, way, beginning, source, sink),
-        Err(Refusal::Ends(fault)) => bare_report(alloc, fault),
-        Err(Refusal::Line(n, kind)) => bare_report(alloc, tell_fault(alloc, n, kind, sink)),
+        Err(refusal) => refuse(alloc, refusal, sink),
+    }
+}
+
+// Ends a run whose session does not go on.
+fn refuse<K: Sink>(alloc: Global, refusal: Refusal, sink: &mut K) -> Report
+    ensures refuses { RefusesAs refusal (K.held sink.old) (K.held sink.new) result.fault }
+    ensures counts { CountsRefusal refusal (K.faults sink.old) (K.faults sink.new) result.fault }
+    ensures told { told_by result ≡ nothing_told }
+    ensures status { result.status ≡ status_of result.fault }
+{
+    match refusal {
+        Refusal::Ends(fault) => bare_report(alloc, fault),
+        Refusal::Line(n, kind) => {
+            let fault = tell_fault(alloc, n, kind, sink);
+            bare_report(alloc, fault)
+        }
     }
 }
 

@@ -27,7 +27,7 @@ jobs_between-batch-requires-clause-order g c =
     let jobs = c.args.file.now.jobs in
     let ends = c.args.file.now.ends in
     let order = subst (λ n. AreInOrder n jobs ends) (sym (lanes_of c.args.desk d c.answering.invariant.setting)) c.requires.order in
-    let known : c.answering.count < length ends = c.answering-test.true in
+    let known : c.answering.count < length ends = let test = c.answering-test.true in let size = c.len.ensures in omega (arith, test, size) in
     let next = is_next d.lanes jobs ends c.answering.count (told_of d c.answering.told) order known is in
     let above = next.order in
     grind (arith, common_steps)
@@ -39,7 +39,7 @@ jobs_between-batch-requires-clause-within g c =
     let jobs = c.args.file.now.jobs in
     let ends = c.args.file.now.ends in
     let order = subst (λ n. AreInOrder n jobs ends) (sym (lanes_of c.args.desk d c.answering.invariant.setting)) c.requires.order in
-    let known : c.answering.count < length ends = c.answering-test.true in
+    let known : c.answering.count < length ends = let test = c.answering-test.true in let size = c.len.ensures in omega (arith, test, size) in
     let next = is_next d.lanes jobs ends c.answering.count (told_of d c.answering.told) order known is in
     let within = next.within in
     grind (arith, common_steps)
@@ -60,7 +60,7 @@ answer_batch-next-requires-clause-batch g c =
     let jobs = c.args.file.now.jobs in
     let ends = c.args.file.now.ends in
     let order = subst (λ n. AreInOrder n jobs ends) (sym (lanes_of c.args.desk d c.answering.invariant.setting)) c.requires.order in
-    let known : c.answering.count < length ends = c.answering-test.true in
+    let known : c.answering.count < length ends = let test = c.answering-test.true in let size = c.len.ensures in omega (arith, test, size) in
     let next = is_next d.lanes jobs ends c.answering.count (told_of d c.answering.told) order known is in
     let batch : c.jobs_between-batch.result.now ≡ jobs_between (length c.answering.told.jobs) (slice_index_or ends c.answering.count 0) jobs = grind (arith, common_steps) in
     subst (λ js. IsBatch d.lanes (length c.answering.told.jobs) js) (sym batch) (file_batch d.lanes jobs ends c.answering.count _ _ order known next)
@@ -72,7 +72,7 @@ answering-preserved g c =
     let jobs = c.args.file.now.jobs in
     let ends = c.args.file.now.ends in
     let order = subst (λ n. AreInOrder n jobs ends) (sym (lanes_of c.args.desk d c.answering.invariant.setting)) c.requires.order in
-    let known : c.answering.count < length ends = c.answering-test.true in
+    let known : c.answering.count < length ends = let test = c.answering-test.true in let size = c.len.ensures in omega (arith, test, size) in
     let next = is_next d.lanes jobs ends c.answering.count (told_of d c.answering.told) order known is in
     let batch : c.jobs_between-batch.result.now ≡ jobs_between (length c.answering.told.jobs) (slice_index_or ends c.answering.count 0) jobs = grind (arith, common_steps) in
     let e = c.answer_batch-next.result.0 in
@@ -110,7 +110,7 @@ returns-in-Err-clause-answers g c held answered =
     let jobs = c.args.file.now.jobs in
     let ends = c.args.file.now.ends in
     let order = subst (λ n. AreInOrder n jobs ends) (sym (lanes_of c.args.desk d c.answering.invariant.setting)) c.requires.order in
-    let known : c.answering.count < length ends = c.answering-test.true in
+    let known : c.answering.count < length ends = let test = c.answering-test.true in let size = c.len.ensures in omega (arith, test, size) in
     let next = is_next d.lanes jobs ends c.answering.count (told_of d c.answering.told) order known is in
     let batch : c.jobs_between-batch.result.now ≡ jobs_between (length c.answering.told.jobs) (slice_index_or ends c.answering.count 0) jobs = grind (arith, common_steps) in
     file_fails d.lanes jobs ends c.answering.count held (g.K.Sink.held c.answer_batch-next.new.sink) (told_of d c.answering.told) (told_of c.answer_batch-next.result.0 c.answer_batch-next.new.told)

@@ -38,9 +38,14 @@ pub serve_batches-requires-clause-serving : goal.serve_batches-requires-clause-s
 serve_batches-requires-clause-serving g c =
     let before : Streams = record { input = g.S.Source.left c.args.source.now; output = g.K.Sink.held c.args.sink.now; read_faults = g.S.Source.faults c.args.source.now; write_faults = g.K.Sink.faults c.args.sink.now } in
     let mid : Streams = record { input = g.S.Source.left c.args.source.now; output = g.K.Sink.held c.answer_requests-served.new.sink; read_faults = g.S.Source.faults c.args.source.now; write_faults = g.K.Sink.faults c.answer_requests-served.new.sink } in
-    let cut = c.requires.begun.1.0 in
-    (next_input cut, (before, serving_begun _ cut _ c.args.beginning before mid c.answer_requests-served.result.0 (told_of c.answer_requests-served.result.0 c.answer_requests-served.new.told)
-    c.requires.begun.1.1.1 c.answer_requests-served.ensures.setting refl refl (rw c.in-Ok.is at c.answer_requests-served.ensures.counts) (rw c.in-Ok.is at c.answer_requests-served.ensures.answers)))
+    let cut = c.requires.begun.1.0 in (
+      next_input cut,
+      (
+        before,
+        serving_begun _ cut _ c.args.beginning before mid c.answer_requests-served.result.0 (told_of c.answer_requests-served.result.0 c.answer_requests-served.new.told)
+            c.requires.begun.1.1.1 c.answer_requests-served.ensures.setting refl refl (rw c.in-Ok.is at c.answer_requests-served.ensures.counts) (rw c.in-Ok.is at c.answer_requests-served.ensures.answers),
+      ),
+    )
 
 pub returns-in-Ok-clause-served : goal.returns-in-Ok-clause-served
 returns-in-Ok-clause-served g c s cut transcript h =
@@ -70,8 +75,8 @@ returns-in-Ok-clause-wants g c =
     let restored : c.answer_requests-served.result.0.restored ≡ c.args.beginning.desk.restored = ap (λ (s : Setting). s.restored) c.answer_requests-served.ensures.setting in
     subst (λ n. AreWantsRightful (drop n (told_by c.serve_batches.result).entries)) (restored ∙ c.requires.begun.1.1.1.restored) c.serve_batches.ensures.wants
 
-pub returns-in-Err-clause-served : goal.returns-in-Err-clause-served
-returns-in-Err-clause-served g c s cut transcript h =
+pub returns-clause-served : goal.returns-clause-served
+returns-clause-served g c s cut transcript h =
     let before : Streams = record { input = g.S.Source.left c.args.source.now; output = g.K.Sink.held c.args.sink.now; read_faults = g.S.Source.faults c.args.source.now; write_faults = g.K.Sink.faults c.args.sink.now } in
     let mid : Streams = record { input = g.S.Source.left c.args.source.now; output = g.K.Sink.held c.answer_requests-served.new.sink; read_faults = g.S.Source.faults c.args.source.now; write_faults = g.K.Sink.faults c.answer_requests-served.new.sink } in
     let d = c.answer_requests-served.result.0 in
@@ -83,8 +88,8 @@ returns-in-Err-clause-served g c s cut transcript h =
     (served_begun s cut transcript c.args.beginning d PIECE before mid told fault h c.histories_keep_completable.ensures c.histories_are_exact.ensures c.answer_requests-served.ensures.setting refl
     c.report_of.ensures.sound.legal serves)
 
-pub returns-in-Err-clause-begins : goal.returns-in-Err-clause-begins
-returns-in-Err-clause-begins g c =
+pub returns-clause-begins : goal.returns-clause-begins
+returns-clause-begins g c =
     let size = c.requires.begun.1.1.1.restored in
     let d = c.answer_requests-served.result.0 in
     let b = c.args.beginning.desk in
@@ -92,15 +97,15 @@ returns-in-Err-clause-begins g c =
     let restored : d.restored ≡ b.restored = ap (λ (s : Setting). s.restored) c.answer_requests-served.ensures.setting in
     begins_behind b d (told_by c.report_of.result).entries size restored (ap (take d.restored) same) c.answer_requests-served.ensures.begins
 
-pub returns-in-Err-clause-once : goal.returns-in-Err-clause-once
-returns-in-Err-clause-once g c serves =
+pub returns-clause-once : goal.returns-clause-once
+returns-clause-once g c serves =
     let size = c.requires.begun.1.1.1.restored in
     let b = c.args.beginning.desk in
     subst (λ (t : Told). AreAnsweredOnce (drop (length b.entries) t.entries)) (sym c.report_of.ensures.told)
     (subst (λ n. AreAnsweredOnce (drop n c.answer_requests-served.result.0.entries)) size (c.answer_requests-served.ensures.once serves (none_before b size)))
 
-pub returns-in-Err-clause-wants : goal.returns-in-Err-clause-wants
-returns-in-Err-clause-wants g c =
+pub returns-clause-wants : goal.returns-clause-wants
+returns-clause-wants g c =
     let size = c.requires.begun.1.1.1.restored in
     let d = c.answer_requests-served.result.0 in
     let b = c.args.beginning.desk in

@@ -1,5 +1,18 @@
-use Rattle.std.proofs.Common.{rules}
+use Rattle.std.proofs.Common.{◌≡◌, Some, map, nat_lt, rules, true}
+use Rattle.std.specs.Prelude.{string_bytes}
+use Rattle.command_words.specs.Asked.{options_in}
+use Rattle.command_words.specs.Words.{command_of, resume}
+use Rattle.resume_command.specs.Loading.{Names}
+use Rattle.wf_server.proofs.ResumeLaws.{threaded}
 use Rattle.wf_server.proofs.runs.run.Goals as goal
 
 pub returns-in-Ok-clause-does : goal.returns-in-Ok-clause-does
 returns-in-Ok-clause-does g c = search rules
+
+pub returns-in-Ok-Resume-clause-does : goal.returns-in-Ok-Resume-clause-does
+returns-in-Ok-Resume-clause-does g c =
+    let a = c.in-Ok-Resume in
+    let names : Names = record { policy = a.policy.now; requests = a.requests.now; transcript = a.transcript.now } in
+    let command : command_of (map string_bytes c.args.words.now) ≡ Some (resume a.policy.now a.requests.now a.transcript.now (options_in a.options)) = search rules in
+    let lanes : nat_lt 1 a.options.lanes ≡ true = search rules in
+    threaded _ names (options_in a.options) _ command lanes c.run_resume.ensures.resumes
