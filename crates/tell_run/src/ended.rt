@@ -45,5 +45,6 @@ fn words_of(fault: &RunFault) -> &'static str {
         RunFault::LineTooLong(_) => "line too long",
         RunFault::TooManyLines => "too many lines",
         RunFault::BadInput(_) => "the policy has no workflow of this name",
+        RunFault::TooLarge => "too large",
     }
 }
