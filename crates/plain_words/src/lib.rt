@@ -14,5 +14,8 @@ mod why;
 
 pub use advice::push_advice;
 pub use fault::fault_text;
-pub use rules::rule_text;
+pub use lists::{
+    counted, flow_text, group_text, name_text, push_gap, step_text, steps_text, users_text,
+};
+pub use rules::{relation_name, rule_text};
 pub use why::{clash_text, crowd_text, plan_text};

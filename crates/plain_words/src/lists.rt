@@ -13,7 +13,7 @@ const MOST_NAMED: u32 = 12;
 const NAMED: u32 = 10;
 
 /// The name with a number; the empty text where there is none.
-pub(crate) fn name_text(alloc: Global, names: &NameTable, n: u16) -> Result<String, AllocError> {
+pub fn name_text(alloc: Global, names: &NameTable, n: u16) -> Result<String, AllocError> {
     if n < names.len() {
         String::from_str(alloc, names.name(n).as_str())
     } else {
@@ -22,7 +22,7 @@ pub(crate) fn name_text(alloc: Global, names: &NameTable, n: u16) -> Result<Stri
 }
 
 /// The name of a step.
-pub(crate) fn step_text(
+pub fn step_text(
     alloc: Global,
     p: &Policy,
     f: FlowId,
@@ -34,12 +34,12 @@ pub(crate) fn step_text(
 }
 
 /// The name of a workflow.
-pub(crate) fn flow_text(alloc: Global, p: &Policy, f: FlowId) -> Result<String, AllocError> {
+pub fn flow_text(alloc: Global, p: &Policy, f: FlowId) -> Result<String, AllocError> {
     name_text(alloc, p.flows(), f.0 as u16)
 }
 
 /// The names of a set's steps, the last one behind this word.
-pub(crate) fn group_text(
+pub fn group_text(
     alloc: Global,
     p: &Policy,
     f: FlowId,
@@ -62,7 +62,7 @@ pub(crate) fn group_text(
 }
 
 /// The names of some steps.
-pub(crate) fn steps_text(
+pub fn steps_text(
     alloc: Global,
     p: &Policy,
     f: FlowId,
@@ -82,7 +82,7 @@ pub(crate) fn steps_text(
 }
 
 /// The names of a set's users; of many the first ones, and how many others there are.
-pub(crate) fn users_text(alloc: Global, p: &Policy, users: &UserSet) -> Result<String, AllocError> {
+pub fn users_text(alloc: Global, p: &Policy, users: &UserSet) -> Result<String, AllocError> {
     let count = users.count();
     let shown = if count > MOST_NAMED { NAMED } else { count };
     let mut text = String::new(alloc);
@@ -102,7 +102,7 @@ pub(crate) fn users_text(alloc: Global, p: &Policy, users: &UserSet) -> Result<S
 }
 
 /// A number of things, as `1 step` and `2 steps`.
-pub(crate) fn counted(alloc: Global, count: u64, what: &str) -> Result<String, AllocError> {
+pub fn counted(alloc: Global, count: u64, what: &str) -> Result<String, AllocError> {
     match count {
         1 => format!(in alloc; "1 {what}"),
         count => format!(in alloc; "{count} {what}s"),
@@ -117,7 +117,7 @@ fn push_name(text: &mut String, names: &NameTable, n: u16) -> Result<(), AllocEr
 }
 
 /// Adds what stands before the item at a place of so many.
-pub(crate) fn push_gap(
+pub fn push_gap(
     text: &mut String,
     place: u32,
     count: u32,

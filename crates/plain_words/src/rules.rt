@@ -77,7 +77,7 @@ fn sense_of(p: &Policy, rho: RelId) -> Sense {
 }
 
 /// The name of a relation, if there is one.
-pub(crate) fn relation_name(p: &Policy, rho: RelId) -> Option<Name> {
+pub fn relation_name(p: &Policy, rho: RelId) -> Option<Name> {
     if (rho.0 as u16) < p.relations().count() as u16 + 2 {
         Some(p.relations().name(rho))
     } else {

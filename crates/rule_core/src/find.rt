@@ -29,8 +29,9 @@ pub(crate) fn find_crowd(
 {
     let table = table_of(alloc, p, f, a)?;
     let count = step_count(p, f);
+    let scarce = scarce_steps(&table, count);
     'sets: for bits in 1..1u32 << count {
-        if is_crowded(&table, count, bits) {
+        if bits & scarce == bits && is_crowded(&table, count, bits) {
             let steps = steps_in(alloc, count, bits)?;
             if is_crowd(p, f, a, &steps) {
                 return Ok(Some(steps));
@@ -91,6 +92,20 @@ fn just(p: &Policy, u: UserId) -> UserSet {
     users
 }
 
+// The steps that fewer users have or may get than there are steps: no other is of a crowd.
+fn scarce_steps(table: &Table, count: u8) -> u32
+    requires { count ≤ STEP_LIMIT }
+{
+    let mut bits = 0u32;
+    'steps: for s in 0..count {
+        match table.takers.get(s as usize) {
+            Some(takers) if takers.count() < count as u32 => bits |= 1 << s,
+            _ => {}
+        }
+    }
+    bits
+}
+
 // Whether the steps of some bits are parted, and those who have or may get them are fewer.
 fn is_crowded(table: &Table, count: u8, bits: u32) -> bool
     requires { count ≤ STEP_LIMIT }
@@ -100,11 +115,11 @@ fn is_crowded(table: &Table, count: u8, bits: u32) -> bool
         if bits >> s & 1 == 0 {
             continue;
         }
-        if !joins(table, s, bits, &mut users) {
+        if !joins(table, s, bits, &mut users) || users.count() >= bits.count_ones() {
             return false;
         }
     }
-    users.count() < bits.count_ones()
+    true
 }
 
 fn joins(table: &Table, s: u8, bits: u32, users: &mut UserSet) -> bool

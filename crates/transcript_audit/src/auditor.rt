@@ -26,7 +26,7 @@ use std::alloc::{AllocError, Global};
 use std::marker::Model;
 use std::sync::Arc;
 use wf_board::{Board, Decider, Verdict, is_view};
-use wf_talk::{Ask, Ends, Job, Jobs, Journal, Reply};
+use wf_talk::{Ask, Ends, Entry, Job, Jobs, Journal, Reply};
 
 /// An audit of a transcript, line by line.
 #[derive(Drop)]
@@ -116,6 +116,20 @@ impl Auditor {
                 }
             }
         }
+    }
+
+    /// The board after the entries so far.
+    pub fn board(&self) -> &Board
+        ensures { state_on result.now ≡ state_now self.now }
+    {
+        &self.board
+    }
+
+    /// The entries so far.
+    pub fn entries(&self) -> &[Entry]
+        ensures { result.now ≡ self.now.entries }
+    {
+        self.record.entries()
     }
 
     /// The board after the entries so far, the entries, and the jobs with the ends of their batches.

@@ -20,7 +20,7 @@ use std::sync::Arc;
 use wf_desk::docket::job_at;
 use wf_desk::journal::{add_entry, last_counting};
 use wf_names::LANE_LIMIT;
-use wf_talk::{Ask, Ends, Job, Jobs, Journal, Reply};
+use wf_talk::{Ask, Ends, Entry, Job, Jobs, Journal, Reply};
 
 /// The policy at the beginning, the jobs with the ends of their batches, the entries so far, and
 /// the kind of the first fault, if there was one.
@@ -81,6 +81,13 @@ impl Record {
         ensures few { length self.now.audit.entries ≤ SESSION_LINE_LIMIT }
     {
         self.journal.len() as u32
+    }
+
+    /// The entries so far.
+    pub fn entries(&self) -> &[Entry]
+        ensures { result.now ≡ self.now.audit.entries }
+    {
+        self.journal.as_slice()
     }
 
     /// The kind of the first fault, if there was one.
