@@ -22,12 +22,7 @@ pub fn name_text(alloc: Global, names: &NameTable, n: u16) -> Result<String, All
 }
 
 /// The name of a step.
-pub fn step_text(
-    alloc: Global,
-    p: &Policy,
-    f: FlowId,
-    s: StepId,
-) -> Result<String, AllocError>
+pub fn step_text(alloc: Global, p: &Policy, f: FlowId, s: StepId) -> Result<String, AllocError>
     requires { f < length p.now.flows }
 {
     name_text(alloc, p.flow(f).steps(), s.0 as u16)
@@ -117,12 +112,7 @@ fn push_name(text: &mut String, names: &NameTable, n: u16) -> Result<(), AllocEr
 }
 
 /// Adds what stands before the item at a place of so many.
-pub fn push_gap(
-    text: &mut String,
-    place: u32,
-    count: u32,
-    last: &str,
-) -> Result<(), AllocError> {
+pub fn push_gap(text: &mut String, place: u32, count: u32, last: &str) -> Result<(), AllocError> {
     if place == 0 {
         return Ok(());
     }
