@@ -9,6 +9,7 @@ mod marks;
 mod nearest;
 mod place;
 mod rules;
+mod say;
 mod shown;
 mod why;
 
@@ -18,4 +19,5 @@ pub use lists::{
     counted, flow_text, group_text, name_text, push_gap, step_text, steps_text, users_text,
 };
 pub use rules::{relation_name, rule_text};
+pub use say::say;
 pub use why::{clash_text, crowd_text, plan_text};
