@@ -3,6 +3,8 @@
 #![tactic(auto)]
 
 mod advice;
+mod amiss;
+mod culprit;
 mod fault;
 mod lists;
 mod marks;
@@ -16,8 +18,9 @@ mod why;
 pub use advice::push_advice;
 pub use fault::fault_text;
 pub use lists::{
-    counted, flow_text, group_text, name_text, push_gap, step_text, steps_text, users_text,
+    counted, flow_text, group_text, name_of, name_text, number_text, push_gap, step_text,
+    steps_text, text_of, users_text,
 };
 pub use rules::{relation_name, rule_text};
-pub use say::say;
+pub use say::{joined, say};
 pub use why::{clash_text, crowd_text, plan_text};
