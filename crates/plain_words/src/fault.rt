@@ -136,8 +136,10 @@ fn push_part(
         PolicyPart::Flows => "the workflow ",
         _ => "",
     };
+    let is_whole = matches!(fault.table, PolicyPart::File)
+        || matches!(fault.kind, PolicyKind::Missing);
     match front {
-        "" if matches!(fault.table, PolicyPart::File) => say(out, &["the file"]),
+        "" if is_whole => say(out, &["the file"]),
         "" => say(out, &[fault.table.word()]),
         front => say(out, &[front, item]),
     }
@@ -179,7 +181,19 @@ fn push_meant(
 fn push_kind(out: &mut String, fault: &PolicyFault) -> Result<(), AllocError> {
     match fault.name {
         Some(name) => push_named(out, fault.kind, name.as_str()),
+        None if matches!(fault.kind, PolicyKind::Shape) => out.push_str(shape_words(fault.table)),
         None => out.push_str(bare_words(fault.kind)),
+    }
+}
+
+// What has to be there in place of a value of another type.
+fn shape_words(part: PolicyPart) -> &'static str {
+    match part {
+        PolicyPart::File => "the format has to be an integer, and the admin role a text",
+        PolicyPart::Roles => "the roles have to be a list of texts",
+        PolicyPart::Users => "each user has to have a list of roles",
+        PolicyPart::Relations => "a relation has to have either pairs of users or a complement",
+        PolicyPart::Flows => bare_words(PolicyKind::Shape),
     }
 }
 

@@ -147,7 +147,14 @@ fn key_place(text: &[u8], marks: &[Mark], keys: Keys<'_>) -> Span {
             found = span_of(*mark);
         }
     }
-    found
+    if keys.rule == 0 || depth == 3 {
+        return found;
+    }
+    // A rule without keys is only in its list.
+    match named_mark(text, marks, Keys { rule: 0, ..keys }, "rules", true) {
+        Some(list) => list,
+        None => found,
+    }
 }
 
 pub(crate) fn span_of(mark: Mark) -> Span {
