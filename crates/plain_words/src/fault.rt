@@ -5,7 +5,7 @@ use crate::lists::number_text;
 use crate::marks::{Mark, marks_of};
 use crate::nearest::{nearest_key, nearest_word};
 use crate::place::{Keys, Span, keys_of, place_of};
-use crate::say::{joined, say};
+use crate::adding::{joined, say};
 use crate::shown::{shown, spot_of};
 use policy_reader::{PolicyFault, PolicyKind, PolicyPart};
 use std::alloc::{AllocError, Global};
