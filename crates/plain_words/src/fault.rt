@@ -1,11 +1,11 @@
 //! The first fault of a policy file in words, with its place.
 
+use crate::adding::{joined, say};
 use crate::culprit::faulty_rule;
 use crate::lists::number_text;
 use crate::marks::{Mark, marks_of};
 use crate::nearest::{nearest_key, nearest_word};
 use crate::place::{Keys, Span, keys_of, place_of};
-use crate::adding::{joined, say};
 use crate::shown::{shown, spot_of};
 use policy_reader::{PolicyFault, PolicyKind, PolicyPart};
 use std::alloc::{AllocError, Global};
@@ -85,20 +85,12 @@ fn told(
 ) -> Result<String, AllocError> {
     let place = place_text(alloc, text.as_bytes(), span.start)?;
     let line = shown(alloc, text, span)?;
-    joined(
-        alloc,
-        &[
-            file,
-            ":",
-            place.as_str(),
-            ": ",
-            kind,
-            ": ",
-            words,
-            "\n",
-            line.as_str(),
-        ],
-    )
+    let mut out = String::from_str(alloc, file)?;
+    say(&mut out, &[":", place.as_str(), ": "])?;
+    say(&mut out, &[kind, ": "])?;
+    say(&mut out, &[words, "\n"])?;
+    out.push_str(line.as_str())?;
+    Ok(out)
 }
 
 // What is wrong, and where by name.

@@ -2,6 +2,7 @@
 //! words tell what was decided.
 #![tactic(auto)]
 
+mod adding;
 mod advice;
 mod amiss;
 mod culprit;
@@ -11,10 +12,10 @@ mod marks;
 mod nearest;
 mod place;
 mod rules;
-
 mod shown;
 mod why;
 
+pub use adding::{joined, say};
 pub use advice::push_advice;
 pub use fault::fault_text;
 pub use lists::{
@@ -22,5 +23,4 @@ pub use lists::{
     steps_text, text_of, users_text,
 };
 pub use rules::{relation_name, rule_text};
-pub use adding::{joined, say};
 pub use why::{clash_text, crowd_text, plan_text};

@@ -1,11 +1,11 @@
 //! Why a workflow has a valid plan or none, in words.
 ghost use Rattle.std.specs.Prelude.{◌<◌, length};
 
+use crate::adding::say;
 use crate::lists::{
     counted, flow_text, name_of, number_text, push_gap, steps_text, text_of, users_text,
 };
 use crate::rules::rule_text;
-use crate::adding::say;
 use constraint_forms::Plan;
 use policy_book::Policy;
 use std::alloc::{AllocError, Global};
@@ -117,11 +117,12 @@ fn clash_head(alloc: Global, p: &Policy, f: FlowId, count: usize) -> Result<Stri
     say(&mut text, &[" meets its ", rules.as_str(), ".\n"])?;
     let together =
         " rules cannot be met together; leave out any one of them, and the others can:\n";
-    match count {
-        0 => {}
-        1 => say(&mut text, &["This rule alone cannot be met:\n"])?,
-        _ => say(&mut text, &["These ", number.as_str(), together])?,
-    }
+    let (front, counted, end) = match count {
+        0 => ("", "", ""),
+        1 => ("This rule alone cannot be met:\n", "", ""),
+        _ => ("These ", number.as_str(), together),
+    };
+    say(&mut text, &[front, counted, end])?;
     Ok(text)
 }
 
