@@ -3,7 +3,7 @@ ghost use Rattle.std.specs.Prelude.{◌<◌, length};
 
 use crate::lists::{name_of, number_text, text_of, users_text};
 use crate::rules::relation_name;
-use crate::say::{joined, say};
+use crate::texts::{joined, say};
 use constraint_forms::Rule;
 use policy_book::Policy;
 use rule_core::are_parted;

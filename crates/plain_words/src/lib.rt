@@ -11,8 +11,8 @@ mod marks;
 mod nearest;
 mod place;
 mod rules;
-mod say;
 mod shown;
+mod texts;
 mod why;
 
 pub use advice::push_advice;
@@ -22,5 +22,5 @@ pub use lists::{
     steps_text, text_of, users_text,
 };
 pub use rules::{relation_name, rule_text};
-pub use say::{joined, say};
+pub use texts::{joined, say};
 pub use why::{clash_text, crowd_text, plan_text};

@@ -2,7 +2,7 @@
 ghost use Rattle.std.specs.Prelude.{◌<◌, length};
 
 use crate::lists::{group_text, name_of, number_text, text_of};
-use crate::say::joined;
+use crate::texts::joined;
 use constraint_forms::{Rule, StepSet};
 use policy_book::Policy;
 use std::alloc::{AllocError, Global};

@@ -3,7 +3,7 @@
 use crate::lists::number_text;
 use crate::marks::line_end;
 use crate::place::Span;
-use crate::say::say;
+use crate::texts::say;
 use std::alloc::{AllocError, Global};
 
 /// How many characters of a line are shown before and behind the place.

@@ -5,7 +5,7 @@ use crate::lists::{
     counted, flow_text, name_of, number_text, push_gap, steps_text, text_of, users_text,
 };
 use crate::rules::rule_text;
-use crate::say::say;
+use crate::texts::say;
 use constraint_forms::Plan;
 use policy_book::Policy;
 use std::alloc::{AllocError, Global};
