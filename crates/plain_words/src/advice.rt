@@ -1,9 +1,9 @@
 //! What a policy may say and probably does not mean.
 ghost use Rattle.std.specs.Prelude.{◌<◌, length};
 
-use crate::adding::{joined, say};
 use crate::lists::{name_of, number_text, text_of, users_text};
 use crate::rules::relation_name;
+use crate::texts::{joined, say};
 use constraint_forms::Rule;
 use policy_book::Policy;
 use rule_core::are_parted;

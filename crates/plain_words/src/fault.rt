@@ -1,12 +1,12 @@
 //! The first fault of a policy file in words, with its place.
 
-use crate::adding::{joined, say};
 use crate::culprit::faulty_rule;
 use crate::lists::number_text;
 use crate::marks::{Mark, marks_of};
 use crate::nearest::{nearest_key, nearest_word};
 use crate::place::{Keys, Span, keys_of, place_of};
 use crate::shown::{shown, spot_of};
+use crate::texts::{joined, say};
 use policy_reader::{PolicyFault, PolicyKind, PolicyPart};
 use std::alloc::{AllocError, Global};
 use toml::Table;

@@ -2,7 +2,6 @@
 //! words tell what was decided.
 #![tactic(auto)]
 
-mod adding;
 mod advice;
 mod amiss;
 mod culprit;
@@ -13,9 +12,9 @@ mod nearest;
 mod place;
 mod rules;
 mod shown;
+mod texts;
 mod why;
 
-pub use adding::{joined, say};
 pub use advice::push_advice;
 pub use fault::fault_text;
 pub use lists::{
@@ -23,4 +22,5 @@ pub use lists::{
     steps_text, text_of, users_text,
 };
 pub use rules::{relation_name, rule_text};
+pub use texts::{joined, say};
 pub use why::{clash_text, crowd_text, plan_text};

@@ -1,7 +1,7 @@
 //! Names, and lists of names, as texts.
 ghost use Rattle.std.specs.Prelude.{◌<◌, length};
 
-use crate::adding::say;
+use crate::texts::say;
 use constraint_forms::StepSet;
 use policy_book::Policy;
 use std::alloc::{AllocError, Global};

@@ -1,8 +1,8 @@
 //! Rules as sentences.
 ghost use Rattle.std.specs.Prelude.{◌<◌, length};
 
-use crate::adding::joined;
 use crate::lists::{group_text, name_of, number_text, text_of};
+use crate::texts::joined;
 use constraint_forms::{Rule, StepSet};
 use policy_book::Policy;
 use std::alloc::{AllocError, Global};

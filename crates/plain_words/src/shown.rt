@@ -1,9 +1,9 @@
 //! A place in a text: its line, its column, and the line itself with a mark below it.
 
-use crate::adding::say;
 use crate::lists::number_text;
 use crate::marks::line_end;
 use crate::place::Span;
+use crate::texts::say;
 use std::alloc::{AllocError, Global};
 
 /// How many characters of a line are shown before and behind the place.

@@ -1,11 +1,11 @@
 //! Why a workflow has a valid plan or none, in words.
 ghost use Rattle.std.specs.Prelude.{◌<◌, length};
 
-use crate::adding::say;
 use crate::lists::{
     counted, flow_text, name_of, number_text, push_gap, steps_text, text_of, users_text,
 };
 use crate::rules::rule_text;
+use crate::texts::say;
 use constraint_forms::Plan;
 use policy_book::Policy;
 use std::alloc::{AllocError, Global};
