@@ -49,7 +49,7 @@ pub(crate) fn tell_page(alloc: Global, s: &Session, case: CaseId) -> Result<Answ
     let audited = audit_whole(alloc, s, &mut rows)?;
     let is_there = case.0 < audited.auditor.board().cases().ever();
     let words = audited.verdict.words(alloc)?;
-    let body = finish(alloc, rows, &audited.auditor, words.as_str())?;
+    let body = finish(alloc, &rows.page, &audited.auditor, words.as_str())?;
     tell_by(
         alloc,
         "<!-- ",
@@ -63,11 +63,10 @@ pub(crate) fn tell_page(alloc: Global, s: &Session, case: CaseId) -> Result<Answ
 // The page as a text; empty where the case is not there.
 fn finish(
     alloc: Global,
-    rows: Rows,
+    page: &Page,
     auditor: &Auditor,
     verdict: &str,
 ) -> Result<String, AllocError> {
-    let Rows { page } = rows;
     let board = auditor.board();
     match page.finish(alloc, board.policy(), board.cases(), verdict)? {
         Some(text) => Ok(text),
