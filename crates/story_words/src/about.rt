@@ -1,0 +1,95 @@
+//! Which case an entry is about, and what a request names.
+ghost use Rattle.std.specs.Prelude.{◌≡◌};
+ghost use Rattle.wf_board.specs.Counting.{case_of_ask, case_of_request};
+ghost use Rattle.story_words.specs.Subjects.{subject_of, subject_of_denial};
+
+use wf_names::{CaseId, Name};
+use wf_talk::{Ask, Denial, Edit, Reply, Request};
+
+/// The case that an entry is about, if it is about one: the case that was opened, the one that an
+/// edit would have stranded, or the one that the request names.
+pub fn subject(ask: &Ask, reply: &Reply) -> Option<CaseId>
+    ensures { result ≡ subject_of ask.now reply.now }
+{
+    match reply {
+        Reply::Opened { case, .. } => Some(*case),
+        Reply::Denied(denial) => subject_of_denial(ask, denial),
+        _ => case_of(ask),
+    }
+}
+
+fn subject_of_denial(ask: &Ask, denial: &Denial) -> Option<CaseId>
+    ensures { result ≡ subject_of_denial ask.now denial.now }
+{
+    match denial {
+        Denial::Strands { case, .. } => Some(*case),
+        _ => case_of(ask),
+    }
+}
+
+/// The case that was asked about.
+pub(crate) fn case_of(ask: &Ask) -> Option<CaseId>
+    ensures { result ≡ case_of_ask ask.now }
+{
+    match ask {
+        Ask::Request(request) => case_of_request(request),
+        Ask::Bad(_) => None,
+    }
+}
+
+fn case_of_request(request: &Request) -> Option<CaseId>
+    ensures { result ≡ case_of_request request.now }
+{
+    match *request {
+        Request::OpenCase { .. }
+        | Request::Change { .. }
+        | Request::Worklist { .. }
+        | Request::WhatIf { .. } => None,
+        Request::Claim { case, .. }
+        | Request::Finish { case, .. }
+        | Request::GiveBack { case, .. }
+        | Request::Release { case, .. }
+        | Request::Withdraw { case, .. }
+        | Request::Show { case } => Some(case),
+    }
+}
+
+/// The name of who asks, or of the workflow that a case is to be opened of; empty where neither is
+/// named.
+pub(crate) fn asker(ask: &Ask) -> &str {
+    match ask {
+        Ask::Request(
+            Request::Claim { user: name, .. }
+            | Request::Finish { user: name, .. }
+            | Request::GiveBack { user: name, .. }
+            | Request::Worklist { user: name }
+            | Request::Release { by: name, .. }
+            | Request::Withdraw { by: name, .. }
+            | Request::Change { by: name, .. }
+            | Request::WhatIf { by: name, .. }
+            | Request::OpenCase { flow: name },
+        ) => name.as_str(),
+        _ => "",
+    }
+}
+
+/// The step of a case that is asked about.
+pub(crate) fn step_asked(ask: &Ask) -> Option<(CaseId, Name)> {
+    match ask {
+        Ask::Request(
+            Request::Claim { case, step, .. }
+            | Request::Finish { case, step, .. }
+            | Request::GiveBack { case, step, .. }
+            | Request::Release { case, step, .. },
+        ) => Some((*case, *step)),
+        _ => None,
+    }
+}
+
+/// The edit that is asked for, or asked about.
+pub(crate) fn edit_asked(ask: &Ask) -> Option<Edit> {
+    match ask {
+        Ask::Request(Request::Change { edit, .. } | Request::WhatIf { edit, .. }) => Some(*edit),
+        _ => None,
+    }
+}

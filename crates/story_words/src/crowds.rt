@@ -1,0 +1,99 @@
+//! Steps that want more different users than there are for them.
+ghost use Rattle.std.specs.Prelude.{◌<◌, length};
+
+use crate::held::Held;
+use crate::names::{push_number, push_rules, push_users};
+use constraint_forms::Rule;
+use plain_words::{say, steps_text};
+use policy_book::Policy;
+use rule_core::RuleList;
+use std::alloc::{AllocError, Global};
+use wf_names::{RelId, StepId, USER_LIMIT, UserId, UserSet};
+
+/// Adds that some steps want more different users than have or may get them, and by which rules.
+pub(crate) fn push_crowd(
+    alloc: Global,
+    out: &mut String,
+    p: &Policy,
+    held: &Held,
+    steps: &[StepId],
+) -> Result<(), AllocError>
+    requires { held.now.flow < length p.now.flows }
+{
+    let all = steps_text(alloc, p, held.flow, steps)?;
+    if steps.len() == 1 {
+        return say(
+            out,
+            &["  In short: ", all.as_str(), " can be done by nobody.\n"],
+        );
+    }
+    say(out, &["  In short: ", all.as_str(), " want "])?;
+    push_number(alloc, out, steps.len() as u64)?;
+    out.push_str(" different people, and only ")?;
+    let users = takers(p, held, steps);
+    push_number(alloc, out, users.count() as u64)?;
+    out.push_str(if users.count() == 1 { " has" } else { " have" })?;
+    out.push_str(" or may do any of them: ")?;
+    push_users(alloc, out, p, &users, "and")?;
+    let rules = parting(alloc, p, held, steps)?;
+    if !rules.as_slice().is_empty() {
+        out.push_str(" (")?;
+        push_rules(alloc, out, "rule", rules.as_slice())?;
+        out.push_str(")")?;
+    }
+    out.push_str(".\n")
+}
+
+// The users who have or may do one of the steps.
+fn takers(p: &Policy, held: &Held, steps: &[StepId]) -> UserSet
+    requires { held.now.flow < length p.now.flows }
+{
+    let mut users = UserSet::empty();
+    for s in steps {
+        match held.users.at(*s) {
+            Some(u) if u.0 < USER_LIMIT => users.insert(u),
+            _ => users.join(&p.authorised_users(held.flow, *s)),
+        }
+    }
+    users
+}
+
+// The numbers of the rules that want different users for two of the steps.
+fn parting(alloc: Global, p: &Policy, held: &Held, steps: &[StepId]) -> Result<RuleList, AllocError>
+    requires { held.now.flow < length p.now.flows }
+{
+    let mut numbers = RuleList::new(alloc);
+    for k in 0..p.rules(held.flow).len() {
+        if parts(p, p.rules(held.flow).get(k), steps) {
+            numbers.push(k as u8)?;
+        }
+    }
+    Ok(numbers)
+}
+
+// Whether a rule wants different users for two of the steps.
+fn parts(p: &Policy, rule: &Rule, steps: &[StepId]) -> bool {
+    let (rho, step) = match *rule {
+        Rule::Pair { rho, second, .. } => (rho, second),
+        Rule::AllOf { rho, step, .. } | Rule::AllTo { rho, step, .. } => (rho, step),
+        _ => return false,
+    };
+    let (mut named, mut has_step) = (0u32, false);
+    for s in steps {
+        if rule.names(*s) {
+            named = named.saturating_add(1);
+            has_step = has_step || *s == step;
+        }
+    }
+    named > 1 && has_step && is_strict(p, rho)
+}
+
+// Whether nobody has a relation to themselves.
+fn is_strict(p: &Policy, rho: RelId) -> bool {
+    for u in 0..p.roster().users().len() {
+        if p.relations().holds(rho, UserId(u), UserId(u)) {
+            return false;
+        }
+    }
+    true
+}

@@ -1,0 +1,253 @@
+//! Why a request was denied, in words.
+
+use crate::about::{asker, case_of, edit_asked, step_asked};
+use crate::facts::push_broken;
+use crate::held::{held_in, held_with, place_asked};
+use crate::names::{
+    push_large, push_name, push_number, push_roles, push_step, push_steps, push_user, push_users,
+};
+use crate::past::{Deed, push_which};
+use grant_table::Cases;
+use plain_words::{relation_name, say};
+use policy_book::Policy;
+use std::alloc::{AllocError, Global};
+use wf_names::{
+    CASE_LIMIT, CaseId, OPEN_CASE_LIMIT, PAIR_LIMIT, RelId, RoleId, StepState, USER_LIMIT, UserId,
+};
+use wf_talk::{Ask, Denial, Edit, Entry, Missing};
+
+/// Adds why what was asked was denied, by the policy and the cases as they stand, which it has not
+/// changed. Trees are left out.
+pub(crate) fn push_denial(
+    alloc: Global,
+    out: &mut String,
+    p: &Policy,
+    cases: &Cases,
+    entries: &[Entry],
+    ask: &Ask,
+    denial: &Denial,
+) -> Result<(), AllocError> {
+    match denial {
+        Denial::NoFlow => say(out, &["there is no workflow \"", asker(ask), "\""]),
+        Denial::Retired => say(out, &["no case of ", asker(ask), " is opened any more"]),
+        Denial::Full => push_full(alloc, out, cases, ask),
+        Denial::Unsatisfiable { flow, .. } => {
+            push_name(out, p.flows(), flow.0 as u16)?;
+            out.push_str(" has no plan at all under the policy as it is")
+        }
+        Denial::NoCase => push_case_words(alloc, out, "there is no case ", case_of(ask), ""),
+        Denial::Closed => push_closed(alloc, out, cases, entries, ask),
+        Denial::NoStep => push_no_step(out, p, cases, ask),
+        Denial::NoUser => say(out, &["the policy has no user \"", asker(ask), "\""]),
+        Denial::Taken(user) => push_taken(alloc, out, p, cases, entries, ask, *user),
+        Denial::Order { flow, step } => {
+            push_step(out, p, *flow, *step)?;
+            out.push_str(" comes before it and is not finished")
+        }
+        Denial::Role(roles) => push_role(alloc, out, p, cases, ask, roles.as_slice()),
+        Denial::Rule(k) => match held_with(p, cases, ask) {
+            Some(held) => push_broken(alloc, out, p, &held, *k, " would be broken", true),
+            None => out.push_str("a rule would be broken"),
+        },
+        Denial::Stranded { .. } => out.push_str("after it, nobody could finish the case lawfully"),
+        Denial::NotHeld(state) => push_not_held(out, p, *state),
+        _ => push_edit_denial(alloc, out, p, ask, denial),
+    }
+}
+
+// The same of what is denied to administrators.
+fn push_edit_denial(
+    alloc: Global,
+    out: &mut String,
+    p: &Policy,
+    ask: &Ask,
+    denial: &Denial,
+) -> Result<(), AllocError> {
+    match denial {
+        Denial::NotAdmin => {
+            say(out, &[asker(ask), " does not have the role "])?;
+            push_name(out, p.roster().roles(), p.admin().0 as u16)?;
+            out.push_str(", which administers the policy")
+        }
+        Denial::Unknown(what) => {
+            say(
+                out,
+                &["the policy has no ", word_of(*what), " of that name"],
+            )
+        }
+        Denial::Fixed => push_fixed(out, p, ask),
+        Denial::Already => out.push_str("it is so already"),
+        Denial::Absent => out.push_str("there is nothing to take away"),
+        Denial::LastAdmin => out.push_str("nobody would administer the policy any more"),
+        Denial::Strands { case, .. } => {
+            let tail = " could no longer be finished lawfully";
+            push_case_words(alloc, out, "case ", Some(*case), tail)
+        }
+        _ => Ok(()),
+    }
+}
+
+fn word_of(what: Missing) -> &'static str {
+    match what {
+        Missing::Flow => "workflow",
+        Missing::Step => "step",
+        Missing::Relation => "relation",
+        Missing::User => "user",
+        Missing::Role => "role",
+    }
+}
+
+// Adds a case's number, between these words.
+fn push_case_words(
+    alloc: Global,
+    out: &mut String,
+    front: &str,
+    case: Option<CaseId>,
+    tail: &str,
+) -> Result<(), AllocError> {
+    out.push_str(front)?;
+    if let Some(case) = case {
+        push_number(alloc, out, case.0 as u64)?;
+    }
+    out.push_str(tail)
+}
+
+// Adds which limit is reached.
+fn push_full(alloc: Global, out: &mut String, cases: &Cases, ask: &Ask) -> Result<(), AllocError> {
+    out.push_str("there is no room: ")?;
+    match edit_asked(ask) {
+        Some(Edit::Relate { relation, .. }) => {
+            say(out, &["\"", relation.as_str(), "\" has "])?;
+            push_large(alloc, out, PAIR_LIMIT as u64)?;
+            out.push_str(" pairs")
+        }
+        Some(_) => {
+            push_large(alloc, out, USER_LIMIT as u64)?;
+            out.push_str(" users are known")
+        }
+        None if cases.live() >= OPEN_CASE_LIMIT => {
+            push_large(alloc, out, OPEN_CASE_LIMIT as u64)?;
+            out.push_str(" cases are open")
+        }
+        None => {
+            push_large(alloc, out, CASE_LIMIT as u64)?;
+            out.push_str(" cases were opened")
+        }
+    }
+}
+
+// Adds how the case has ended, and by which entry.
+fn push_closed(
+    alloc: Global,
+    out: &mut String,
+    cases: &Cases,
+    entries: &[Entry],
+    ask: &Ask,
+) -> Result<(), AllocError> {
+    let Some(c) = case_of(ask) else {
+        return out.push_str("the case is not open");
+    };
+    let tail = match cases.case(c) {
+        Some(case) if case.phase().is_done() => " is done",
+        Some(case) if !case.phase().is_live() => " was withdrawn",
+        _ => " is not open",
+    };
+    push_case_words(alloc, out, "case ", Some(c), tail)?;
+    push_which(alloc, out, entries, c, Deed::End)
+}
+
+// Adds which steps there are.
+fn push_no_step(out: &mut String, p: &Policy, cases: &Cases, ask: &Ask) -> Result<(), AllocError> {
+    let Some((case, step)) = step_asked(ask) else {
+        return out.push_str("there is no such step");
+    };
+    let Some(held) = held_in(p, cases, case) else {
+        return say(out, &["there is no step \"", step.as_str(), "\""]);
+    };
+    push_name(out, p.flows(), held.flow.0 as u16)?;
+    say(
+        out,
+        &[" has no step \"", step.as_str(), "\"; its steps are "],
+    )?;
+    push_steps(out, p, held.flow)
+}
+
+// Adds who has the step.
+fn push_taken(
+    alloc: Global,
+    out: &mut String,
+    p: &Policy,
+    cases: &Cases,
+    entries: &[Entry],
+    ask: &Ask,
+    user: UserId,
+) -> Result<(), AllocError> {
+    push_user(out, p, user)?;
+    match (place_asked(p, cases, ask), step_asked(ask)) {
+        (Some(place), Some((case, step))) if place.held.done.has(place.step) => {
+            out.push_str(" has finished it")?;
+            push_which(alloc, out, entries, case, Deed::Finish(step.as_str()))
+        }
+        _ => out.push_str(" holds it already"),
+    }
+}
+
+// Adds which roles are permitted for the step, and who has one of them.
+fn push_role(
+    alloc: Global,
+    out: &mut String,
+    p: &Policy,
+    cases: &Cases,
+    ask: &Ask,
+    roles: &[RoleId],
+) -> Result<(), AllocError> {
+    say(out, &[asker(ask), " is not allowed to do it; "])?;
+    match roles.len() {
+        0 => return out.push_str("no role is"),
+        1 => out.push_str("the role ")?,
+        _ => out.push_str("the roles ")?,
+    }
+    push_roles(out, p, roles)?;
+    out.push_str(if roles.len() == 1 { " is (" } else { " are (" })?;
+    match place_asked(p, cases, ask) {
+        Some(place) => {
+            let users = p.authorised_users(place.held.flow, place.step);
+            push_users(alloc, out, p, &users, "and")?;
+        }
+        None => {}
+    }
+    out.push_str(")")
+}
+
+// Adds where a step stands that the user does not hold.
+fn push_not_held(out: &mut String, p: &Policy, state: StepState) -> Result<(), AllocError> {
+    match state {
+        StepState::Free => out.push_str("nobody holds it"),
+        StepState::Held(user) => {
+            push_user(out, p, user)?;
+            out.push_str(" holds it")
+        }
+        StepState::Finished(user) => {
+            push_user(out, p, user)?;
+            out.push_str(" has finished it")
+        }
+    }
+}
+
+// Adds why the pairs of a relation are not listed.
+fn push_fixed(out: &mut String, p: &Policy, ask: &Ask) -> Result<(), AllocError> {
+    let Some(Edit::Relate { relation, .. } | Edit::Unrelate { relation, .. }) = edit_asked(ask)
+    else {
+        return out.push_str("the pairs of the relation are not listed");
+    };
+    say(out, &["\"", relation.as_str(), "\" is "])?;
+    let rho = p.relations().find(&relation).unwrap_or(RelId::SAME);
+    let of = p.relations().complement_of(rho).unwrap_or(RelId::SAME);
+    match relation_name(p, of) {
+        Some(name) if of != RelId::SAME => {
+            say(out, &["the complement of \"", name.as_str(), "\""])?;
+        }
+        _ => out.push_str("built in")?,
+    }
+    out.push_str(": its pairs are not listed")
+}

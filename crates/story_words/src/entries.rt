@@ -1,0 +1,95 @@
+//! An entry, in one line or in several.
+
+use crate::answers::{push_answer, push_reply};
+use crate::asks::push_ask;
+use crate::names::{NAMED, push_number};
+use crate::refused::{Telling, push_refused};
+use grant_table::Cases;
+use policy_book::Policy;
+use std::alloc::{AllocError, Global};
+use wf_talk::{Entry, Reply};
+
+/// Adds what was asked and answered, in one line without its end. The policy and the cases are
+/// those after the entry, which is the last of the entries.
+pub fn push_line(
+    alloc: Global,
+    out: &mut String,
+    p: &Policy,
+    cases: &Cases,
+    entries: &[Entry],
+    entry: &Entry,
+) -> Result<(), AllocError> {
+    push_ask(alloc, out, &entry.ask)?;
+    out.push_str(": ")?;
+    push_answer(alloc, out, p, cases, entries, entry)
+}
+
+/// Adds which edits were accepted before an entry, what was answered, and why. The policy and the
+/// cases are those after the entry, which is the last of the entries.
+pub fn push_entry(
+    alloc: Global,
+    out: &mut String,
+    p: &Policy,
+    cases: &Cases,
+    entries: &[Entry],
+    entry: &Entry,
+) -> Result<(), AllocError> {
+    push_edits(alloc, out, entries, entry.at)?;
+    out.push_str("Answer: ")?;
+    push_reply(alloc, out, p, cases, entries, entry)?;
+    out.push_str(".\n")?;
+    push_refused(alloc, out, p, cases, entry, Telling::InLines)?;
+    match entry.reply {
+        Reply::Denied(_) | Reply::Bad(_) => out.push_str("Nothing was changed by it.\n"),
+        _ => Ok(()),
+    }
+}
+
+// Adds a line for each of the last edits that were accepted before an entry.
+fn push_edits(
+    alloc: Global,
+    out: &mut String,
+    entries: &[Entry],
+    before: u32,
+) -> Result<(), AllocError> {
+    let count = edits_before(entries, before);
+    let first = count.saturating_sub(NAMED);
+    if first > 0 {
+        out.push_str("Entries that had changed the policy before these: ")?;
+        push_number(alloc, out, first as u64)?;
+        out.push_str(".\n")?;
+    }
+    let mut place = 0u32;
+    for entry in entries {
+        if is_edit_before(entry, before) {
+            if place >= first {
+                push_edit_line(alloc, out, entry)?;
+            }
+            place = place.saturating_add(1);
+        }
+    }
+    Ok(())
+}
+
+fn push_edit_line(alloc: Global, out: &mut String, entry: &Entry) -> Result<(), AllocError> {
+    out.push_str("The policy had been changed by entry ")?;
+    push_number(alloc, out, entry.at as u64)?;
+    out.push_str(": ")?;
+    push_ask(alloc, out, &entry.ask)?;
+    out.push_str(".\n")
+}
+
+fn edits_before(entries: &[Entry], before: u32) -> u32 {
+    let mut count = 0u32;
+    for entry in entries {
+        if is_edit_before(entry, before) {
+            count = count.saturating_add(1);
+        }
+    }
+    count
+}
+
+// Whether an entry stands before a place and has changed the policy.
+fn is_edit_before(entry: &Entry, before: u32) -> bool {
+    entry.at < before && matches!(entry.reply, Reply::Edited { .. })
+}

@@ -1,0 +1,103 @@
+//! Why nobody could finish a case after what was denied.
+ghost use Rattle.std.specs.Prelude.{◌<◌, length};
+
+use crate::held::{Held, held_in, held_with, is_flow};
+use crate::trees::push_short;
+use crate::why::push_why;
+use admin_edits::{EditFault, apply};
+use constraint_forms::{Assign, StepSet};
+use grant_table::Cases;
+use policy_book::Policy;
+use refutation_tree::Tree;
+use std::alloc::{AllocError, Global};
+use wf_names::CaseId;
+use wf_talk::{Ask, Denial, Entry, Reply, Request};
+
+/// How much is told of a tree.
+#[derive(Clone, Copy)]
+pub(crate) enum Telling {
+    /// What has room in the line, behind what stands there.
+    InLine,
+    /// All of it, in lines below.
+    InLines,
+}
+
+/// Adds why nobody could finish a case after what was denied, if that is why it was.
+pub(crate) fn push_refused(
+    alloc: Global,
+    out: &mut String,
+    p: &Policy,
+    cases: &Cases,
+    entry: &Entry,
+    telling: Telling,
+) -> Result<(), AllocError> {
+    match &entry.reply {
+        Reply::Denied(Denial::Unsatisfiable { flow, tree }) => {
+            let held = Held {
+                flow: *flow,
+                users: Assign::empty(),
+                done: StepSet::empty(),
+            };
+            push_told(alloc, out, p, &held, tree, telling)
+        }
+        Reply::Denied(Denial::Stranded { tree, .. }) => {
+            match held_with(p, cases, &entry.ask) {
+                Some(held) => push_told(alloc, out, p, &held, tree, telling),
+                None => Ok(()),
+            }
+        }
+        Reply::Denied(Denial::Strands { case, tree, .. }) => {
+            push_strands(alloc, out, p, cases, &entry.ask, *case, tree, telling)
+        }
+        _ => Ok(()),
+    }
+}
+
+// The same of an edit, under the policy that it would have made.
+fn push_strands(
+    alloc: Global,
+    out: &mut String,
+    p: &Policy,
+    cases: &Cases,
+    ask: &Ask,
+    case: CaseId,
+    tree: &Tree,
+    telling: Telling,
+) -> Result<(), AllocError> {
+    let Some(edited) = edited(p, ask)? else {
+        return Ok(());
+    };
+    match held_in(&edited, cases, case) {
+        Some(held) => push_told(alloc, out, &edited, &held, tree, telling),
+        None => Ok(()),
+    }
+}
+
+// The policy as the edit that is asked for would leave it.
+fn edited(p: &Policy, ask: &Ask) -> Result<Option<Policy>, AllocError> {
+    match ask {
+        Ask::Request(Request::Change { by, edit }) => match apply(p, by, edit) {
+            Ok(edited) => Ok(Some(edited)),
+            Err(EditFault::NoMemory) => Err(AllocError),
+            Err(_) => Ok(None),
+        },
+        _ => Ok(None),
+    }
+}
+
+fn push_told(
+    alloc: Global,
+    out: &mut String,
+    p: &Policy,
+    held: &Held,
+    tree: &Tree,
+    telling: Telling,
+) -> Result<(), AllocError> {
+    if !is_flow(p, held.flow) {
+        return Ok(());
+    }
+    match telling {
+        Telling::InLine => push_short(alloc, out, p, held, tree),
+        Telling::InLines => push_why(alloc, out, p, held, tree),
+    }
+}

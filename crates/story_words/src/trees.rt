@@ -1,0 +1,288 @@
+//! Why nobody can finish a case, as a tree tells it.
+ghost use Rattle.std.specs.Prelude.{◌≡◌, ◌<◌, length};
+
+use crate::facts::push_broken;
+use crate::held::{Held, given, is_flow};
+use crate::names::{push_step, push_user, push_users};
+use constraint_forms::{Assign, StepSet};
+use plain_words::say;
+use policy_book::Policy;
+use refutation_tree::{Branch, Kid, Tree};
+use std::alloc::{AllocError, Global};
+use wf_names::{FlowId, RULE_LIMIT, StepId, USER_LIMIT, UserId, UserSet};
+
+/// Adds the lines of a tree that shows why nobody can finish a case in which steps are given so, each
+/// behind this indent.
+pub fn push_tree(
+    alloc: Global,
+    out: &mut String,
+    indent: &str,
+    p: &Policy,
+    f: FlowId,
+    a: &Assign,
+    done: &StepSet,
+    tree: &Tree,
+) -> Result<(), AllocError> {
+    if !is_flow(p, f) {
+        return Ok(());
+    }
+    let held = Held {
+        flow: f,
+        users: *a,
+        done: *done,
+    };
+    out.push_str(indent)?;
+    push_node(alloc, out, indent, p, &held, tree)
+}
+
+// Adds what a tree says behind what stands in the line, and the lines below it.
+#[cycle(tree)]
+fn push_node(
+    alloc: Global,
+    out: &mut String,
+    indent: &str,
+    p: &Policy,
+    held: &Held,
+    tree: &Tree,
+) -> Result<(), AllocError>
+    requires { held.now.flow < length p.now.flows }
+{
+    match tree {
+        Tree::Holder(s) => {
+            push_holder(out, p, held, *s)?;
+            out.push_str(".\n")
+        }
+        Tree::Rule(k) => {
+            push_broken(alloc, out, p, held, *k, " is broken", false)?;
+            out.push_str(".\n")
+        }
+        Tree::Step(s, branches) => {
+            let branches = branches.as_slice();
+            push_choice(alloc, out, p, held, *s, branches)?;
+            out.push_str(".\n")?;
+            push_leaves(alloc, out, indent, p, held, *s, branches)?;
+            push_branches(alloc, out, indent, p, held, *s, branches)
+        }
+    }
+}
+
+// Adds the branches that go on, or are told by another one.
+#[cycle(tree)]
+fn push_branches(
+    alloc: Global,
+    out: &mut String,
+    indent: &str,
+    p: &Policy,
+    held: &Held,
+    s: StepId,
+    branches: &[Branch],
+) -> Result<(), AllocError>
+    requires { held.now.flow < length p.now.flows }
+{
+    'branches: for branch in branches {
+        push_branch(alloc, out, indent, p, held, s, branch)?;
+    }
+    Ok(())
+}
+
+#[cycle(tree)]
+fn push_branch(
+    alloc: Global,
+    out: &mut String,
+    indent: &str,
+    p: &Policy,
+    held: &Held,
+    s: StepId,
+    branch: &Branch,
+) -> Result<(), AllocError>
+    requires { held.now.flow < length p.now.flows }
+{
+    match &branch.kid {
+        Kid::Tree(Tree::Rule(_)) => Ok(()),
+        Kid::Tree(tree) => {
+            say(out, &[indent, "- If "])?;
+            push_user(out, p, branch.user)?;
+            out.push_str(" does it, ")?;
+            let next = given(held, s, branch.user);
+            let deeper = format!(in alloc; "{indent}  ")?;
+            push_node(alloc, out, deeper.as_str(), p, &next, tree)
+        }
+        Kid::Twin(twin) => push_twin(out, indent, p, branch.user, *twin),
+    }
+}
+
+fn push_twin(
+    out: &mut String,
+    indent: &str,
+    p: &Policy,
+    u: UserId,
+    twin: UserId,
+) -> Result<(), AllocError> {
+    say(out, &[indent, "- "])?;
+    push_user(out, p, u)?;
+    out.push_str(": as for ")?;
+    push_user(out, p, twin)?;
+    out.push_str(", who can be exchanged with ")?;
+    push_user(out, p, u)?;
+    out.push_str(" here.\n")
+}
+
+// Adds a line for each rule that some branches break at once.
+fn push_leaves(
+    alloc: Global,
+    out: &mut String,
+    indent: &str,
+    p: &Policy,
+    held: &Held,
+    s: StepId,
+    branches: &[Branch],
+) -> Result<(), AllocError>
+    requires { held.now.flow < length p.now.flows }
+{
+    for k in 0..RULE_LIMIT {
+        let users = users_of(branches, Some(k as u8));
+        if users.count() > 0 {
+            say(out, &[indent, "- "])?;
+            push_leaf(alloc, out, p, held, s, k as u8, &users)?;
+            out.push_str(".\n")?;
+        }
+    }
+    Ok(())
+}
+
+// Adds that each of some users breaks a rule at once, and how the first does.
+fn push_leaf(
+    alloc: Global,
+    out: &mut String,
+    p: &Policy,
+    held: &Held,
+    s: StepId,
+    k: u8,
+    users: &UserSet,
+) -> Result<(), AllocError>
+    requires { held.now.flow < length p.now.flows }
+{
+    out.push_str("If ")?;
+    push_users(alloc, out, p, users, "or")?;
+    out.push_str(" does it, ")?;
+    match users.next(0) {
+        Some(u) => {
+            let next = given(held, s, u);
+            push_broken(alloc, out, p, &next, k, " is broken", false)
+        }
+        None => Ok(()),
+    }
+}
+
+// The users of some branches: of all, or of those that break a rule at once.
+fn users_of(branches: &[Branch], rule: Option<u8>) -> UserSet {
+    let mut users = UserSet::empty();
+    for branch in branches {
+        let is_one = match (rule, &branch.kid) {
+            (Some(k), Kid::Tree(Tree::Rule(j))) => *j == k,
+            (Some(_), _) => false,
+            (None, _) => true,
+        };
+        if is_one && branch.user.0 < USER_LIMIT {
+            users.insert(branch.user);
+        }
+    }
+    users
+}
+
+// Adds who alone can do a step.
+fn push_choice(
+    alloc: Global,
+    out: &mut String,
+    p: &Policy,
+    held: &Held,
+    s: StepId,
+    branches: &[Branch],
+) -> Result<(), AllocError>
+    requires { held.now.flow < length p.now.flows }
+{
+    push_step(out, p, held.flow, s)?;
+    out.push_str(" can be done by ")?;
+    let users = users_of(branches, None);
+    if users.count() == 0 {
+        return out.push_str("nobody");
+    }
+    push_users(alloc, out, p, &users, "and")?;
+    out.push_str(" alone")
+}
+
+/// Adds that who has a step may no longer do it.
+pub(crate) fn push_holder(
+    out: &mut String,
+    p: &Policy,
+    held: &Held,
+    s: StepId,
+) -> Result<(), AllocError>
+    requires { held.now.flow < length p.now.flows }
+{
+    if let Some(u) = held.users.at(s) {
+        push_user(out, p, u)?;
+    }
+    out.push_str(" holds ")?;
+    push_step(out, p, held.flow, s)?;
+    out.push_str(" and is no longer allowed to do it")
+}
+
+/// Adds what a tree says in one line, where one line is enough for it: behind a full stop.
+pub(crate) fn push_short(
+    alloc: Global,
+    out: &mut String,
+    p: &Policy,
+    held: &Held,
+    tree: &Tree,
+) -> Result<(), AllocError>
+    requires { held.now.flow < length p.now.flows }
+{
+    match tree {
+        Tree::Holder(s) => {
+            out.push_str(". ")?;
+            push_holder(out, p, held, *s)
+        }
+        Tree::Rule(k) => {
+            out.push_str(". ")?;
+            push_broken(alloc, out, p, held, *k, " is broken", false)
+        }
+        Tree::Step(s, branches) => push_short_node(alloc, out, p, held, *s, branches.as_slice()),
+    }
+}
+
+// The same of a node, where all of its branches break one rule at once.
+fn push_short_node(
+    alloc: Global,
+    out: &mut String,
+    p: &Policy,
+    held: &Held,
+    s: StepId,
+    branches: &[Branch],
+) -> Result<(), AllocError>
+    requires { held.now.flow < length p.now.flows }
+{
+    match branches {
+        [] => {
+            out.push_str(". ")?;
+            push_choice(alloc, out, p, held, s, branches)
+        }
+        [
+            Branch {
+                kid: Kid::Tree(Tree::Rule(k)),
+                ..
+            },
+            ..
+        ] => {
+            let users = users_of(branches, Some(*k));
+            if users.count() as usize != branches.len() {
+                return Ok(());
+            }
+            out.push_str(". ")?;
+            push_choice(alloc, out, p, held, s, branches)?;
+            out.push_str(". ")?;
+            push_leaf(alloc, out, p, held, s, *k, &users)
+        }
+        _ => Ok(()),
+    }
+}

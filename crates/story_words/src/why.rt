@@ -1,0 +1,135 @@
+//! Why nobody can finish a case, in lines: a tree, or what is shorter.
+ghost use Rattle.std.specs.Prelude.{◌<◌, length};
+
+use crate::crowds::push_crowd;
+use crate::held::{Held, fits};
+use crate::names::push_rules;
+use crate::trees::{push_holder, push_tree};
+use plain_words::rule_text;
+use policy_book::Policy;
+use refutation_tree::Tree;
+use rule_core::{Why, why_of};
+use std::alloc::{AllocError, Global};
+use wf_names::{STEP_LIMIT, StepId};
+
+/// A tree with more leaves and nodes is not told.
+const MOST_NODES: u64 = 40;
+
+/// Adds why nobody can finish a case: that some steps want more different users than there are for
+/// them, where that is found; else the tree, and which rules cannot be met together.
+pub(crate) fn push_why(
+    alloc: Global,
+    out: &mut String,
+    p: &Policy,
+    held: &Held,
+    tree: &Tree,
+) -> Result<(), AllocError>
+    requires { held.now.flow < length p.now.flows }
+{
+    if !fits(p, held) {
+        return push_small(alloc, out, p, held, tree);
+    }
+    match why_of(alloc, p, held.flow, &held.users, &held.done)? {
+        Why::Crowd(steps) => push_crowd(alloc, out, p, held, steps.as_slice()),
+        Why::Clash(rules) => push_clash(alloc, out, p, held, tree, rules.as_slice()),
+        Why::Plan(_) => push_small(alloc, out, p, held, tree),
+    }
+}
+
+// Adds a tree that is small.
+fn push_small(
+    alloc: Global,
+    out: &mut String,
+    p: &Policy,
+    held: &Held,
+    tree: &Tree,
+) -> Result<(), AllocError>
+    requires { held.now.flow < length p.now.flows }
+{
+    if tree.nodes() > MOST_NODES {
+        return Ok(());
+    }
+    push_tree(
+        alloc,
+        out,
+        "  ",
+        p,
+        held.flow,
+        &held.users,
+        &held.done,
+        tree,
+    )
+}
+
+// Adds a small tree, or else the words of the rules; and that they cannot be met together.
+fn push_clash(
+    alloc: Global,
+    out: &mut String,
+    p: &Policy,
+    held: &Held,
+    tree: &Tree,
+    rules: &[u8],
+) -> Result<(), AllocError>
+    requires { held.now.flow < length p.now.flows }
+{
+    if rules.is_empty() {
+        return push_blameless(out, p, held);
+    }
+    if tree.nodes() > MOST_NODES {
+        push_rule_lines(alloc, out, p, held, rules)?;
+    } else {
+        push_tree(
+            alloc,
+            out,
+            "  ",
+            p,
+            held.flow,
+            &held.users,
+            &held.done,
+            tree,
+        )?;
+    }
+    push_rules(alloc, out, "Rule", rules)?;
+    out.push_str(match rules.len() {
+        1 => " cannot be met then. ",
+        2 => " cannot both be met then. ",
+        _ => " cannot all be met then. ",
+    })
+}
+
+// Adds a line for each of some rules.
+fn push_rule_lines(
+    alloc: Global,
+    out: &mut String,
+    p: &Policy,
+    held: &Held,
+    rules: &[u8],
+) -> Result<(), AllocError>
+    requires { held.now.flow < length p.now.flows }
+{
+    for k in rules {
+        if let Some(rule) = p.rules(held.flow).as_slice().get(*k as usize) {
+            let words = rule_text(alloc, p, held.flow, rule)?;
+            let line = format!(in alloc; "  rule {k}: {words}\n")?;
+            out.push_str(line.as_str())?;
+        }
+    }
+    Ok(())
+}
+
+// Adds that no rule is to blame, and who has lost a step.
+fn push_blameless(out: &mut String, p: &Policy, held: &Held) -> Result<(), AllocError>
+    requires { held.now.flow < length p.now.flows }
+{
+    out.push_str("  No rule is to blame: ")?;
+    for s in 0..STEP_LIMIT {
+        let step = StepId(s as u8);
+        if let (false, Some(u)) = (held.done.has(step), held.users.at(step)) {
+            if !p.authorised_users(held.flow, step).has(u) {
+                push_holder(out, p, held, step)?;
+                return out.push_str(".\n");
+            }
+        }
+    }
+    out.push_str("a step can be done by nobody.\n")
+}
