@@ -3,7 +3,7 @@
 use crate::answers::{push_answer, push_reply};
 use crate::asks::push_ask;
 use crate::names::{NAMED, push_number};
-use crate::refused::{Telling, push_refused};
+use crate::refused::push_reasons;
 use grant_table::Cases;
 use policy_book::Policy;
 use std::alloc::{AllocError, Global};
@@ -38,7 +38,7 @@ pub fn push_entry(
     out.push_str("Answer: ")?;
     push_reply(alloc, out, p, cases, entries, entry)?;
     out.push_str(".\n")?;
-    push_refused(alloc, out, p, cases, entry, Telling::InLines)?;
+    push_reasons(alloc, out, p, cases, entry)?;
     match entry.reply {
         Reply::Denied(_) | Reply::Bad(_) => out.push_str("Nothing was changed by it.\n"),
         _ => Ok(()),

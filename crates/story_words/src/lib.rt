@@ -22,5 +22,6 @@ pub use about::subject;
 pub use answers::push_answer;
 pub use asks::push_ask;
 pub use entries::{push_entry, push_line};
+pub use refused::push_reasons;
 pub use tables::push_case;
 pub use trees::push_tree;

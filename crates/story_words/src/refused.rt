@@ -22,7 +22,19 @@ pub(crate) enum Telling {
     InLines,
 }
 
-/// Adds why nobody could finish a case after what was denied, if that is why it was.
+/// Adds lines that tell why nobody could finish a case after what was denied, if that is why it was.
+/// The policy and the cases are those after the entry.
+pub fn push_reasons(
+    alloc: Global,
+    out: &mut String,
+    p: &Policy,
+    cases: &Cases,
+    entry: &Entry,
+) -> Result<(), AllocError> {
+    push_refused(alloc, out, p, cases, entry, Telling::InLines)
+}
+
+/// The same, told in this way.
 pub(crate) fn push_refused(
     alloc: Global,
     out: &mut String,

@@ -36,7 +36,7 @@ pub fn push_tree(
 }
 
 // Adds what a tree says behind what stands in the line, and the lines below it.
-#[cycle(tree)]
+#[cycle(push_node)]
 fn push_node(
     alloc: Global,
     out: &mut String,
@@ -67,7 +67,7 @@ fn push_node(
 }
 
 // Adds the branches that go on, or are told by another one.
-#[cycle(tree)]
+#[cycle(push_node)]
 fn push_branches(
     alloc: Global,
     out: &mut String,
@@ -85,7 +85,7 @@ fn push_branches(
     Ok(())
 }
 
-#[cycle(tree)]
+#[cycle(push_node)]
 fn push_branch(
     alloc: Global,
     out: &mut String,

@@ -1,0 +1,14 @@
+use Rattle.std.proofs.Common.{◌≡◌, ◌<◌, ℕ, zero, suc, Bool, true, false, IsTrue, List, [], ◌∷◌, length, Some, arith}
+use Rattle.constraint_forms.specs.Assigned.{is_member, user_at}
+use Rattle.story_words.proofs.held.are_given.Goals as goal
+
+member_within : (group : List Bool) (s : ℕ) → IsTrue (is_member group s) → s < length group
+member_within [] s is = absurd is
+member_within (x ∷ xs) zero is = omega arith
+member_within (x ∷ xs) (suc s) is = omega (arith, member_within xs s is)
+
+pub returns : goal.returns
+returns c told s is = c.steps.invariant s below is
+  where
+    below : s < c.steps.s
+    below = omega (arith, member_within c.args.done.now s is, c.limit-limit.ensures.len, c.limit-limit.ensures.limit, c.steps-test.false)

@@ -1,0 +1,20 @@
+use Rattle.std.proofs.Common.{◌≡◌, ◌<◌, ℕ, zero, suc, List, [], ◌∷◌, length, Option, Some, arith}
+use Rattle.constraint_forms.specs.Assigned.{user_at}
+use Rattle.policy_book.specs.Policies.{problem_of}
+use Rattle.certificate_check.proofs.Assigned.{none_not_some}
+use Rattle.story_words.proofs.held.is_within.Goals as goal
+
+assigned_within : (a : List (Option ℕ)) (s u : ℕ) → user_at a s ≡ Some u → s < length a
+assigned_within [] s u is = none_not_some u is
+assigned_within (x ∷ xs) zero u is = omega arith
+assigned_within (x ∷ xs) (suc s) u is = omega (arith, assigned_within xs s u is)
+
+pub returns : goal.returns
+returns c told = record { steps = λ s u is. (known s u is).0; users = λ s u is. (known s u is).1 }
+  where
+    below : (s u : ℕ) → user_at c.args.a.now s ≡ Some u → s < c.steps.s
+    below s u is =
+        omega (arith, assigned_within c.args.a.now s u is, c.steps.invariant.1 (omega (arith, c.steps-test.false)), c.steps-test.false)
+
+    known : (s u : ℕ) → user_at c.args.a.now s ≡ Some u → (s < (problem_of c.args.p.now c.args.f).steps) × (u < (problem_of c.args.p.now c.args.f).users)
+    known s u is = c.steps.invariant.0 s (below s u is) u is
