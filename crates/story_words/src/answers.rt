@@ -60,7 +60,7 @@ pub(crate) fn push_reply(
             push_number(alloc, out, *number as u64)
         }
         Reply::Shown(face) => out.push_str(phase_words(face.phase)),
-        Reply::Work(items) => { push_work(alloc, out, p, asker(&entry.ask), items.as_slice()) }
+        Reply::Work(items) => push_work(alloc, out, p, asker(&entry.ask), items.as_slice()),
         Reply::WhatIf(stranded) => push_stranded(alloc, out, stranded.as_slice()),
         Reply::Denied(denial) => {
             out.push_str("denied: ")?;

@@ -73,39 +73,40 @@ fn push_edit(out: &mut String, front: &[&str], edit: &Edit) -> Result<(), AllocE
     match edit {
         Edit::AddUser { user } => say(out, &[" adds user ", user.as_str()]),
         Edit::Leave { user } => say(out, &[" takes ", user.as_str(), " out (all roles)"]),
-        Edit::Enrol { role, user } => {
-            say(
-                out,
-                &[" gives the role ", role.as_str(), " to ", user.as_str()],
-            )
-        }
-        Edit::Dismiss { role, user } => {
-            say(
-                out,
-                &[" takes the role ", role.as_str(), " from ", user.as_str()],
-            )
-        }
+        Edit::Enrol { role, user } => say(
+            out,
+            &[" gives the role ", role.as_str(), " to ", user.as_str()],
+        ),
+        Edit::Dismiss { role, user } => say(
+            out,
+            &[" takes the role ", role.as_str(), " from ", user.as_str()],
+        ),
         Edit::Relate {
             first,
             relation,
             second,
-        } => { push_pair(out, "puts ", [first, second, relation], "into") }
+        } => push_pair(out, " puts ", first, second, " into \"", relation),
         Edit::Unrelate {
             first,
             relation,
             second,
-        } => { push_pair(out, "takes ", [first, second, relation], "out of") }
+        } => push_pair(out, " takes ", first, second, " out of \"", relation),
         Edit::Permit { flow, role, step } => push_permit(out, " permits ", step, flow, role),
         Edit::Forbid { flow, role, step } => push_permit(out, " forbids ", step, flow, role),
         Edit::Retire { flow } => say(out, &[" retires ", flow.as_str()]),
     }
 }
 
-fn push_pair(out: &mut String, verb: &str, names: [&Name; 3], way: &str) -> Result<(), AllocError> {
-    let [first, second, relation] = names;
+fn push_pair(
+    out: &mut String,
+    verb: &str,
+    first: &Name,
+    second: &Name,
+    way: &str,
+    relation: &Name,
+) -> Result<(), AllocError> {
     let (u, v) = (first.as_str(), second.as_str());
-    say(out, &[" ", verb, u, " before ", v, " ", way])?;
-    say(out, &[" \"", relation.as_str(), "\""])
+    say(out, &[verb, u, " before ", v, way, relation.as_str(), "\""])
 }
 
 fn push_permit(

@@ -30,10 +30,13 @@ pub(crate) fn push_crowd(
     say(out, &["  In short: ", all.as_str(), " want "])?;
     push_number(alloc, out, steps.len() as u64)?;
     out.push_str(" different people, and only ")?;
-    let users = takers(p, held, steps);
+    let (users, is_given) = takers(p, held, steps);
     push_number(alloc, out, users.count() as u64)?;
-    out.push_str(if users.count() == 1 { " has" } else { " have" })?;
-    out.push_str(" or may do any of them: ")?;
+    out.push_str(match (is_given, users.count()) {
+        (false, _) => " may do any of them: ",
+        (true, 1) => " has or may do any of them: ",
+        (true, _) => " have or may do any of them: ",
+    })?;
     push_users(alloc, out, p, &users, "and")?;
     let rules = parting(alloc, p, held, steps)?;
     if !rules.as_slice().is_empty() {
@@ -44,18 +47,21 @@ pub(crate) fn push_crowd(
     out.push_str(".\n")
 }
 
-// The users who have or may do one of the steps.
-fn takers(p: &Policy, held: &Held, steps: &[StepId]) -> UserSet
+// The users who have or may do one of the steps, and whether somebody has one.
+fn takers(p: &Policy, held: &Held, steps: &[StepId]) -> (UserSet, bool)
     requires { held.now.flow < length p.now.flows }
 {
-    let mut users = UserSet::empty();
+    let (mut users, mut is_given) = (UserSet::empty(), false);
     for s in steps {
         match held.users.at(*s) {
-            Some(u) if u.0 < USER_LIMIT => users.insert(u),
+            Some(u) if u.0 < USER_LIMIT => {
+                users.insert(u);
+                is_given = true;
+            }
             _ => users.join(&p.authorised_users(held.flow, *s)),
         }
     }
-    users
+    (users, is_given)
 }
 
 // The numbers of the rules that want different users for two of the steps.

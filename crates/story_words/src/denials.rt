@@ -69,12 +69,10 @@ fn push_edit_denial(
             push_name(out, p.roster().roles(), p.admin().0 as u16)?;
             out.push_str(", which administers the policy")
         }
-        Denial::Unknown(what) => {
-            say(
-                out,
-                &["the policy has no ", word_of(*what), " of that name"],
-            )
-        }
+        Denial::Unknown(what) => say(
+            out,
+            &["the policy has no ", word_of(*what), " of that name"],
+        ),
         Denial::Fixed => push_fixed(out, p, ask),
         Denial::Already => out.push_str("it is so already"),
         Denial::Absent => out.push_str("there is nothing to take away"),

@@ -76,11 +76,11 @@ fn push_strands(
     tree: &Tree,
     telling: Telling,
 ) -> Result<(), AllocError> {
-    let Some(edited) = edited(p, ask)? else {
+    let Some(after) = edited(p, ask)? else {
         return Ok(());
     };
-    match held_in(&edited, cases, case) {
-        Some(held) => push_told(alloc, out, &edited, &held, tree, telling),
+    match held_in(&after, cases, case) {
+        Some(held) => push_told(alloc, out, &after, &held, tree, telling),
         None => Ok(()),
     }
 }

@@ -1,11 +1,11 @@
-use Rattle.std.proofs.Common.{◌≡◌, ◌<◌, ℕ, zero, suc, List, [], ◌∷◌, length, Option, Some, arith}
+use Rattle.std.proofs.Common.{◌≡◌, ap, ◌<◌, ℕ, zero, suc, List, [], ◌∷◌, length, Option, None, Some, is_some, arith}
+use Rattle.std.proofs.lemmas.Bool.{false≢true}
 use Rattle.constraint_forms.specs.Assigned.{user_at}
 use Rattle.policy_book.specs.Policies.{problem_of}
-use Rattle.certificate_check.proofs.Assigned.{none_not_some}
 use Rattle.story_words.proofs.held.is_within.Goals as goal
 
 assigned_within : (a : List (Option ℕ)) (s u : ℕ) → user_at a s ≡ Some u → s < length a
-assigned_within [] s u is = none_not_some u is
+assigned_within [] s u is = absurd (false≢true (ap is_some is))
 assigned_within (x ∷ xs) zero u is = omega arith
 assigned_within (x ∷ xs) (suc s) u is = omega (arith, assigned_within xs s u is)
 
