@@ -68,23 +68,23 @@ fn push_fact(
             push_unrelated(alloc, out, p, held, rho, first, second)
         }
         Rule::AllOf { rho, group, step } => {
-            push_one(alloc, out, p, held, &wish(rho, &group, step, false))
+            push_one(alloc, out, p, held, &wish_of(rho, &group, step, false))
         }
         Rule::AllTo { rho, step, group } => {
-            push_one(alloc, out, p, held, &wish(rho, &group, step, true))
+            push_one(alloc, out, p, held, &wish_of(rho, &group, step, true))
         }
         Rule::SomeOf { rho, group, step } => {
-            push_none(alloc, out, p, held, &wish(rho, &group, step, false))
+            push_none(alloc, out, p, held, &wish_of(rho, &group, step, false))
         }
         Rule::SomeTo { rho, step, group } => {
-            push_none(alloc, out, p, held, &wish(rho, &group, step, true))
+            push_none(alloc, out, p, held, &wish_of(rho, &group, step, true))
         }
         Rule::AtMost { group, .. } => push_many(alloc, out, p, held, &group),
         Rule::AtLeast { group, .. } => push_few(alloc, out, p, held, &group),
     }
 }
 
-fn wish(rho: RelId, group: &StepSet, step: StepId, back: bool) -> Wish {
+fn wish_of(rho: RelId, group: &StepSet, step: StepId, back: bool) -> Wish {
     Wish {
         rho,
         group: *group,
