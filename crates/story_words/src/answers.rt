@@ -27,8 +27,8 @@ pub fn push_answer(
     push_refused(alloc, out, p, cases, entry, Telling::InLine)
 }
 
-/// The same without a tree.
-pub(crate) fn push_reply(
+/// The same without a tree, which `push_reasons` tells.
+pub fn push_reply(
     alloc: Global,
     out: &mut String,
     p: &Policy,

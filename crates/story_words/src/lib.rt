@@ -19,7 +19,7 @@ mod trees;
 mod why;
 
 pub use about::subject;
-pub use answers::push_answer;
+pub use answers::{push_answer, push_reply};
 pub use asks::push_ask;
 pub use entries::{push_entry, push_line};
 pub use refused::push_reasons;

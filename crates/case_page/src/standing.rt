@@ -1,0 +1,105 @@
+//! How a case stands, and how it can be finished.
+ghost use Rattle.std.specs.Prelude.{◌<◌, length};
+
+use crate::html::{Html, Part};
+use case_record::Case;
+use constraint_forms::Plan;
+use plain_words::{name_text, push_gap, rule_text, say, step_text};
+use policy_book::Policy;
+use std::alloc::{AllocError, Global};
+use wf_names::{FlowId, Phase, StepId};
+
+/// Adds the sentence on how a case stands.
+pub(crate) fn put_standing(out: &mut Html, case: &Case) -> Result<(), AllocError> {
+    let steps = case.steps() as u32;
+    let (finished, held) = counts(case);
+    match case.phase() {
+        Phase::Done => out.put(&[
+            Part::Mark("<p class=\"lead\">It is done: all of its "),
+            Part::Number(steps),
+            Part::Mark(" steps are finished.</p>\n"),
+        ]),
+        Phase::Withdrawn => out.put(&[
+            Part::Mark("<p class=\"lead\">It was withdrawn. Finished steps: "),
+            Part::Number(finished),
+            Part::Mark(" of "),
+            Part::Number(steps),
+            Part::Mark(".</p>\n"),
+        ]),
+        Phase::Live => out.put(&[
+            Part::Mark("<p class=\"lead\">It is open. Finished steps: "),
+            Part::Number(finished),
+            Part::Mark(" of "),
+            Part::Number(steps),
+            Part::Mark("; held: "),
+            Part::Number(held),
+            Part::Mark(".</p>\n"),
+        ]),
+    }
+}
+
+// How many steps are finished, and how many held.
+fn counts(case: &Case) -> (u32, u32) {
+    let (mut finished, mut held) = (0u32, 0u32);
+    for state in case.states() {
+        if state.is_finished() {
+            finished = finished.saturating_add(1);
+        }
+        if state.is_held() {
+            held = held.saturating_add(1);
+        }
+    }
+    (finished, held)
+}
+
+/// Adds who does the steps that are not finished, by the plan that is kept for an open case.
+pub(crate) fn put_plan(
+    alloc: Global,
+    out: &mut Html,
+    p: &Policy,
+    f: FlowId,
+    case: &Case,
+    plan: &Plan,
+) -> Result<(), AllocError>
+    requires { f < length p.now.flows }
+{
+    let (finished, _) = counts(case);
+    let left = (plan.len() as u32).saturating_sub(finished);
+    let mut text = String::new(alloc);
+    let mut place = 0u32;
+    for s in 0..plan.len() {
+        if !case.state(StepId(s)).is_finished() {
+            let user = name_text(alloc, p.roster().users(), plan.at(StepId(s)).0)?;
+            let step = step_text(alloc, p, f, StepId(s))?;
+            push_gap(&mut text, place, left, "and")?;
+            say(&mut text, &[user.as_str(), " does ", step.as_str()])?;
+            place = place.saturating_add(1);
+        }
+    }
+    out.put(&[
+        Part::Mark("<p>One way to finish it, which the server keeps: "),
+        Part::Value(text.as_str()),
+        Part::Mark(".</p>\n"),
+    ])
+}
+
+/// Adds the rules of a workflow, which are numbered from 0.
+pub(crate) fn put_rules(
+    alloc: Global,
+    out: &mut Html,
+    p: &Policy,
+    f: FlowId,
+) -> Result<(), AllocError>
+    requires { f < length p.now.flows }
+{
+    out.put(&[Part::Mark("<h2>Rules</h2>\n<ol start=\"0\">\n")])?;
+    for rule in p.rules(f).as_slice() {
+        let words = rule_text(alloc, p, f, rule)?;
+        out.put(&[
+            Part::Mark("<li>"),
+            Part::Value(words.as_str()),
+            Part::Mark("</li>\n"),
+        ])?;
+    }
+    out.put(&[Part::Mark("</ol>\n")])
+}
