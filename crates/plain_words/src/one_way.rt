@@ -51,7 +51,6 @@ fn push_pair(
     let name = relation_name(p, rho);
     let users = p.roster().users();
     let (first, second) = (name_of(users, u), name_of(users, v));
-    let (first, second) = (text_of(&first), text_of(&second));
     say(
         out,
         &[
@@ -59,10 +58,13 @@ fn push_pair(
             "relation ",
             text_of(&name),
             ": it has ",
-            first,
+            text_of(&first),
             " to ",
-            second,
+            text_of(&second),
         ],
     )?;
-    say(out, &[" and not ", second, " to ", first, "\n"])
+    say(
+        out,
+        &[" and not ", text_of(&second), " to ", text_of(&first), "\n"],
+    )
 }
