@@ -1,8 +1,9 @@
 //! What a policy may say and probably does not mean.
 ghost use Rattle.std.specs.Prelude.{◌<◌, length};
 
-use crate::lists::{flow_text, name_text, step_text, users_text};
+use crate::lists::{name_of, number_text, text_of, users_text};
 use crate::rules::relation_name;
+use crate::texts::{joined, say};
 use constraint_forms::Rule;
 use policy_book::Policy;
 use rule_core::are_parted;
@@ -19,21 +20,15 @@ pub fn push_advice(
 ) -> Result<(), AllocError> {
     push_admin(alloc, out, front, p)?;
     for r in 0..p.roster().roles().len().min(256) {
-        push_role(alloc, out, front, p, RoleId(r as u8))?;
+        push_role(out, front, p, RoleId(r as u8))?;
     }
     for rho in 2..(p.relations().count() as u16 + 2).min(256) {
-        push_relation(alloc, out, front, p, RelId(rho as u8))?;
+        push_relation(out, front, p, RelId(rho as u8))?;
     }
     for f in 0..p.flows().len() {
         push_flow(alloc, out, front, p, FlowId(f as u8))?;
     }
     Ok(())
-}
-
-fn push_line(out: &mut String, front: &str, line: &str) -> Result<(), AllocError> {
-    out.push_str(front)?;
-    out.push_str(line)?;
-    out.push_str("\n")
 }
 
 // One administrator alone.
@@ -42,26 +37,30 @@ fn push_admin(alloc: Global, out: &mut String, front: &str, p: &Policy) -> Resul
     if holders.count() != 1 {
         return Ok(());
     }
-    let role = name_text(alloc, p.roster().roles(), p.admin().0 as u16)?;
+    let role = name_of(p.roster().roles(), p.admin().0 as u16);
     let user = users_text(alloc, p, &holders)?;
-    let line = format!(in alloc; "role {role}: {user} alone administers the policy")?;
-    push_line(out, front, line.as_str())
+    let alone = " alone administers the policy\n";
+    say(
+        out,
+        &[front, "role ", text_of(&role), ": ", user.as_str(), alone],
+    )
 }
 
 // A role that permits nothing and does not administer the policy.
-fn push_role(
-    alloc: Global,
-    out: &mut String,
-    front: &str,
-    p: &Policy,
-    r: RoleId,
-) -> Result<(), AllocError> {
+fn push_role(out: &mut String, front: &str, p: &Policy, r: RoleId) -> Result<(), AllocError> {
     if r == p.admin() || permits_some(p, r) {
         return Ok(());
     }
-    let role = name_text(alloc, p.roster().roles(), r.0 as u16)?;
-    let line = format!(in alloc; "role {role}: no step is permitted to it")?;
-    push_line(out, front, line.as_str())
+    let role = name_of(p.roster().roles(), r.0 as u16);
+    say(
+        out,
+        &[
+            front,
+            "role ",
+            text_of(&role),
+            ": no step is permitted to it\n",
+        ],
+    )
 }
 
 fn permits_some(p: &Policy, r: RoleId) -> bool {
@@ -86,23 +85,15 @@ fn permits_in(p: &Policy, f: FlowId, r: RoleId) -> bool
 }
 
 // A relation that no rule reads, nor a complement that a rule reads.
-fn push_relation(
-    alloc: Global,
-    out: &mut String,
-    front: &str,
-    p: &Policy,
-    rho: RelId,
-) -> Result<(), AllocError> {
+fn push_relation(out: &mut String, front: &str, p: &Policy, rho: RelId) -> Result<(), AllocError> {
     if is_read(p, rho) {
         return Ok(());
     }
-    match relation_name(p, rho) {
-        Some(name) => {
-            let line = format!(in alloc; "relation {}: no rule reads it", name.as_str())?;
-            push_line(out, front, line.as_str())
-        }
-        None => Ok(()),
-    }
+    let name = relation_name(p, rho);
+    say(
+        out,
+        &[front, "relation ", text_of(&name), ": no rule reads it\n"],
+    )
 }
 
 fn is_read(p: &Policy, rho: RelId) -> bool {
@@ -140,7 +131,7 @@ fn push_flow(
     requires { f < length p.now.flows }
 {
     for s in 0..p.flow(f).steps().len().min(256) {
-        push_step(alloc, out, front, p, f, StepId(s as u8))?;
+        push_step(out, front, p, f, StepId(s as u8))?;
     }
     for k in 0..p.rules(f).len() {
         push_rule(alloc, out, front, p, f, k)?;
@@ -150,7 +141,6 @@ fn push_flow(
 
 // A step that nobody may do.
 fn push_step(
-    alloc: Global,
     out: &mut String,
     front: &str,
     p: &Policy,
@@ -162,9 +152,13 @@ fn push_step(
     if p.authorised_users(f, s).count() > 0 {
         return Ok(());
     }
-    let (flow, step) = (flow_text(alloc, p, f)?, step_text(alloc, p, f, s)?);
-    let line = format!(in alloc; "workflow {flow}: nobody may do {step}")?;
-    push_line(out, front, line.as_str())
+    let step = name_of(p.flow(f).steps(), s.0 as u16);
+    say(out, &[front, "workflow "])?;
+    say(
+        out,
+        &[text_of(&name_of(p.flows(), f.0 as u16)), ": nobody may do "],
+    )?;
+    say(out, &[text_of(&step), "\n"])
 }
 
 // What may not be meant by a rule.
@@ -181,9 +175,10 @@ fn push_rule(
     let Some(words) = rule_advice(alloc, p, f, k)? else {
         return Ok(());
     };
-    let flow = flow_text(alloc, p, f)?;
-    let line = format!(in alloc; "workflow {flow}, rule {k}: {words}")?;
-    push_line(out, front, line.as_str())
+    let flow = name_of(p.flows(), f.0 as u16);
+    let number = number_text(alloc, k as u64)?;
+    say(out, &[front, "workflow ", text_of(&flow), ", rule "])?;
+    say(out, &[number.as_str(), ": ", words.as_str(), "\n"])
 }
 
 fn rule_advice(alloc: Global, p: &Policy, f: FlowId, k: usize) -> Result<Option<String>, AllocError>
@@ -205,8 +200,15 @@ fn rule_advice(alloc: Global, p: &Policy, f: FlowId, k: usize) -> Result<Option<
 fn own_group(alloc: Global, p: &Policy, f: FlowId, s: StepId) -> Result<Option<String>, AllocError>
     requires { f < length p.now.flows }
 {
-    let step = step_text(alloc, p, f, s)?;
-    Ok(Some(format!(in alloc; "{step} is in its own group, so nobody can meet the rule")?))
+    let step = name_of(p.flow(f).steps(), s.0 as u16);
+    let words = joined(
+        alloc,
+        &[
+            text_of(&step),
+            " is in its own group, so nobody can meet the rule",
+        ],
+    )?;
+    Ok(Some(words))
 }
 
 fn pair_advice(
@@ -223,17 +225,19 @@ fn pair_advice(
     if p.relations().complement_of(rho).is_some() {
         return both_advice(alloc, p, f, rho, &from, &to, (first, second));
     }
-    if !leads(p, rho, &from, &to) && leads(p, rho, &to, &from) {
-        let (x, y) = (
-            step_text(alloc, p, f, first)?,
-            step_text(alloc, p, f, second)?,
-        );
-        return Ok(Some(format!(in alloc;
-            "the relation leads from nobody who may do {x} to anybody who may do {y}, but the \
-             other way; exchange first and second?"
-        )?));
+    if leads(p, rho, &from, &to) || !leads(p, rho, &to, &from) {
+        return Ok(None);
     }
-    Ok(None)
+    let x = name_of(p.flow(f).steps(), first.0 as u16);
+    let y = name_of(p.flow(f).steps(), second.0 as u16);
+    Ok(Some(turned_words(alloc, text_of(&x), text_of(&y))?))
+}
+
+// That a relation leads the other way.
+fn turned_words(alloc: Global, x: &str, y: &str) -> Result<String, AllocError> {
+    let front = "the relation leads from nobody who may do ";
+    let end = ", but the other way; exchange first and second?";
+    joined(alloc, &[front, x, " to anybody who may do ", y, end])
 }
 
 // Whether a relation holds from some user of a set to one of another.
@@ -270,19 +274,40 @@ fn both_advice(
     if are_parted(p, f, steps.0, steps.1) {
         return Ok(None);
     }
-    let (x, y) = (
-        step_text(alloc, p, f, steps.0)?,
-        step_text(alloc, p, f, steps.1)?,
-    );
     for u in 0..p.roster().users().len() {
         let both = from.has(UserId(u)) && to.has(UserId(u));
         if both && p.relations().holds(rho, UserId(u), UserId(u)) {
-            let user = name_text(alloc, p.roster().users(), u)?;
-            return Ok(Some(format!(in alloc;
-                "{user} may do both {x} and {y}, since a complement holds of each user and \
-                 themselves; add a rule with other if that is not meant"
-            )?));
+            return Ok(Some(both_words(alloc, p, f, UserId(u), steps)?));
         }
     }
     Ok(None)
+}
+
+fn both_words(
+    alloc: Global,
+    p: &Policy,
+    f: FlowId,
+    u: UserId,
+    steps: (StepId, StepId),
+) -> Result<String, AllocError>
+    requires { f < length p.now.flows }
+{
+    let (first, second) = steps;
+    let user = name_of(p.roster().users(), u.0);
+    let x = name_of(p.flow(f).steps(), first.0 as u16);
+    let y = name_of(p.flow(f).steps(), second.0 as u16);
+    let end =
+        ", since a complement holds of each user and themselves; add a rule with other if that \
+               is not meant";
+    joined(
+        alloc,
+        &[
+            text_of(&user),
+            " may do both ",
+            text_of(&x),
+            " and ",
+            text_of(&y),
+            end,
+        ],
+    )
 }

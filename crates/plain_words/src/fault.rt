@@ -1,9 +1,12 @@
 //! The first fault of a policy file in words, with its place.
 
+use crate::culprit::faulty_rule;
+use crate::lists::number_text;
 use crate::marks::{Mark, marks_of};
 use crate::nearest::{nearest_key, nearest_word};
 use crate::place::{Keys, Span, keys_of, place_of};
 use crate::shown::{shown, spot_of};
+use crate::texts::{joined, say};
 use policy_reader::{PolicyFault, PolicyKind, PolicyPart};
 use std::alloc::{AllocError, Global};
 use toml::Table;
@@ -20,13 +23,20 @@ pub fn fault_text(
     match std::str::from_utf8(bytes) {
         Ok(text) => text_fault(alloc, file, text, fault),
         Err(e) => {
-            let spot = spot_of(bytes, e.valid_up_to());
-            format!(in alloc;
-                "{file}:{}:{}: syntax: the file is no UTF-8 from here on\n",
-                spot.line, spot.column
-            )
+            let place = place_text(alloc, bytes, e.valid_up_to())?;
+            let words = ": syntax: the file is no UTF-8 from here on\n";
+            joined(alloc, &[file, ":", place.as_str(), words])
         }
     }
+}
+
+// The line and the column of a place, as `3:14`.
+fn place_text(alloc: Global, bytes: &[u8], at: usize) -> Result<String, AllocError> {
+    let spot = spot_of(bytes, at);
+    let mut text = number_text(alloc, spot.line as u64)?;
+    let column = number_text(alloc, spot.column as u64)?;
+    say(&mut text, &[":", column.as_str()])?;
+    Ok(text)
 }
 
 fn text_fault(
@@ -57,8 +67,9 @@ fn table_fault(
     table: &Table,
     fault: &PolicyFault,
 ) -> Result<String, AllocError> {
+    let mut keys = keys_of(table, fault);
+    keys.rule = faulty_rule(alloc, text, keys.item, fault)?;
     let marks = marks_of(alloc, text.as_bytes())?;
-    let keys = keys_of(table, fault);
     let span = place_of(text.as_bytes(), &marks, keys, fault);
     let words = words_of(alloc, text.as_bytes(), &marks, keys, fault)?;
     told(alloc, file, text, span, fault.kind.word(), words.as_str())
@@ -72,12 +83,14 @@ fn told(
     kind: &str,
     words: &str,
 ) -> Result<String, AllocError> {
-    let spot = spot_of(text.as_bytes(), span.start);
+    let place = place_text(alloc, text.as_bytes(), span.start)?;
     let line = shown(alloc, text, span)?;
-    format!(in alloc;
-        "{file}:{}:{}: {kind}: {words}\n{line}",
-        spot.line, spot.column
-    )
+    let mut out = String::from_str(alloc, file)?;
+    say(&mut out, &[":", place.as_str(), ": "])?;
+    say(&mut out, &[kind, ": "])?;
+    say(&mut out, &[words, "\n"])?;
+    out.push_str(line.as_str())?;
+    Ok(out)
 }
 
 // What is wrong, and where by name.
@@ -88,24 +101,39 @@ fn words_of(
     keys: Keys<'_>,
     fault: &PolicyFault,
 ) -> Result<String, AllocError> {
-    let part = part_text(alloc, keys, fault)?;
-    let meant = meant_text(alloc, text, marks, fault)?;
-    let words = kind_words(alloc, fault)?;
-    format!(in alloc; "{words}, in {part}{meant}")
+    let mut out = String::new(alloc);
+    push_kind(&mut out, fault)?;
+    out.push_str(", in ")?;
+    push_part(alloc, &mut out, keys, fault)?;
+    push_meant(alloc, &mut out, text, marks, fault)?;
+    Ok(out)
 }
 
 // The part of the file that a fault is in.
-fn part_text(alloc: Global, keys: Keys<'_>, fault: &PolicyFault) -> Result<String, AllocError> {
+fn push_part(
+    alloc: Global,
+    out: &mut String,
+    keys: Keys<'_>,
+    fault: &PolicyFault,
+) -> Result<(), AllocError> {
+    if keys.rule > 0 {
+        let number = number_text(alloc, (keys.rule - 1) as u64)?;
+        say(out, &["rule ", number.as_str(), " of "])?;
+    }
     let item = name_or_none(keys.item);
-    match fault.table {
-        PolicyPart::File => String::from_str(alloc, "the file"),
-        PolicyPart::Roles => String::from_str(alloc, "roles"),
-        PolicyPart::Users if item.is_empty() => String::from_str(alloc, "users"),
-        PolicyPart::Users => format!(in alloc; "the user {item}"),
-        PolicyPart::Relations if item.is_empty() => String::from_str(alloc, "relations"),
-        PolicyPart::Relations => format!(in alloc; "the relation {item}"),
-        PolicyPart::Flows if item.is_empty() => String::from_str(alloc, "flows"),
-        PolicyPart::Flows => format!(in alloc; "the workflow {item}"),
+    let front = match fault.table {
+        _ if item.is_empty() => "",
+        PolicyPart::Users => "the user ",
+        PolicyPart::Relations => "the relation ",
+        PolicyPart::Flows => "the workflow ",
+        _ => "",
+    };
+    let is_whole = matches!(fault.table, PolicyPart::File)
+        || matches!(fault.kind, PolicyKind::Missing);
+    match front {
+        "" if is_whole => say(out, &["the file"]),
+        "" => say(out, &[fault.table.word()]),
+        front => say(out, &[front, item]),
     }
 }
 
@@ -117,15 +145,16 @@ fn name_or_none(key: &str) -> &str {
     }
 }
 
-// The name that was probably meant in place of one that is not known.
-fn meant_text(
+// Adds the name that was probably meant in place of one that is not known.
+fn push_meant(
     alloc: Global,
+    out: &mut String,
     text: &[u8],
     marks: &[Mark],
     fault: &PolicyFault,
-) -> Result<String, AllocError> {
+) -> Result<(), AllocError> {
     let Some(name) = fault.name else {
-        return Ok(String::new(alloc));
+        return Ok(());
     };
     let meant = match fault.kind {
         PolicyKind::Unknown | PolicyKind::Missing => {
@@ -134,38 +163,48 @@ fn meant_text(
         PolicyKind::Extra => nearest_key(alloc, name.as_str())?,
         _ => "",
     };
-    if meant.is_empty() {
-        return Ok(String::new(alloc));
-    }
     match fault.kind {
-        PolicyKind::Missing => format!(in alloc; "; there is \"{meant}\""),
-        _ => format!(in alloc; ". Did you mean \"{meant}\"?"),
+        _ if meant.is_empty() => Ok(()),
+        PolicyKind::Missing => say(out, &["; there is \"", meant, "\""]),
+        _ => say(out, &[". Did you mean \"", meant, "\"?"]),
     }
 }
 
-fn kind_words(alloc: Global, fault: &PolicyFault) -> Result<String, AllocError> {
+fn push_kind(out: &mut String, fault: &PolicyFault) -> Result<(), AllocError> {
     match fault.name {
-        Some(name) => named_words(alloc, fault.kind, name.as_str()),
-        None => String::from_str(alloc, bare_words(fault.kind)),
+        Some(name) => push_named(out, fault.kind, name.as_str()),
+        None if matches!(fault.kind, PolicyKind::Shape) => out.push_str(shape_words(fault.table)),
+        None => out.push_str(bare_words(fault.kind)),
     }
 }
 
-// What is wrong with what has this name.
-fn named_words(alloc: Global, kind: PolicyKind, name: &str) -> Result<String, AllocError> {
-    match kind {
-        PolicyKind::Missing => format!(in alloc; "the key \"{name}\" is not there"),
-        PolicyKind::Twice => format!(in alloc; "\"{name}\" stands twice"),
-        PolicyKind::Unknown => format!(in alloc; "\"{name}\" is declared nowhere"),
-        PolicyKind::Reserved => {
-            format!(in alloc; "\"{name}\" is built in, and a relation needs another name")
-        }
-        PolicyKind::Chain => {
-            format!(in alloc; "\"{name}\" lists no pairs, since it is a complement itself")
-        }
-        PolicyKind::Extra => format!(in alloc; "the key \"{name}\" has no meaning here"),
-        PolicyKind::Cycle => format!(in alloc; "the step \"{name}\" would come before itself"),
-        _ => format!(in alloc; "{} (\"{name}\")", bare_words(kind)),
+// What has to be there in place of a value of another type.
+fn shape_words(part: PolicyPart) -> &'static str {
+    match part {
+        PolicyPart::File => "the format has to be an integer, and the admin role a text",
+        PolicyPart::Roles => "the roles have to be a list of texts",
+        PolicyPart::Users => "each user has to have a list of roles",
+        PolicyPart::Relations => "a relation has to have either pairs of users or a complement",
+        PolicyPart::Flows => bare_words(PolicyKind::Shape),
     }
+}
+
+// Adds what is wrong with what has this name.
+fn push_named(out: &mut String, kind: PolicyKind, name: &str) -> Result<(), AllocError> {
+    let (front, end) = match kind {
+        PolicyKind::Missing => ("the key \"", "\" is not there"),
+        PolicyKind::Twice => ("\"", "\" stands twice"),
+        PolicyKind::Unknown => ("\"", "\" is declared nowhere"),
+        PolicyKind::Reserved => ("\"", "\" is built in, and a relation needs another name"),
+        PolicyKind::Chain => ("\"", "\" lists no pairs, since it is a complement itself"),
+        PolicyKind::Extra => ("the key \"", "\" has no meaning here"),
+        PolicyKind::Cycle => ("the step \"", "\" would come before itself"),
+        _ => {
+            out.push_str(bare_words(kind))?;
+            (" (\"", "\")")
+        }
+    };
+    say(out, &[front, name, end])
 }
 
 // What is wrong, where nothing has a name.

@@ -3,21 +3,24 @@
 #![tactic(auto)]
 
 mod advice;
+mod amiss;
+mod culprit;
 mod fault;
 mod lists;
 mod marks;
 mod nearest;
 mod place;
 mod rules;
-mod say;
 mod shown;
+mod texts;
 mod why;
 
 pub use advice::push_advice;
 pub use fault::fault_text;
 pub use lists::{
-    counted, flow_text, group_text, name_text, push_gap, step_text, steps_text, users_text,
+    counted, flow_text, group_text, name_of, name_text, number_text, push_gap, step_text,
+    steps_text, text_of, users_text,
 };
 pub use rules::{relation_name, rule_text};
-pub use say::say;
+pub use texts::{joined, say};
 pub use why::{clash_text, crowd_text, plan_text};

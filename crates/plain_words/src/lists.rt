@@ -1,10 +1,11 @@
 //! Names, and lists of names, as texts.
 ghost use Rattle.std.specs.Prelude.{◌<◌, length};
 
+use crate::texts::say;
 use constraint_forms::StepSet;
 use policy_book::Policy;
 use std::alloc::{AllocError, Global};
-use wf_names::{FlowId, NameTable, StepId, UserId, UserSet};
+use wf_names::{FlowId, Name, NameTable, StepId, UserId, UserSet};
 
 /// Of more users than this only some are named.
 const MOST_NAMED: u32 = 12;
@@ -12,13 +13,26 @@ const MOST_NAMED: u32 = 12;
 /// How many are named of more.
 const NAMED: u32 = 10;
 
+/// The name with a number, if there is one.
+pub fn name_of(names: &NameTable, n: u16) -> Option<Name> {
+    if n < names.len() {
+        Some(names.name(n))
+    } else {
+        None
+    }
+}
+
+/// A name as text; the empty text where there is none.
+pub fn text_of(name: &Option<Name>) -> &str {
+    match name {
+        Some(name) => name.as_str(),
+        None => "",
+    }
+}
+
 /// The name with a number; the empty text where there is none.
 pub fn name_text(alloc: Global, names: &NameTable, n: u16) -> Result<String, AllocError> {
-    if n < names.len() {
-        String::from_str(alloc, names.name(n).as_str())
-    } else {
-        Ok(String::new(alloc))
-    }
+    String::from_str(alloc, text_of(&name_of(names, n)))
 }
 
 /// The name of a step.
@@ -90,25 +104,30 @@ pub fn users_text(alloc: Global, p: &Policy, users: &UserSet) -> Result<String, 
         }
     }
     if shown < count {
-        let others = format!(in alloc; " and {} others", count - shown)?;
-        text.push_str(others.as_str())?;
+        push_others(alloc, &mut text, count - shown)?;
     }
     Ok(text)
 }
 
+fn push_others(alloc: Global, text: &mut String, count: u32) -> Result<(), AllocError> {
+    let number = number_text(alloc, count as u64)?;
+    say(text, &[" and ", number.as_str(), " others"])
+}
+
+/// A number in digits.
+pub fn number_text(alloc: Global, number: u64) -> Result<String, AllocError> {
+    format!(in alloc; "{number}")
+}
+
 /// A number of things, as `1 step` and `2 steps`.
 pub fn counted(alloc: Global, count: u64, what: &str) -> Result<String, AllocError> {
-    match count {
-        1 => format!(in alloc; "1 {what}"),
-        count => format!(in alloc; "{count} {what}s"),
-    }
+    let mut text = number_text(alloc, count)?;
+    say(&mut text, &[" ", what, if count == 1 { "" } else { "s" }])?;
+    Ok(text)
 }
 
 fn push_name(text: &mut String, names: &NameTable, n: u16) -> Result<(), AllocError> {
-    if n < names.len() {
-        text.push_str(names.name(n).as_str())?;
-    }
-    Ok(())
+    text.push_str(text_of(&name_of(names, n)))
 }
 
 /// Adds what stands before the item at a place of so many.

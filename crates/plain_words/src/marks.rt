@@ -10,6 +10,9 @@ pub(crate) struct Mark {
     pub end: usize,
     /// The number of the key that it belongs to, counted from 1; 0 at the top.
     pub under: usize,
+    /// The number of the item that it is in, of the outermost list around it or of headers in double
+    /// brackets, counted from 1; 0 in none.
+    pub item: usize,
     pub is_key: bool,
 }
 
@@ -35,6 +38,12 @@ struct Walk {
     open: Vec<Open>,
     header: usize,
     under: usize,
+    item: usize,
+    // How many lists and tables are open where a comma ends an item; 0 outside of lists.
+    depth: usize,
+    // How many headers in double brackets follow one another here.
+    doubles: usize,
+    is_double: bool,
     next: Next,
 }
 
@@ -45,6 +54,10 @@ pub(crate) fn marks_of(alloc: Global, text: &[u8]) -> Result<Vec<Mark>, AllocErr
         open: Vec::new(alloc),
         header: 0,
         under: 0,
+        item: 0,
+        depth: 0,
+        doubles: 0,
+        is_double: false,
         next: Next::Key,
     };
     let mut at = 0;
@@ -211,24 +224,44 @@ fn end_line(walk: &mut Walk) {
 
 fn open_bracket(walk: &mut Walk) -> Result<(), AllocError> {
     match walk.next {
-        Next::Header => Ok(()),
+        Next::Header => {
+            walk.is_double = true;
+            walk.doubles = walk.doubles.saturating_add(1);
+            walk.item = walk.doubles;
+            Ok(())
+        }
         Next::Key => {
             walk.next = Next::Header;
             walk.under = 0;
+            walk.item = 0;
+            walk.is_double = false;
             Ok(())
         }
         Next::Value => {
             let under = walk.under;
-            push_open(walk, under, false)
+            push_open(walk, under, false)?;
+            begin_items(walk);
+            Ok(())
         }
     }
 }
 
+// A list that is in no other one begins with its first item.
+fn begin_items(walk: &mut Walk) {
+    if walk.item == 0 {
+        walk.item = 1;
+        walk.depth = walk.open.len();
+    }
+}
+
 fn close_bracket(walk: &mut Walk) {
-    if walk.next == Next::Header {
-        walk.header = walk.under;
-    } else {
+    if walk.next != Next::Header {
         close_last(walk);
+        return;
+    }
+    walk.header = walk.under;
+    if !walk.is_double {
+        walk.doubles = 0;
     }
 }
 
@@ -237,9 +270,16 @@ fn close_last(walk: &mut Walk) {
         walk.under = open.under;
     }
     walk.next = Next::Value;
+    if walk.open.len() < walk.depth {
+        walk.item = 0;
+        walk.depth = 0;
+    }
 }
 
 fn take_comma(walk: &mut Walk) {
+    if walk.open.len() == walk.depth {
+        walk.item = walk.item.saturating_add(1);
+    }
     if let Some(open) = walk.open.last() {
         if open.is_table {
             walk.under = open.under;
@@ -249,11 +289,12 @@ fn take_comma(walk: &mut Walk) {
 }
 
 fn take_word(walk: &mut Walk, start: usize, end: usize) -> Result<(), AllocError> {
-    let (under, is_key) = (walk.under, walk.next != Next::Value);
+    let (under, item, is_key) = (walk.under, walk.item, walk.next != Next::Value);
     walk.marks.push(Mark {
         start,
         end,
         under,
+        item,
         is_key,
     })?;
     if is_key {

@@ -2,6 +2,7 @@
 //! where several items could be meant, the first of them is taken.
 ghost use Rattle.std.specs.Prelude.{◌<◌, length};
 
+use crate::amiss::shape_place;
 use crate::marks::Mark;
 use policy_reader::{PolicyFault, PolicyKind, PolicyPart};
 use toml::{Table, Value};
@@ -14,11 +15,13 @@ pub(crate) struct Span {
     pub end: usize,
 }
 
-// The keys under which a fault lies: that of its table, and that of its item there.
+// The keys under which a fault lies: that of its table, that of its item there, and the number of its
+// rule in a workflow, counted from 1; 0 where it is in none.
 #[derive(Clone, Copy)]
 pub(crate) struct Keys<'a> {
     pub table: &'a str,
     pub item: &'a str,
+    pub rule: usize,
 }
 
 /// The keys of the part that has a fault; empty where there is none.
@@ -40,7 +43,11 @@ pub(crate) fn keys_of<'a>(file: &'a Table, fault: &PolicyFault) -> Keys<'a> {
         PolicyKind::NoAdmin => "",
         _ => key_at(file.get(table), fault.index.saturating_sub(built_in)),
     };
-    Keys { table, item }
+    Keys {
+        table,
+        item,
+        rule: 0,
+    }
 }
 
 // The key with a number in a table, in byte order.
@@ -76,16 +83,26 @@ fn item_place(text: &[u8], marks: &[Mark], keys: Keys<'_>, fault: &PolicyFault) 
         PolicyKind::NoAdmin => value_of_key(text, marks, "admin"),
         PolicyKind::Missing => None,
         PolicyKind::Name => first_bad(text, marks, keys),
+        PolicyKind::Shape => shape_place(text, marks, keys),
+        PolicyKind::Empty | PolicyKind::TooMany => list_place(text, marks, keys, fault.kind),
+        PolicyKind::Range => named_mark(text, marks, keys, "limit", true),
         PolicyKind::Twice => second_place(text, marks, keys, fault.name),
         PolicyKind::Form => form_place(text, marks, keys),
-        PolicyKind::Unknown => match fault.name {
-            Some(name) => named_place(text, marks, keys, name),
+        _ => match fault.name {
+            Some(name) => named_place(text, marks, keys, name.as_str(), fault.kind),
             None => first_bad(text, marks, keys),
         },
-        _ => match fault.name {
-            Some(name) => named_place(text, marks, keys, name),
-            None => None,
-        },
+    }
+}
+
+// The key of a workflow's list that is too short or too long: a rule's group, or the steps.
+fn list_place(text: &[u8], marks: &[Mark], keys: Keys<'_>, kind: PolicyKind) -> Option<Span> {
+    match kind {
+        PolicyKind::Empty if keys.rule > 0 => named_mark(text, marks, keys, "group", true),
+        _ if keys.table == "flows" && keys.rule == 0 => {
+            named_mark(text, marks, keys, "steps", true)
+        }
+        _ => None,
     }
 }
 
@@ -130,21 +147,30 @@ fn key_place(text: &[u8], marks: &[Mark], keys: Keys<'_>) -> Span {
             found = span_of(*mark);
         }
     }
-    found
+    if keys.rule == 0 || depth == 3 {
+        return found;
+    }
+    // A rule without keys is only in its list.
+    match named_mark(text, marks, Keys { rule: 0, ..keys }, "rules", true) {
+        Some(list) => list,
+        None => found,
+    }
 }
 
-fn span_of(mark: Mark) -> Span {
+pub(crate) fn span_of(mark: Mark) -> Span {
     Span {
         start: mark.start,
         end: mark.end,
     }
 }
 
-// How many of the two keys a mark is under, or is: 2 where it belongs to the item, 1 to the table.
+// How many of the keys a mark is under, or is: 3 where it belongs to the rule, 2 to the item, 1 to the
+// table.
 fn depth_under(text: &[u8], marks: &[Mark], mark: Mark, keys: Keys<'_>) -> u8 {
-    let mut path = [None; 2];
+    let mut path = [None; 3];
     let mut now = mark;
     for _ in 0..marks.len() {
+        path[2] = path[1];
         path[1] = path[0];
         path[0] = Some(now);
         match parent(marks, now) {
@@ -155,14 +181,14 @@ fn depth_under(text: &[u8], marks: &[Mark], mark: Mark, keys: Keys<'_>) -> u8 {
     if !is_named(text, path[0], keys.table) {
         return 0;
     }
-    if is_named(text, path[1], keys.item) {
-        2
-    } else {
-        1
+    if !is_named(text, path[1], keys.item) {
+        return 1;
     }
+    let is_in_rule = is_named(text, path[2], "rules") && mark.item == keys.rule && keys.rule > 0;
+    if is_in_rule { 3 } else { 2 }
 }
 
-fn parent(marks: &[Mark], mark: Mark) -> Option<Mark> {
+pub(crate) fn parent(marks: &[Mark], mark: Mark) -> Option<Mark> {
     if mark.under == 0 {
         return None;
     }
@@ -194,22 +220,32 @@ pub(crate) fn words_at(text: &[u8], mark: Mark) -> &[u8] {
 }
 
 // Whether a mark lies under the keys: all marks do where there are none.
-fn is_within(text: &[u8], marks: &[Mark], mark: Mark, keys: Keys<'_>) -> bool {
+pub(crate) fn is_within(text: &[u8], marks: &[Mark], mark: Mark, keys: Keys<'_>) -> bool {
     let wanted = if keys.table.is_empty() {
         0
     } else if keys.item.is_empty() {
         1
-    } else {
+    } else if keys.rule == 0 {
         2
+    } else {
+        3
     };
     depth_under(text, marks, mark, keys) >= wanted
 }
 
-// Under the keys, the value with this name that is no step's declaration; else the key with it.
-fn named_place(text: &[u8], marks: &[Mark], keys: Keys<'_>, name: Name) -> Option<Span> {
-    match named_mark(text, marks, keys, name, false) {
+// Under the keys, the value with this name that is no step's declaration, and else the key with it;
+// of a key that has no meaning the other way round.
+fn named_place(
+    text: &[u8],
+    marks: &[Mark],
+    keys: Keys<'_>,
+    name: &str,
+    kind: PolicyKind,
+) -> Option<Span> {
+    let is_key = matches!(kind, PolicyKind::Extra | PolicyKind::Reserved);
+    match named_mark(text, marks, keys, name, is_key) {
         Some(span) => Some(span),
-        None => named_mark(text, marks, keys, name, true),
+        None => named_mark(text, marks, keys, name, !is_key),
     }
 }
 
@@ -217,12 +253,12 @@ fn named_mark(
     text: &[u8],
     marks: &[Mark],
     keys: Keys<'_>,
-    name: Name,
+    name: &str,
     is_key: bool,
 ) -> Option<Span> {
     for mark in marks {
         if mark.is_key == is_key
-            && is_named(text, Some(*mark), name.as_str())
+            && is_named(text, Some(*mark), name)
             && is_within(text, marks, *mark, keys)
             && !is_value_of(text, marks, *mark, "steps")
         {
@@ -313,7 +349,7 @@ fn is_form(word: &[u8], has_later: bool) -> bool {
 // Under the keys, the first key or text in quotes that is of no name's form.
 fn first_bad(text: &[u8], marks: &[Mark], keys: Keys<'_>) -> Option<Span> {
     for mark in marks {
-        if (mark.is_key || is_quoted(text, *mark))
+        if (mark.is_key || is_quoted(text, mark.start))
             && !is_name(words_at(text, *mark))
             && is_within(text, marks, *mark, keys)
         {
@@ -323,8 +359,8 @@ fn first_bad(text: &[u8], marks: &[Mark], keys: Keys<'_>) -> Option<Span> {
     None
 }
 
-fn is_quoted(text: &[u8], mark: Mark) -> bool {
-    matches!(text.get(mark.start), Some(b'"' | b'\''))
+pub(crate) fn is_quoted(text: &[u8], at: usize) -> bool {
+    matches!(text.get(at), Some(b'"' | b'\''))
 }
 
 fn is_name(bytes: &[u8]) -> bool {
@@ -335,7 +371,7 @@ fn is_name(bytes: &[u8]) -> bool {
 }
 
 // What stands behind a key at the top.
-fn value_of_key(text: &[u8], marks: &[Mark], key: &str) -> Option<Span> {
+pub(crate) fn value_of_key(text: &[u8], marks: &[Mark], key: &str) -> Option<Span> {
     for mark in marks {
         if is_value_of(text, marks, *mark, key) && is_at_top(marks, *mark) {
             return Some(span_of(*mark));

@@ -1,7 +1,8 @@
 //! Rules as sentences.
 ghost use Rattle.std.specs.Prelude.{◌<◌, length};
 
-use crate::lists::{group_text, step_text};
+use crate::lists::{group_text, name_of, number_text, text_of};
+use crate::texts::joined;
 use constraint_forms::{Rule, StepSet};
 use policy_book::Policy;
 use std::alloc::{AllocError, Global};
@@ -36,23 +37,19 @@ pub fn rule_text(alloc: Global, p: &Policy, f: FlowId, rule: &Rule) -> Result<St
     requires { f < length p.now.flows }
 {
     match *rule {
-        Rule::Pair { rho, first, second } => {
-            pair_text(alloc, p, f, sense_of(p, rho), first, second)
-        }
+        Rule::Pair { rho, first, second } => pair_text(alloc, p, f, rho, first, second),
         Rule::SomeOf { rho, group, step } => {
-            group_rule(alloc, p, f, Form::SomeOf, sense_of(p, rho), &group, step)
+            group_rule(alloc, p, f, Form::SomeOf, rho, &group, step)
         }
-        Rule::AllOf { rho, group, step } => {
-            group_rule(alloc, p, f, Form::AllOf, sense_of(p, rho), &group, step)
-        }
+        Rule::AllOf { rho, group, step } => group_rule(alloc, p, f, Form::AllOf, rho, &group, step),
         Rule::SomeTo { rho, group, step } => {
-            group_rule(alloc, p, f, Form::SomeTo, sense_of(p, rho), &group, step)
+            group_rule(alloc, p, f, Form::SomeTo, rho, &group, step)
         }
-        Rule::AllTo { rho, group, step } => {
-            group_rule(alloc, p, f, Form::AllTo, sense_of(p, rho), &group, step)
+        Rule::AllTo { rho, group, step } => group_rule(alloc, p, f, Form::AllTo, rho, &group, step),
+        Rule::AtMost { limit, group } => limit_text(alloc, p, f, "at most ", "", limit, &group),
+        Rule::AtLeast { limit, group } => {
+            limit_text(alloc, p, f, "at least ", "at least ", limit, &group)
         }
-        Rule::AtMost { limit, group } => most_text(alloc, p, f, limit, &group),
-        Rule::AtLeast { limit, group } => least_text(alloc, p, f, limit, &group),
     }
 }
 
@@ -89,32 +86,41 @@ fn pair_text(
     alloc: Global,
     p: &Policy,
     f: FlowId,
-    sense: Sense,
+    rho: RelId,
     first: StepId,
     second: StepId,
 ) -> Result<String, AllocError>
     requires { f < length p.now.flows }
 {
-    let x = step_text(alloc, p, f, first)?;
-    let y = step_text(alloc, p, f, second)?;
-    pair_words(alloc, sense, x.as_str(), y.as_str())
+    let x = name_of(p.flow(f).steps(), first.0 as u16);
+    let y = name_of(p.flow(f).steps(), second.0 as u16);
+    pair_words(alloc, sense_of(p, rho), text_of(&x), text_of(&y))
 }
 
 fn pair_words(alloc: Global, sense: Sense, x: &str, y: &str) -> Result<String, AllocError> {
     match sense {
-        Sense::Same => format!(in alloc; "{x} and {y} are done by the same person"),
-        Sense::Other => format!(in alloc; "{x} and {y} are done by different people"),
-        Sense::Has(name) => {
-            format!(in alloc; "who does {x} has \"{}\" to who does {y}", name.as_str())
-        }
+        Sense::Same => joined(alloc, &[x, " and ", y, " are done by the same person"]),
+        Sense::Other => joined(alloc, &[x, " and ", y, " are done by different people"]),
+        Sense::Has(name) => has_words(alloc, "who does ", x, " has", name.as_str(), "who does ", y),
         Sense::Lacks(name) => {
-            format!(in alloc;
-                "who does {x} does not have \"{}\" to who does {y}",
-                name.as_str()
-            )
+            let verb = " does not have";
+            has_words(alloc, "who does ", x, verb, name.as_str(), "who does ", y)
         }
-        Sense::Nothing => format!(in alloc; "{x} and {y} are related"),
+        Sense::Nothing => joined(alloc, &[x, " and ", y, " are related"]),
     }
+}
+
+// That somebody has a relation to somebody, or does not have it.
+fn has_words(
+    alloc: Global,
+    who: &str,
+    x: &str,
+    verb: &str,
+    name: &str,
+    whom: &str,
+    y: &str,
+) -> Result<String, AllocError> {
+    joined(alloc, &[who, x, verb, " \"", name, "\" to ", whom, y])
 }
 
 // A rule over a group; that of a single step says what a pair says.
@@ -123,137 +129,106 @@ fn group_rule(
     p: &Policy,
     f: FlowId,
     form: Form,
-    sense: Sense,
+    rho: RelId,
     group: &StepSet,
     step: StepId,
 ) -> Result<String, AllocError>
     requires { f < length p.now.flows }
 {
-    let (all, any) = (
-        group_text(alloc, p, f, group, "and")?,
-        group_text(alloc, p, f, group, "or")?,
-    );
-    let s = step_text(alloc, p, f, step)?;
-    let group_words = Members {
-        all: all.as_str(),
-        any: any.as_str(),
-        step: s.as_str(),
-    };
+    let s = name_of(p.flow(f).steps(), step.0 as u16);
+    let (sense, last) = (sense_of(p, rho), last_word(sense_of(p, rho), form));
+    let all = group_text(alloc, p, f, group, last)?;
     if group.count() > 1 {
-        return many_words(alloc, form, sense, group_words);
+        return many_words(alloc, form, sense, all.as_str(), text_of(&s));
     }
     match form {
-        Form::SomeOf | Form::AllOf => pair_words(alloc, sense, all.as_str(), s.as_str()),
-        Form::SomeTo | Form::AllTo => pair_words(alloc, sense, s.as_str(), all.as_str()),
+        Form::SomeOf | Form::AllOf => pair_words(alloc, sense, all.as_str(), text_of(&s)),
+        Form::SomeTo | Form::AllTo => pair_words(alloc, sense, text_of(&s), all.as_str()),
     }
 }
 
-// The names of a group, with "and" and with "or" before the last, and that of the step.
-#[derive(Clone, Copy)]
-struct Members<'a> {
-    all: &'a str,
-    any: &'a str,
-    step: &'a str,
+// The word before the last step of a rule's group.
+fn last_word(sense: Sense, form: Form) -> &'static str {
+    match (sense, form) {
+        (Sense::Has(_) | Sense::Lacks(_), _) => "or",
+        (Sense::Same, Form::SomeOf | Form::SomeTo) => "or",
+        _ => "and",
+    }
 }
 
+// A rule over a group of several steps.
 fn many_words(
     alloc: Global,
     form: Form,
     sense: Sense,
-    m: Members<'_>,
+    group: &str,
+    s: &str,
 ) -> Result<String, AllocError> {
     match sense {
-        Sense::Same => same_words(alloc, form, m),
-        Sense::Other => other_words(alloc, form, m),
-        Sense::Has(name) => has_words(alloc, form, name.as_str(), m),
-        Sense::Lacks(name) => lacks_words(alloc, form, name.as_str(), m),
-        Sense::Nothing => format!(in alloc; "{} and {} are related", m.all, m.step),
+        Sense::Same => joined(alloc, &["who does ", s, " also does ", group]),
+        Sense::Other => match form {
+            Form::SomeOf | Form::SomeTo => {
+                joined(alloc, &["not all of ", group, " are done by who does ", s])
+            }
+            Form::AllOf | Form::AllTo => joined(alloc, &["who does ", s, " does none of ", group]),
+        },
+        Sense::Has(name) => many_have(alloc, form, name.as_str(), group, s),
+        Sense::Lacks(name) => many_lack(alloc, form, name.as_str(), group, s),
+        Sense::Nothing => joined(alloc, &[group, " and ", s, " are related"]),
     }
 }
 
-fn same_words(alloc: Global, form: Form, m: Members<'_>) -> Result<String, AllocError> {
-    match form {
-        Form::SomeOf | Form::SomeTo => {
-            format!(in alloc; "who does {} also does {}", m.step, m.any)
-        }
-        Form::AllOf | Form::AllTo => format!(in alloc; "who does {} also does {}", m.step, m.all),
-    }
-}
-
-fn other_words(alloc: Global, form: Form, m: Members<'_>) -> Result<String, AllocError> {
-    match form {
-        Form::SomeOf | Form::SomeTo => {
-            format!(in alloc; "not all of {} are done by who does {}", m.all, m.step)
-        }
-        Form::AllOf | Form::AllTo => {
-            format!(in alloc; "who does {} does none of {}", m.step, m.all)
-        }
-    }
-}
-
-fn has_words(alloc: Global, form: Form, name: &str, m: Members<'_>) -> Result<String, AllocError> {
-    match form {
-        Form::SomeOf => {
-            format!(in alloc;
-                "somebody who does {} has \"{name}\" to who does {}",
-                m.any, m.step
-            )
-        }
-        Form::AllOf => {
-            format!(in alloc;
-                "everybody who does {} has \"{name}\" to who does {}",
-                m.any, m.step
-            )
-        }
-        Form::SomeTo => {
-            format!(in alloc;
-                "who does {} has \"{name}\" to somebody who does {}",
-                m.step, m.any
-            )
-        }
-        Form::AllTo => {
-            format!(in alloc;
-                "who does {} has \"{name}\" to everybody who does {}",
-                m.step, m.any
-            )
-        }
-    }
-}
-
-fn lacks_words(
+fn many_have(
     alloc: Global,
     form: Form,
     name: &str,
-    m: Members<'_>,
+    group: &str,
+    s: &str,
 ) -> Result<String, AllocError> {
+    let (some, all) = ("somebody who does ", "everybody who does ");
     match form {
-        Form::SomeOf => format!(in alloc;
-            "somebody who does {} does not have \"{name}\" to who does {}",
-            m.any, m.step
-        ),
-        Form::AllOf => {
-            format!(in alloc;
-                "nobody who does {} has \"{name}\" to who does {}",
-                m.any, m.step
-            )
-        }
-        Form::SomeTo => format!(in alloc;
-            "to somebody who does {} who does {} does not have \"{name}\"",
-            m.any, m.step
-        ),
-        Form::AllTo => {
-            format!(in alloc;
-                "who does {} has \"{name}\" to nobody who does {}",
-                m.step, m.any
-            )
-        }
+        Form::SomeOf => has_words(alloc, some, group, " has", name, "who does ", s),
+        Form::AllOf => has_words(alloc, all, group, " has", name, "who does ", s),
+        Form::SomeTo => has_words(alloc, "who does ", s, " has", name, some, group),
+        Form::AllTo => has_words(alloc, "who does ", s, " has", name, all, group),
     }
 }
 
-fn most_text(
+fn many_lack(
+    alloc: Global,
+    form: Form,
+    name: &str,
+    group: &str,
+    s: &str,
+) -> Result<String, AllocError> {
+    let (some, nobody) = ("somebody who does ", "nobody who does ");
+    match form {
+        Form::SomeOf => has_words(alloc, some, group, " does not have", name, "who does ", s),
+        Form::AllOf => has_words(alloc, nobody, group, " has", name, "who does ", s),
+        Form::SomeTo => joined(
+            alloc,
+            &[
+                "to ",
+                some,
+                group,
+                " who does ",
+                s,
+                " does not have \"",
+                name,
+                "\"",
+            ],
+        ),
+        Form::AllTo => has_words(alloc, "who does ", s, " has", name, nobody, group),
+    }
+}
+
+// A rule over the number of people; of one person the words differ.
+fn limit_text(
     alloc: Global,
     p: &Policy,
     f: FlowId,
+    most: &str,
+    one: &str,
     limit: u8,
     group: &StepSet,
 ) -> Result<String, AllocError>
@@ -261,25 +236,16 @@ fn most_text(
 {
     let all = group_text(alloc, p, f, group, "and")?;
     if limit == 1 {
-        format!(in alloc; "{all} are done by one person")
-    } else {
-        format!(in alloc; "{all} are done by at most {limit} people")
+        return joined(alloc, &[all.as_str(), " are done by ", one, "one person"]);
     }
-}
-
-fn least_text(
-    alloc: Global,
-    p: &Policy,
-    f: FlowId,
-    limit: u8,
-    group: &StepSet,
-) -> Result<String, AllocError>
-    requires { f < length p.now.flows }
-{
-    let all = group_text(alloc, p, f, group, "and")?;
-    if limit == 1 {
-        format!(in alloc; "{all} are done by at least one person")
+    let number = number_text(alloc, limit as u64)?;
+    let people = if one.is_empty() {
+        " people"
     } else {
-        format!(in alloc; "{all} are done by at least {limit} different people")
-    }
+        " different people"
+    };
+    joined(
+        alloc,
+        &[all.as_str(), " are done by ", most, number.as_str(), people],
+    )
 }

@@ -1,7 +1,9 @@
 //! A place in a text: its line, its column, and the line itself with a mark below it.
 
+use crate::lists::number_text;
 use crate::marks::line_end;
 use crate::place::Span;
+use crate::texts::say;
 use std::alloc::{AllocError, Global};
 
 /// How many characters of a line are shown before and behind the place.
@@ -37,19 +39,16 @@ fn is_first(byte: u8) -> bool {
 pub(crate) fn shown(alloc: Global, text: &str, span: Span) -> Result<String, AllocError> {
     let bytes = text.as_bytes();
     let spot = spot_of(bytes, span.start);
-    let number = format!(in alloc; "{}", spot.line)?;
-    let line = line_at(text, span.start);
+    let number = number_text(alloc, spot.line as u64)?;
     let from = spot.column.saturating_sub(AROUND.saturating_add(1));
-    let mut out = format!(in alloc; "    {number} | ")?;
-    push_part(&mut out, line, from)?;
+    let mut out = String::new(alloc);
+    say(&mut out, &["    ", number.as_str(), " | "])?;
+    push_part(&mut out, line_at(text, span.start), from)?;
     out.push_str("\n    ")?;
     push_times(&mut out, " ", number.len())?;
     out.push_str(" | ")?;
-    push_times(
-        &mut out,
-        " ",
-        spot.column.saturating_sub(1).saturating_sub(from),
-    )?;
+    let before = spot.column.saturating_sub(1).saturating_sub(from);
+    push_times(&mut out, " ", before)?;
     push_times(&mut out, "^", width_of(bytes, span).min(AROUND))?;
     out.push_str("\n")?;
     Ok(out)

@@ -1,8 +1,11 @@
 //! Why a workflow has a valid plan or none, in words.
 ghost use Rattle.std.specs.Prelude.{◌<◌, length};
 
-use crate::lists::{counted, flow_text, name_text, push_gap, step_text, steps_text, users_text};
+use crate::lists::{
+    counted, flow_text, name_of, number_text, push_gap, steps_text, text_of, users_text,
+};
 use crate::rules::rule_text;
+use crate::texts::say;
 use constraint_forms::Plan;
 use policy_book::Policy;
 use std::alloc::{AllocError, Global};
@@ -17,11 +20,9 @@ pub fn plan_text(alloc: Global, p: &Policy, f: FlowId, plan: &Plan) -> Result<St
     let count = plan.len();
     for s in 0..count {
         push_gap(&mut text, s as u32, count as u32, "and")?;
-        let user = name_text(alloc, p.roster().users(), plan.at(StepId(s)).0)?;
-        let step = step_text(alloc, p, f, StepId(s))?;
-        text.push_str(user.as_str())?;
-        text.push_str(" does ")?;
-        text.push_str(step.as_str())?;
+        let user = name_of(p.roster().users(), plan.at(StepId(s)).0);
+        let step = name_of(p.flow(f).steps(), s as u16);
+        say(&mut text, &[text_of(&user), " does ", text_of(&step)])?;
     }
     text.push_str(".\n")?;
     Ok(text)
@@ -36,23 +37,47 @@ pub fn crowd_text(
 ) -> Result<String, AllocError>
     requires { f < length p.now.flows }
 {
-    let (flow, all) = (flow_text(alloc, p, f)?, steps_text(alloc, p, f, steps)?);
+    let mut text = flow_text(alloc, p, f)?;
+    let all = steps_text(alloc, p, f, steps)?;
     if steps.len() == 1 {
-        return format!(in alloc; "{flow} has no plan: nobody may do {all}.\n");
+        say(
+            &mut text,
+            &[" has no plan: nobody may do ", all.as_str(), ".\n"],
+        )?;
+        return Ok(text);
     }
-    let users = takers(p, f, steps);
-    let few = few_text(alloc, p, &users)?;
-    let count = steps.len();
-    format!(in alloc; "{flow} has no plan: {all} want {count} different people, and {few}.\n")
+    say(&mut text, &[" has no plan: ", all.as_str(), " want "])?;
+    push_few(alloc, &mut text, p, steps.len(), &takers(p, f, steps))?;
+    Ok(text)
 }
 
-// How few users may do one of the steps.
-fn few_text(alloc: Global, p: &Policy, users: &UserSet) -> Result<String, AllocError> {
+// How many different users are wanted, and how few may do one of the steps.
+fn push_few(
+    alloc: Global,
+    text: &mut String,
+    p: &Policy,
+    wanted: usize,
+    users: &UserSet,
+) -> Result<(), AllocError> {
     let names = users_text(alloc, p, users)?;
+    let (wanted, few) = (
+        number_text(alloc, wanted as u64)?,
+        number_text(alloc, users.count() as u64)?,
+    );
+    say(text, &[wanted.as_str(), " different people, and "])?;
     match users.count() {
-        0 => String::from_str(alloc, "nobody may do any of them"),
-        1 => format!(in alloc; "{names} alone may do any of them"),
-        count => format!(in alloc; "only {count} may do any of them: {names}"),
+        0 => say(text, &["nobody may do any of them.\n"]),
+        1 => say(text, &[names.as_str(), " alone may do any of them.\n"]),
+        _ => say(
+            text,
+            &[
+                "only ",
+                few.as_str(),
+                " may do any of them: ",
+                names.as_str(),
+                ".\n",
+            ],
+        ),
     }
 }
 
@@ -73,8 +98,7 @@ pub fn clash_text(alloc: Global, p: &Policy, f: FlowId, rules: &[u8]) -> Result<
 {
     let mut text = clash_head(alloc, p, f, rules.len())?;
     for k in rules {
-        let line = rule_line(alloc, p, f, *k)?;
-        text.push_str(line.as_str())?;
+        push_rule(alloc, &mut text, p, f, *k)?;
     }
     Ok(text)
 }
@@ -82,31 +106,45 @@ pub fn clash_text(alloc: Global, p: &Policy, f: FlowId, rules: &[u8]) -> Result<
 fn clash_head(alloc: Global, p: &Policy, f: FlowId, count: usize) -> Result<String, AllocError>
     requires { f < length p.now.flows }
 {
-    let flow = flow_text(alloc, p, f)?;
+    let mut text = flow_text(alloc, p, f)?;
     let steps = counted(alloc, p.flow(f).steps().len() as u64, "step")?;
     let rules = counted(alloc, p.rules(f).len() as u64, "rule")?;
-    let head = format!(in alloc;
-        "{flow} has no plan: no choice of people for its {steps} meets its {rules}.\n"
+    let number = number_text(alloc, count as u64)?;
+    say(
+        &mut text,
+        &[" has no plan: no choice of people for its ", steps.as_str()],
     )?;
-    match count {
-        0 => Ok(head),
-        1 => format!(in alloc; "{head}This rule alone cannot be met:\n"),
-        count => format!(in alloc;
-            "{head}These {count} rules cannot be met together; leave out any one of them, and the \
-             others can:\n"
-        ),
-    }
+    say(&mut text, &[" meets its ", rules.as_str(), ".\n"])?;
+    let together =
+        " rules cannot be met together; leave out any one of them, and the others can:\n";
+    let (front, counted, end) = match count {
+        0 => ("", "", ""),
+        1 => ("This rule alone cannot be met:\n", "", ""),
+        _ => ("These ", number.as_str(), together),
+    };
+    say(&mut text, &[front, counted, end])?;
+    Ok(text)
 }
 
-// The line of a rule with its number.
-fn rule_line(alloc: Global, p: &Policy, f: FlowId, k: u8) -> Result<String, AllocError>
+// Adds the line of a rule with its number.
+fn push_rule(
+    alloc: Global,
+    text: &mut String,
+    p: &Policy,
+    f: FlowId,
+    k: u8,
+) -> Result<(), AllocError>
     requires { f < length p.now.flows }
 {
     match p.rules(f).as_slice().get(k as usize) {
         Some(rule) => {
             let words = rule_text(alloc, p, f, rule)?;
-            format!(in alloc; "  rule {k}: {words}\n")
+            let number = number_text(alloc, k as u64)?;
+            say(
+                text,
+                &["  rule ", number.as_str(), ": ", words.as_str(), "\n"],
+            )
         }
-        None => Ok(String::new(alloc)),
+        None => Ok(()),
     }
 }

@@ -3,7 +3,7 @@ ghost use Rattle.std.specs.Prelude.{◌≡◌};
 ghost use Rattle.std.specs.Process.{exit_status};
 ghost use Rattle.run_record.specs.Fault.{status_of};
 
-use run_record::RunFault;
+use run_record::{InputFault, RunFault};
 use std::io;
 use std::io::Write;
 use std::process::ExitCode;
@@ -44,7 +44,8 @@ fn words_of(fault: &RunFault) -> &'static str {
         RunFault::FileTooLong => "file too long",
         RunFault::LineTooLong(_) => "line too long",
         RunFault::TooManyLines => "too many lines",
-        RunFault::BadInput(_) => "the policy has no workflow of this name",
+        RunFault::BadInput(InputFault::NoFlow) => "the policy has no workflow of this name",
+        RunFault::BadInput(_) => "the transcript has no entry or no case of this number",
         RunFault::TooLarge => "too large",
     }
 }

@@ -1,13 +1,17 @@
 //! The top call: one run of the program over a source, a sink and a shelf.
 ghost use Rattle.std.specs.Prelude.{◌≡◌, None};
 ghost use Rattle.run_record.specs.Run.{run_of, streams_of};
+ghost use Rattle.run_record.specs.Fault.{CountsLoads, CountsWrites};
 ghost use Rattle.wf_commands.specs.Once.{RunsOnce};
+ghost use Rattle.tell_run.specs.Asked.{CanTell};
+ghost use Rattle.tell_run.specs.Runs.{RunsAlone, RunsAsked, run_to};
 ghost use Rattle.tell_run.specs.Why.{TellsWhy};
 
 use crate::ended::Ended;
 use crate::policy::run_policy;
 use crate::why::WhyCommand;
 use crate::words::{Asked, Unread, read_words};
+use case_story::run_told;
 use run_record::{Report, RunFault};
 use std::alloc::Global;
 use wf_commands::answer_once;
@@ -21,7 +25,11 @@ pub fn run_alone<F: Shelf, S: Source, K: Sink>(
     shelf: &mut F,
     source: &mut S,
     sink: &mut K,
-) -> Ended {
+) -> Ended
+    ensures { RunsAlone (run_to (F.file shelf.old) (F.faults shelf.old) (F.faults shelf.new)
+        (streams_of S.left S.faults K.held K.faults source.old sink.old)
+        (streams_of S.left S.faults K.held K.faults source.new sink.new) result.fault) }
+{
     match read_words(alloc, words) {
         Ok(asked) => {
             let fault = run_asked(alloc, asked, shelf, source, sink);
@@ -39,7 +47,9 @@ pub fn run_alone<F: Shelf, S: Source, K: Sink>(
     }
 }
 
-fn with_fault(alloc: Global, fault: RunFault) -> Ended {
+fn with_fault(alloc: Global, fault: RunFault) -> Ended
+    ensures { result.fault ≡ fault }
+{
     Ended {
         fault,
         usage: String::new(alloc),
@@ -52,10 +62,26 @@ fn run_asked<F: Shelf, S: Source, K: Sink>(
     shelf: &mut F,
     source: &mut S,
     sink: &mut K,
-) -> RunFault {
+) -> RunFault
+    requires { CanTell asked }
+    ensures { RunsAsked asked (run_to (F.file shelf.old) (F.faults shelf.old) (F.faults shelf.new)
+        (streams_of S.left S.faults K.held K.faults source.old sink.old)
+        (streams_of S.left S.faults K.held K.faults source.new sink.new) result) }
+{
     match asked {
         Asked::Policy { policy } => run_policy(alloc, policy, shelf, sink),
         Asked::Why { policy, flow } => run_why(alloc, policy, flow, shelf, source, sink).fault,
+        Asked::Told { what, session } => run_told(
+            alloc,
+            what,
+            session.policy,
+            session.requests,
+            session.transcript,
+            session.lanes,
+            session.rounds,
+            shelf,
+            sink,
+        ),
     }
 }
 

@@ -1,8 +1,13 @@
 //! The words of the command line.
+ghost use Rattle.std.specs.Prelude.{◌<◌, ◌≤◌, IfSome, IfOk};
+ghost use Rattle.wf_names.specs.declared.limits.TheConstants.{LANE_LIMIT};
+ghost use Rattle.tell_run.specs.Asked.{CanTell};
 
+use case_story::What;
 use clap::error::ErrorKind;
 use clap::{Arg, ArgMatches, Command};
 use std::alloc::{AllocError, Global};
+use wf_names::{CaseId, LANE_LIMIT, ROUND_LIMIT};
 
 /// What the program is asked to tell.
 #[derive(Clone, Copy)]
@@ -11,6 +16,20 @@ pub(crate) enum Asked<'a> {
     Policy { policy: &'a str },
     /// Why a workflow can or cannot be done.
     Why { policy: &'a str, flow: &'a str },
+    /// What a transcript tells.
+    Told { what: What, session: Files<'a> },
+}
+
+/// The files of a session, and how it was served.
+#[derive(Clone, Copy)]
+pub(crate) struct Files<'a> {
+    pub policy: &'a str,
+    pub requests: &'a str,
+    pub transcript: &'a str,
+    /// How many lanes there were, at least one.
+    pub lanes: u8,
+    /// After how many lost rounds a request was answered again.
+    pub rounds: u8,
 }
 
 /// Why words are no command.
@@ -31,7 +50,9 @@ impl From<AllocError> for Unread {
 }
 
 /// What the words ask for; they are those behind the program's name.
-pub(crate) fn read_words<'a>(alloc: Global, words: &'a [String]) -> Result<Asked<'a>, Unread> {
+pub(crate) fn read_words<'a>(alloc: Global, words: &'a [String]) -> Result<Asked<'a>, Unread>
+    ensures { IfOk result CanTell }
+{
     let mut command = form(alloc)?;
     match command.try_get_matches_from_mut(words) {
         Ok(matches) => match asked_in(&matches) {
@@ -47,9 +68,14 @@ fn form<'a>(alloc: Global) -> Result<Command<'a>, AllocError> {
         .about("Tells in words what a workflow policy says, and what is wrong with it")
         .version("0.1.0, for the policy formats 1 and 2")
         .no_binary_name(true)
+        .bin_name("wftell")?
         .subcommand_required(true)
         .subcommand(policy_form(alloc)?)?
-        .subcommand(why_form(alloc)?)
+        .subcommand(why_form(alloc)?)?
+        .subcommand(log_form(alloc)?)?
+        .subcommand(entry_form(alloc)?)?
+        .subcommand(now_form(alloc)?)?
+        .subcommand(page_form(alloc)?)
 }
 
 fn policy_form<'a>(alloc: Global) -> Result<Command<'a>, AllocError> {
@@ -70,13 +96,96 @@ fn why_form<'a>(alloc: Global) -> Result<Command<'a>, AllocError> {
         .arg(flow)
 }
 
-fn file_word<'a>(alloc: Global) -> Arg<'a> {
-    Arg::new(alloc, "POLICY")
-        .required(true)
-        .help("A policy file")
+fn log_form<'a>(alloc: Global) -> Result<Command<'a>, AllocError> {
+    session_form(alloc, "log", "The entries of a transcript, a line for each")
 }
 
-fn asked_in<'a>(matches: &ArgMatches<'a>) -> Option<Asked<'a>> {
+fn entry_form<'a>(alloc: Global) -> Result<Command<'a>, AllocError> {
+    let about = "An entry of a transcript: what the case was before it, and why it was answered so";
+    let number = number_word(alloc, "N", "The number of an entry, from 0").required(true);
+    session_form(alloc, "entry", about)?.arg(number)
+}
+
+fn now_form<'a>(alloc: Global) -> Result<Command<'a>, AllocError> {
+    let about = "The policy after an entry of a transcript, or after all";
+    session_form(alloc, "now", about)?.arg(number_word(
+        alloc,
+        "N",
+        "The number of an entry, from 0",
+    ))
+}
+
+fn page_form<'a>(alloc: Global) -> Result<Command<'a>, AllocError> {
+    let about = "A case, as a page of HTML that stands alone";
+    let number = Arg::new(alloc, "CASE")
+        .required(true)
+        .value_parser(clap::value_parser!(u16))
+        .help("The number of a case, from 0");
+    session_form(alloc, "page", about)?.arg(number)
+}
+
+// A command over the files of a session.
+fn session_form<'a>(
+    alloc: Global,
+    name: &'a str,
+    about: &'a str,
+) -> Result<Command<'a>, AllocError> {
+    Command::new(alloc, name)
+        .about(about)
+        .arg(file_word(alloc))?
+        .arg(text_word(alloc, "REQUESTS", "A file of requests"))?
+        .arg(text_word(alloc, "TRANSCRIPT", "The file of their transcript"))?
+        .arg(ranged(
+            alloc,
+            "lanes",
+            1,
+            LANE_LIMIT,
+            "1",
+            "How many lanes there were",
+        ))?
+        .arg(ranged(
+            alloc,
+            "rounds",
+            0,
+            ROUND_LIMIT,
+            "2",
+            "After how many lost rounds a request was answered again",
+        ))
+}
+
+fn file_word<'a>(alloc: Global) -> Arg<'a> {
+    text_word(alloc, "POLICY", "A policy file")
+}
+
+fn text_word<'a>(alloc: Global, name: &'a str, help: &'a str) -> Arg<'a> {
+    Arg::new(alloc, name).required(true).help(help)
+}
+
+fn number_word<'a>(alloc: Global, name: &'a str, help: &'a str) -> Arg<'a> {
+    Arg::new(alloc, name)
+        .value_parser(clap::value_parser!(u32))
+        .help(help)
+}
+
+// An option with a number, which is as `usual` writes it where the option is left out.
+fn ranged<'a>(
+    alloc: Global,
+    name: &'a str,
+    least: u8,
+    most: u8,
+    usual: &'a str,
+    help: &'a str,
+) -> Arg<'a> {
+    Arg::new(alloc, name)
+        .long(name)
+        .value_parser(clap::value_parser!(u8).range(i64::from(least)..=i64::from(most)))
+        .default_value(usual)
+        .help(help)
+}
+
+fn asked_in<'a>(matches: &ArgMatches<'a>) -> Option<Asked<'a>>
+    ensures { IfSome result CanTell }
+{
     match matches.subcommand() {
         Some(("policy", found)) => Some(Asked::Policy {
             policy: found.get_str("POLICY")?,
@@ -85,7 +194,65 @@ fn asked_in<'a>(matches: &ArgMatches<'a>) -> Option<Asked<'a>> {
             policy: found.get_str("POLICY")?,
             flow: found.get_str("FLOW")?,
         }),
+        Some((name, found)) => {
+            let what = what_in(name, found)?;
+            let session = files_in(found)?;
+            Some(Asked::Told { what, session })
+        }
+        None => None,
+    }
+}
+
+// What is to be told of a transcript.
+fn what_in(name: &str, found: &ArgMatches<'_>) -> Option<What> {
+    match name {
+        "log" => Some(What::Log),
+        "entry" => Some(What::Entry(number_in(found, "N")?)),
+        "now" => match found.get_str("N") {
+            Some(_) => Some(What::Now(Some(number_in(found, "N")?))),
+            None => Some(What::Now(None)),
+        },
+        "page" => {
+            let number = number_in(found, "CASE")?;
+            match u16::try_from(number) {
+                Ok(case) => Some(What::Page(CaseId(case))),
+                Err(_) => None,
+            }
+        }
         _ => None,
+    }
+}
+
+// The files of a session.
+fn files_in<'a>(found: &ArgMatches<'a>) -> Option<Files<'a>>
+    ensures some { IfSome result (λ s. 0 < s.lanes) }
+    ensures lanes { IfSome result (λ s. s.lanes ≤ LANE_LIMIT) }
+{
+    let lanes = small_in(found, "lanes")?;
+    let rounds = small_in(found, "rounds")?;
+    if lanes == 0 || lanes > LANE_LIMIT {
+        return None;
+    }
+    Some(Files {
+        policy: found.get_str("POLICY")?,
+        requests: found.get_str("REQUESTS")?,
+        transcript: found.get_str("TRANSCRIPT")?,
+        lanes,
+        rounds,
+    })
+}
+
+fn small_in(found: &ArgMatches<'_>, name: &str) -> Option<u8> {
+    match found.get_str(name)?.parse::<u8>() {
+        Ok(n) => Some(n),
+        Err(_) => None,
+    }
+}
+
+fn number_in(found: &ArgMatches<'_>, name: &str) -> Option<u32> {
+    match found.get_str(name)?.parse::<u32>() {
+        Ok(n) => Some(n),
+        Err(_) => None,
     }
 }
 

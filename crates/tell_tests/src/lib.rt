@@ -1,7 +1,5 @@
-//! Tests of what is told, over public calls: sentences, and whole runs over files in memory.
+//! Tests of what is told, over public calls. Whole runs are rows of wf_rows.
 #![tactic(auto)]
 
-#[cfg(test)]
-mod runs;
 #[cfg(test)]
 mod sentences;

@@ -6,11 +6,13 @@ mod disk;
 mod outside;
 mod row;
 mod session;
+mod told;
 
 use crate::disk::count_loads;
 use crate::outside::{shelf_of, sink_of, source_of, with_pieces, words_of};
 use crate::row::{is_row, list, number, text};
-use crate::session::is_legal;
+use crate::session::{is_legal, is_told_of};
+use crate::told::{is_fault_told, is_told};
 use std::alloc::{AllocError, AllocGlobal, Global};
 use std::fs;
 use std::rt::Files;
@@ -19,9 +21,9 @@ use wf_outside::{MemShelf, MemSink, MemSource};
 use wf_server::{Report, run_alone};
 
 // The files: commands with what comes of them, faulty policies, the forms of rules that the first
-// format lacks, devices that fail with texts made to break it, limits, sessions that go on, and the
-// clauses of cases.
-const FILES: [&str; 7] = [
+// format lacks, devices that fail with texts made to break it, limits, sessions that go on, the
+// clauses of cases, and what is told in words.
+const FILES: [&str; 8] = [
     "rows.toml",
     "policies.toml",
     "forms.toml",
@@ -29,10 +31,11 @@ const FILES: [&str; 7] = [
     "limits.toml",
     "resumed.toml",
     "clauses.toml",
+    "told.toml",
 ];
 
-// Whole sessions.
-const SESSIONS: &str = "sessions.toml";
+// Whole sessions; and those of the examples, with what is told of them.
+const SESSIONS: [&str; 2] = ["sessions.toml", "stories.toml"];
 
 fn main(rt: HostRuntime) -> anyhow::Result<()> {
     for file in FILES {
@@ -44,9 +47,11 @@ fn main(rt: HostRuntime) -> anyhow::Result<()> {
         "the disk: {} loads are right",
         count_loads(&rt, rt.alloc())
     )?;
-    let sessions = table_of(&rt, SESSIONS)?;
-    let legal = count_sessions(&rt, rt.alloc(), &sessions)?;
-    println!(rt; "{SESSIONS}: {legal} sessions are legal")?;
+    for file in SESSIONS {
+        let sessions = table_of(&rt, file)?;
+        let legal = count_sessions(&rt, rt.alloc(), &sessions)?;
+        println!(rt; "{file}: {legal} sessions are legal")?;
+    }
     Ok(())
 }
 
@@ -68,11 +73,11 @@ fn count_rows(rt: &impl Print, alloc: Global, rows: &Table) -> anyhow::Result<u3
     Ok(holding)
 }
 
-// How many sessions are answered and found legal; the others are named.
+// How many sessions are answered, found legal and told rightly; the others are named.
 fn count_sessions(rt: &impl Print, alloc: Global, sessions: &Table) -> anyhow::Result<u32> {
     let mut legal = 0u32;
     for session in list(sessions.get("session")) {
-        if is_legal(alloc, session)? {
+        if is_legal(alloc, session)? && is_told_of(alloc, session)? {
             legal = legal.saturating_add(1);
         } else {
             println!(rt; "is not legal: {}", text(session.get("name")))?;
@@ -81,10 +86,13 @@ fn count_sessions(rt: &impl Print, alloc: Global, sessions: &Table) -> anyhow::R
     Ok(legal)
 }
 
-// Whether a row's command ends as the row says.
+// Whether a row's command ends as the row says, and the fault of its policy file is told as it says.
 fn holds(alloc: Global, rows: &Table, row: &Value) -> Result<bool, AllocError> {
     let mut shelf = shelf_of(alloc, rows, row)?;
-    holds_with(alloc, row, &mut shelf)
+    if row.get("tell").is_some() {
+        return is_told(alloc, row, &mut shelf);
+    }
+    Ok(holds_with(alloc, row, &mut shelf)? && is_fault_told(alloc, row, &mut shelf)?)
 }
 
 fn holds_with(alloc: Global, row: &Value, shelf: &mut MemShelf) -> Result<bool, AllocError> {

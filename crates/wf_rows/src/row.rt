@@ -34,7 +34,8 @@ pub fn of_outside<'a>(row: &'a Value, key: &str) -> Option<&'a Value> {
 /// Whether a row has these keys alone, each with a value of its kind. It is a command with its
 /// input, and what must come of it. The row's own policy stands under the name `here`: the texts
 /// that `after` names, and then its own. Its files `requests`, `transcript` and `model` stand under
-/// these names. Pieces stand behind the text that they are more of.
+/// these names. Pieces stand behind the text that they are more of. `told` is what the program that
+/// tells in words says of the policy file; a row with `tell` in place of `words` is for that program.
 ///
 /// A piece is so many copies, `times`, of a `text` with `bytes` behind it. Each `@` of the text
 /// stands for the number of the copy, from 0, with zeros in front where the piece has a `width`.
@@ -55,10 +56,16 @@ pub fn is_row(row: &Value) -> bool {
 
 fn is_of_row(key: &str, value: &Value) -> bool {
     match key {
-        "name" | "here" | "requests" | "transcript" | "model" | "input" | "output" | "fault" => {
-            value.as_str().is_some()
-        }
-        "words" | "after" => value.as_array().is_some(),
+        "name"
+        | "here"
+        | "requests"
+        | "transcript"
+        | "model"
+        | "input"
+        | "output"
+        | "fault"
+        | "told" => value.as_str().is_some(),
+        "words" | "tell" | "after" => value.as_array().is_some(),
         "more_here"
         | "more_requests"
         | "more_transcript"

@@ -2,6 +2,7 @@
 
 use crate::outside::{put_text, sink_of, whole_source, words_of};
 use crate::row::{list, number, text};
+use crate::told::are_told;
 use std::alloc::{AllocError, Global};
 use toml::Value;
 use wf_outside::{MemShelf, MemSink, MemSource};
@@ -10,7 +11,8 @@ use wf_server::run_alone;
 /// Whether each request of a session is answered, and its transcript is legal. A session has the
 /// words that serve it, `serve`, and those that audit its transcript, `audit`, over a policy file
 /// and requests, which stand under the names `policy` and `requests`, with the pieces of
-/// `more_policy` behind the policy, and the number of its `entries`.
+/// `more_policy` behind the policy, and the number of its `entries`. A transcript that it has itself
+/// stands under the name `transcript`, for what is told of it.
 pub fn is_legal(alloc: Global, session: &Value) -> Result<bool, AllocError> {
     let mut transcript = sink_of(alloc, session)?;
     Ok(is_served(alloc, session, &mut transcript)? && is_found_legal(alloc, session, &transcript)?)
@@ -73,5 +75,13 @@ fn shelf_of(alloc: Global, session: &Value) -> Result<MemShelf, AllocError> {
     let mut files = Vec::new(alloc);
     put_text(alloc, session, "policy", "more_policy", &mut files)?;
     put_text(alloc, session, "requests", "more_requests", &mut files)?;
+    put_text(alloc, session, "transcript", "more_transcript", &mut files)?;
     Ok(MemShelf::new(files, Vec::new(alloc)))
+}
+
+/// Whether all that a session says is told of it is told; each `telling` has its words, `tell`, its
+/// `output`, and its `status`, where that is not 0.
+pub fn is_told_of(alloc: Global, session: &Value) -> Result<bool, AllocError> {
+    let mut shelf = shelf_of(alloc, session)?;
+    are_told(alloc, session, &mut shelf)
 }

@@ -1,6 +1,6 @@
 //! Adding words to a text.
 
-use std::alloc::AllocError;
+use std::alloc::{AllocError, Global};
 
 /// Adds some texts, one behind the other.
 pub fn say(out: &mut String, parts: &[&str]) -> Result<(), AllocError> {
@@ -8,4 +8,11 @@ pub fn say(out: &mut String, parts: &[&str]) -> Result<(), AllocError> {
         out.push_str(part)?;
     }
     Ok(())
+}
+
+/// Some texts as one.
+pub fn joined(alloc: Global, parts: &[&str]) -> Result<String, AllocError> {
+    let mut out = String::new(alloc);
+    say(&mut out, parts)?;
+    Ok(out)
 }

@@ -1,0 +1,4 @@
+pub mod FirstLine
+pub mod Following
+pub mod Founds
+pub mod Answering

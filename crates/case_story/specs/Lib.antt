@@ -1,0 +1,6 @@
+pub mod Verdicts
+pub mod Sessions
+pub mod Followed
+pub mod Telling
+pub mod Writing
+pub mod Running

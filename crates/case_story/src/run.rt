@@ -1,0 +1,99 @@
+//! A run that tells of a transcript: the files are loaded, and what is told of them is written.
+ghost use Rattle.std.specs.Prelude.{◌≡◌, ◌<◌, ◌≤◌, ℕ, List, IfErr};
+ghost use Rattle.wf_names.specs.declared.limits.TheConstants.{LANE_LIMIT};
+ghost use Rattle.run_record.specs.Fault.{fault_in, CountsLoads, CountsWrites};
+ghost use Rattle.wf_commands.specs.Answer.{AnswersAs, IsAnswerEnding, IsCommandEnding};
+ghost use Rattle.case_story.specs.Sessions.{IsServed};
+ghost use Rattle.case_story.specs.Running.{FindsRun, Tells, TellsRun};
+
+use crate::entry::tell_entry;
+use crate::log::tell_log;
+use crate::now::tell_now;
+use crate::page::tell_page;
+use crate::session::{Session, load_session};
+use run_record::RunFault;
+use std::alloc::Global;
+use wf_commands::Answer;
+use wf_names::CaseId;
+use wf_outside::{Shelf, Sink, put_and_flush};
+
+/// What is to be told of a transcript.
+#[derive(Clone, Copy)]
+pub enum What {
+    /// All entries.
+    Log,
+    /// The entry with this number.
+    Entry(u32),
+    /// The policy after the entry with this number, or after all.
+    Now(Option<u32>),
+    /// The case with this number, as a page.
+    Page(CaseId),
+}
+
+/// Tells of the transcript in one file, of a session with the policy in another and the requests in
+/// a third, served on so many lanes and with so many lost rounds before a request is answered again.
+pub fn run_told<F: Shelf, K: Sink>(
+    alloc: Global,
+    what: What,
+    policy: &str,
+    requests: &str,
+    transcript: &str,
+    lanes: u8,
+    rounds: u8,
+    shelf: &mut F,
+    sink: &mut K,
+) -> RunFault
+    requires some { 0 < lanes }
+    requires lanes { lanes ≤ LANE_LIMIT }
+    ensures tells { TellsRun (F.file shelf.old)
+        (record { policy = policy.now; requests = requests.now; transcript = transcript.now })
+        lanes rounds (Tells what) (K.held sink.old) (K.held sink.new) result }
+    ensures loads { CountsLoads result (F.faults shelf.old) (F.faults shelf.new) }
+    ensures writes { CountsWrites result (K.faults sink.old) (K.faults sink.new) }
+{
+    match find(
+        alloc, what, policy, requests, transcript, lanes, rounds, shelf,
+    ) {
+        Ok(answer) => match put_and_flush(sink, answer.text.as_slice()) {
+            Ok(()) => answer.ending(),
+            Err(_) => RunFault::Write,
+        },
+        Err(fault) => fault,
+    }
+}
+
+// What is told of the files.
+fn find<F: Shelf>(
+    alloc: Global,
+    what: What,
+    policy: &str,
+    requests: &str,
+    transcript: &str,
+    lanes: u8,
+    rounds: u8,
+    shelf: &mut F,
+) -> Result<Answer, RunFault>
+    requires some { 0 < lanes }
+    requires lanes { lanes ≤ LANE_LIMIT }
+    ensures finds { FindsRun (F.file shelf.old)
+        (record { policy = policy.now; requests = requests.now; transcript = transcript.now })
+        lanes rounds (Tells what) result }
+    ensures ending { IfErr result IsCommandEnding }
+    ensures loads { CountsLoads (fault_in result) (F.faults shelf.old) (F.faults shelf.new) }
+{
+    let s = load_session(alloc, policy, requests, transcript, lanes, rounds, shelf)?;
+    tell(alloc, what, &s)
+}
+
+fn tell(alloc: Global, what: What, s: &Session) -> Result<Answer, RunFault>
+    requires served { IsServed s.now }
+    ensures tells { AnswersAs (Tells what s.now) result }
+    ensures ending { IfErr result IsAnswerEnding }
+{
+    match what {
+        What::Log => tell_log(alloc, s),
+        What::Entry(at) => tell_entry(alloc, s, at),
+        What::Now(at) => tell_now(alloc, s, at),
+        What::Page(case) => tell_page(alloc, s, case),
+    }
+}

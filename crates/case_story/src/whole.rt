@@ -1,0 +1,49 @@
+//! The audit of a whole transcript.
+ghost use Rattle.std.specs.Prelude.{◌≡◌, IfOk};
+ghost use Rattle.line_reader.specs.Lines.{lines_of};
+ghost use Rattle.case_story.specs.Sessions.{IsServed, audit_in};
+ghost use Rattle.case_story.specs.Followed.{HasStopped};
+ghost use Rattle.case_story.specs.Verdicts.{HasVerdict, right_lines};
+
+use crate::follow::{Watches, follow_rest};
+use crate::place::Place;
+use crate::session::Session;
+use crate::verdict::Verdict;
+use audit_command::legal_is_exact;
+use std::alloc::{AllocError, Global};
+use transcript_audit::Auditor;
+
+/// An audit that is done.
+#[derive(Drop)]
+pub(crate) struct Audited {
+    /// What is found.
+    pub verdict: Verdict,
+    /// The audit behind the last line that is right.
+    pub auditor: Auditor,
+    /// Where the lines end that are right.
+    pub place: Place,
+}
+
+/// Audits all lines.
+pub(crate) fn audit_whole<W: Watches>(
+    alloc: Global,
+    s: &Session,
+    watcher: &mut W,
+) -> Result<Audited, AllocError>
+    requires served { IsServed s.now }
+    ensures verdict { IfOk result (λ r.
+        HasVerdict (audit_in s.now) (lines_of s.now.transcript) r.verdict) }
+    ensures stopped { IfOk result (λ r.
+        HasStopped (audit_in s.now) r.auditor s.now.transcript (right_lines r.verdict)) }
+{
+    legal_is_exact();
+    let mut auditor = s.auditor(alloc)?;
+    let mut place = Place::start();
+    let text = s.transcript.as_bytes();
+    let verdict = follow_rest(alloc, &mut auditor, text, &mut place, watcher)?;
+    Ok(Audited {
+        verdict,
+        auditor,
+        place,
+    })
+}

@@ -1,0 +1,40 @@
+//! Values of another type than their keys want.
+
+use crate::marks::Mark;
+use crate::place::{Keys, Span, is_quoted, is_within, parent, span_of, value_of_key, words_at};
+
+/// Under the keys, the first value that is of another type than its key wants; at the top the admin
+/// role where it is no text, and else the format.
+pub(crate) fn shape_place(text: &[u8], marks: &[Mark], keys: Keys<'_>) -> Option<Span> {
+    if !keys.table.is_empty() {
+        return first_amiss(text, marks, keys);
+    }
+    match value_of_key(text, marks, "admin") {
+        Some(admin) if !is_quoted(text, admin.start) => Some(admin),
+        _ => value_of_key(text, marks, "format"),
+    }
+}
+
+fn first_amiss(text: &[u8], marks: &[Mark], keys: Keys<'_>) -> Option<Span> {
+    for mark in marks {
+        if !mark.is_key && is_amiss(text, marks, *mark) && is_within(text, marks, *mark, keys) {
+            return Some(span_of(*mark));
+        }
+    }
+    None
+}
+
+// Whether a value is a text where a number or a list is wanted, or no text where one is.
+fn is_amiss(text: &[u8], marks: &[Mark], mark: Mark) -> bool {
+    let key = match parent(marks, mark) {
+        Some(above) => words_at(text, above),
+        None => return false,
+    };
+    match std::str::from_utf8(key) {
+        Ok("format" | "limit") => is_quoted(text, mark.start),
+        Ok("admin" | "form" | "relation" | "first" | "second" | "step" | "complement") => {
+            !is_quoted(text, mark.start)
+        }
+        _ => !is_quoted(text, mark.start) || mark.item == 0,
+    }
+}
