@@ -20,7 +20,8 @@ font:1rem/1.5 system-ui,sans-serif}
 h1{margin:0;font-size:1.8rem}h2{margin:2rem 0 .5rem;font-size:1.2rem}
 p{margin:.4rem 0}.lead{font-size:1.1rem}.told{color:var(--dim)}
 .wide{overflow-x:auto;margin:.5rem 0 1rem}
-svg{display:block;max-width:100%;height:auto;fill:var(--ink);font-size:13px}
+svg{display:block;max-width:100%;height:auto;fill:var(--ink);font-size:13px}.big{max-width:none}
+@media screen and (max-width:50rem){svg{max-width:none}}
 rect{fill:var(--paper);stroke:var(--dim);stroke-width:1.5}
 .done rect{fill:var(--done)}.held rect{fill:var(--held);stroke-width:3}
 .wait rect{stroke-dasharray:5 4}
@@ -36,7 +37,7 @@ details{color:var(--ink)}summary{color:var(--dim)}
 pre{white-space:pre-wrap;margin:.2rem 0;font:.85rem/1.45 ui-monospace,monospace}
 @media print{:root{--ink:#000;--dim:#444;--line:#999;--paper:#fff;--done:#e8f5eb;--held:#fdf5dc;
 --no:#000;--edit:#f2f2f2}body{max-width:none;padding:0}tr,svg{break-inside:avoid}
-.wide{overflow:visible}}
+.wide{overflow:visible}svg,.big{max-width:100%}}
 </style></head>
 <body>
 <h1>";

@@ -114,25 +114,25 @@ impl Page {
         verdict: &str,
     ) -> Result<(), AllocError> {
         let flow = flow_text(alloc, p, case.flow())?;
-        let number = Part::Number(self.case.0 as u32);
-        out.put(&[
-            Part::Mark(FRONT),
-            Part::Mark("Case "),
-            number,
-            Part::Mark(" of "),
-            Part::Value(flow.as_str()),
-            Part::Mark(STYLE),
-            Part::Mark("Case "),
-            number,
-            Part::Mark(" of "),
-            Part::Value(flow.as_str()),
-            Part::Mark("</h1>\n"),
-        ])?;
+        out.put(&[Part::Mark(FRONT)])?;
+        self.put_name(out, flow.as_str())?;
+        out.put(&[Part::Mark(STYLE)])?;
+        self.put_name(out, flow.as_str())?;
+        out.put(&[Part::Mark("</h1>\n")])?;
         put_standing(out, case)?;
         out.put(&[
             Part::Mark("<p class=\"told\">"),
             Part::Value(verdict),
             Part::Mark("</p>\n"),
+        ])
+    }
+
+    fn put_name(&self, out: &mut Html, flow: &str) -> Result<(), AllocError> {
+        out.put(&[
+            Part::Mark("Case "),
+            Part::Number(self.case.0 as u32),
+            Part::Mark(" of "),
+            Part::Value(flow),
         ])
     }
 

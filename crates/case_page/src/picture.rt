@@ -18,6 +18,8 @@ const HALF_DOWN: u32 = 42;
 const MIDDLE: u32 = 32;
 /// The gap between two layers.
 const GAP: u32 = 46;
+/// A wider picture is not made smaller to fit a window.
+const FITS: u32 = 1_600;
 /// The edge round the picture.
 const EDGE: u32 = 4;
 /// The length of the point of an arrow.
@@ -123,7 +125,12 @@ fn put_frame(
         Part::Number(wide),
         Part::Mark("\" height=\""),
         Part::Number(canvas.high),
-        Part::Mark("\" role=\"img\" aria-labelledby=\"t d\"><title id=\"t\">The steps of "),
+        Part::Mark(if wide > FITS {
+            "\" class=\"big\""
+        } else {
+            "\""
+        }),
+        Part::Mark(" role=\"img\" aria-labelledby=\"t d\"><title id=\"t\">The steps of "),
         Part::Value(flow.as_str()),
         Part::Mark(PICTURE),
     ])
