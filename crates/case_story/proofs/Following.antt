@@ -10,13 +10,10 @@ use Rattle.transcript_audit.specs.declared.fault.AuditKind.{AuditKind}
 use Rattle.transcript_audit.specs.Audits.{AuditShape, AreNext, HasFault, IsNextLine, with_entry}
 use Rattle.transcript_audit.specs.Outcomes.{HasTakenLine}
 use Rattle.transcript_audit.proofs.Exact.{next_pushed}
-use Rattle.audit_command.specs.declared.finding.Finding.{Finding}
-use Rattle.audit_command.specs.declared.finding.Finding.TheVariants as finding
-use Rattle.audit_command.specs.Auditing.{IsAudited}
 use Rattle.case_story.specs.declared.place.Place.{Place}
 use Rattle.case_story.specs.declared.verdict.Verdict.{Verdict}
 use Rattle.case_story.specs.declared.verdict.Verdict.TheVariants.{Legal, Fault, TooLong}
-use Rattle.case_story.specs.Verdicts.{IsVerdict, right_lines}
+use Rattle.case_story.specs.Verdicts.{AreShort, EndsWith, IsVerdict, right_lines}
 use Rattle.case_story.specs.Followed.{EndsAt, HasFollowed, HasStopped, HasTaken, StopsTo}
 
 -- before the first line
@@ -27,8 +24,7 @@ begins first text place none at number = record {
   count = sym number;
   taken = record { entries = []; next = tt; opened = refl; after = sym (append-nil first.entries) };
   same = refl;
-  known = ap length none ∙ sym number;
-  goes = λ f h. subst (λ n. IsAudited first (lines_of (drop n text)) f) at h;
+  short = tt;
 }
 
 -- the rest of a text, at its first line
@@ -52,6 +48,10 @@ fits rest count line short =
     let same = ap line_length line in
     let most : line_length rest ≤ TRANSCRIPT_LINE_LIMIT = grind (arith, common_steps) in
     omega (arith, alone, same, most)
+
+short_pushed : (lines : List (List ℕ)) (line : List ℕ) → AreShort lines → line_length line ≤ TRANSCRIPT_LINE_LIMIT → AreShort (lines ++ line ∷ [])
+short_pushed [] line short fits = (fits, tt)
+short_pushed (l ∷ ls) line short fits = (short.0, short_pushed ls line short.1 fits)
 
 -- one more line is taken
 took : (first a b : AuditShape) (lines : List (List ℕ)) (line : List ℕ) (e : Entry) → HasTaken first a lines → a ≡ record first { entries = a.entries }
@@ -82,9 +82,7 @@ one_more first a b text rest place after count r short taken at number h =
       count = let c = h.count in omega (arith, c, number, length-append h.front (line ∷ []));
       taken = took first a b h.front line e h.taken h.same next is;
       same = whole ∙ ap (λ es. record first { entries = es }) (sym entries);
-      known = let k = h.known in let size = ap length entries in omega (arith, k, size, number, length-append a.entries (e ∷ []));
-      goes = λ f audited. h.goes f (subst (λ ls. IsAudited a ls f) (sym parts)
-          (inr (e, ((fits rest count r.line short, next), subst (λ x. IsAudited x (lines_of (drop after.at text)) f) is audited))));
+      short = short_pushed h.front line h.short (fits rest count r.line short);
     }
 
 -- the audit stopped behind the lines that were followed, where the entries stay
@@ -97,13 +95,27 @@ stopped first a b text place n h opened entries number = record {
   taken = let t = h.taken in record { entries = t.entries; next = t.next; opened = opened ∙ t.opened; after = entries ∙ t.after };
 }
 
+-- what is found behind the lines that were followed
+found : (first a : AuditShape) (text : List ℕ) (place : Place) (rest : List (List ℕ)) (v : Verdict) → HasFollowed first a text place → lines_of (drop place.at text) ≡ rest
+    → right_lines v ≡ place.number → EndsWith a rest v → IsVerdict first (lines_of text) v
+found first a text place rest v h left number ends = record {
+  front = h.front;
+  rest = rest;
+  parts = h.lines ∙ ap (λ ls. h.front ++ ls) left;
+  count = h.count ∙ sym number;
+  short = h.short;
+  entries = h.taken.entries;
+  next = h.taken.next;
+  ends = subst (λ x. EndsWith x rest v) (h.same ∙ ap (λ es. record first { entries = es }) h.taken.after) ends;
+}
+
 -- a line has a fault
-pub one_wrong : (first a b : AuditShape) (text rest : List ℕ) (place after : Place) (count : ℕ) (kind : AuditKind) → IsRest text rest place count → after.at ≡ place.at + count
+pub one_wrong : (first a b : AuditShape) (text rest : List ℕ) (place : Place) (count : ℕ) (kind : AuditKind) → IsRest text rest place count
     → nat_lt TRANSCRIPT_LINE_LIMIT (line_length rest) ≡ false → HasFault a (take count rest) kind → b.opening ≡ a.opening → b.entries ≡ a.entries
     → HasFollowed first a text place → StopsTo first b text (Fault place.number kind)
-one_wrong first a b text rest place after count kind r at short fault opened entries h = record {
-  found = h.goes (finding.Fault place.number kind) (subst (λ ls. IsAudited a ls (finding.Fault place.number kind)) (sym (split text rest place after count r at))
-      (inl (sym h.known, (fits rest count r.line short, fault))));
+one_wrong first a b text rest place count kind r short fault opened entries h = record {
+  found = found first a text place (take count rest ∷ lines_of (behind_line rest)) (Fault place.number kind) h
+      (ap lines_of (sym r.is) ∙ lines_first rest r.some ∙ ap (λ l. l ∷ lines_of (behind_line rest)) (sym r.line)) refl (fits rest count r.line short, fault);
   stopped = stopped first a b text place place.number h opened entries refl;
 }
 
@@ -114,26 +126,23 @@ one_long first a text rest place is some long h =
     let alone = (line_alone rest).counted in
     let much : TRANSCRIPT_LINE_LIMIT < line_length rest = grind (arith, common_steps) in
     record {
-      found = h.goes (finding.TooLong place.number) (subst (λ ls. IsAudited a ls (finding.TooLong place.number)) (sym (ap lines_of (sym is) ∙ lines_first rest some))
-          (inl (sym h.known, omega (arith, alone, much))));
+      found = found first a text place (first_line rest ∷ lines_of (behind_line rest)) (TooLong place.number) h (ap lines_of (sym is) ∙ lines_first rest some) refl (omega (arith, alone, much));
       stopped = stopped first a a text place place.number h refl refl refl;
     }
 
+none_left : (text : List ℕ) (at : ℕ) → length text ≤ at → lines_of (drop at text) ≡ []
+none_left text at past = ap lines_of (drop_all at text past)
+
 -- no line is left
 pub at_end : (first a : AuditShape) (text : List ℕ) (place : Place) (v : Verdict) → length text ≤ place.at → EndsAt a place.number v → HasFollowed first a text place → StopsTo first a text v
-at_end first a text place (Legal n) past ends h =
-    let none : lines_of (drop place.at text) ≡ [] = ap lines_of (drop_all place.at text past) in
-    let whole : lines_of text ≡ h.front = h.lines ∙ ap (λ ls. h.front ++ ls) none ∙ append-nil h.front in
-    record {
-      found = (ends.0 ∙ sym h.count ∙ ap length (sym whole), h.goes finding.Legal (subst (λ ls. IsAudited a ls finding.Legal) (sym none) ends.1));
-      stopped = stopped first a a text place n h refl refl ends.0;
-    }
-at_end first a text place (Fault n kind) past ends h =
-    let none : lines_of (drop place.at text) ≡ [] = ap lines_of (drop_all place.at text past) in
-    record {
-      found = h.goes (finding.Fault n kind) (subst (λ ls. IsAudited a ls (finding.Fault n kind)) (sym none) (ends.0, (ends.1.0 ∙ sym h.known, ends.1.1)));
-      stopped = stopped first a a text place n h refl refl ends.1.0;
-    }
+at_end first a text place (Legal n) past ends h = record {
+  found = found first a text place [] (Legal n) h (none_left text place.at past) ends.0 ends.1;
+  stopped = stopped first a a text place n h refl refl ends.0;
+}
+at_end first a text place (Fault n kind) past ends h = record {
+  found = found first a text place [] (Fault n kind) h (none_left text place.at past) ends.1.0 (ends.0, ends.1.1);
+  stopped = stopped first a a text place n h refl refl ends.1.0;
+}
 at_end first a text place (TooLong n) past ends h = absurd ends
 
 -- how many lines there are

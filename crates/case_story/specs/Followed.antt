@@ -4,12 +4,10 @@ use Rattle.wf_talk.specs.declared.entry.Entry.{Entry}
 use Rattle.line_reader.specs.Lines.{lines_of}
 use Rattle.transcript_audit.specs.Audits.{AuditShape, AreNext}
 use Rattle.transcript_audit.specs.declared.fault.AuditKind.TheVariants.{Missing}
-use Rattle.audit_command.specs.declared.finding.Finding.{Finding}
-use Rattle.audit_command.specs.Auditing.{IsAudited}
 use Rattle.case_story.specs.declared.place.Place.{Place}
 use Rattle.case_story.specs.declared.verdict.Verdict.{Verdict}
 use Rattle.case_story.specs.declared.verdict.Verdict.TheVariants.{Legal, Fault, TooLong}
-use Rattle.case_story.specs.Verdicts.{IsVerdict, right_lines}
+use Rattle.case_story.specs.Verdicts.{AreShort, IsVerdict, right_lines}
 
 -- an audit that began so has taken the entries of these lines
 pub record HasTaken (first a : AuditShape) (lines : List (List ℕ)) : Type 0 where
@@ -31,8 +29,7 @@ pub record HasFollowed (first a : AuditShape) (text : List ℕ) (place : Place) 
   pub count : length front ≡ place.number
   pub taken : HasTaken first a front
   pub same : a ≡ record first { entries = a.entries }
-  pub known : length a.entries ≡ place.number
-  pub goes : (f : Finding) → IsAudited a (lines_of (drop place.at text)) f → IsAudited first (lines_of text) f
+  pub short : AreShort front
 
 -- an audit that began so has taken the first so many lines
 pub record HasStopped (first b : AuditShape) (text : List ℕ) (n : ℕ) : Type 0 where

@@ -23,8 +23,8 @@ Tells (what.Page number) s fault text = TellsPage number s fault text
 -- the files give a session that was served so
 pub record Gives (files : List ℕ → Filed) (n : Names) (lanes rounds : ℕ) (s : Session) : Type 0 where
   pub gives : GivesSession files n (Ok s)
-  pub lanes : s.lanes ≡ lanes
-  pub rounds : s.rounds ≡ rounds
+  pub on_lanes : s.lanes ≡ lanes
+  pub with_rounds : s.rounds ≡ rounds
 
 -- a run ends since a file cannot be loaded, and writes nothing; or the files give a session, and it is told of it
 abbrev pub TellsRun : (List ℕ → Filed) → Names → ℕ → ℕ → (Session → RunFault → List ℕ → Type 0) → Option (List ℕ) → Option (List ℕ) → RunFault → Type 0

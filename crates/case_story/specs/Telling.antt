@@ -78,7 +78,7 @@ pub record WritesNow (n : ℕ) (s : Session) (v : Verdict) (fault : RunFault) (t
   pub first : AreFirst s n entries
   pub document : List ℕ
   pub written : WritesPolicy (state_of s entries).book.policy document
-  pub text : let p = (state_of s entries).book.policy in
+  pub parts : let p = (state_of s entries).book.policy in
       text ≡ first_line (codes "# ") v (codes "\n") ++ retired_lines p (length p.flows) ++ document
   pub ending : fault ≡ ending_with (is_wrong v || has_retired (state_of s entries).book.policy)
 

@@ -1,19 +1,13 @@
 -- What an audit finds in a transcript, and the words of it.
-use Rattle.std.specs.Prelude.{◌≡◌, ◌↔◌, ℕ, zero, suc, ◌==◌, if◌then◌else◌, Bool, true, false, List, [], ◌++◌, length, codes, decimal}
-use Rattle.wf_talk.specs.declared.job.Job.{Job}
+use Rattle.std.specs.Prelude.{◌≡◌, ◌↔◌, ◌<◌, ◌≤◌, ◌==◌, ℕ, zero, suc, if◌then◌else◌, Bool, true, false, List, [], ◌∷◌, ◌++◌, length, codes, decimal}
+use Rattle.wf_names.specs.declared.limits.TheConstants.{TRANSCRIPT_LINE_LIMIT}
+use Rattle.wf_talk.specs.declared.entry.Entry.{Entry}
+use Rattle.line_reader.specs.Lines.{line_length}
 use Rattle.transcript_audit.specs.declared.fault.AuditKind.{AuditKind}
 use Rattle.transcript_audit.specs.declared.fault.AuditKind.TheVariants.{Text, At, Job as WrongJob, Reply, Missing}
-use Rattle.transcript_audit.specs.Audits.{AuditShape, IsTranscript}
-use Rattle.audit_command.specs.declared.finding.Finding.TheVariants as finding
-use Rattle.audit_command.specs.Auditing.{AreShort, IsAudited}
+use Rattle.transcript_audit.specs.Audits.{AuditShape, AreNext, HasFault, IsTranscript}
 use Rattle.case_story.specs.declared.verdict.Verdict.{Verdict}
 use Rattle.case_story.specs.declared.verdict.Verdict.TheVariants.{Legal, Fault, TooLong}
-
--- the audit of some lines finds this; where they are legal, there are so many
-abbrev pub IsVerdict : AuditShape → List (List ℕ) → Verdict → Type 0
-IsVerdict a lines (Legal n) = (n ≡ length lines) × IsAudited a lines finding.Legal
-IsVerdict a lines (Fault n kind) = IsAudited a lines (finding.Fault n kind)
-IsVerdict a lines (TooLong n) = IsAudited a lines (finding.TooLong n)
 
 -- how many lines are right, from the first on
 abbrev pub right_lines : Verdict → ℕ
@@ -25,6 +19,32 @@ abbrev pub is_wrong : Verdict → Bool
 is_wrong (Legal n) = false
 is_wrong (Fault n kind) = true
 is_wrong (TooLong n) = true
+
+-- no line is too long
+abbrev pub AreShort : List (List ℕ) → Type 0
+AreShort [] = Unit {0}
+AreShort (line ∷ lines) = (line_length line ≤ TRANSCRIPT_LINE_LIMIT) × AreShort lines
+
+-- behind some entries the lines that are left end the audit so: none is left and each job has its entry; the first of them
+-- has a fault, or none is left and an entry is missing; or the first of them is too long
+abbrev pub EndsWith : AuditShape → List (List ℕ) → Verdict → Type 0
+EndsWith a [] (Legal n) = length a.entries ≡ length a.jobs
+EndsWith a [] (Fault n kind) = (kind ≡ Missing) × (length a.entries < length a.jobs)
+EndsWith a [] (TooLong n) = ⊥
+EndsWith a (line ∷ more) (Legal n) = ⊥
+EndsWith a (line ∷ more) (Fault n kind) = (line_length line ≤ TRANSCRIPT_LINE_LIMIT) × HasFault a line kind
+EndsWith a (line ∷ more) (TooLong n) = TRANSCRIPT_LINE_LIMIT < line_length line
+
+-- the first lines, as many as are right, are the texts of entries that come next, and the others end the audit so
+pub record IsVerdict (a : AuditShape) (lines : List (List ℕ)) (v : Verdict) : Type 0 where
+  pub front : List (List ℕ)
+  pub rest : List (List ℕ)
+  pub parts : lines ≡ front ++ rest
+  pub count : length front ≡ right_lines v
+  pub short : AreShort front
+  pub entries : List Entry
+  pub next : AreNext a front entries
+  pub ends : EndsWith (record a { entries = a.entries ++ entries }) rest v
 
 -- what the audit of these lines finds; where none is too long nothing is wrong exactly where they are those of a legal
 -- history that fills the jobs

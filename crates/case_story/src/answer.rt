@@ -88,11 +88,18 @@ pub(crate) fn push_wrong(
     }
 }
 
-// The line at a place; nothing where there is none.
+// The line at a place, without its end; nothing where there is none.
 fn line_at(text: &[u8], at: usize) -> &[u8] {
     match text.get(at..) {
-        Some(rest) if !rest.is_empty() => &rest[..first_len(rest)],
+        Some(rest) if !rest.is_empty() => without_end(&rest[..first_len(rest)]),
         _ => &[],
+    }
+}
+
+fn without_end(line: &[u8]) -> &[u8] {
+    match line {
+        [front @ .., b'\n'] => front,
+        _ => line,
     }
 }
 

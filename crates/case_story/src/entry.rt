@@ -9,12 +9,12 @@ use crate::follow::{Quiet, follow_rest, follow_to};
 use crate::place::Place;
 use crate::session::Session;
 use crate::verdict::Verdict;
-use audit_command::legal_is_exact;
 use plain_words::{flow_text, say};
 use run_record::RunFault;
 use std::alloc::{AllocError, Global};
 use story_words::{push_ask, push_case, push_entry, subject};
 use transcript_audit::Auditor;
+use transcript_audit::laws::{audit_is_exact, faults_exclude, next_is_one};
 use wf_commands::Answer;
 use wf_names::CaseId;
 use wf_talk::Entry;
@@ -41,7 +41,9 @@ fn audit_entry(
     requires served { IsServed s.now }
     ensures finds { IfOk result (Finds s.now) }
 {
-    legal_is_exact();
+    audit_is_exact();
+    faults_exclude();
+    next_is_one();
     let mut auditor = s.auditor(alloc)?;
     let mut place = Place::start();
     let text = s.transcript.as_bytes();

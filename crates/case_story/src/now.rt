@@ -12,10 +12,9 @@ use crate::place::Place;
 use crate::printed::{Printed, print_policy};
 use crate::session::Session;
 use crate::verdict::Verdict;
-use audit_command::legal_is_exact;
 use run_record::RunFault;
 use std::alloc::{AllocError, Global};
-use transcript_audit::laws::part_is_exact;
+use transcript_audit::laws::{audit_is_exact, faults_exclude, next_is_one, part_is_exact};
 use wf_commands::Answer;
 
 // The policy after some entries, and what the audit of all finds.
@@ -79,7 +78,9 @@ fn audit_now(alloc: Global, s: &Session, most: u32) -> Result<After, AllocError>
     ensures prints { IfOk result (λ r. PrintsAfter s.now r.number
         (string_bytes r.printed.remarks) r.printed.is_less (string_bytes r.printed.document)) }
 {
-    legal_is_exact();
+    audit_is_exact();
+    faults_exclude();
+    next_is_one();
     part_is_exact();
     let mut auditor = s.auditor(alloc)?;
     let mut place = Place::start();

@@ -9,9 +9,9 @@ use crate::follow::{Watches, follow_rest};
 use crate::place::Place;
 use crate::session::Session;
 use crate::verdict::Verdict;
-use audit_command::legal_is_exact;
 use std::alloc::{AllocError, Global};
 use transcript_audit::Auditor;
+use transcript_audit::laws::{audit_is_exact, faults_exclude, next_is_one};
 
 /// An audit that is done.
 #[derive(Drop)]
@@ -36,7 +36,9 @@ pub(crate) fn audit_whole<W: Watches>(
     ensures stopped { IfOk result (λ r.
         HasStopped (audit_in s.now) r.auditor s.now.transcript (right_lines r.verdict)) }
 {
-    legal_is_exact();
+    audit_is_exact();
+    faults_exclude();
+    next_is_one();
     let mut auditor = s.auditor(alloc)?;
     let mut place = Place::start();
     let text = s.transcript.as_bytes();

@@ -2,6 +2,7 @@
 ghost use Rattle.std.specs.Prelude.{◌<◌, length};
 
 use crate::lists::{name_of, number_text, text_of, users_text};
+use crate::one_way::push_one_way;
 use crate::rules::relation_name;
 use crate::texts::{joined, say};
 use constraint_forms::Rule;
@@ -24,6 +25,7 @@ pub fn push_advice(
     }
     for rho in 2..(p.relations().count() as u16 + 2).min(256) {
         push_relation(out, front, p, RelId(rho as u8))?;
+        push_one_way(out, front, p, RelId(rho as u8))?;
     }
     for f in 0..p.flows().len() {
         push_flow(alloc, out, front, p, FlowId(f as u8))?;

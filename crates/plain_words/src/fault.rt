@@ -3,7 +3,7 @@
 use crate::culprit::faulty_rule;
 use crate::lists::number_text;
 use crate::marks::{Mark, marks_of};
-use crate::nearest::{nearest_key, nearest_word};
+use crate::nearest::{is_key, nearest_key, nearest_word};
 use crate::place::{Keys, Span, keys_of, place_of};
 use crate::shown::{shown, spot_of};
 use crate::texts::{joined, say};
@@ -165,6 +165,7 @@ fn push_meant(
     };
     match fault.kind {
         _ if meant.is_empty() => Ok(()),
+        PolicyKind::Missing if is_key(meant) => Ok(()),
         PolicyKind::Missing => say(out, &["; there is \"", meant, "\""]),
         _ => say(out, &[". Did you mean \"", meant, "\"?"]),
     }

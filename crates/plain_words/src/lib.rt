@@ -9,6 +9,7 @@ mod fault;
 mod lists;
 mod marks;
 mod nearest;
+mod one_way;
 mod place;
 mod rules;
 mod shown;

@@ -38,6 +38,16 @@ fn key_at(n: u8) -> &'static str {
     }
 }
 
+/// Whether a word is one of the keys that there may be.
+pub(crate) fn is_key(word: &str) -> bool {
+    for n in 0..KEYS {
+        if key_at(n) == word {
+            return true;
+        }
+    }
+    false
+}
+
 /// Of the keys that there may be the one that is nearest to a word; empty where none is near.
 pub(crate) fn nearest_key(alloc: Global, word: &str) -> Result<&'static str, AllocError> {
     let mut best = "";
