@@ -86,10 +86,13 @@ pub(crate) fn step_asked(ask: &Ask) -> Option<(CaseId, Name)> {
     }
 }
 
-/// The edit that is asked for, or asked about.
-pub(crate) fn edit_asked(ask: &Ask) -> Option<Edit> {
-    match ask {
-        Ask::Request(Request::Change { edit, .. } | Request::WhatIf { edit, .. }) => Some(*edit),
+/// The relation whose pairs an edit that is asked for, or asked about, would change.
+pub(crate) fn relation_asked(ask: &Ask) -> Option<Name> {
+    let Ask::Request(Request::Change { edit, .. } | Request::WhatIf { edit, .. }) = ask else {
+        return None;
+    };
+    match edit {
+        Edit::Relate { relation, .. } | Edit::Unrelate { relation, .. } => Some(*relation),
         _ => None,
     }
 }

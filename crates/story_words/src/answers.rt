@@ -159,17 +159,18 @@ fn push_bad(out: &mut String, bad: Bad) -> Result<(), AllocError> {
         Bad::Object => out.push_str("it is no JSON object"),
         Bad::Do => out.push_str("it has no request in \"do\""),
         Bad::Lane => out.push_str("it names no lane"),
-        Bad::Key(key) => {
-            let (form, tail) = match key.as_str() {
-                "case" => ("no number of a case", "\""),
-                "edit" => ("no word of an edit", "\""),
-                _ => ("not a name", "\" (names are lower case)"),
-            };
-            say(
-                out,
-                &["it has nothing, or ", form, ", in \"", key.as_str(), tail],
-            )
-        }
+        Bad::Key(key) => push_bad_key(out, key.as_str()),
         Bad::Extra => out.push_str("it has a further key"),
+    }
+}
+
+fn push_bad_key(out: &mut String, key: &str) -> Result<(), AllocError> {
+    match key {
+        "case" => out.push_str("it has nothing, or no number of a case, in \"case\""),
+        "edit" => out.push_str("it has nothing, or no word of an edit, in \"edit\""),
+        _ => {
+            out.push_str("it has nothing, or not a name, in \"")?;
+            say(out, &[key, "\" (names are lower case)"])
+        }
     }
 }

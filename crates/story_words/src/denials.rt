@@ -1,6 +1,6 @@
 //! Why a request was denied, in words.
 
-use crate::about::{asker, case_of, edit_asked, step_asked};
+use crate::about::{asker, case_of, relation_asked, step_asked};
 use crate::facts::push_broken;
 use crate::held::{held_in, held_with, place_asked};
 use crate::names::{
@@ -14,7 +14,7 @@ use std::alloc::{AllocError, Global};
 use wf_names::{
     CASE_LIMIT, CaseId, OPEN_CASE_LIMIT, PAIR_LIMIT, RelId, RoleId, StepState, USER_LIMIT, UserId,
 };
-use wf_talk::{Ask, Denial, Edit, Entry, Missing};
+use wf_talk::{Ask, Denial, Entry, Missing, Request};
 
 /// Adds why what was asked was denied, by the policy and the cases as they stand, which it has not
 /// changed. Trees are left out.
@@ -113,23 +113,23 @@ fn push_case_words(
 // Adds which limit is reached.
 fn push_full(alloc: Global, out: &mut String, cases: &Cases, ask: &Ask) -> Result<(), AllocError> {
     out.push_str("there is no room: ")?;
-    match edit_asked(ask) {
-        Some(Edit::Relate { relation, .. }) => {
-            say(out, &["\"", relation.as_str(), "\" has "])?;
-            push_large(alloc, out, PAIR_LIMIT as u64)?;
-            out.push_str(" pairs")
-        }
-        Some(_) => {
-            push_large(alloc, out, USER_LIMIT as u64)?;
-            out.push_str(" users are known")
-        }
-        None if cases.live() >= OPEN_CASE_LIMIT => {
+    if let Some(relation) = relation_asked(ask) {
+        say(out, &["\"", relation.as_str(), "\" has "])?;
+        push_large(alloc, out, PAIR_LIMIT as u64)?;
+        return out.push_str(" pairs");
+    }
+    match ask {
+        Ask::Request(Request::OpenCase { .. }) if cases.live() >= OPEN_CASE_LIMIT => {
             push_large(alloc, out, OPEN_CASE_LIMIT as u64)?;
             out.push_str(" cases are open")
         }
-        None => {
+        Ask::Request(Request::OpenCase { .. }) => {
             push_large(alloc, out, CASE_LIMIT as u64)?;
             out.push_str(" cases were opened")
+        }
+        _ => {
+            push_large(alloc, out, USER_LIMIT as u64)?;
+            out.push_str(" users are known")
         }
     }
 }
@@ -181,8 +181,12 @@ fn push_taken(
     user: UserId,
 ) -> Result<(), AllocError> {
     push_user(out, p, user)?;
-    match (place_asked(p, cases, ask), step_asked(ask)) {
-        (Some(place), Some((case, step))) if place.held.done.has(place.step) => {
+    let is_finished = match place_asked(p, cases, ask) {
+        Some(place) => place.held.done.has(place.step),
+        None => false,
+    };
+    match step_asked(ask) {
+        Some((case, step)) if is_finished => {
             out.push_str(" has finished it")?;
             push_which(alloc, out, entries, case, Deed::Finish(step.as_str()))
         }
@@ -234,8 +238,7 @@ fn push_not_held(out: &mut String, p: &Policy, state: StepState) -> Result<(), A
 
 // Adds why the pairs of a relation are not listed.
 fn push_fixed(out: &mut String, p: &Policy, ask: &Ask) -> Result<(), AllocError> {
-    let Some(Edit::Relate { relation, .. } | Edit::Unrelate { relation, .. }) = edit_asked(ask)
-    else {
+    let Some(relation) = relation_asked(ask) else {
         return out.push_str("the pairs of the relation are not listed");
     };
     say(out, &["\"", relation.as_str(), "\" is "])?;

@@ -336,10 +336,10 @@ fn push_few(
     let all = group_text(alloc, p, held.flow, group, "and")?;
     out.push_str("only ")?;
     push_number(alloc, out, left as u64)?;
-    let people = if left == 1 {
-        " person is"
+    out.push_str(if left == 1 {
+        " person is left for "
     } else {
-        " different people are"
-    };
-    say(out, &[people, " left for ", all.as_str()])
+        " different people are left for "
+    })?;
+    out.push_str(all.as_str())
 }

@@ -23,9 +23,6 @@ pub fn push_tree(
     done: &StepSet,
     tree: &Tree,
 ) -> Result<(), AllocError> {
-    if !is_flow(p, f) {
-        return Ok(());
-    }
     let held = Held {
         flow: f,
         users: *a,
@@ -44,9 +41,10 @@ fn push_node(
     p: &Policy,
     held: &Held,
     tree: &Tree,
-) -> Result<(), AllocError>
-    requires { held.now.flow < length p.now.flows }
-{
+) -> Result<(), AllocError> {
+    if !is_flow(p, held.flow) {
+        return Ok(());
+    }
     match tree {
         Tree::Holder(s) => {
             push_holder(out, p, held, *s)?;
@@ -76,9 +74,7 @@ fn push_branches(
     held: &Held,
     s: StepId,
     branches: &[Branch],
-) -> Result<(), AllocError>
-    requires { held.now.flow < length p.now.flows }
-{
+) -> Result<(), AllocError> {
     'branches: for branch in branches {
         push_branch(alloc, out, indent, p, held, s, branch)?;
     }
@@ -94,9 +90,7 @@ fn push_branch(
     held: &Held,
     s: StepId,
     branch: &Branch,
-) -> Result<(), AllocError>
-    requires { held.now.flow < length p.now.flows }
-{
+) -> Result<(), AllocError> {
     match &branch.kid {
         Kid::Tree(Tree::Rule(_)) => Ok(()),
         Kid::Tree(tree) => {

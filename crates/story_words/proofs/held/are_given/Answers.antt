@@ -1,11 +1,12 @@
-use Rattle.std.proofs.Common.{◌≡◌, ◌<◌, ℕ, zero, suc, Bool, true, false, IsTrue, List, [], ◌∷◌, length, Some, arith}
-use Rattle.constraint_forms.specs.Assigned.{is_member, user_at}
+use Rattle.std.proofs.Common.{◌≡◌, ◌<◌, ℕ, zero, suc, Bool, true, List, [], ◌∷◌, length, arith}
+use Rattle.std.proofs.lemmas.Bool.{false≢true}
+use Rattle.constraint_forms.specs.Assigned.{is_member}
 use Rattle.story_words.proofs.held.are_given.Goals as goal
 
-member_within : (group : List Bool) (s : ℕ) → IsTrue (is_member group s) → s < length group
-member_within [] s is = absurd is
+member_within : (group : List Bool) (s : ℕ) → is_member group s ≡ true → s < length group
+member_within [] s is = absurd (false≢true is)
 member_within (x ∷ xs) zero is = omega arith
-member_within (x ∷ xs) (suc s) is = omega (arith, member_within xs s is)
+member_within (x ∷ xs) (suc s) is = let rest = member_within xs s is in omega (arith, rest)
 
 pub returns : goal.returns
 returns c told s is = c.steps.invariant s below is

@@ -4,4 +4,4 @@ use Rattle.story_words.proofs.trees.+push_node.Goals as goal
 
 pub push_node-push_branches-requires : goal.push_node-push_branches-requires
 push_node-push_branches-requires t c =
-    omega (arith, c.decreases, branches_below c.args.tree.now c.in-Step.s c.in-Step.branches c.as_slice-branches.result.now c.in-Step.is c.as_slice-branches.ensures)
+    omega (arith, branches_below c.args.tree.now c.in-Step.s c.in-Step.branches c.as_slice-branches.result.now c.in-Step.is c.as_slice-branches.ensures)
