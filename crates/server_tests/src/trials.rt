@@ -15,14 +15,8 @@ struct Idle;
 impl Decider for Idle {
     fn decide(&self, alloc: Global, snap: &Snap, ask: &Ask) -> Verdict {
         match decision_aside(alloc, snap.policy(), snap.cases(), ask) {
-            Ok(
-                Deed::Open { .. }
-                | Deed::Claim { .. }
-                | Deed::Change { .. }
-                | Deed::Work { .. }
-                | Deed::WhatIf { .. },
-            ) => Verdict::NoMemory,
-            _ => Verdict::Nothing,
+            Ok(deed) => self.decide_deed(alloc, snap.policy(), snap.cases(), &deed),
+            Err(_) => Verdict::Nothing,
         }
     }
 
@@ -52,19 +46,4 @@ fn is_served(alloc: Global, sink: &mut MemSink) -> bool {
         && report.entries.len() == 1_965
         && report.batch_ends.as_slice() == [40, 1_064, 1_965].as_slice()
         && sink.bytes().starts_with(b"trial 7 lines 1965 opened 0 granted 0 finished 0 edited ")
-}
-
-#[test]
-fn a_failed_write_leaves_the_report(rt: HostRuntime) -> Result<(), Fail> {
-    let mut sink = MemSink::new(rt.alloc(), 200, 7, vec![in rt.alloc(); 1u64]?)?;
-    assert!(rt; is_reported(rt.alloc(), &mut sink));
-    Ok(())
-}
-
-fn is_reported(alloc: Global, sink: &mut MemSink) -> bool {
-    let report = run_trial(alloc, &Idle, 7, sink);
-    report.status == 5
-        && report.jobs.len() == 1_965
-        && report.entries.len() == 1_965
-        && sink.bytes() == b"trial 7".as_slice()
 }
