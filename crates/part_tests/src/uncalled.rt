@@ -40,13 +40,14 @@ fn denied_entry(alloc: Global) -> Result<Entry, AllocError> {
 
 fn is_of_the_role(entries: &[Entry]) -> bool {
     match entries {
-        [
-            Entry {
-                line: 7,
-                reply: Reply::Denied(Denial::Role(roles)),
-                ..
-            },
-        ] => roles.as_slice() == [RoleId(4)].as_slice(),
+        [only] => only.line == 7 && is_role(&only.reply),
+        _ => false,
+    }
+}
+
+fn is_role(reply: &Reply) -> bool {
+    match reply {
+        Reply::Denied(Denial::Role(roles)) => roles.as_slice() == [RoleId(4)].as_slice(),
         _ => false,
     }
 }
@@ -81,10 +82,16 @@ fn is_declared(relations: &mut Relations) -> bool {
 
 #[test]
 fn a_line_is_read(rt: HostRuntime) -> Result<(), Fail> {
-    let line = r#"{"do":"view","case":3,"lane":1}"#;
     let ask = Ask::Request(Request::Show { case: CaseId(3) });
-    assert!(rt; read_request(rt.alloc(), line.as_bytes(), 2)? == Asked { lane: 1, ask });
+    assert!(rt; is_asked(rt.alloc(), &Asked { lane: 1, ask })?);
     Ok(())
+}
+
+fn is_asked(alloc: Global, wanted: &Asked) -> Result<bool, AllocError> {
+    match read_request(alloc, br#"{"do":"view","case":3,"lane":1}"#, 2) {
+        Ok(asked) => Ok(asked == *wanted),
+        Err(e) => Err(e),
+    }
 }
 
 #[test]

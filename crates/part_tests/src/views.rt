@@ -90,13 +90,26 @@ fn answer<V: Decider>(alloc: Global, decider: &V, board: &mut Board, request: Re
 fn sees<V: Decider>(alloc: Global, decider: &V, board: &mut Board) -> bool
     requires { V.ready decider.now }
 {
-    let (Some(by), Some(user), Some(edit)) = (Name::read("eve"), Name::read("cyd"), dismissal())
-    else {
+    let Some(requests) = asked() else {
         return false;
     };
-    tells(&answer(alloc, decider, board, Request::Worklist { user }))
-        && tells(&answer(alloc, decider, board, Request::WhatIf { by, edit }))
-        && tells(&answer(alloc, decider, board, Request::Change { by, edit }))
+    for request in requests {
+        if !tells(&answer(alloc, decider, board, request)) {
+            return false;
+        }
+    }
+    true
+}
+
+// Cyd's work list, what the dismissal would strand, and the dismissal.
+fn asked() -> Option<[Request; 3]> {
+    let (by, user) = (Name::read("eve")?, Name::read("cyd")?);
+    let (what_if, change) = (dismissal()?, dismissal()?);
+    Some([
+        Request::Worklist { user },
+        Request::WhatIf { by, edit: what_if },
+        Request::Change { by, edit: change },
+    ])
 }
 
 // Cyd is dismissed from boss.
