@@ -1,5 +1,6 @@
-//! Policies that several tests share.
+//! Policies that several tests share, and the one place where a test reads a policy.
 
+use crate::{lines, rules, searches, trees, uncalled};
 use policy_book::Policy;
 use std::alloc::Global;
 use std::test::Fail;
@@ -31,7 +32,7 @@ rules = [
 ]
 "#;
 
-// Three clerks for three steps.
+// Three clerks for three steps, of whom kim alone is mentor of somebody, of lee. Rules follow.
 const TRIO: &str = r#"
 format = 2
 admin = "chief"
@@ -52,9 +53,39 @@ permit = { a = ["clerk"], b = ["clerk"], c = ["clerk"] }
 rules = [
 "#;
 
-/// The policy of three clerks, kim, lee and max, under these rules over the steps a, b and c. Kim
-/// alone is mentor of somebody, of lee.
-pub(crate) fn trio(alloc: Global, rules: &str) -> Result<Policy, Fail> {
+/// What is looked at under a policy.
+#[derive(Clone, Copy)]
+pub(crate) enum Look {
+    /// The lines that are read fastest.
+    Lines,
+    /// Which assignments falsify its rules.
+    Rules,
+    /// What the search finds, where it is known whether there is a valid plan.
+    Search(bool),
+    /// What is left of a tree that is trimmed.
+    Tree,
+    /// The calls that the program makes nowhere.
+    Uncalled,
+}
+
+/// Whether all is right under the policy of three clerks with these rules over the steps a, b and c.
+pub(crate) fn is_right_in_trio(alloc: Global, rules: &str, look: Look) -> Result<bool, Fail> {
     let text = format!(in alloc; "{TRIO}{rules}]\n")?;
-    Ok(policy_reader::read(alloc, text.as_bytes())?)
+    is_right(alloc, text.as_str(), look)
+}
+
+/// Whether all is right under a policy.
+pub(crate) fn is_right(alloc: Global, policy: &str, look: Look) -> Result<bool, Fail> {
+    let p = policy_reader::read(alloc, policy.as_bytes())?;
+    looks_right(alloc, &p, look)
+}
+
+fn looks_right(alloc: Global, p: &Policy, look: Look) -> Result<bool, Fail> {
+    match look {
+        Look::Lines => lines::are_read(alloc, p),
+        Look::Rules => Ok(rules::are_falsified_so(p)),
+        Look::Search(solvable) => searches::agrees(alloc, p, solvable),
+        Look::Tree => trees::is_trimmed(alloc, p),
+        Look::Uncalled => uncalled::succeed(alloc, p),
+    }
 }

@@ -1,7 +1,7 @@
 //! The lines of a transcript that are read fastest, of which no clause says that they are.
 ghost use Rattle.std.specs.Prelude.{Some};
 
-use crate::fixture::PAY;
+use crate::fixture::{Look, PAY, is_right};
 use entry_reader::{Place, guess_place, read_plain};
 use policy_book::Policy;
 use std::alloc::{AllocError, Global};
@@ -36,15 +36,21 @@ const LINES: [&str; 4] = [
 
 #[test]
 fn plain_lines_are_read(rt: HostRuntime) -> Result<(), Fail> {
-    let p = policy_reader::read(rt.alloc(), PAY.as_bytes())?;
-    for line in LINES {
-        assert!(rt; is_read(rt.alloc(), &p, line)?, "{line}");
-    }
+    assert!(rt; is_right(rt.alloc(), PAY, Look::Lines)?);
     Ok(())
+}
+
+pub(crate) fn are_read(alloc: Global, p: &Policy) -> Result<bool, Fail> {
+    for line in LINES {
+        if guess_place(line.as_bytes()) != Some(PLACE) || !is_read(alloc, p, line)? {
+            return Ok(false);
+        }
+    }
+    Ok(true)
 }
 
 fn is_read(alloc: Global, p: &Policy, line: &str) -> Result<bool, AllocError> {
     let ask = Ask::Request(Request::Show { case: CaseId(0) });
     let read = read_plain(alloc, p, &OneFlow, &ask, PLACE, line.as_bytes())?;
-    Ok(guess_place(line.as_bytes()) == Some(PLACE) && read.is_some())
+    Ok(read.is_some())
 }

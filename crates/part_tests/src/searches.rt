@@ -1,6 +1,6 @@
 //! What the search finds, beside one that tries all assignments.
 
-use crate::fixture::{FLOW, trio};
+use crate::fixture::{FLOW, Look, is_right_in_trio};
 use certificate_check::{check_tree, is_valid_plan};
 use constraint_forms::{Assign, Plan, StepSet};
 use policy_book::Policy;
@@ -93,14 +93,14 @@ const ROWS: [(&str, bool); 13] = [
 #[test]
 fn search_agrees_with_all_assignments(rt: HostRuntime) -> Result<(), Fail> {
     for (rules, solvable) in ROWS {
-        assert!(rt; agrees(rt.alloc(), rules, solvable)?, "{rules}");
+        let look = Look::Search(solvable);
+        assert!(rt; is_right_in_trio(rt.alloc(), rules, look)?, "{rules}");
     }
     Ok(())
 }
 
-fn agrees(alloc: Global, rules: &str, solvable: bool) -> Result<bool, Fail> {
-    let p = trio(alloc, rules)?;
-    Ok(some_valid(&p) == solvable && solved_rightly(alloc, &p)? == Some(solvable))
+pub(crate) fn agrees(alloc: Global, p: &Policy, solvable: bool) -> Result<bool, Fail> {
+    Ok(some_valid(p) == solvable && solved_rightly(alloc, p)? == Some(solvable))
 }
 
 // Whether some assignment of the four users to the three steps is valid.

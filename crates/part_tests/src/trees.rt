@@ -1,6 +1,6 @@
 //! What is left of a tree that is read and trimmed.
 
-use crate::fixture::{FLOW, trio};
+use crate::fixture::{FLOW, Look, is_right_in_trio};
 use crate::searches::SAME_AND_OTHER;
 use certificate_check::check_tree;
 use constraint_forms::{Assign, StepSet};
@@ -13,31 +13,37 @@ use std::test::Fail;
 use wire_json::tree_value;
 use wsp_solver::trim;
 
-// A tree that tries each user for the first step, and then each for the third: who has the first
-// falsifies the second rule, and anybody else the first one.
-const NODE: &str =
-    r#"{"step":"a","users":[["kim",{"step":"c","users":[["kim",{"rule":1}],["lee",{"rule":0}],["max",{"rule":0}]]}],["lee",{"step":"c","users":[["kim",{"rule":0}],["lee",{"rule":1}],["max",{"rule":0}]]}],["max",{"step":"c","users":[["kim",{"rule":0}],["lee",{"rule":0}],["max",{"rule":1}]]}]]}"#;
+// A tree that tries each user for the second step, which no rule names, then for the first, and then
+// for the third: who has the first falsifies the second rule, and anybody else the first one.
+const TREE: &str = r#"{"step":"b","users":[
+  ["kim",{"step":"a","users":[
+    ["kim",{"step":"c","users":[["kim",{"rule":1}],["lee",{"rule":0}],["max",{"rule":0}]]}],
+    ["lee",{"step":"c","users":[["kim",{"rule":0}],["lee",{"rule":1}],["max",{"rule":0}]]}],
+    ["max",{"step":"c","users":[["kim",{"rule":0}],["lee",{"rule":0}],["max",{"rule":1}]]}]]}],
+  ["lee",{"step":"a","users":[
+    ["kim",{"step":"c","users":[["kim",{"rule":1}],["lee",{"rule":0}],["max",{"rule":0}]]}],
+    ["lee",{"step":"c","users":[["kim",{"rule":0}],["lee",{"rule":1}],["max",{"rule":0}]]}],
+    ["max",{"step":"c","users":[["kim",{"rule":0}],["lee",{"rule":0}],["max",{"rule":1}]]}]]}],
+  ["max",{"step":"a","users":[
+    ["kim",{"step":"c","users":[["kim",{"rule":1}],["lee",{"rule":0}],["max",{"rule":0}]]}],
+    ["lee",{"step":"c","users":[["kim",{"rule":0}],["lee",{"rule":1}],["max",{"rule":0}]]}],
+    ["max",{"step":"c","users":[["kim",{"rule":0}],["lee",{"rule":0}],["max",{"rule":1}]]}]]}]]}"#;
 
 // All three are twins for the first step. Once kim has it, lee and max are twins still.
 const LEAN: &str =
     r#"{"step":"a","users":[["kim",{"step":"c","users":[["kim",{"rule":1}],["lee",{"rule":0}],["max",{"twin":"lee"}]]}],["lee",{"twin":"kim"}],["max",{"twin":"kim"}]]}"#;
 
-// The tree tries each user for the second step first, which no rule names.
 #[test]
 fn a_step_that_is_not_mentioned_goes_and_makes_twins(rt: HostRuntime) -> Result<(), Fail> {
-    let p = trio(rt.alloc(), SAME_AND_OTHER)?;
-    let text = format!(in rt.alloc();
-        "{{\"step\":\"b\",\"users\":[[\"kim\",{NODE}],[\"lee\",{NODE}],[\"max\",{NODE}]]}}"
-    )?;
-    assert!(rt; is_trimmed(rt.alloc(), &p, text.as_str())?);
+    assert!(rt; is_right_in_trio(rt.alloc(), SAME_AND_OTHER, Look::Tree)?);
     Ok(())
 }
 
-fn is_trimmed(alloc: Global, p: &Policy, text: &str) -> Result<bool, Fail> {
+pub(crate) fn is_trimmed(alloc: Global, p: &Policy) -> Result<bool, Fail> {
     if p.flows().len() == 0 {
         return Ok(false);
     }
-    let value = Value::from_str(alloc, text)?;
+    let value = Value::from_str(alloc, TREE)?;
     match tree_of(alloc, p, FLOW, &value) {
         Ok(tree) => Ok(has_lean_text(alloc, p, tree)?),
         Err(_) => Ok(false),
@@ -50,11 +56,13 @@ fn has_lean_text(alloc: Global, p: &Policy, tree: Tree) -> Result<bool, AllocErr
     if p.flows().len() == 0 || !check_tree(p, FLOW, &a, &done, &tree) {
         return Ok(false);
     }
-    let lean = trim(alloc, p, FLOW, &a, &done, tree)?;
-    Ok(
-        tree_value(alloc, p, FLOW, &lean)?
-            .to_string(alloc)?
-            .as_str()
-            == LEAN,
-    )
+    is_lean(alloc, p, &trim(alloc, p, FLOW, &a, &done, tree)?)
+}
+
+fn is_lean(alloc: Global, p: &Policy, tree: &Tree) -> Result<bool, AllocError> {
+    if p.flows().len() == 0 {
+        return Ok(false);
+    }
+    let text = tree_value(alloc, p, FLOW, tree)?.to_string(alloc)?;
+    Ok(text.as_str() == LEAN)
 }

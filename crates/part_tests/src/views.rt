@@ -51,7 +51,7 @@ fn prepares(alloc: Global, board: &mut Board) -> bool {
     true
 }
 
-// Opens a case, whose plan is remembered, and ann prepares it.
+// Opens a case, and ann prepares it.
 fn prepares_one(alloc: Global, board: &mut Board, case: CaseId) -> bool {
     let (Some(flow), Some(step), Some(user)) = (
         Name::read("pay"),
@@ -60,17 +60,15 @@ fn prepares_one(alloc: Global, board: &mut Board, case: CaseId) -> bool {
     ) else {
         return false;
     };
-    let Reply::Opened { plan, .. } = answer(alloc, &PlainDecider, board, Request::OpenCase { flow })
-    else {
-        return false;
-    };
-    board.cases().recent_plan(FLOW) == Some(plan)
+    is_done(alloc, board, Request::OpenCase { flow })
         && is_done(alloc, board, Request::Claim { case, step, user })
         && is_done(alloc, board, Request::Finish { case, step, user })
 }
 
+// Whether a request is done. The plan of an opening is remembered.
 fn is_done(alloc: Global, board: &mut Board, request: Request) -> bool {
     match answer(alloc, &PlainDecider, board, request) {
+        Reply::Opened { plan, .. } => board.cases().recent_plan(FLOW) == Some(plan),
         Reply::Granted(_) | Reply::Finished { done: false } => true,
         _ => false,
     }
@@ -158,11 +156,14 @@ fn lists(alloc: Global, board: &Board) -> Result<bool, AllocError> {
         return Ok(false);
     };
     let snap = board.snap(alloc, &Ask::Request(Request::Worklist { user }))?;
+    has_lists(alloc, &snap)
+}
+
+fn has_lists(alloc: Global, snap: &Snap) -> Result<bool, AllocError> {
     if snap.policy().roster().users().len() != 4 {
         return Ok(false);
     }
-    let work = worklist(alloc, &snap, CYD)?;
-    Ok(are_approvals(work.as_slice()) && strands(alloc, &snap)?)
+    Ok(are_approvals(worklist(alloc, snap, CYD)?.as_slice()) && strands(alloc, snap)?)
 }
 
 fn strands(alloc: Global, snap: &Snap) -> Result<bool, AllocError> {
