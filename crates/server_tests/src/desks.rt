@@ -14,17 +14,52 @@ use wf_desk::{Desk, Event, Mark, Outcome, solve_task};
 use wf_names::ROUND_LIMIT;
 use wf_talk::{Denial, Job, Reply};
 
+/// What is done at a desk.
+#[derive(Clone, Copy)]
+enum Scene<'a> {
+    /// A schedule.
+    Turns(&'a Schedule),
+    /// Tasks are committed for which some entries do not count.
+    Misses,
+    /// A stale edit is checked once more.
+    Checked,
+}
+
 #[test]
 fn tasks_are_served_begun_and_committed(rt: HostRuntime) -> Result<(), Fail> {
     for row in &ALL {
-        assert!(rt; goes(rt.alloc(), row)?, "{}", row.requests);
+        let right = is_right(rt.alloc(), row.policy, row.rounds, Scene::Turns(row))?;
+        assert!(rt; right, "{}", row.requests);
     }
     Ok(())
 }
 
-fn goes(alloc: Global, row: &Schedule) -> Result<bool, Fail> {
-    let mut desk = desk_of(alloc, row.policy, row.rounds)?;
-    Ok(follows(alloc, &mut desk, row)?)
+#[test]
+fn some_entries_lose_no_task(rt: HostRuntime) -> Result<(), Fail> {
+    assert!(rt; is_right(rt.alloc(), PAY, 2, Scene::Misses)?);
+    Ok(())
+}
+
+#[test]
+fn a_checked_edit_is_never_lost(rt: HostRuntime) -> Result<(), Fail> {
+    assert!(rt; is_right(rt.alloc(), STAFFED, 1, Scene::Checked)?);
+    Ok(())
+}
+
+// Whether all is right at a desk over a policy.
+fn is_right(alloc: Global, policy: &str, rounds: u8, scene: Scene<'_>) -> Result<bool, Fail> {
+    let mut desk = desk_of(alloc, policy, rounds)?;
+    Ok(plays(alloc, &mut desk, scene)?)
+}
+
+fn plays(alloc: Global, desk: &mut Desk, scene: Scene<'_>) -> Result<bool, AllocError>
+    requires { IsDone desk.old }
+{
+    match scene {
+        Scene::Turns(row) => follows(alloc, desk, row),
+        Scene::Misses => misses(alloc, desk),
+        Scene::Checked => is_decided_in_the_turn(alloc, desk),
+    }
 }
 
 fn follows(alloc: Global, desk: &mut Desk, row: &Schedule) -> Result<bool, AllocError>
@@ -126,13 +161,6 @@ fn is_of_kind(reply: &Reply, kind: &str, of: u32) -> bool {
 }
 
 // Entries before a lane's last one lose no task, nor do those for which it was lost before.
-#[test]
-fn some_entries_lose_no_task(rt: HostRuntime) -> Result<(), Fail> {
-    let mut desk = desk_of(rt.alloc(), PAY, 2)?;
-    assert!(rt; misses(rt.alloc(), &mut desk)?);
-    Ok(())
-}
-
 fn misses(alloc: Global, desk: &mut Desk) -> Result<bool, AllocError>
     requires { IsDone desk.old }
 {
@@ -169,13 +197,6 @@ const EDITING: &str = r#"{"do":"enrol","by":"eve","user":"dan","role":"boss"}
 "#;
 
 // Where it is checked once more, a stale edit is decided in the turn.
-#[test]
-fn a_checked_edit_is_never_lost(rt: HostRuntime) -> Result<(), Fail> {
-    let mut desk = desk_of(rt.alloc(), STAFFED, 1)?;
-    assert!(rt; is_decided_in_the_turn(rt.alloc(), &mut desk)?);
-    Ok(())
-}
-
 fn is_decided_in_the_turn(alloc: Global, desk: &mut Desk) -> Result<bool, AllocError>
     requires { IsDone desk.old }
 {

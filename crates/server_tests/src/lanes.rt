@@ -202,9 +202,19 @@ fn answers_each<R: Threads + Wait + Sync>(
     rounds: &str,
     gate: &TwoHolds,
 ) -> Result<bool, AllocError> {
-    let words = ["serve", "policy", "--lanes", "8", "--rounds", rounds];
     let mut sink = sink_of(alloc)?;
-    let report = report_of(rt, alloc, PAY, &words, EIGHT_CASES, gate, &mut sink)?;
+    counts_rightly(rt, alloc, rounds, gate, &mut sink)
+}
+
+fn counts_rightly<R: Threads + Wait + Sync>(
+    rt: &R,
+    alloc: Global,
+    rounds: &str,
+    gate: &TwoHolds,
+    sink: &mut MemSink,
+) -> Result<bool, AllocError> {
+    let words = ["serve", "policy", "--lanes", "8", "--rounds", rounds];
+    let report = report_of(rt, alloc, PAY, &words, EIGHT_CASES, gate, sink)?;
     Ok(report.status == 0 && counts_of(report.entries.as_slice()) == [8, 16, 8, 0])
 }
 
@@ -246,11 +256,25 @@ fn writes_at<R: Threads + Wait + Sync>(
     gate: &TwoHolds,
     parts: &[&str],
 ) -> Result<bool, AllocError> {
-    let words = ["serve", "policy", "--lanes", "2", "--rounds", "1"];
     let mut sink = sink_of(alloc)?;
-    let status = report_of(rt, alloc, policy, &words, input, gate, &mut sink)?.status;
-    let text = text_of(&sink);
-    Ok(status == 0 && parts.iter().all(|part| text.contains(*part)))
+    Ok(status_of(rt, alloc, policy, input, gate, &mut sink)? == 0 && has_parts(&sink, parts))
+}
+
+fn status_of<R: Threads + Wait + Sync>(
+    rt: &R,
+    alloc: Global,
+    policy: &str,
+    input: &str,
+    gate: &TwoHolds,
+    sink: &mut MemSink,
+) -> Result<u8, AllocError> {
+    let words = ["serve", "policy", "--lanes", "2", "--rounds", "1"];
+    Ok(report_of(rt, alloc, policy, &words, input, gate, sink)?.status)
+}
+
+fn has_parts(sink: &MemSink, parts: &[&str]) -> bool {
+    let text = text_of(sink);
+    parts.iter().all(|part| text.contains(*part))
 }
 
 fn text_of(sink: &MemSink) -> &str {
@@ -269,9 +293,21 @@ fn report_of<R: Threads + Wait + Sync>(
     gate: &TwoHolds,
     sink: &mut MemSink,
 ) -> Result<Report, AllocError> {
-    let words = words_of(alloc, given)?;
     let mut shelf = shelf_of(alloc, policy)?;
-    report_over(rt, alloc, &words, input, gate, &mut shelf, sink)
+    report_from(rt, alloc, given, input, gate, &mut shelf, sink)
+}
+
+fn report_from<R: Threads + Wait + Sync>(
+    rt: &R,
+    alloc: Global,
+    given: &[&str],
+    input: &str,
+    gate: &TwoHolds,
+    shelf: &mut MemShelf,
+    sink: &mut MemSink,
+) -> Result<Report, AllocError> {
+    let words = words_of(alloc, given)?;
+    report_over(rt, alloc, &words, input, gate, shelf, sink)
 }
 
 fn report_over<R: Threads + Wait + Sync>(

@@ -5,7 +5,7 @@ use crate::outsides::{shelf_of, sink_of, source_of, words_of};
 use std::alloc::{AllocError, Global};
 use std::test::Fail;
 use wf_outside::{MemShelf, MemSink, MemSource};
-use wf_server::run_alone;
+use wf_server::{Report, run_alone};
 use wf_talk::{Denial, Entry, Reply};
 
 // A policy under which a case is opened at once.
@@ -35,16 +35,21 @@ struct Told {
 // By opening and withdrawing in turn every number is given once.
 #[test]
 fn numbers_end(rt: HostRuntime) -> Result<(), Fail> {
-    let input = turns(rt.alloc())?;
-    let told = Told {
-        entries: 131_071,
-        batches: 128,
-        opened: 65_535,
-        last: 65_534,
-    };
-    assert!(rt; is_served(rt.alloc(), input.as_str(), &told)?);
+    assert!(rt; turns_are_served(rt.alloc())?);
     Ok(())
 }
+
+fn turns_are_served(alloc: Global) -> Result<bool, AllocError> {
+    let input = turns(alloc)?;
+    is_served(alloc, input.as_str(), &TURNS)
+}
+
+const TURNS: Told = Told {
+    entries: 131_071,
+    batches: 128,
+    opened: 65_535,
+    last: 65_534,
+};
 
 // 65,535 cases are opened and withdrawn in turn, and then one is opened.
 fn turns(alloc: Global) -> Result<String, AllocError> {
@@ -66,16 +71,21 @@ fn put_withdrawal(alloc: Global, case: u16, all: &mut String) -> Result<(), Allo
 // ends at 1,024 lines.
 #[test]
 fn open_cases_are_limited(rt: HostRuntime) -> Result<(), Fail> {
-    let input = crowd(rt.alloc())?;
-    let told = Told {
-        entries: 1_027,
-        batches: 2,
-        opened: 1_025,
-        last: 1_024,
-    };
-    assert!(rt; is_served(rt.alloc(), input.as_str(), &told)?);
+    assert!(rt; a_crowd_is_served(rt.alloc())?);
     Ok(())
 }
+
+fn a_crowd_is_served(alloc: Global) -> Result<bool, AllocError> {
+    let input = crowd(alloc)?;
+    is_served(alloc, input.as_str(), &CROWD)
+}
+
+const CROWD: Told = Told {
+    entries: 1_027,
+    batches: 2,
+    opened: 1_025,
+    last: 1_024,
+};
 
 // One case too many is opened, one is withdrawn, and one is opened.
 fn crowd(alloc: Global) -> Result<String, AllocError> {
@@ -90,21 +100,30 @@ fn crowd(alloc: Global) -> Result<String, AllocError> {
 
 fn is_served(alloc: Global, input: &str, told: &Told) -> Result<bool, AllocError> {
     let mut shelf = shelf_of(alloc, SMALL)?;
-    is_served_over(alloc, input, &mut shelf, told)
+    is_served_from(alloc, input, &mut shelf, told)
 }
 
-fn is_served_over(
+fn is_served_from(
     alloc: Global,
     input: &str,
     shelf: &mut MemShelf,
     told: &Told,
 ) -> Result<bool, AllocError> {
     let mut source = source_of(alloc, input)?;
-    let mut sink = sink_of(alloc)?;
-    tells(alloc, shelf, &mut source, &mut sink, told)
+    is_served_over(alloc, shelf, &mut source, told)
 }
 
-fn tells(
+fn is_served_over(
+    alloc: Global,
+    shelf: &mut MemShelf,
+    source: &mut MemSource,
+    told: &Told,
+) -> Result<bool, AllocError> {
+    let mut sink = sink_of(alloc)?;
+    is_served_into(alloc, shelf, source, &mut sink, told)
+}
+
+fn is_served_into(
     alloc: Global,
     shelf: &mut MemShelf,
     source: &mut MemSource,
@@ -112,13 +131,14 @@ fn tells(
     told: &Told,
 ) -> Result<bool, AllocError> {
     let words = words_of(alloc, &["serve", "policy"])?;
-    let report = run_alone(alloc, &words, shelf, source, sink);
-    Ok(
-        report.status == 0
-            && report.entries.len() == told.entries
-            && report.batch_ends.len() == told.batches
-            && answers(report.entries.as_slice(), told),
-    )
+    Ok(tells(&run_alone(alloc, &words, shelf, source, sink), told))
+}
+
+fn tells(report: &Report, told: &Told) -> bool {
+    report.status == 0
+        && report.entries.len() == told.entries
+        && report.batch_ends.len() == told.batches
+        && answers(report.entries.as_slice(), told)
 }
 
 // Whether entries tell these openings, one that was denied, and no want of memory.

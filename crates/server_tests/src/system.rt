@@ -74,7 +74,9 @@ impl Write for Narrow {
 
 // An input with no line end, the read that fails, the room for what is written, the status, and
 // what was written. Bytes are kept back until they are let go, and the fault of that is told.
-const ROWS: [(&str, usize, usize, u8, &str); 6] = [
+type Row = (&'static str, usize, usize, u8, &'static str);
+
+const ROWS: [Row; 6] = [
     (r#"["kim"]"#, 99, 16, 0, "valid\n"),
     (r#"["zoe"]"#, 99, 16, 1, "role a\n"),
     (r#"["kim"]"#, 6, 16, 4, ""),
@@ -85,58 +87,63 @@ const ROWS: [(&str, usize, usize, u8, &str); 6] = [
 
 #[test]
 fn bytes_go_through_one_by_one(rt: HostRuntime) -> Result<(), Fail> {
-    for (input, failing, room, status, output) in ROWS {
-        let right = answers(rt.alloc(), input, failing, room, status, output)?;
-        assert!(rt; right, "{input} {failing} {room}");
+    for row in &ROWS {
+        assert!(rt; ends_so(rt.alloc(), row)?, "{} {}", row.1, row.2);
     }
     Ok(())
 }
 
-// Whether `plan` over these bytes ends so, and writes this.
-fn answers(
-    alloc: Global,
-    input: &'static str,
-    failing: usize,
-    room: usize,
-    status: u8,
-    output: &str,
-) -> Result<bool, AllocError> {
+// Whether `plan` ends and writes as its row says.
+fn ends_so(alloc: Global, row: &Row) -> Result<bool, AllocError> {
     let mut narrow = Narrow {
         taken: [0; 16],
         len: 0,
-        room,
+        room: row.2,
     };
-    let ended = run(alloc, input, failing, &mut narrow)?;
-    Ok(ended == status && &narrow.taken[..narrow.len.min(16)] == output.as_bytes())
+    let status = run(alloc, row, &mut narrow)?;
+    Ok(status == row.3 && &narrow.taken[..narrow.len.min(16)] == row.4.as_bytes())
 }
 
-fn run(
+fn run(alloc: Global, row: &Row, narrow: &mut Narrow) -> Result<u8, AllocError> {
+    let words = words_of(alloc, &["plan", "policy", "one"])?;
+    run_with(alloc, row, &words, narrow)
+}
+
+fn run_with(
     alloc: Global,
-    input: &'static str,
-    failing: usize,
+    row: &Row,
+    words: &[String],
     narrow: &mut Narrow,
 ) -> Result<u8, AllocError> {
-    let words = words_of(alloc, &["plan", "policy", "one"])?;
     let mut shelf = shelf_of(alloc, ONE)?;
+    run_over(alloc, row, words, &mut shelf, narrow)
+}
+
+fn run_over(
+    alloc: Global,
+    row: &Row,
+    words: &[String],
+    shelf: &mut MemShelf,
+    narrow: &mut Narrow,
+) -> Result<u8, AllocError> {
     let Ok(kept) = BufWriter::with_capacity(alloc, 64, narrow) else {
         return Err(AllocError);
     };
     let mut sink = StdoutSink::new(kept);
-    Ok(status_of(alloc, &words, &mut shelf, input, failing, &mut sink))
+    Ok(status_of(alloc, row, words, shelf, &mut sink))
 }
 
 fn status_of<K: Sink>(
     alloc: Global,
+    row: &Row,
     words: &[String],
     shelf: &mut MemShelf,
-    input: &'static str,
-    failing: usize,
     sink: &mut K,
 ) -> u8 {
     let mut source = StdinSource::new(Dripping {
-        bytes: input.as_bytes(),
+        bytes: row.0.as_bytes(),
         at: 0,
-        failing,
+        failing: row.1,
     });
     run_alone(alloc, words, shelf, &mut source, sink).status
 }

@@ -2,7 +2,8 @@
 
 use grant_table::Cases;
 use policy_book::Policy;
-use std::alloc::Global;
+use run_record::Report;
+use std::alloc::{AllocError, Global};
 use std::test::Fail;
 use trial_command::run_trial;
 use wf_board::{Decider, Deed, Snap, Verdict, decision_aside};
@@ -35,15 +36,21 @@ impl Decider for Idle {
 // No case is opened, so no step is granted or finished.
 #[test]
 fn a_trial_is_served(rt: HostRuntime) -> Result<(), Fail> {
-    let mut sink = MemSink::new(rt.alloc(), 200, 7, Vec::new(rt.alloc()))?;
-    assert!(rt; is_served(rt.alloc(), &mut sink));
+    assert!(rt; is_served(rt.alloc())?);
     Ok(())
 }
 
-fn is_served(alloc: Global, sink: &mut MemSink) -> bool {
-    let report = run_trial(alloc, &Idle, 7, sink);
+fn is_served(alloc: Global) -> Result<bool, AllocError> {
+    let mut sink = MemSink::new(alloc, 200, 7, Vec::new(alloc))?;
+    Ok(tells(&run_trial(alloc, &Idle, 7, &mut sink)) && writes(&sink))
+}
+
+fn tells(report: &Report) -> bool {
     report.status == 0
         && report.entries.len() == 1_965
         && report.batch_ends.as_slice() == [40, 1_064, 1_965].as_slice()
-        && sink.bytes().starts_with(b"trial 7 lines 1965 opened 0 granted 0 finished 0 edited ")
+}
+
+fn writes(sink: &MemSink) -> bool {
+    sink.bytes().starts_with(b"trial 7 lines 1965 opened 0 granted 0 finished 0 edited ")
 }
