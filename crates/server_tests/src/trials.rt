@@ -1,4 +1,5 @@
 //! What no clause shows: that a trial is served while there is memory.
+ghost use Rattle.std.specs.Prelude.{◌≡◌};
 
 use grant_table::Cases;
 use policy_book::Policy;
@@ -6,7 +7,7 @@ use run_record::Report;
 use std::alloc::{AllocError, Global};
 use std::test::Fail;
 use trial_command::run_trial;
-use wf_board::{Decider, Deed, Snap, Verdict, decision_aside};
+use wf_board::{Decider, Deed, Refused, Snap, Verdict, decision_aside};
 use wf_outside::MemSink;
 use wf_talk::Ask;
 
@@ -17,7 +18,7 @@ impl Decider for Idle {
     fn decide(&self, alloc: Global, snap: &Snap, ask: &Ask) -> Verdict {
         match decision_aside(alloc, snap.policy(), snap.cases(), ask) {
             Ok(deed) => self.decide_deed(alloc, snap.policy(), snap.cases(), &deed),
-            Err(_) => Verdict::Nothing,
+            Err(refused) => no_verdict(refused),
         }
     }
 
@@ -31,6 +32,13 @@ impl Decider for Idle {
             _ => Verdict::Nothing,
         }
     }
+}
+
+// None is needed where there is a cause against what is asked.
+fn no_verdict(_: Refused) -> Verdict
+    ensures { result ≡ Verdict.Nothing }
+{
+    Verdict::Nothing
 }
 
 // No case is opened, so no step is granted or finished.
