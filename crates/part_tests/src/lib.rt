@@ -1,34 +1,17 @@
-//! Tests of the values at the bottom, of the parts of a policy, of the policy, of the absences that its
-//! workflows stand, and of the clauses of its cases: what no clause of theirs shows.
+//! Tests of the crates below the server: what no clause of theirs says, and no row of a file shows.
 #![tactic(auto)]
 
 #[cfg(test)]
-mod absences;
+mod fixture;
 #[cfg(test)]
-mod clauses;
-#[cfg(test)]
-mod lists;
-#[cfg(test)]
-mod models;
-#[cfg(test)]
-mod names;
-#[cfg(test)]
-mod outside;
-#[cfg(test)]
-mod pairs;
-#[cfg(test)]
-mod parts;
-#[cfg(test)]
-mod policies;
-#[cfg(test)]
-mod relations;
-#[cfg(test)]
-mod roster;
+mod lines;
 #[cfg(test)]
 mod rules;
 #[cfg(test)]
+mod searches;
+#[cfg(test)]
 mod trees;
 #[cfg(test)]
-mod turns;
+mod uncalled;
 #[cfg(test)]
-mod workflows;
+mod views;

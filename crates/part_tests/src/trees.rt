@@ -1,63 +1,68 @@
-//! What no clause shows: that trees are built, copied and counted while there is memory.
+//! What is left of a tree that is read and trimmed.
 
-use refutation_tree::{Branch, Branches, Kid, Tree};
-use std::alloc::Global;
+use crate::fixture::{FLOW, Look, is_right_in_trio};
+use crate::searches::SAME_AND_OTHER;
+use certificate_check::check_tree;
+use constraint_forms::{Assign, StepSet};
+use entry_reader::tree_of;
+use policy_book::Policy;
+use refutation_tree::Tree;
+use serde_json::Value;
+use std::alloc::{AllocError, Global};
 use std::test::Fail;
-use wf_names::{StepId, UserId};
+use wire_json::tree_value;
+use wsp_solver::trim;
+
+// A tree that tries each user for the second step, which no rule names, then for the first, and then
+// for the third: who has the first falsifies the second rule, and anybody else the first one.
+const TREE: &str = r#"{"step":"b","users":[
+  ["kim",{"step":"a","users":[
+    ["kim",{"step":"c","users":[["kim",{"rule":1}],["lee",{"rule":0}],["max",{"rule":0}]]}],
+    ["lee",{"step":"c","users":[["kim",{"rule":0}],["lee",{"rule":1}],["max",{"rule":0}]]}],
+    ["max",{"step":"c","users":[["kim",{"rule":0}],["lee",{"rule":0}],["max",{"rule":1}]]}]]}],
+  ["lee",{"step":"a","users":[
+    ["kim",{"step":"c","users":[["kim",{"rule":1}],["lee",{"rule":0}],["max",{"rule":0}]]}],
+    ["lee",{"step":"c","users":[["kim",{"rule":0}],["lee",{"rule":1}],["max",{"rule":0}]]}],
+    ["max",{"step":"c","users":[["kim",{"rule":0}],["lee",{"rule":0}],["max",{"rule":1}]]}]]}],
+  ["max",{"step":"a","users":[
+    ["kim",{"step":"c","users":[["kim",{"rule":1}],["lee",{"rule":0}],["max",{"rule":0}]]}],
+    ["lee",{"step":"c","users":[["kim",{"rule":0}],["lee",{"rule":1}],["max",{"rule":0}]]}],
+    ["max",{"step":"c","users":[["kim",{"rule":0}],["lee",{"rule":0}],["max",{"rule":1}]]}]]}]]}"#;
+
+// All three are twins for the first step. Once kim has it, lee and max are twins still.
+const LEAN: &str =
+    r#"{"step":"a","users":[["kim",{"step":"c","users":[["kim",{"rule":1}],["lee",{"rule":0}],["max",{"twin":"lee"}]]}],["lee",{"twin":"kim"}],["max",{"twin":"kim"}]]}"#;
 
 #[test]
-fn a_copy_has_the_same_branches(rt: HostRuntime) -> Result<(), Fail> {
-    let tree = Tree::Step(StepId(3), three_branches(rt.alloc())?);
-    assert!(rt; copies_all(&tree)?);
+fn a_step_that_is_not_mentioned_goes_and_makes_twins(rt: HostRuntime) -> Result<(), Fail> {
+    assert!(rt; is_right_in_trio(rt.alloc(), SAME_AND_OTHER, Look::Tree)?);
     Ok(())
 }
 
-fn three_branches(alloc: Global) -> Result<Branches, Fail> {
-    let mut branches = Branches::new(alloc);
-    push(&mut branches, 4, Kid::Tree(Tree::Rule(2)))?;
-    push(&mut branches, 7, Kid::Tree(Tree::Holder(StepId(1))))?;
-    push(&mut branches, 9, Kid::Twin(UserId(4)))?;
-    Ok(branches)
-}
-
-fn push(branches: &mut Branches, user: u16, kid: Kid) -> Result<(), Fail> {
-    let user = UserId(user);
-    branches.push(Branch { user, kid })?;
-    Ok(())
-}
-
-fn copies_all(tree: &Tree) -> Result<bool, Fail> {
-    let copy = tree.copy()?;
-    Ok(copy.nodes() == 4 && is_right(&copy))
-}
-
-fn is_right(tree: &Tree) -> bool {
-    match tree {
-        Tree::Step(step, branches) => *step == StepId(3) && are_right(branches),
-        _ => false,
+pub(crate) fn is_trimmed(alloc: Global, p: &Policy) -> Result<bool, Fail> {
+    if p.flows().len() == 0 {
+        return Ok(false);
+    }
+    let value = Value::from_str(alloc, TREE)?;
+    match tree_of(alloc, p, FLOW, &value) {
+        Ok(tree) => Ok(has_lean_text(alloc, p, tree)?),
+        Err(_) => Ok(false),
     }
 }
 
-fn are_right(branches: &Branches) -> bool {
-    branches.len() == 3
-        && user_at(branches, 1) == Some(UserId(7))
-        && twin_at(branches, 2) == Some(UserId(4))
-        && user_at(branches, 3).is_none()
+// Whether a tree refutes, and has the lean text once it is trimmed.
+fn has_lean_text(alloc: Global, p: &Policy, tree: Tree) -> Result<bool, AllocError> {
+    let (a, done) = (Assign::empty(), StepSet::empty());
+    if p.flows().len() == 0 || !check_tree(p, FLOW, &a, &done, &tree) {
+        return Ok(false);
+    }
+    is_lean(alloc, p, &trim(alloc, p, FLOW, &a, &done, tree)?)
 }
 
-fn user_at(branches: &Branches, place: usize) -> Option<UserId> {
-    match branches.get(place) {
-        Some(branch) => Some(branch.user),
-        None => None,
+fn is_lean(alloc: Global, p: &Policy, tree: &Tree) -> Result<bool, AllocError> {
+    if p.flows().len() == 0 {
+        return Ok(false);
     }
-}
-
-fn twin_at(branches: &Branches, place: usize) -> Option<UserId> {
-    match branches.get(place) {
-        Some(branch) => match &branch.kid {
-            Kid::Twin(twin) => Some(*twin),
-            Kid::Tree(_) => None,
-        },
-        None => None,
-    }
+    let text = tree_value(alloc, p, FLOW, tree)?.to_string(alloc)?;
+    Ok(text.as_str() == LEAN)
 }

@@ -1,49 +1,79 @@
-//! Schedules: turns of two lanes over the policy for payments, in a given order.
-ghost use Rattle.std.specs.Prelude.{◌≡◌, ◌≤◌, [], IfOk, IsTrue};
-ghost use Rattle.wf_names.specs.declared.limits.TheConstants.{ROUND_LIMIT};
+//! Desks of two lanes: schedules, and commits of tasks whose numbers were changed by hand.
+ghost use Rattle.std.specs.Prelude.{◌≡◌, [], IfOk, IsTrue};
 ghost use Rattle.wf_desk.specs.Desks.{AreOfLanes, IsDone};
 ghost use Rattle.wf_desk.specs.Schedules.{AreEventsOf};
 
+use crate::policies::{PAY, STAFFED};
+use crate::schedules::{ALL, CLAIMS, Kind, S0, S1, Schedule};
 use case_views::PlainDecider;
 use line_cutter::jobs_of;
 use std::alloc::{AllocError, Global};
 use std::test::Fail;
-use wf_desk::{Desk, Event, Mark};
+use wf_board::Verdict;
+use wf_desk::{Desk, Event, Mark, Outcome, solve_task};
 use wf_names::ROUND_LIMIT;
-use wf_talk::{Denial, Entry, Job, Reply};
-use wire_json::write_entry;
+use wf_talk::{Denial, Job, Reply};
 
-/// A schedule of one batch, and what comes of it.
+/// What is done at a desk.
 #[derive(Clone, Copy)]
-pub(crate) struct Schedule<'a> {
-    pub(crate) policy: &'a str,
-    pub(crate) rounds: u8,
-    pub(crate) requests: &'a str,
-    pub(crate) turns: &'a str,
-    pub(crate) kinds: &'a str,
-    /// The last lines that are written, with the names of the policy as it is then.
-    pub(crate) written: &'a str,
+enum Scene<'a> {
+    /// A schedule.
+    Turns(&'a Schedule),
+    /// Tasks are committed for which some entries do not count.
+    Misses,
+    /// A stale edit is checked once more.
+    Checked,
 }
 
-/// Whether a desk of two lanes goes through a schedule so.
-pub(crate) fn goes(alloc: Global, schedule: &Schedule<'_>) -> Result<bool, Fail> {
-    let mut desk = desk_of(alloc, schedule.policy, schedule.rounds)?;
-    follows(alloc, &mut desk, schedule)
+#[test]
+fn tasks_are_served_begun_and_committed(rt: HostRuntime) -> Result<(), Fail> {
+    for row in &ALL {
+        let right = is_right(rt.alloc(), row.policy, row.rounds, Scene::Turns(row))?;
+        assert!(rt; right, "{}", row.requests);
+    }
+    Ok(())
 }
 
-fn follows(alloc: Global, desk: &mut Desk, schedule: &Schedule<'_>) -> Result<bool, Fail>
+#[test]
+fn some_entries_lose_no_task(rt: HostRuntime) -> Result<(), Fail> {
+    assert!(rt; is_right(rt.alloc(), PAY, 2, Scene::Misses)?);
+    Ok(())
+}
+
+#[test]
+fn a_checked_edit_is_never_lost(rt: HostRuntime) -> Result<(), Fail> {
+    assert!(rt; is_right(rt.alloc(), STAFFED, 1, Scene::Checked)?);
+    Ok(())
+}
+
+// Whether all is right at a desk over a policy.
+fn is_right(alloc: Global, policy: &str, rounds: u8, scene: Scene<'_>) -> Result<bool, Fail> {
+    let mut desk = desk_of(alloc, policy, rounds)?;
+    Ok(plays(alloc, &mut desk, scene)?)
+}
+
+fn plays(alloc: Global, desk: &mut Desk, scene: Scene<'_>) -> Result<bool, AllocError>
+    requires { IsDone desk.old }
+{
+    match scene {
+        Scene::Turns(row) => follows(alloc, desk, row),
+        Scene::Misses => misses(alloc, desk),
+        Scene::Checked => is_decided_in_the_turn(alloc, desk),
+    }
+}
+
+fn follows(alloc: Global, desk: &mut Desk, row: &Schedule) -> Result<bool, AllocError>
     requires { IsDone desk.old }
 {
     Ok(
-        load(alloc, desk, schedule.requests)?
-            && goes_through(alloc, desk, schedule.turns)?
-            && has_kinds(alloc, desk, schedule.kinds)?
-            && writes(alloc, desk, schedule.written)?,
+        load(alloc, desk, row.requests)?
+            && takes(alloc, desk, row.turns, row.marks)?
+            && has_kinds(desk, row.kinds),
     )
 }
 
-/// A desk of two lanes; lost rounds beyond the limit are as many as the limit.
-pub(crate) fn desk_of(alloc: Global, policy: &str, rounds: u8) -> Result<Desk, Fail>
+// A desk of two lanes; lost rounds beyond the limit are as many as the limit.
+fn desk_of(alloc: Global, policy: &str, rounds: u8) -> Result<Desk, Fail>
     ensures lanes { IfOk result (λ d. d.lanes ≡ 2) }
     ensures entries { IfOk result (λ d. d.entries ≡ []) }
     ensures done { IfOk result (λ d. IsDone d) }
@@ -52,10 +82,9 @@ pub(crate) fn desk_of(alloc: Global, policy: &str, rounds: u8) -> Result<Desk, F
     Ok(Desk::new(alloc, policy, 2, rounds.min(ROUND_LIMIT))?)
 }
 
-/// Takes the jobs of request lines as a batch.
-pub(crate) fn load(alloc: Global, desk: &mut Desk, requests: &str) -> Result<bool, AllocError>
+// Takes the jobs of request lines as a batch.
+fn load(alloc: Global, desk: &mut Desk, requests: &str) -> Result<bool, AllocError>
     requires { IsDone desk.old }
-    ensures { IfOk result (λ loaded. IsTrue loaded → AreOfLanes desk.new.lanes desk.new.jobs) }
 {
     let batch = jobs_of(alloc, requests.as_bytes(), 2)?;
     load_jobs(alloc, desk, batch.jobs.as_slice())
@@ -63,7 +92,6 @@ pub(crate) fn load(alloc: Global, desk: &mut Desk, requests: &str) -> Result<boo
 
 fn load_jobs(alloc: Global, desk: &mut Desk, jobs: &[Job]) -> Result<bool, AllocError>
     requires { IsDone desk.old }
-    ensures { IfOk result (λ loaded. IsTrue loaded → AreOfLanes desk.new.lanes desk.new.jobs) }
 {
     let room = desk.lanes() == 2 && desk.journal().len() < 100 && jobs.len() < 100;
     if !room || !are_of_two_lanes(jobs) {
@@ -82,34 +110,17 @@ fn are_of_two_lanes(jobs: &[Job]) -> bool
     }
 }
 
-/// Whether a desk takes turns so. Each word of the text is a turn with what it did: `b`, `c` or `s`
-/// for a lane that begins, commits or serves, the lane's number, and the number that the mark has,
-/// or its name where it has none.
-pub(crate) fn goes_through(alloc: Global, desk: &mut Desk, turns: &str) -> Result<bool, Fail> {
-    let (mut events, mut marks) = (Vec::new(alloc), Vec::new(alloc));
-    read_turns(turns, &mut events, &mut marks)?;
-    Ok(does(alloc, desk, &events, &marks)?)
-}
-
-fn read_turns(turns: &str, events: &mut Vec<Event>, marks: &mut Vec<Mark>) -> Result<(), Fail> {
-    for word in turns.split(' ') {
-        let (event, mark) = turn_of(word).ok_or("no turn")?;
-        events.push(event)?;
-        marks.push(mark)?;
-    }
-    Ok(())
-}
-
-fn does(
+// Whether a desk takes turns so.
+fn takes(
     alloc: Global,
     desk: &mut Desk,
-    events: &[Event],
+    turns: &[Event],
     marks: &[Mark],
 ) -> Result<bool, AllocError> {
-    if desk.lanes() != 2 || !are_of_lanes(events) {
+    if desk.lanes() != 2 || !are_of_lanes(turns) {
         return Ok(false);
     }
-    Ok(desk.run_schedule(alloc, &PlainDecider, events)?.as_slice() == marks)
+    Ok(desk.run_schedule(alloc, &PlainDecider, turns)?.as_slice() == marks)
 }
 
 fn are_of_lanes(events: &[Event]) -> bool
@@ -124,89 +135,81 @@ fn are_of_lanes(events: &[Event]) -> bool
     }
 }
 
-fn turn_of(word: &str) -> Option<(Event, Mark)> {
-    let (turn, told) = word.split_once('=')?;
-    let event = match turn {
-        "b0" => Event::Begin(0),
-        "c0" => Event::Commit(0),
-        "s0" => Event::Serve(0),
-        "s1" => Event::Serve(1),
-        _ => return None,
-    };
-    Some((event, mark_of(event, told)?))
-}
-
-fn mark_of(event: Event, told: &str) -> Option<Mark> {
-    match told {
-        "lost" => Some(Mark::Lost),
-        "no_job" => Some(Mark::NoJob),
-        "no_task" => Some(Mark::NoTask),
-        "not_next" => Some(Mark::NotNext),
-        _ => {
-            let number = told.parse::<u32>().ok()?;
-            Some(match event {
-                Event::Begin(_) => Mark::Began(number),
-                Event::Commit(_) => Mark::Recorded(number),
-                Event::Serve(_) => Mark::Served(number),
-            })
+// Whether the entries are of these kinds, in order.
+fn has_kinds(desk: &Desk, kinds: &[Kind]) -> bool {
+    let entries = desk.journal().as_slice();
+    for k in 0..kinds.len() {
+        match entries.get(k) {
+            Some(entry) if is_of_kind(&entry.reply, kinds[k].0, kinds[k].1) => {}
+            _ => return false,
         }
     }
+    entries.len() == kinds.len()
 }
 
-/// Whether the entries are of these kinds, in order.
-pub(crate) fn has_kinds(alloc: Global, desk: &Desk, kinds: &str) -> Result<bool, AllocError> {
-    let mut found = String::new(alloc);
-    for entry in desk.journal().as_slice() {
-        put_kind(alloc, &entry.reply, &mut found)?;
-    }
-    Ok(found.as_str() == kinds)
-}
-
-fn put_kind(alloc: Global, reply: &Reply, found: &mut String) -> Result<(), AllocError> {
-    if !found.is_empty() {
-        found.push_str(", ")?;
-    }
-    let kind = kind_of(alloc, reply)?;
-    found.push_str(kind.as_str())
-}
-
-fn kind_of(alloc: Global, reply: &Reply) -> Result<String, AllocError> {
+fn is_of_kind(reply: &Reply, kind: &str, of: u32) -> bool {
     match reply {
-        Reply::Opened { case, .. } => format!(in alloc; "opened {}", case.0),
-        Reply::Edited { number } => format!(in alloc; "edited {number}"),
-        Reply::Again { rounds, at } => format!(in alloc; "again {rounds} {at}"),
-        Reply::Denied(Denial::Strands { case, .. }) => format!(in alloc; "strands {}", case.0),
-        _ => String::from_str(alloc, plain_kind(reply)),
+        Reply::Opened { case, .. } => kind == "opened" && case.0 as u32 == of,
+        Reply::Edited { number } => kind == "edited" && *number == of,
+        Reply::Again { at, .. } => kind == "again" && *at == of,
+        Reply::Granted(_) => kind == "granted",
+        Reply::Finished { done: false } => kind == "finished",
+        Reply::Returned => kind == "returned",
+        Reply::Denied(Denial::Stranded { .. }) => kind == "stranded",
+        _ => false,
     }
 }
 
-fn plain_kind(reply: &Reply) -> &'static str {
-    match reply {
-        Reply::Granted(_) => "granted",
-        Reply::Finished { done: false } => "finished",
-        Reply::Returned => "returned",
-        Reply::Released => "released",
-        Reply::Shown(_) => "shown",
-        Reply::Denied(Denial::Stranded { .. }) => "stranded",
-        _ => "another",
-    }
+// Entries before a lane's last one lose no task, nor do those for which it was lost before.
+fn misses(alloc: Global, desk: &mut Desk) -> Result<bool, AllocError>
+    requires { IsDone desk.old }
+{
+    let begun = [Mark::Served(0), Mark::Served(1), Mark::Served(2)];
+    Ok(
+        load(alloc, desk, CLAIMS)?
+            && takes(alloc, desk, &[S0, S0, S0], &begun)?
+            && commits(alloc, desk, 1)? == Outcome::Recorded(3)
+            && takes(alloc, desk, &[S1, S1], &[Mark::Served(4), Mark::Served(5)])?
+            && commits(alloc, desk, 4)? == Outcome::Lost
+            && commits(alloc, desk, 4)? == Outcome::Recorded(6),
+    )
 }
 
-// Whether the entries' lines end so.
-fn writes(alloc: Global, desk: &Desk, lines: &str) -> Result<bool, AllocError> {
-    let mut text = Vec::new(alloc);
-    for entry in desk.journal().as_slice() {
-        put_line(alloc, desk, entry, &mut text)?;
+// Commits the task of the next job of lane 0, as if it had been taken after so many entries.
+fn commits(alloc: Global, desk: &mut Desk, number: u32) -> Result<Outcome, AllocError> {
+    let lanes = desk.lanes();
+    if lanes == 0 {
+        return Ok(Outcome::NotNext);
     }
-    Ok(text.ends_with(lines.as_bytes()))
+    let Some(mut task) = desk.begin(alloc, 0)? else {
+        return Ok(Outcome::NotNext);
+    };
+    if task.lane >= lanes {
+        return Ok(Outcome::NotNext);
+    }
+    task.number = number;
+    Ok(desk.commit(alloc, &PlainDecider, &task, Verdict::Nothing))
 }
 
-fn put_line(
-    alloc: Global,
-    desk: &Desk,
-    entry: &Entry,
-    text: &mut Vec<u8>,
-) -> Result<(), AllocError> {
-    let line = write_entry(alloc, desk.board().policy(), entry)?;
-    text.extend_from_slice(line.as_slice())
+// Lane 0 gives dan a role; lane 1 opens a case.
+const EDITING: &str = r#"{"do":"enrol","by":"eve","user":"dan","role":"boss"}
+{"do":"open","flow":"pay","lane":1}
+"#;
+
+// Where it is checked once more, a stale edit is decided in the turn.
+fn is_decided_in_the_turn(alloc: Global, desk: &mut Desk) -> Result<bool, AllocError>
+    requires { IsDone desk.old }
+{
+    if !load(alloc, desk, EDITING)? || desk.lanes() != 2 {
+        return Ok(false);
+    }
+    let Some(task) = desk.begin(alloc, 0)? else {
+        return Ok(false);
+    };
+    let verdict = solve_task(alloc, &PlainDecider, &task);
+    if !desk.serve_next(alloc, &PlainDecider, 1) || task.lane >= desk.lanes() {
+        return Ok(false);
+    }
+    let outcome = desk.commit_checked(alloc, &PlainDecider, &task, verdict);
+    Ok(outcome == Outcome::Recorded(1) && has_kinds(desk, &[("opened", 0), ("edited", 1)]))
 }

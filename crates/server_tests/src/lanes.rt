@@ -1,7 +1,7 @@
 //! Sessions of several lanes, each on a thread of its own: that searches run beside the turns of
 //! other lanes, that what comes too late is answered again, and that every line is answered.
 
-use crate::outsides::{ample, shelf_of, sink_of, source_of, words_of};
+use crate::outsides::{shelf_of, sink_of, source_of, words_of};
 use crate::policies::{PAY, STAFFED};
 use std::alloc::{AllocError, Global};
 use std::sync::Wait;
@@ -9,7 +9,7 @@ use std::sync::atomic::{AtomicU64, Ordering};
 use std::test::Fail;
 use std::thread::{Threads, yield_now};
 use wf_outside::{MemShelf, MemSink};
-use wf_server::{Gate, OpenGate, Report, run};
+use wf_server::{Gate, Report, run};
 use wf_talk::{Entry, Reply};
 
 // How often a gate looks whether what it waits for has come.
@@ -106,7 +106,8 @@ fn two_claims_solve_at_once(rt: HostRuntime) -> Result<(), Fail> {
     Ok(())
 }
 
-// A case is prepared; then lane 0 claims its next step, while lane 1 dismisses dan and opens a case.
+// A case is prepared; then lane 0 claims its next step, while lane 1 dismisses dan and opens a
+// case.
 const STALE: &str = r#"{"do":"open","flow":"pay"}
 {"do":"claim","case":0,"step":"prepare","user":"ann"}
 {"do":"finish","case":0,"step":"prepare","user":"ann"}
@@ -129,102 +130,63 @@ fn stale_task_meets_its_commit(rt: HostRuntime) -> Result<(), Fail> {
     Ok(())
 }
 
-// A case of one lane from its opening to a claim that strands it; the other lane has no job.
-const PREPARED: &str = r#"{"do":"open","flow":"pay"}
-{"do":"claim","case":0,"step":"prepare","user":"ann"}
-{"do":"claim","case":0,"step":"approve","user":"ann"}
-{"do":"finish","case":0,"step":"prepare","user":"ann"}
-{"do":"claim","case":0,"step":"approve","user":"ann"}
-{"do":"claim","case":0,"step":"approve","user":"bob"}
-"#;
-
-const OPENED: [&str; 2] = [
-    r#"{"at":0,"lane":0,"line":0,"reply":{"opened":{"case":0,"plan":["ann","cyd","bob"]}}}"#,
-    r#"{"at":0,"lane":0,"line":0,"reply":{"opened":{"case":0,"plan":["bob","cyd","ann"]}}}"#,
-];
-
-const REST: &str = r#"
-{"at":1,"lane":0,"line":1,"reply":{"granted":{"plan":["ann","cyd","bob"]}}}
-{"at":2,"lane":0,"line":2,"reply":{"denied":{"order":"prepare"}}}
-{"at":3,"lane":0,"line":3,"reply":{"finished":{"done":false}}}
-{"at":4,"lane":0,"line":4,"reply":{"denied":{"role":["boss"]}}}
-{"at":5,"lane":0,"line":5,"reply":{"denied":{"stranded":{"step":"pay","users":[["ann",{"rule":2}],["bob",{"rule":1}]]}}}}
-"#;
-
-#[test]
-fn an_idle_lane_changes_no_answer(rt: HostRuntime) -> Result<(), Fail> {
-    let mut sink = sink_of(rt.alloc(), ample())?;
-    assert!(rt; answers_alike(&rt, rt.alloc(), &mut sink)?);
-    Ok(())
-}
-
-fn answers_alike<R: Threads + Wait + Sync>(
-    rt: &R,
-    alloc: Global,
-    sink: &mut MemSink,
-) -> Result<bool, AllocError> {
-    let words = ["serve", "policy", "--lanes", "2"];
-    let status = report_of(rt, alloc, PAY, &words, PREPARED, &OpenGate, sink)?.status;
-    let text = text_of(sink);
-    let opened = text.starts_with(OPENED[0]) || text.starts_with(OPENED[1]);
-    Ok(status == 0 && opened && text.len() == OPENED[0].len() + REST.len() && text.ends_with(REST))
-}
-
 // In each of eight lanes a case is opened, prepared by ann, and claimed by cyd. The openings and
 // the claims are searched for outside the turns, but where there are no rounds.
 #[test]
 fn eight_lanes_answer_each_line_once(rt: HostRuntime) -> Result<(), Fail> {
-    let input = eight_cases(rt.alloc())?;
     for (rounds, searches) in [("2", 24), ("0", 0)] {
-        assert!(rt;
-            is_whole(&rt, rt.alloc(), rounds, input.as_str(), searches)?,
-            "{rounds}"
-        );
+        assert!(rt; is_whole(&rt, rt.alloc(), rounds, searches)?, "{rounds}");
     }
     Ok(())
 }
 
-// The batches of eight lanes; each `@` stands for the number of the lane, and of its case.
-const BATCHES: [&str; 3] = [
-    "{\"do\":\"open\",\"flow\":\"pay\",\"lane\":@}\n",
-    "{\"do\":\"claim\",\"case\":@,\"step\":\"prepare\",\"user\":\"ann\",\"lane\":@}\n\
-    {\"do\":\"finish\",\"case\":@,\"step\":\"prepare\",\"user\":\"ann\",\"lane\":@}\n",
-    "{\"do\":\"claim\",\"case\":@,\"step\":\"approve\",\"user\":\"cyd\",\"lane\":@}\n",
-];
+// Each lane works on the case with its own number.
+const EIGHT_CASES: &str = r#"{"do":"open","flow":"pay","lane":0}
+{"do":"open","flow":"pay","lane":1}
+{"do":"open","flow":"pay","lane":2}
+{"do":"open","flow":"pay","lane":3}
+{"do":"open","flow":"pay","lane":4}
+{"do":"open","flow":"pay","lane":5}
+{"do":"open","flow":"pay","lane":6}
+{"do":"open","flow":"pay","lane":7}
 
-fn eight_cases(alloc: Global) -> Result<String, AllocError> {
-    let mut all = String::new(alloc);
-    for lines in BATCHES {
-        put_batch(lines, &mut all)?;
-    }
-    Ok(all)
-}
+{"do":"claim","case":0,"step":"prepare","user":"ann","lane":0}
+{"do":"finish","case":0,"step":"prepare","user":"ann","lane":0}
+{"do":"claim","case":1,"step":"prepare","user":"ann","lane":1}
+{"do":"finish","case":1,"step":"prepare","user":"ann","lane":1}
+{"do":"claim","case":2,"step":"prepare","user":"ann","lane":2}
+{"do":"finish","case":2,"step":"prepare","user":"ann","lane":2}
+{"do":"claim","case":3,"step":"prepare","user":"ann","lane":3}
+{"do":"finish","case":3,"step":"prepare","user":"ann","lane":3}
+{"do":"claim","case":4,"step":"prepare","user":"ann","lane":4}
+{"do":"finish","case":4,"step":"prepare","user":"ann","lane":4}
+{"do":"claim","case":5,"step":"prepare","user":"ann","lane":5}
+{"do":"finish","case":5,"step":"prepare","user":"ann","lane":5}
+{"do":"claim","case":6,"step":"prepare","user":"ann","lane":6}
+{"do":"finish","case":6,"step":"prepare","user":"ann","lane":6}
+{"do":"claim","case":7,"step":"prepare","user":"ann","lane":7}
+{"do":"finish","case":7,"step":"prepare","user":"ann","lane":7}
 
-fn put_batch(lines: &str, all: &mut String) -> Result<(), AllocError> {
-    for lane in b'0'..b'8' {
-        put_lines(lines, lane as char, all)?;
-    }
-    all.push('\n')
-}
+{"do":"claim","case":0,"step":"approve","user":"cyd","lane":0}
+{"do":"claim","case":1,"step":"approve","user":"cyd","lane":1}
+{"do":"claim","case":2,"step":"approve","user":"cyd","lane":2}
+{"do":"claim","case":3,"step":"approve","user":"cyd","lane":3}
+{"do":"claim","case":4,"step":"approve","user":"cyd","lane":4}
+{"do":"claim","case":5,"step":"approve","user":"cyd","lane":5}
+{"do":"claim","case":6,"step":"approve","user":"cyd","lane":6}
+{"do":"claim","case":7,"step":"approve","user":"cyd","lane":7}
+"#;
 
-fn put_lines(lines: &str, lane: char, all: &mut String) -> Result<(), AllocError> {
-    for letter in lines.chars() {
-        all.push(if letter == '@' { lane } else { letter })?;
-    }
-    Ok(())
-}
-
-// Whether eight cases are opened, and ann and cyd get their steps in each, with so many searches
-// outside the turns; each lane answers its lines in order, and each line is answered once.
+// Whether eight cases are opened, and ann and cyd get their steps in each, and nothing else is
+// answered, with so many searches outside the turns.
 fn is_whole<R: Threads + Wait + Sync>(
     rt: &R,
     alloc: Global,
     rounds: &str,
-    input: &str,
     searches: u64,
 ) -> Result<bool, AllocError> {
     let gate = TwoHolds::new([FREE, FREE]);
-    let whole = answers_each(rt, alloc, rounds, input, &gate)?;
+    let whole = answers_each(rt, alloc, rounds, &gate)?;
     Ok(whole && gate.count.load(Ordering::SeqCst) == searches)
 }
 
@@ -238,51 +200,37 @@ fn answers_each<R: Threads + Wait + Sync>(
     rt: &R,
     alloc: Global,
     rounds: &str,
-    input: &str,
     gate: &TwoHolds,
 ) -> Result<bool, AllocError> {
-    let words = ["serve", "policy", "--lanes", "8", "--rounds", rounds];
-    let mut sink = sink_of(alloc, ample())?;
-    let report = report_of(rt, alloc, PAY, &words, input, gate, &mut sink)?;
-    let entries = report.entries.as_slice();
-    Ok(report.status == 0 && are_in_order(entries) && counts_of(entries) == [8, 16, 8, 0, 0, 0])
+    let mut sink = sink_of(alloc)?;
+    counts_rightly(rt, alloc, rounds, gate, &mut sink)
 }
 
-// How often a case was opened, a step granted, one finished, the policy edited, a request denied,
-// and one answered with want of memory.
-fn counts_of(entries: &[Entry]) -> [u32; 6] {
-    let mut counts = [0u32; 6];
+fn counts_rightly<R: Threads + Wait + Sync>(
+    rt: &R,
+    alloc: Global,
+    rounds: &str,
+    gate: &TwoHolds,
+    sink: &mut MemSink,
+) -> Result<bool, AllocError> {
+    let words = ["serve", "policy", "--lanes", "8", "--rounds", rounds];
+    let report = report_of(rt, alloc, PAY, &words, EIGHT_CASES, gate, sink)?;
+    Ok(report.status == 0 && counts_of(report.entries.as_slice()) == [8, 16, 8, 0])
+}
+
+// How often a case was opened, a step granted, one finished, and something else answered.
+fn counts_of(entries: &[Entry]) -> [u32; 4] {
+    let mut counts = [0u32; 4];
     for entry in entries {
         let k = match &entry.reply {
             Reply::Opened { .. } => 0,
             Reply::Granted(_) => 1,
             Reply::Finished { .. } => 2,
-            Reply::Edited { .. } => 3,
-            Reply::Denied(_) => 4,
-            Reply::NoMemory => 5,
-            _ => continue,
+            _ => 3,
         };
         counts[k] = counts[k].saturating_add(1);
     }
     counts
-}
-
-// Whether entries stand at their places, each lane's in the order of its lines, and each line once.
-fn are_in_order(entries: &[Entry]) -> bool {
-    let mut next = [0u32; 8];
-    let mut seen = [false; 64];
-    let mut at = 0u32;
-    for entry in entries {
-        let lane = entry.lane as usize;
-        let line = entry.line as usize;
-        if entry.at != at || lane >= 8 || line >= 64 || seen[line] || entry.line < next[lane] {
-            return false;
-        }
-        seen[line] = true;
-        next[lane] = entry.line.saturating_add(1);
-        at = at.saturating_add(1);
-    }
-    at == 32
 }
 
 // Whether a run on two lanes ends well with its lines held so, and each of these parts stands in
@@ -308,11 +256,25 @@ fn writes_at<R: Threads + Wait + Sync>(
     gate: &TwoHolds,
     parts: &[&str],
 ) -> Result<bool, AllocError> {
+    let mut sink = sink_of(alloc)?;
+    Ok(status_of(rt, alloc, policy, input, gate, &mut sink)? == 0 && has_parts(&sink, parts))
+}
+
+fn status_of<R: Threads + Wait + Sync>(
+    rt: &R,
+    alloc: Global,
+    policy: &str,
+    input: &str,
+    gate: &TwoHolds,
+    sink: &mut MemSink,
+) -> Result<u8, AllocError> {
     let words = ["serve", "policy", "--lanes", "2", "--rounds", "1"];
-    let mut sink = sink_of(alloc, ample())?;
-    let status = report_of(rt, alloc, policy, &words, input, gate, &mut sink)?.status;
-    let text = text_of(&sink);
-    Ok(status == 0 && parts.iter().all(|part| text.contains(*part)))
+    Ok(report_of(rt, alloc, policy, &words, input, gate, sink)?.status)
+}
+
+fn has_parts(sink: &MemSink, parts: &[&str]) -> bool {
+    let text = text_of(sink);
+    parts.iter().all(|part| text.contains(*part))
 }
 
 fn text_of(sink: &MemSink) -> &str {
@@ -322,29 +284,41 @@ fn text_of(sink: &MemSink) -> &str {
     }
 }
 
-fn report_of<R: Threads + Wait + Sync, G: Gate + Sync>(
+fn report_of<R: Threads + Wait + Sync>(
     rt: &R,
     alloc: Global,
     policy: &str,
     given: &[&str],
     input: &str,
-    gate: &G,
+    gate: &TwoHolds,
+    sink: &mut MemSink,
+) -> Result<Report, AllocError> {
+    let mut shelf = shelf_of(alloc, policy)?;
+    report_from(rt, alloc, given, input, gate, &mut shelf, sink)
+}
+
+fn report_from<R: Threads + Wait + Sync>(
+    rt: &R,
+    alloc: Global,
+    given: &[&str],
+    input: &str,
+    gate: &TwoHolds,
+    shelf: &mut MemShelf,
     sink: &mut MemSink,
 ) -> Result<Report, AllocError> {
     let words = words_of(alloc, given)?;
-    let mut shelf = shelf_of(alloc, &[("policy", policy)], ample())?;
-    report_over(rt, alloc, &words, input, gate, &mut shelf, sink)
+    report_over(rt, alloc, &words, input, gate, shelf, sink)
 }
 
-fn report_over<R: Threads + Wait + Sync, G: Gate + Sync>(
+fn report_over<R: Threads + Wait + Sync>(
     rt: &R,
     alloc: Global,
     words: &[String],
     input: &str,
-    gate: &G,
+    gate: &TwoHolds,
     shelf: &mut MemShelf,
     sink: &mut MemSink,
 ) -> Result<Report, AllocError> {
-    let mut source = source_of(alloc, input.as_bytes(), ample())?;
+    let mut source = source_of(alloc, input)?;
     Ok(run(rt, alloc, words, gate, shelf, &mut source, sink))
 }

@@ -1,14 +1,14 @@
-//! Runs over readers and writers in memory that move one byte at a time and fail: nothing is lost
+//! Runs over a reader and a writer in memory that move one byte at a time and fail: nothing is lost
 //! or added between them and the server.
 
-use crate::outsides::{ample, shelf_of, words_of};
+use crate::outsides::{shelf_of, words_of};
 use std::alloc::{AllocError, Global};
 use std::io;
 use std::io::{BufWriter, ErrorKind, Read, Write};
 use std::test::Fail;
-use wf_outside::{Failed, MemShelf, Source};
+use wf_outside::{MemShelf, Sink};
 use wf_server::run_alone;
-use wf_system::{StdinSource, StdoutSink, after_name};
+use wf_system::{StdinSource, StdoutSink};
 
 const ONE: &str = r#"
 format = 1
@@ -72,102 +72,78 @@ impl Write for Narrow {
     }
 }
 
-// An input with no line end, the read and the write that fail, the status, and what was written.
+// An input with no line end, the read that fails, the room for what is written, the status, and
+// what was written. Bytes are kept back until they are let go, and the fault of that is told.
+type Row = (&'static str, usize, usize, u8, &'static str);
+
+const ROWS: [Row; 6] = [
+    (r#"["kim"]"#, 99, 16, 0, "valid\n"),
+    (r#"["zoe"]"#, 99, 16, 1, "role a\n"),
+    (r#"["kim"]"#, 6, 16, 4, ""),
+    (r#"["kim"]"#, 7, 16, 4, ""),
+    (r#"["kim"]"#, 99, 0, 5, ""),
+    (r#"["kim"]"#, 99, 5, 5, "valid"),
+];
+
 #[test]
 fn bytes_go_through_one_by_one(rt: HostRuntime) -> Result<(), Fail> {
-    let rows = [
-        (r#"["kim"]"#, 99, 16, 0, "valid\n"),
-        (r#"["zoe"]"#, 99, 16, 1, "role a\n"),
-        (r#"["kim"]"#, 6, 16, 4, ""),
-        (r#"["kim"]"#, 7, 16, 4, ""),
-        (r#"["kim"]"#, 99, 0, 5, ""),
-        (r#"["kim"]"#, 99, 5, 5, "valid"),
-    ];
-    for (input, failing, room, status, output) in rows {
-        let right = answers(rt.alloc(), input, failing, room, status, output)?;
-        assert!(rt; right, "{input} {failing} {room}");
+    for row in &ROWS {
+        assert!(rt; ends_so(rt.alloc(), row)?, "{} {}", row.1, row.2);
     }
     Ok(())
 }
 
-// The room, the status, and what was written where bytes are kept back until they are let go.
-#[test]
-fn a_flush_lets_go_and_tells_its_fault(rt: HostRuntime) -> Result<(), Fail> {
-    let rows = [(16, 0, "valid\n"), (5, 5, "valid"), (0, 5, "")];
-    for (room, status, output) in rows {
-        let right = answers_kept(rt.alloc(), room, status, output)?;
-        assert!(rt; right, "{room}");
-    }
-    Ok(())
-}
-
-// A slice is read to its end, and the program's name is taken off the words.
-#[test]
-fn a_reader_ends_and_the_name_is_no_word(rt: HostRuntime) -> Result<(), Fail> {
-    let mut source = StdinSource::new(b"ab".as_slice());
-    assert!(rt; gives_both(&mut source)?);
-    let words = words_of(rt.alloc(), &["wfserve", "show", "policy"])?;
-    assert!(rt; after_name(&words).len() == 2 && after_name(&words[..0]).is_empty());
-    Ok(())
-}
-
-// Whether both bytes come at once, and then none.
-fn gives_both(source: &mut StdinSource<&[u8]>) -> Result<bool, Failed> {
-    let mut buf = [0; 8];
-    let counts = (source.take(&mut buf)?, source.take(&mut buf)?);
-    Ok(counts == (2, 0) && buf.starts_with(b"ab"))
-}
-
-// Whether `plan` over these bytes ends so, and writes this.
-fn answers(
-    alloc: Global,
-    input: &'static str,
-    failing: usize,
-    room: usize,
-    status: u8,
-    output: &str,
-) -> Result<bool, AllocError> {
-    let words = words_of(alloc, &["plan", "policy", "one"])?;
-    let mut shelf = shelf_of(alloc, &[("policy", ONE)], ample())?;
+// Whether `plan` ends and writes as its row says.
+fn ends_so(alloc: Global, row: &Row) -> Result<bool, AllocError> {
     let mut narrow = Narrow {
         taken: [0; 16],
         len: 0,
-        room,
+        room: row.2,
     };
-    let ended = run(alloc, &words, &mut shelf, input, failing, &mut narrow);
-    Ok(ended == status && &narrow.taken[..narrow.len.min(16)] == output.as_bytes())
+    let status = run(alloc, row, &mut narrow)?;
+    Ok(status == row.3 && &narrow.taken[..narrow.len.min(16)] == row.4.as_bytes())
 }
 
-// The same over a writer that keeps bytes back.
-fn answers_kept(alloc: Global, room: usize, status: u8, output: &str) -> Result<bool, AllocError> {
+fn run(alloc: Global, row: &Row, narrow: &mut Narrow) -> Result<u8, AllocError> {
     let words = words_of(alloc, &["plan", "policy", "one"])?;
-    let mut shelf = shelf_of(alloc, &[("policy", ONE)], ample())?;
-    let mut narrow = Narrow {
-        taken: [0; 16],
-        len: 0,
-        room,
-    };
-    let Ok(kept) = BufWriter::with_capacity(alloc, 64, &mut narrow) else {
-        return Err(AllocError);
-    };
-    let ended = run(alloc, &words, &mut shelf, r#"["kim"]"#, 99, kept);
-    Ok(ended == status && &narrow.taken[..narrow.len.min(16)] == output.as_bytes())
+    run_with(alloc, row, &words, narrow)
 }
 
-fn run<W: Write + Drop>(
+fn run_with(
     alloc: Global,
+    row: &Row,
+    words: &[String],
+    narrow: &mut Narrow,
+) -> Result<u8, AllocError> {
+    let mut shelf = shelf_of(alloc, ONE)?;
+    run_over(alloc, row, words, &mut shelf, narrow)
+}
+
+fn run_over(
+    alloc: Global,
+    row: &Row,
     words: &[String],
     shelf: &mut MemShelf,
-    input: &'static str,
-    failing: usize,
-    writer: W,
+    narrow: &mut Narrow,
+) -> Result<u8, AllocError> {
+    let Ok(kept) = BufWriter::with_capacity(alloc, 64, narrow) else {
+        return Err(AllocError);
+    };
+    let mut sink = StdoutSink::new(kept);
+    Ok(status_of(alloc, row, words, shelf, &mut sink))
+}
+
+fn status_of<K: Sink>(
+    alloc: Global,
+    row: &Row,
+    words: &[String],
+    shelf: &mut MemShelf,
+    sink: &mut K,
 ) -> u8 {
-    let bytes = input.as_bytes();
     let mut source = StdinSource::new(Dripping {
-        bytes,
+        bytes: row.0.as_bytes(),
         at: 0,
-        failing,
+        failing: row.1,
     });
-    let mut sink = StdoutSink::new(writer);
-    run_alone(alloc, words, shelf, &mut source, &mut sink).status
+    run_alone(alloc, words, shelf, &mut source, sink).status
 }
