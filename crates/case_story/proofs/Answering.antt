@@ -1,5 +1,6 @@
 -- How an answer stands for a wider one, and over the files.
 use Rattle.std.proofs.Common.{◌≡◌, ℕ, Bool, true, false, ◌||◌, nat_lt, List, [], ◌++◌, length, Option, None, Some, Result, Ok, Err, MatchBool, refl, ap, sym, subst, ◌∙◌, inl, inr, codes, arith}
+use Rattle.std.specs.Prelude.{IsErrAnd}
 use Rattle.wf_outside.specs.Outside.{Filed, HasPart, with_bytes}
 use Rattle.run_record.specs.declared.fault.RunFault.{RunFault}
 use Rattle.run_record.specs.declared.fault.RunFault.TheVariants.{Nothing, Found, Write}
@@ -55,3 +56,9 @@ told_none files n lanes rounds T before after fault finds ends same = elim finds
   | inl early ↦ inl (early.0, (early.1, same))
   | inr late ↦ inr (late.0, (late.1.0, ends_refused (T late.0) before after fault ends late.1.1 same))
 ]
+
+-- a file was not loaded
+pub not_given : (files : List ℕ → Filed) (n : Names) (result : Result Session RunFault) (fault : RunFault) → IsErrAnd result (λ e. e ≡ fault)
+    → GivesSession files n (Err fault) → GivesSession files n result
+not_given files n (Ok s) fault is h = absurd is
+not_given files n (Err e) fault is h = subst (λ (x : RunFault). GivesSession files n (Err x)) (sym is) h
