@@ -1,6 +1,8 @@
 use Rattle.std.proofs.Common.{ℕ, ◌+◌, ◌-◌, List, take, drop, length, Err, refl, sym, subst, ◌∙◌}
 use Rattle.transcript_audit.specs.Outcomes.{HasTakenLine}
 use Rattle.case_story.specs.declared.place.Place.{Place}
+use Rattle.case_story.specs.declared.verdict.Verdict.TheVariants.{Fault}
+use Rattle.case_story.specs.Followed.{StopsTo}
 use Rattle.case_story.proofs.FirstLine.{left_at, left_some}
 use Rattle.case_story.proofs.Following.{IsRest, one_long, one_more, wrong_line}
 use Rattle.case_story.proofs.follow.follow_line.Goals as goal
@@ -39,5 +41,6 @@ returns-in-Err-At-clause-steps g c first h =
       line = c.first_len-count.ensures.line;
       behind = c.first_len-count.ensures.behind;
     } in
-    wrong_line first c.args.auditor.now c.line.new.self text rest c.args.place.now count _ _ r (sym c.is_long.ensures ∙ c.if-is_long.false) c.requires.at.going
-    (subst (λ e. HasTakenLine c.args.auditor.now c.line.new.self (take count rest) (Err e)) c.in-Err-At.field-0-is c.in-Err-At.ensures.taken) h
+    subst (λ k. StopsTo first c.line.new.self text (Fault c.args.place.now.number k)) c.in-Err-At.kind-is
+    (wrong_line first c.args.auditor.now c.line.new.self text rest c.args.place.now count _ c.in-Err-At.kind r (sym c.is_long.ensures ∙ c.if-is_long.false) c.requires.at.going
+    (subst (λ e. HasTakenLine c.args.auditor.now c.line.new.self (take count rest) (Err e)) c.in-Err-At.field-0-is c.in-Err-At.ensures.taken) h)

@@ -1,4 +1,6 @@
-use Rattle.std.proofs.Common.{sym, subst, ap, Ok, ◌∙◌, string_bytes}
+use Rattle.std.specs.Prelude.{IfSome}
+use Rattle.case_story.specs.Verdicts.{right_lines}
+use Rattle.std.proofs.Common.{◌≡◌, sym, subst, ap, Ok, ◌∙◌, string_bytes}
 use Rattle.case_story.specs.Followed.{HasStopped}
 use Rattle.case_story.specs.Sessions.{audit_in}
 use Rattle.case_story.proofs.Following.{stepped, walked}
@@ -16,10 +18,9 @@ pub returns-in-Some-clause-prints : goal.returns-in-Some-clause-prints
 returns-in-Some-clause-prints c =
     let h = (stops c.args.s.now c.in_ok-auditor.auditor c.follow_to.new.auditor c.as_bytes-text.result.now c.start-place.result c.in-Some.verdict c.in_ok-auditor.ensures.auditor c.as_bytes-text.ensures c.start-place.ensures.at c.start-place.ensures.number
     (λ first h. stepped first c.follow_to.new.auditor c.as_bytes-text.result.now c.follow_to.new.place c.in_ok-verdict.field-0 c.in-Some.verdict c.in-Some.is (c.in_ok-verdict.ensures.steps first h))).stopped in
-    let number = c.in_ok-verdict.ensures.number in
     prints c.part_is_exact.ensures c.args.s.now c.follow_to.new.auditor c.follow_to.new.place.number c.policy.result.now (string_bytes c.in_ok-printed-in-Some.printed.remarks) c.in_ok-printed-in-Some.printed.is_less
     (string_bytes c.in_ok-printed-in-Some.printed.document) c.in_ok-auditor.ensures.session
-    (subst (λ n. HasStopped (audit_in c.args.s.now) c.follow_to.new.auditor c.args.s.now.transcript n) (let is = c.in-Some.is in cc) h)
+    (subst (λ n. HasStopped (audit_in c.args.s.now) c.follow_to.new.auditor c.args.s.now.transcript n) (subst (λ o. IfSome o (λ v. right_lines v ≡ c.follow_to.new.place.number)) c.in-Some.is c.in_ok-verdict.ensures.number) h)
     (c.policy.ensures.policy ∙ ap (λ st. st.book.policy) c.board.ensures) c.in_ok-printed-in-Some.ensures.remarks c.in_ok-printed-in-Some.ensures.less c.in_ok-printed-in-Some.ensures.document
 
 pub returns-clause-finds : goal.returns-clause-finds
