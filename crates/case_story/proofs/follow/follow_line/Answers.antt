@@ -41,6 +41,6 @@ returns-in-Err-At-clause-steps g c first h =
       line = c.first_len-count.ensures.line;
       behind = c.first_len-count.ensures.behind;
     } in
-    subst (λ k. StopsTo first c.line.new.self text (Fault c.args.place.now.number k)) c.in-Err-At.kind-is
+    subst (λ k. StopsTo first c.line.new.self text (Fault c.args.place.now.number k)) (sym c.in-Err-At.kind-is)
     (wrong_line first c.args.auditor.now c.line.new.self text rest c.args.place.now count _ c.in-Err-At.kind r (sym c.is_long.ensures ∙ c.if-is_long.false) c.requires.at.going
     (subst (λ e. HasTakenLine c.args.auditor.now c.line.new.self (take count rest) (Err e)) c.in-Err-At.field-0-is c.in-Err-At.ensures.taken) h)
