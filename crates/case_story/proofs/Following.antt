@@ -1,5 +1,5 @@
 -- How a transcript is followed, line after line.
-use Rattle.std.proofs.Common.{◌≡◌, ℕ, ◌+◌, ◌-◌, ◌<◌, ◌≤◌, nat_lt, false, true, List, [], ◌∷◌, ◌++◌, length, take, drop, None, Ok, refl, ap, sym, subst, ◌∙◌, inl, inr, arith}
+use Rattle.std.proofs.Common.{◌≡◌, ℕ, ◌+◌, ◌-◌, ◌<◌, ◌≤◌, nat_lt, false, true, List, [], ◌∷◌, ◌++◌, length, take, drop, Option, None, Some, Ok, Err, refl, ap, sym, subst, ◌∙◌, inl, inr, arith}
 use Rattle.std.proofs.lemmas.Grind.{common_steps}
 use Rattle.std.proofs.lemmas.List.{append-nil, append_assoc, drop_all, drop-drop, length-append}
 use Rattle.wf_names.specs.declared.limits.TheConstants.{TRANSCRIPT_LINE_LIMIT}
@@ -8,13 +8,14 @@ use Rattle.line_reader.specs.Lines.{behind_line, first_line, line_length, lines_
 use Rattle.line_reader.proofs.FirstLines.{line_alone, lines_first}
 use Rattle.transcript_audit.specs.declared.fault.AuditKind.{AuditKind}
 use Rattle.transcript_audit.specs.Audits.{AuditShape, AreNext, HasFault, IsNextLine, with_entry}
-use Rattle.transcript_audit.specs.Outcomes.{HasTakenLine}
+use Rattle.transcript_audit.specs.Outcomes.{HasTakenLine, IsFirstFault}
+use Rattle.transcript_audit.specs.declared.fault.AuditFault.TheVariants.{At}
 use Rattle.transcript_audit.proofs.Exact.{next_pushed}
 use Rattle.case_story.specs.declared.place.Place.{Place}
 use Rattle.case_story.specs.declared.verdict.Verdict.{Verdict}
 use Rattle.case_story.specs.declared.verdict.Verdict.TheVariants.{Legal, Fault, TooLong}
 use Rattle.case_story.specs.Verdicts.{AreShort, EndsWith, IsVerdict, right_lines}
-use Rattle.case_story.specs.Followed.{EndsAt, HasFollowed, HasStopped, HasTaken, StopsTo}
+use Rattle.case_story.specs.Followed.{EndsAt, HasFollowed, HasStopped, HasTaken, StepsTo, StopsTo}
 
 -- before the first line
 pub begins : (first : AuditShape) (text : List ℕ) (place : Place) → first.entries ≡ [] → place.at ≡ 0 → place.number ≡ 0 → HasFollowed first first text place
@@ -156,3 +157,18 @@ pub all_followed : (first a : AuditShape) (text : List ℕ) (place : Place) → 
 all_followed first a text place past h =
     let none : lines_of (drop place.at text) ≡ [] = ap lines_of (drop_all place.at text past) in
     ap length (h.lines ∙ ap (λ ls. h.front ++ ls) none ∙ append-nil h.front) ∙ h.count
+
+-- a line that was not taken
+pub wrong_line : (first a b : AuditShape) (text rest : List ℕ) (place : Place) (count n : ℕ) (kind : AuditKind) → IsRest text rest place count
+    → nat_lt TRANSCRIPT_LINE_LIMIT (line_length rest) ≡ false → a.fault ≡ None → HasTakenLine a b (take count rest) (Err (At n kind))
+    → HasFollowed first a text place → StopsTo first b text (Fault place.number kind)
+wrong_line first a b text rest place count n kind r short going taken h =
+    one_wrong first a b text rest place count kind r short (subst (λ o. IsFirstFault o a (take count rest) kind) going taken.1.0)
+    (ap (λ (x : AuditShape). x.opening) taken.1.1) (ap (λ (x : AuditShape). x.entries) taken.1.1) h
+
+-- what came of a step
+pub stepped : (first b : AuditShape) (text : List ℕ) (place : Place) (o : Option Verdict) (v : Verdict) → o ≡ Some v → StepsTo first b text place o → StopsTo first b text v
+stepped first b text place o v is h = subst (λ x. StepsTo first b text place x) is h
+
+pub walked : (first b : AuditShape) (text : List ℕ) (place : Place) (o : Option Verdict) → o ≡ None → StepsTo first b text place o → HasFollowed first b text place
+walked first b text place o is h = subst (λ x. StepsTo first b text place x) is h

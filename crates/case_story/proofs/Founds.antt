@@ -21,7 +21,7 @@ use Rattle.case_story.specs.Telling.{Finds}
 use Rattle.case_story.proofs.Following.{begins}
 
 -- an audit with some entries
-with_all : (s : Session) → List Entry → AuditShape
+abbrev with_all : (s : Session) → List Entry → AuditShape
 with_all s es = record (audit_in s) { entries = es }
 
 -- where lines are the texts of entries that come next, and the first of them of these, the line behind them is that of one
@@ -66,10 +66,10 @@ not_wrong : Laws → (s : Session) (lines front rest : List (List ℕ)) (es all 
     → is_wrong v ≡ false
 not_wrong laws s lines front rest es all (Legal n) session short parts next ends whole size = refl
 not_wrong laws s lines front [] es all (Fault n kind) session short parts next ends whole size =
-    let many = as_many (audit_in s) lines all whole in
-    let some = as_many (audit_in s) front es next in
-    let same = ap length (parts ∙ append-nil front) in
-    let less = ends.1 in
+    let many : length all ≡ length lines = as_many (audit_in s) lines all whole in
+    let some : length es ≡ length front = as_many (audit_in s) front es next in
+    let same : length lines ≡ length front = ap length (parts ∙ append-nil front) in
+    let less : length es < length (cut_in s).jobs = ends.1 in
     absurd (omega (arith, many, some, same, less, size))
 not_wrong laws s lines front (line ∷ more) es all (Fault n kind) session short parts next ends whole size =
     let found = next_at laws.one s [] front more [] es all line session tt next (subst (λ ls. AreNext (audit_in s) ls all) parts whole) in

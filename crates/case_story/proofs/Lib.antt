@@ -2,3 +2,5 @@ pub mod FirstLine
 pub mod Following
 pub mod Founds
 pub mod Answering
+pub mod Told
+pub mod Remarks

@@ -60,13 +60,17 @@ kind_words WrongJob = codes "it does not answer the next request of its lane"
 kind_words Reply = codes "its reply is none that the server may give here"
 kind_words Missing = codes "a request has no entry"
 
+-- whether it is there at all
+abbrev pub state_words : AuditKind → List ℕ
+state_words Text = codes " is wrong ("
+state_words At = codes " is wrong ("
+state_words WrongJob = codes " is wrong ("
+state_words Reply = codes " is wrong ("
+state_words Missing = codes " is missing ("
+
 -- which line is the first that is wrong, and why
 abbrev pub fault_words : ℕ → AuditKind → List ℕ
-fault_words n Text = codes "audited: line " ++ decimal n ++ codes " is wrong (" ++ kind_words Text ++ codes ")"
-fault_words n At = codes "audited: line " ++ decimal n ++ codes " is wrong (" ++ kind_words At ++ codes ")"
-fault_words n WrongJob = codes "audited: line " ++ decimal n ++ codes " is wrong (" ++ kind_words WrongJob ++ codes ")"
-fault_words n Reply = codes "audited: line " ++ decimal n ++ codes " is wrong (" ++ kind_words Reply ++ codes ")"
-fault_words n Missing = codes "audited: line " ++ decimal n ++ codes " is missing (" ++ kind_words Missing ++ codes ")"
+fault_words n kind = codes "audited: line " ++ decimal n ++ state_words kind ++ kind_words kind ++ codes ")"
 
 -- up to which line all is right, if there is one
 abbrev pub up_to : ℕ → List ℕ

@@ -66,8 +66,8 @@ pub(crate) fn follow_to<W: Watches>(
         StepsTo first auditor.new text.now place.new o) }
     ensures at { result ≡ Ok None → IsAt text.now auditor.new place.new }
     ensures all { result ≡ Ok None → place.new.number < most → length text.now ≤ place.new.at }
-    ensures most { place.new.number ≤ most }
-    ensures more { place.old.number ≤ place.new.number }
+    ensures most { IfOk result (λ _. place.new.number ≤ most) }
+    ensures more { IfOk result (λ _. place.old.number ≤ place.new.number) }
     ensures number { IfOk result (λ o. IfSome o (λ v. right_lines v ≡ place.new.number)) }
 {
     'lines: while place.number < most && place.at < text.len() {

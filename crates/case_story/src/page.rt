@@ -1,5 +1,6 @@
 //! The command `page`: one case as a page that stands alone.
 ghost use Rattle.std.specs.Prelude.{◌≡◌, IfOk, nat_lt, IfErr};
+ghost use Rattle.transcript_audit.specs.Audits.{state_now};
 ghost use Rattle.wf_commands.specs.Answer.{AnswersAs, IsAnswerEnding};
 ghost use Rattle.case_story.specs.Sessions.{IsServed};
 ghost use Rattle.case_story.specs.Telling.{TellsPage};
@@ -47,7 +48,7 @@ pub(crate) fn tell_page(alloc: Global, s: &Session, case: CaseId) -> Result<Answ
         page: Page::new(alloc, case),
     };
     let audited = audit_whole(alloc, s, &mut rows)?;
-    let is_there = case.0 < audited.auditor.board().cases().ever();
+    let is_there = was_opened(&audited.auditor, case);
     let words = audited.verdict.words(alloc)?;
     let body = finish(alloc, &rows.page, &audited.auditor, words.as_str())?;
     tell_by(
@@ -58,6 +59,13 @@ pub(crate) fn tell_page(alloc: Global, s: &Session, case: CaseId) -> Result<Answ
         is_there,
         body.as_str(),
     )
+}
+
+// Whether a case was opened with this number.
+fn was_opened(auditor: &Auditor, case: CaseId) -> bool
+    ensures { result ≡ nat_lt case (state_now auditor.now).book.ever }
+{
+    case.0 < auditor.board().cases().ever()
 }
 
 // The page as a text; empty where the case is not there.

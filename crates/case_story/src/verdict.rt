@@ -1,6 +1,6 @@
 //! What an audit finds, and the line that says it.
 ghost use Rattle.std.specs.Prelude.{◌≡◌, ◌++◌, ◌-◌, IfOk, OnOk, codes, decimal, string_bytes};
-ghost use Rattle.case_story.specs.Verdicts.{fault_words, is_wrong, kind_words, legal_words, right_lines, up_to, verdict_words};
+ghost use Rattle.case_story.specs.Verdicts.{fault_words, is_wrong, kind_words, legal_words, right_lines, state_words, up_to, verdict_words};
 
 use std::alloc::{AllocError, Global};
 use transcript_audit::AuditKind;
@@ -72,10 +72,28 @@ fn wrong_words(alloc: Global, n: u32, kind: AuditKind) -> Result<String, AllocEr
 fn fault_words(alloc: Global, n: u32, kind: AuditKind) -> Result<String, AllocError>
     ensures { IfOk result (λ text. string_bytes text ≡ fault_words n kind) }
 {
-    let words = kind_words(kind);
+    let mut text = line_words(alloc, n)?;
+    text.push_str(state_words(kind))?;
+    text.push_str(kind_words(kind))?;
+    text.push_str(")")?;
+    Ok(text)
+}
+
+fn line_words(alloc: Global, n: u32) -> Result<String, AllocError>
+    ensures { IfOk result (λ text. string_bytes text ≡ codes "audited: line " ++ decimal n) }
+{
+    format!(in alloc; "audited: line {n}")
+}
+
+fn state_words(kind: AuditKind) -> &'static str
+    ensures { result.now ≡ state_words kind }
+{
     match kind {
-        AuditKind::Missing => format!(in alloc; "audited: line {n} is missing ({words})"),
-        _ => format!(in alloc; "audited: line {n} is wrong ({words})"),
+        AuditKind::Text => " is wrong (",
+        AuditKind::At => " is wrong (",
+        AuditKind::Job => " is wrong (",
+        AuditKind::Reply => " is wrong (",
+        AuditKind::Missing => " is missing (",
     }
 }
 

@@ -1,7 +1,8 @@
 //! The audit of a whole transcript.
 ghost use Rattle.std.specs.Prelude.{◌≡◌, IfOk};
 ghost use Rattle.line_reader.specs.Lines.{lines_of};
-ghost use Rattle.case_story.specs.Sessions.{IsServed, audit_in};
+ghost use Rattle.transcript_audit.specs.Laws.{AreOfSession};
+ghost use Rattle.case_story.specs.Sessions.{IsServed, audit_in, cut_in};
 ghost use Rattle.case_story.specs.Followed.{HasStopped};
 ghost use Rattle.case_story.specs.Verdicts.{HasVerdict, right_lines};
 
@@ -33,6 +34,8 @@ pub(crate) fn audit_whole<W: Watches>(
     requires served { IsServed s.now }
     ensures verdict { IfOk result (λ r.
         HasVerdict (audit_in s.now) (lines_of s.now.transcript) r.verdict) }
+    ensures session { IfOk result (λ _. AreOfSession s.now.policy s.now.rounds
+        (cut_in s.now).jobs (cut_in s.now).ends) }
     ensures stopped { IfOk result (λ r.
         HasStopped (audit_in s.now) r.auditor s.now.transcript (right_lines r.verdict)) }
 {
