@@ -20,8 +20,14 @@ lacks (told file) bytes gives = gives.0
 pub judged_whole : (policy : List ℕ) (files : List ℕ → Filed) (answer : Answer) (before after : Option (List ℕ)) (fault : RunFault) → FindsBytes (files policy) (Ok answer)
     → fault ≡ ending_with answer.found → after ≡ with_bytes before answer.text.items → JudgesFiled policy files before after fault
 judged_whole policy files answer before after fault finds is wrote =
-    inr (finds.0, (finds.1.0, subst (λ f. Ends (JudgesBytes finds.0) before after f) (sym is)
-        (ends_whole (JudgesBytes finds.0) answer.found answer.text.items before after (answer.found, (refl, finds.1.1)) wrote)))
+    inr (
+      finds.0,
+      (
+        finds.1.0,
+        subst (λ f. Ends (JudgesBytes finds.0) before after f) (sym is)
+            (ends_whole (JudgesBytes finds.0) answer.found answer.text.items before after (answer.found, (refl, finds.1.1)) wrote),
+      ),
+    )
 
 pub judged_part : (policy : List ℕ) (files : List ℕ → Filed) (answer : Answer) (before after : Option (List ℕ)) → FindsBytes (files policy) (Ok answer)
     → HasPart before after answer.text.items → JudgesFiled policy files before after Write

@@ -32,7 +32,7 @@ pub fn run_alone<F: Shelf, S: Source, K: Sink>(
 {
     match read_words(alloc, words) {
         Ok(asked) => {
-            let fault = run_asked(alloc, asked, shelf, source, sink);
+            let fault = run_asked(alloc, &asked, shelf, source, sink);
             with_fault(alloc, fault)
         }
         Err(Unread::Help(text)) => match put_and_flush(sink, text.as_bytes()) {
@@ -58,13 +58,13 @@ fn with_fault(alloc: Global, fault: RunFault) -> Ended
 
 fn run_asked<F: Shelf, S: Source, K: Sink>(
     alloc: Global,
-    asked: Asked<'_>,
+    asked: &Asked<'_>,
     shelf: &mut F,
     source: &mut S,
     sink: &mut K,
 ) -> RunFault
-    requires { CanTell asked }
-    ensures { RunsAsked asked (run_to (F.file shelf.old) (F.faults shelf.old) (F.faults shelf.new)
+    requires { CanTell asked.now }
+    ensures { RunsAsked asked.now (run_to (F.file shelf.old) (F.faults shelf.old) (F.faults shelf.new)
         (streams_of S.left S.faults K.held K.faults source.old sink.old)
         (streams_of S.left S.faults K.held K.faults source.new sink.new) result) }
 {
@@ -73,7 +73,7 @@ fn run_asked<F: Shelf, S: Source, K: Sink>(
         Asked::Why { policy, flow } => run_why(alloc, policy, flow, shelf, source, sink).fault,
         Asked::Told { what, session } => run_told(
             alloc,
-            what,
+            *what,
             session.policy,
             session.requests,
             session.transcript,
