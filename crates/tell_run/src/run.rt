@@ -64,7 +64,8 @@ fn run_asked<F: Shelf, S: Source, K: Sink>(
     sink: &mut K,
 ) -> RunFault
     requires { CanTell asked.now }
-    ensures { RunsAsked asked.now (run_to (F.file shelf.old) (F.faults shelf.old) (F.faults shelf.new)
+    ensures { RunsAsked asked.now (run_to (F.file shelf.old) (F.faults shelf.old)
+        (F.faults shelf.new)
         (streams_of S.left S.faults K.held K.faults source.old sink.old)
         (streams_of S.left S.faults K.held K.faults source.new sink.new) result) }
 {
