@@ -11,6 +11,7 @@ use Rattle.wf_commands.specs.Once.{Ends, RunsOnce}
 use Rattle.case_story.specs.Running.{Tells, TellsRun}
 use Rattle.tell_run.specs.declared.words.Asked.{Asked}
 use Rattle.tell_run.specs.declared.words.Asked.TheVariants as asked
+use Rattle.tell_run.specs.Asked.{CanTell}
 use Rattle.tell_run.specs.Policy.{JudgesFiled}
 use Rattle.tell_run.specs.Why.{TellsWhy}
 
@@ -40,9 +41,9 @@ RunsAsked (asked.Told what s) r = IsCounted r × TellsRun r.files
     (record { policy = s.policy.now; requests = s.requests.now; transcript = s.transcript.now })
     s.lanes s.rounds (Tells what) r.before.output r.after.output r.fault
 
--- the words ask for something; or for help, which is written; or they are none, or there is no memory, and nothing is
+-- the words ask for something that can be told; or for help, which is written; or they are none, or there is no memory, and nothing is
 abbrev pub RunsAlone : Run → Type 0
 RunsAlone r =
-    ((a : Asked) × RunsAsked a r)
+    ((a : Asked) × (CanTell a × RunsAsked a r))
     ⊎ (IsCounted r × (((help : List ℕ) × Ends (λ fault text. (fault ≡ Nothing) × (text ≡ help)) r.before.output r.after.output r.fault)
     ⊎ (((r.fault ≡ Usage) ⊎ (r.fault ≡ NoMemory)) × (r.after.output ≡ r.before.output))))
