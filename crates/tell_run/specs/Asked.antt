@@ -1,5 +1,5 @@
 -- What the program is asked to tell.
-use Rattle.std.specs.Prelude.{ℕ, ◌<◌, ◌≤◌}
+use Rattle.std.specs.Prelude.{◌<◌, ◌≤◌}
 use Rattle.wf_names.specs.declared.limits.TheConstants.{LANE_LIMIT}
 use Rattle.tell_run.specs.declared.words.Asked.{Asked}
 use Rattle.tell_run.specs.declared.words.Asked.TheVariants as asked

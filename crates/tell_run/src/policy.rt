@@ -1,7 +1,9 @@
 //! The command `policy`: the first fault of a policy file, or what is probably not meant.
-ghost use Rattle.std.specs.Prelude.{◌≡◌, ℕ, List, Ok, IfOk};
+ghost use Rattle.std.specs.Prelude.{◌≡◌, ℕ, List, Ok, IfErr, IfOk};
 ghost use Rattle.policy_reader.specs.Files.{policy_of_file};
-ghost use Rattle.tell_run.specs.Policy.{JudgesFile};
+ghost use Rattle.run_record.specs.Fault.{fault_in, CountsLoads, CountsWrites};
+ghost use Rattle.wf_commands.specs.Load.{IsLoadEnding};
+ghost use Rattle.tell_run.specs.Policy.{FindsBytes, JudgesFile, JudgesFiled};
 
 use crate::planless::{either, push_planless};
 use plain_words::{fault_text, push_advice};
@@ -19,7 +21,12 @@ pub(crate) fn run_policy<F: Shelf, K: Sink>(
     policy: &str,
     shelf: &mut F,
     sink: &mut K,
-) -> RunFault {
+) -> RunFault
+    ensures judges { JudgesFiled policy.now (F.file shelf.old) (K.held sink.old) (K.held sink.new)
+        result }
+    ensures loads { CountsLoads result (F.faults shelf.old) (F.faults shelf.new) }
+    ensures writes { CountsWrites result (K.faults sink.old) (K.faults sink.new) }
+{
     match load_and_tell(alloc, policy, shelf) {
         Ok(answer) => match put_and_flush(sink, answer.text.as_slice()) {
             Ok(()) => answer.ending(),
@@ -30,7 +37,11 @@ pub(crate) fn run_policy<F: Shelf, K: Sink>(
 }
 
 // What is to be told of a policy file.
-fn load_and_tell<F: Shelf>(alloc: Global, policy: &str, shelf: &mut F) -> Result<Answer, RunFault> {
+fn load_and_tell<F: Shelf>(alloc: Global, policy: &str, shelf: &mut F) -> Result<Answer, RunFault>
+    ensures judges { FindsBytes (F.file shelf.old policy.now) result }
+    ensures ending { IfErr result IsLoadEnding }
+    ensures loads { CountsLoads (fault_in result) (F.faults shelf.old) (F.faults shelf.new) }
+{
     let file = load_file(alloc, shelf, policy, POLICY_FILE_LIMIT)?;
     Ok(tell_file(alloc, policy, file.as_bytes())?)
 }

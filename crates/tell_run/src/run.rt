@@ -1,8 +1,10 @@
 //! The top call: one run of the program over a source, a sink and a shelf.
 ghost use Rattle.std.specs.Prelude.{◌≡◌, None};
 ghost use Rattle.run_record.specs.Run.{run_of, streams_of};
+ghost use Rattle.run_record.specs.Fault.{CountsLoads, CountsWrites};
 ghost use Rattle.wf_commands.specs.Once.{RunsOnce};
 ghost use Rattle.tell_run.specs.Asked.{CanTell};
+ghost use Rattle.tell_run.specs.Runs.{RunsAlone, RunsAsked, run_to};
 ghost use Rattle.tell_run.specs.Why.{TellsWhy};
 
 use crate::ended::Ended;
@@ -23,7 +25,11 @@ pub fn run_alone<F: Shelf, S: Source, K: Sink>(
     shelf: &mut F,
     source: &mut S,
     sink: &mut K,
-) -> Ended {
+) -> Ended
+    ensures { RunsAlone (run_to (F.file shelf.old) (F.faults shelf.old) (F.faults shelf.new)
+        (streams_of S.left S.faults K.held K.faults source.old sink.old)
+        (streams_of S.left S.faults K.held K.faults source.new sink.new) result.fault) }
+{
     match read_words(alloc, words) {
         Ok(asked) => {
             let fault = run_asked(alloc, &asked, shelf, source, sink);
@@ -58,6 +64,10 @@ fn run_asked<F: Shelf, S: Source, K: Sink>(
     sink: &mut K,
 ) -> RunFault
     requires { CanTell asked.now }
+    ensures { RunsAsked asked.now (run_to (F.file shelf.old) (F.faults shelf.old)
+        (F.faults shelf.new)
+        (streams_of S.left S.faults K.held K.faults source.old sink.old)
+        (streams_of S.left S.faults K.held K.faults source.new sink.new) result) }
 {
     match asked {
         Asked::Policy { policy } => run_policy(alloc, policy, shelf, sink),

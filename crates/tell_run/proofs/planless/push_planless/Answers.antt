@@ -1,4 +1,4 @@
-use Rattle.std.proofs.Common.{◌∙◌, false, length, ap, sym, arith}
+use Rattle.std.proofs.Common.{◌∙◌, length, ap, sym, arith}
 use Rattle.tell_run.proofs.Telling.{one_more}
 use Rattle.tell_run.proofs.planless.push_planless.Goals as goal
 
