@@ -1,5 +1,5 @@
 //! Cutting the input into lines, jobs and batches, in whatever pieces it comes.
-ghost use Rattle.std.specs.Prelude.{◌≡◌, ◌≢◌, ◌≤◌, ◌<◌, ◌+◌, ℕ, [], ◌∷◌, ◌++◌, length, take, slice_index, None, Some, IfOk, OnOk, OnErr, MatchBool};
+ghost use Rattle.std.specs.Prelude.{◌≡◌, ◌≢◌, ◌≤◌, ◌<◌, ◌+◌, ℕ, [], ◌∷◌, ◌++◌, length, take, slice_index, None, Some, IfOk, OnOk, OnErr, MatchBool, true};
 ghost use Rattle.wf_names.specs.declared.limits.TheConstants.{LINE_LIMIT, SESSION_LINE_LIMIT, BATCH_LINE_LIMIT};
 ghost use Rattle.line_cutter.specs.declared.stop.Stop.{Stop};
 ghost use Rattle.line_cutter.specs.Jobs as jobs;
@@ -26,6 +26,8 @@ pub struct Cutter {
     // The number of the open line, counted from 0.
     number: u32,
     jobs: Jobs,
+    // How many jobs the last batch had, for which there is room at once in the next one.
+    room: usize,
     // How many of the jobs stand before the open batch.
     from: usize,
     // The ends of the batches that have ended and have a job.
@@ -55,6 +57,7 @@ impl Cutter {
             line: Line::new(alloc),
             number,
             jobs: Jobs::new(alloc),
+            room: 0,
             from: 0,
             ends: Ends::new(alloc),
             stop: None,
@@ -87,8 +90,9 @@ impl Cutter {
         self.ends.len() != 0
     }
 
-    /// Cuts the next bytes of a piece: a run of a line without its end, or one byte. Answers how many
-    /// bytes were cut. No byte is cut after one that ends a batch, or at which the cutting stops.
+    /// Cuts the next bytes of a piece: a whole line with its end, a run of a line without it, or one
+    /// byte. Answers how many bytes were cut. No byte is cut after one that ends a batch, or at which
+    /// the cutting stops.
     #[tactic(auto, using(crate::proofs::CutLaws::one_cut, crate::proofs::CutLaws::plain_cut, crate::proofs::CutLaws::plain_sound))]
     pub fn feed(&mut self, piece: &[u8]) -> Result<usize, AllocError>
         requires some { 0 < length piece.now }
@@ -107,6 +111,10 @@ impl Cutter {
         if run == 0 {
             self.feed_byte(piece[0])?;
             return Ok(1);
+        }
+        if self.has_line(piece, run) {
+            self.end_whole_line(&piece[..run])?;
+            return Ok(run + 1);
         }
         self.push_plain(&piece[..run])?;
         Ok(run)
@@ -140,6 +148,7 @@ impl Cutter {
         ensures batch { result ≡ self.old.jobs }
         ensures left { self.new ≡ emptied self.old }
     {
+        self.room = self.jobs.len();
         self.from = 0;
         self.ends.truncate(0);
         mem::replace(&mut self.jobs, Jobs::new(self.alloc))
@@ -158,6 +167,15 @@ impl Cutter {
         }
         let run = memchr(b'\n', piece).unwrap_or(piece.len());
         run.min(LINE_LIMIT - self.line.len())
+    }
+
+    // Whether so many bytes of a piece are a whole line, with its end behind them.
+    fn has_line(&self, piece: &[u8], run: usize) -> bool
+        ensures empty { result ≡ true → self.now.line ≡ [] }
+        ensures within { result ≡ true → run < length piece.now }
+        ensures end { result ≡ true → slice_index piece.now run ≡ 10 }
+    {
+        self.line.len() == 0 && run < piece.len() && piece[run] == b'\n'
     }
 
     // Adds bytes to the open line.
@@ -214,6 +232,26 @@ impl Cutter {
         ensures unchanged { OnErr result (self.new ≡ self.old) }
     {
         let line = without_cr(self.line.as_slice());
+        if line.is_empty() {
+            return self.end_empty_line();
+        }
+        match self.requests.read(line, self.lanes) {
+            Ok(asked) => self.end_job_line(asked),
+            Err(e) => Err(e),
+        }
+    }
+
+    // Ends a line that was not copied: it stands in the piece, and no line is open.
+    #[tactic(auto, unfolding(crate::specs::Jobs::end_line))]
+    fn end_whole_line(&mut self, line: &[u8]) -> Result<(), AllocError>
+        requires few { length self.old.jobs < BATCH_LINE_LIMIT }
+        requires begins { self.old.from ≤ length self.old.jobs }
+        requires within { self.old.number < SESSION_LINE_LIMIT }
+        ensures ended { OnOk result (self.new
+            ≡ jobs.end_line (record self.old { line = line.now })) }
+        ensures unchanged { OnErr result (self.new ≡ self.old) }
+    {
+        let line = without_cr(line);
         if line.is_empty() {
             return self.end_empty_line();
         }
@@ -322,11 +360,23 @@ impl Cutter {
             }) }
         ensures unchanged { OnErr result (self.new ≡ self.old) }
     {
+        self.make_room()?;
         self.jobs.add(&Job {
             lane: asked.lane,
             line: self.number,
             ask: asked.ask,
         })
+    }
+
+    // Makes room for the jobs of a batch that begins.
+    fn make_room(&mut self) -> Result<(), AllocError>
+        ensures { self.new ≡ self.old }
+    {
+        if self.jobs.len() == 0 && self.room > 0 {
+            self.jobs = Jobs::from_vec(Vec::with_capacity(self.alloc, self.room)?);
+            self.room = 0;
+        }
+        Ok(())
     }
 }
 

@@ -19,7 +19,10 @@ use std::alloc::{AllocError, Global};
 use wf_desk::Desk;
 use wf_outside::{Sink, put_all};
 use wf_talk::{Ends, Entry, Job, Jobs, Journal};
-use wire_json::write_entry;
+use wire_json::push_line;
+
+// The room that most lines need.
+const LINE_ROOM: usize = 256;
 
 /// The jobs that a session has answered, with the ends of their batches. Their entries are at its
 /// desk.
@@ -237,17 +240,18 @@ fn write_lines<K: Sink>(
     ensures ending { IfErr result IsWriteEnding }
     ensures counts { CountsWrites (fault_in result) (K.faults sink.old) (K.faults sink.new) }
 {
+    let mut line = Vec::with_capacity(alloc, LINE_ROOM)?;
     'writing: for entry in entries {
-        write_one(alloc, p, entry, sink)?;
+        write_one(p, entry, &mut line, sink)?;
     }
     Ok(())
 }
 
-// Writes the line of an entry.
+// Writes the line of an entry, which is made in the place of the line before.
 fn write_one<K: Sink>(
-    alloc: Global,
     p: &Policy,
     entry: &Entry,
+    line: &mut Vec<u8>,
     sink: &mut K,
 ) -> Result<(), RunFault>
     ensures all { OnOk result (K.held sink.new
@@ -256,7 +260,8 @@ fn write_one<K: Sink>(
     ensures ending { IfErr result IsWriteEnding }
     ensures counts { CountsWrites (fault_in result) (K.faults sink.old) (K.faults sink.new) }
 {
-    let line = write_entry(alloc, p, entry)?;
+    line.truncate(0);
+    push_line(line, p, entry)?;
     match put_all(sink, line.as_slice()) {
         Ok(()) => Ok(()),
         Err(_) => Err(RunFault::Write),

@@ -1,10 +1,13 @@
 use Rattle.std.proofs.Common.{refl, sym, ◌∙◌}
-use Rattle.wf_outside.proofs.OutsideLaws.{nothing_put}
+use Rattle.wf_outside.proofs.OutsideLaws.{nothing_put, part_none}
 use Rattle.wf_server.proofs.BatchLaws.{written_more, written_part}
 use Rattle.wf_server.proofs.batch.write_lines.Goals as goal
 
 pub writing-init : goal.writing-init
 writing-init g c = record { written = sym (nothing_put (g.K.Sink.held c.args.sink.now)); faults = refl }
+
+pub returns-in_err-line-clause-part : goal.returns-in_err-line-clause-part
+returns-in_err-line-clause-part g c = part_none _ _
 
 pub returns-in_err-write_one-clause-part : goal.returns-in_err-write_one-clause-part
 returns-in_err-write_one-clause-part g c =
