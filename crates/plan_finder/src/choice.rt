@@ -1,8 +1,8 @@
 //! Where the search branches next.
 
-use crate::bits::bit;
+use crate::bits::{Cells, pop};
 use crate::problem::{Problem, is_declared};
-use crate::rows::count;
+use crate::rows::{count, has_one};
 use crate::state::State;
 use crate::work::Work;
 
@@ -31,9 +31,13 @@ pub(crate) fn choose(problem: &Problem, state: &State, work: &Work) -> Choice {
         branches: 1,
         weight: 0,
     };
+    let weights = weights_of_steps(problem, state, work);
     for s in 0..problem.steps {
         if state.is_open(s) {
-            let share = share_of_step(problem, state, work, s);
+            let share = Share {
+                branches: state.options.at(s).count_ones(),
+                weight: weights.at(s),
+            };
             if choice == Choice::Nothing || is_less(share, least) {
                 choice = Choice::Step(s);
                 least = share;
@@ -41,6 +45,9 @@ pub(crate) fn choose(problem: &Problem, state: &State, work: &Work) -> Choice {
         }
     }
     for b in 0..state.blocks {
+        if has_one(state.block(b)) {
+            continue;
+        }
         let share = share_of_block(problem, state, work, b);
         if share.branches > 1
             && share.weight > 0
@@ -58,18 +65,20 @@ fn is_less(a: Share, b: Share) -> bool {
         < (b.branches as u64).saturating_mul(a.weight as u64)
 }
 
-// The options of an open step, and the weights of the rules that it has with other open steps.
-fn share_of_step(problem: &Problem, state: &State, work: &Work, s: u8) -> Share {
-    let mut weight = work.steps.at(s);
+// The weight of each open step: its own, and those of the rules that it has with other open steps.
+fn weights_of_steps(problem: &Problem, state: &State, work: &Work) -> Cells {
+    let mut weights = work.steps;
     for (k, law) in problem.laws.as_slice().iter().enumerate() {
-        if law.scope & bit(s) != 0 && law.scope & state.open & !bit(s) != 0 {
-            weight = weight.saturating_add(work.rule(k));
+        let mut open = law.scope & state.open;
+        if open & open.wrapping_sub(1) != 0 {
+            let weight = work.rule(k);
+            for _ in 0..32u8 {
+                let Some(s) = pop(&mut open) else { break };
+                weights.set(s, weights.at(s).saturating_add(weight));
+            }
         }
     }
-    Share {
-        branches: state.options.at(s).count_ones(),
-        weight,
-    }
+    weights
 }
 
 // The users of a block, and the weights of its rules over declared relations.

@@ -232,7 +232,7 @@ fn follow_some_related(
     }
     for _ in 0..32u8 {
         let Some(x) = pop(&mut group) else { break };
-        add_ahead(problem, link, state, work, x);
+        add_ahead(problem, link, state, work, x, law.step);
     }
     if state.is_open(law.step) {
         keep_step(state, work, law.step)

@@ -1,8 +1,9 @@
 //! What a rule between two steps leaves to their blocks.
 
 use crate::bits::bit;
+use crate::matching::users_of;
 use crate::problem::{Link, Problem};
-use crate::rows::{clear, is_empty, join, meet, user_at};
+use crate::rows::{clear, count, exceeds, is_empty, join, meet, user_at};
 use crate::state::State;
 use crate::work::Work;
 
@@ -53,50 +54,67 @@ pub(crate) fn make_related(
     match (state.is_open(x), state.is_open(s)) {
         (true, true) => true,
         (true, false) => {
-            reach_back(problem, link, state, work, s);
+            reach_back(problem, link, state, work, s, x);
             keep_step(state, work, x)
         }
         (false, true) => {
-            reach_ahead(problem, link, state, work, x);
+            reach_ahead(problem, link, state, work, x, s);
             keep_step(state, work, s)
         }
         (false, false) if state.home(x) == state.home(s) => {
             keep_own(link, state, state.home(x), todo)
         }
         (false, false) => {
-            reach_ahead(problem, link, state, work, x);
+            reach_ahead(problem, link, state, work, x, s);
             if !keep_block(state, work, state.home(s), todo) {
                 return false;
             }
-            reach_back(problem, link, state, work, s);
+            reach_back(problem, link, state, work, s, x);
             keep_block(state, work, state.home(x), todo)
         }
     }
 }
 
-// Into the spare row go those to whom some user of a step's block is related.
-fn reach_ahead(problem: &Problem, link: Link<'_>, state: &State, work: &mut Work, x: u8) {
+// Into the spare row go those to whom some user of a step's block is related, of the users of another
+// step at least.
+fn reach_ahead(problem: &Problem, link: Link<'_>, state: &State, work: &mut Work, x: u8, to: u8) {
     clear(work.spare.row_mut(0));
-    add_ahead(problem, link, state, work, x);
+    add_ahead(problem, link, state, work, x, to);
 }
 
-/// To the spare row come those to whom some user of a step's block is related.
-pub(crate) fn add_ahead(problem: &Problem, link: Link<'_>, state: &State, work: &mut Work, x: u8) {
+/// To the spare row come those to whom some user of a step's block is related, of the users of another
+/// step at least.
+pub(crate) fn add_ahead(
+    problem: &Problem,
+    link: Link<'_>,
+    state: &State,
+    work: &mut Work,
+    x: u8,
+    to: u8,
+) {
     let from = state.block(state.home(x));
-    let _ = work.spend((crate::rows::count(from) as usize).saturating_mul(problem.width));
-    unite(work.spare.row_mut(0), from, link, false);
+    let _ = work.spend((count(from) as usize).saturating_mul(problem.width));
+    unite(
+        work.spare.row_mut(0),
+        from,
+        link,
+        false,
+        users_of(state, to),
+    );
 }
 
-// Into the spare row go those who are related to some user of a step's block.
-fn reach_back(problem: &Problem, link: Link<'_>, state: &State, work: &mut Work, s: u8) {
+// Into the spare row go those who are related to some user of a step's block, of the users of another
+// step at least.
+fn reach_back(problem: &Problem, link: Link<'_>, state: &State, work: &mut Work, s: u8, to: u8) {
     let from = state.block(state.home(s));
-    let _ = work.spend((crate::rows::count(from) as usize).saturating_mul(problem.width));
+    let _ = work.spend((count(from) as usize).saturating_mul(problem.width));
     clear(work.spare.row_mut(0));
-    unite(work.spare.row_mut(0), from, link, true);
+    unite(work.spare.row_mut(0), from, link, true, users_of(state, to));
 }
 
-// Puts in those to whom some user of a row is related, or those who are related to one.
-fn unite(into: &mut [u64], from: &[u64], link: Link<'_>, back: bool) {
+// Puts in those to whom some user of a row is related, or those who are related to one, until all who
+// are wanted are in.
+fn unite(into: &mut [u64], from: &[u64], link: Link<'_>, back: bool, wanted: &[u64]) {
     for (at, word) in from.iter().enumerate() {
         let mut left = *word;
         for _ in 0..64u8 {
@@ -109,6 +127,9 @@ fn unite(into: &mut [u64], from: &[u64], link: Link<'_>, back: bool) {
                 join(into, link.back(user));
             } else {
                 join(into, link.ahead(user));
+            }
+            if !exceeds(wanted, into) {
+                return;
             }
         }
     }

@@ -70,8 +70,8 @@ fn block_seats_of(state: &State, steps: u32) -> u32 {
     seats
 }
 
-// The users of a seat.
-fn users_of(state: &State, seat: u8) -> &[u64] {
+/// The users who may still have a step, or stand for its block.
+pub(crate) fn users_of(state: &State, seat: u8) -> &[u64] {
     if state.is_open(seat) {
         state.step(seat)
     } else {

@@ -395,8 +395,9 @@ fn learn_row(p: &Policy, relation: &mut Relation, u: u16, users: u16) -> Result<
 fn read_allowed(alloc: Global, p: &Policy, f: FlowId, width: usize) -> Result<Rows, AllocError>
     requires { f < length p.now.flows }
 {
-    let mut allowed = Rows::new(alloc, STEP_LIMIT, width)?;
-    for s in 0..STEP_LIMIT {
+    let steps = p.flow(f).steps().len() as usize;
+    let mut allowed = Rows::new(alloc, steps, width)?;
+    for s in 0..steps {
         let users = p.authorised_users(f, StepId((s & 0xff) as u8));
         put(allowed.row_mut(s), users.as_words());
     }

@@ -231,13 +231,23 @@ fn word_of(at: usize, user: u16) -> u64 {
     }
 }
 
+/// Whether a row has just one user.
+pub(crate) fn has_one(row: &[u64]) -> bool {
+    let mut found = false;
+    for word in row.iter() {
+        if *word != 0 {
+            if found || *word & word.wrapping_sub(1) != 0 {
+                return false;
+            }
+            found = true;
+        }
+    }
+    found
+}
+
 /// The one user of a row, if there is just one.
 pub(crate) fn only_user(row: &[u64]) -> Option<u16> {
-    if count(row) == 1 {
-        nth_user(row, 0)
-    } else {
-        None
-    }
+    if has_one(row) { nth_user(row, 0) } else { None }
 }
 
 /// The number of the user whom a bit of a word stands for.

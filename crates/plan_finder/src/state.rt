@@ -3,7 +3,7 @@
 use crate::bits::{Cells, NEW, bit, has_bit};
 use crate::problem::Problem;
 use crate::rows::{
-    Rows, add_user, clear, exceeds, has_user, is_empty, join, meets, only_user, put, strike,
+    Rows, add_user, clear, exceeds, has_one, has_user, is_empty, join, meets, put, strike,
 };
 use crate::work::Work;
 use std::alloc::{AllocError, Global};
@@ -146,7 +146,7 @@ impl State {
     fn find_taken(&self, work: &mut Work) {
         clear(work.taken.row_mut(0));
         for b in 0..self.blocks {
-            if only_user(self.block(b)).is_some() {
+            if has_one(self.block(b)) {
                 join(work.taken.row_mut(0), self.block(b));
             }
         }

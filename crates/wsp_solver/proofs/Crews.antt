@@ -1,11 +1,10 @@
 -- What a search knows of each user.
-use Rattle.std.proofs.Common.{◌≡◌, ◌≢◌, refl, sym, ap, ◌∙◌, ℕ, zero, suc, ◌+◌, ◌<◌, ◌≤◌, Bool, true, false, not, ◌&&◌, ◌||◌, ◌==◌, nat_lt, List, [], ◌∷◌, ◌++◌, length, Option, None, Some, slice_get, slice_set, if◌then◌else◌, eqb, ◌⊎◌, inl, inr, arith}
+use Rattle.std.proofs.Common.{◌≡◌, ◌≢◌, refl, sym, ap, ◌∙◌, ℕ, zero, suc, ◌+◌, ◌<◌, ◌≤◌, Bool, true, false, not, ◌&&◌, ◌||◌, ◌==◌, nat_lt, List, [], ◌∷◌, length, Option, None, Some, slice_get, slice_set, if◌then◌else◌, subst, replicate, leb, ◌⊎◌, inl, inr, arith}
 use Rattle.std.proofs.lemmas.Bool.{false≢true}
-use Rattle.std.proofs.lemmas.Bool.Decides.{eqb_tells}
-use Rattle.std.proofs.Math.Seq.{get_or-append_seam}
-use Rattle.std.proofs.lemmas.List.{get_or_append_left, length-append, length-replicate}
+use Rattle.std.proofs.lemmas.Bool.Decides.{leb_tells}
+use Rattle.std.proofs.lemmas.List.{get_or-replicate, get_or_past, length-replicate}
 use Rattle.std.proofs.lemmas.Option.{slice_get_within}
-use Rattle.basics.proofs.Booleans.{and-false, and_both, and_swap, eq_is, lt_back, lt_no, lt_yes, not_true, or-false, same_by}
+use Rattle.basics.proofs.Booleans.{and-false, and_both, and_swap, eq_back, eq_is, lt_back, lt_no, lt_yes, not_true, or-false, same_by}
 use Rattle.wf_names.specs.declared.limits.TheConstants.{STEP_LIMIT}
 use Rattle.constraint_forms.specs.declared.rule.Rule.{Rule}
 use Rattle.constraint_forms.specs.Flags.{word_of}
@@ -17,8 +16,9 @@ use Rattle.policy_book.specs.Plans.{Problem}
 use Rattle.policy_book.specs.Twins.{agree, are_related_alike, are_twins, has_no_step, has_twin, is_alike_to, is_given_to, is_rule_alike, may_do_the_same, treats_alike}
 use Rattle.certificate_check.proofs.Below.{all_pass, one_fails, same_agree}
 use Rattle.certificate_check.proofs.TwinLaws.{mean_twins, twins_chain, twins_mean, twins_turned}
-use Rattle.wsp_solver.specs.Crews.{AreClassesBelow, AreDuties, class_of, duties_below, duties_of, is_told_apart, reads_as, tells_apart}
-use Rattle.wsp_solver.proofs.Members.{eq_turned, length_set, member_added, passing_more}
+use Rattle.certificate_check.proofs.Assigned.{given, none_not_some}
+use Rattle.wsp_solver.specs.Crews.{AreDuties, AreFirstTwins, IsFirstTwin, duties_below, duties_of, is_told_apart, reads_as, tells_apart}
+use Rattle.wsp_solver.proofs.Members.{length_set, member_added, passing_more}
 
 -- ---- steps
 
@@ -170,43 +170,46 @@ busy_alone p a u (v ∷ vs) busy = ap (λ b. b || has_twin p a u vs) (busy_no_tw
 
 -- ---- classes
 
-pub classes_start : (p : Problem) → AreClassesBelow p 0 []
-classes_start p = record { whole = refl; most = λ u below. absurd (omega (arith, below)); alike = λ u v below. absurd (omega (arith, below)) }
-
-pub classes_push : (p : Problem) (n c : ℕ) (classes : List ℕ) → AreClassesBelow p n classes → ((v : ℕ) → v < n → (class_of classes v == c) ≡ are_twins p [] v n) → c < n + 1 → AreClassesBelow p (n + 1) (classes ++ c ∷ [])
-classes_push p n c classes so_far next small = record {
-  whole = length-append classes (c ∷ []) ∙ ap (λ k. k + 1) so_far.whole;
-  most = λ u below. at_least u below (eqb_tells u n);
-  alike = λ u v u_in v_in. at u v u_in v_in (eqb_tells u n) (eqb_tells v n);
-}
+-- the first twin is no later than any twin
+no_later : (p : Problem) (u first v : ℕ) → IsFirstTwin p u first → are_twins p [] v u ≡ true → first ≤ v
+no_later p u first v is twins = at (leb_tells first v)
   where
-    new : List ℕ
-    new = classes ++ c ∷ []
+    at : ((leb first v ≡ true) × (first ≤ v)) ⊎ ((leb first v ≡ false) × (v < first)) → first ≤ v
+    at (inl known) = known.1
+    at (inr earlier) = absurd (false≢true (sym (is.least v earlier.1) ∙ twins))
 
-    before : (u : ℕ) → u < n → class_of new u ≡ class_of classes u
-    before u below = get_or_append_left classes (c ∷ []) 0 u (omega (arith, below, so_far.whole))
+-- users are twins exactly where they have one first twin
+pub one_first_twin : (p : Problem) (u v c d : ℕ) → u < p.users → v < p.users → IsFirstTwin p u c → IsFirstTwin p v d → (c == d) ≡ are_twins p [] u v
+one_first_twin p u v c d u_in v_in own other = same_by (c == d) (are_twins p [] u v) forth back
+  where
+    c_in : c < p.users
+    c_in = omega (arith, own.most, u_in)
 
-    last : class_of new n ≡ c
-    last = ap (class_of new) (sym so_far.whole) ∙ get_or-append_seam classes c [] 0
+    d_in : d < p.users
+    d_in = omega (arith, other.most, v_in)
 
-    at_least : (u : ℕ) → u < n + 1 → ((eqb u n ≡ true) × (u ≡ n)) ⊎ ((eqb u n ≡ false) × (u ≢ n)) → class_of new u < u + 1
-    at_least u below (inl is) = omega (arith, ap (class_of new) is.1, last, small, is.1)
-    at_least u below (inr other) =
-        let low : u < n = omega (arith, below, other.1) in omega (arith, before u low, so_far.most u low)
+    forth : (c == d) ≡ true → are_twins p [] u v ≡ true
+    forth same = twins_chain p [] u c v u_in c_in v_in (turned p c u own.twin) (subst (λ x. are_twins p [] x v ≡ true) (sym (eq_back c d same)) other.twin)
 
-    at : (u v : ℕ) → u < n + 1 → v < n + 1 → ((eqb u n ≡ true) × (u ≡ n)) ⊎ ((eqb u n ≡ false) × (u ≢ n)) → ((eqb v n ≡ true) × (v ≡ n)) ⊎ ((eqb v n ≡ false) × (v ≢ n)) → (class_of new u == class_of new v) ≡ are_twins p [] u v
-    at u v u_in v_in (inl u_is) (inl v_is) =
-        eq_is (class_of new u) (class_of new v) (ap (class_of new) (u_is.1 ∙ sym v_is.1))
-        ∙ sym (twins_own p u) ∙ ap (are_twins p [] u) (u_is.1 ∙ sym v_is.1)
-    at u v u_in v_in (inl u_is) (inr v_other) =
-        let low : v < n = omega (arith, v_in, v_other.1) in
-        ap (λ x. x == class_of new v) (ap (class_of new) u_is.1 ∙ last) ∙ ap (λ x. c == x) (before v low)
-        ∙ eq_turned c (class_of classes v) ∙ next v low ∙ twins_turned_same p v n ∙ ap (λ x. are_twins p [] x v) (sym u_is.1)
-    at u v u_in v_in (inr u_other) (inl v_is) =
-        let low : u < n = omega (arith, u_in, u_other.1) in
-        ap (λ x. x == class_of new v) (before u low) ∙ ap (λ x. class_of classes u == x) (ap (class_of new) v_is.1 ∙ last)
-        ∙ next u low ∙ ap (are_twins p [] u) (sym v_is.1)
-    at u v u_in v_in (inr u_other) (inr v_other) =
-        let u_low : u < n = omega (arith, u_in, u_other.1) in
-        let v_low : v < n = omega (arith, v_in, v_other.1) in
-        ap (λ x. x == class_of new v) (before u u_low) ∙ ap (λ x. class_of classes u == x) (before v v_low) ∙ so_far.alike u v u_low v_low
+    back : are_twins p [] u v ≡ true → (c == d) ≡ true
+    back twins =
+        let low = no_later p u c d own (twins_chain p [] d v u d_in v_in u_in other.twin (turned p u v twins)) in
+        let high = no_later p v d c other (twins_chain p [] c u v c_in u_in v_in own.twin twins) in
+        eq_is c d (omega (arith, low, high))
+
+pub none_known : (p : Problem) (n : ℕ) → AreFirstTwins p (replicate n None)
+none_known p n u first known = at (leb_tells n u)
+  where
+    none : Option ℕ
+    none = None
+
+    at : ((leb n u ≡ true) × (n ≤ u)) ⊎ ((leb n u ≡ false) × (u < n)) → IsFirstTwin p u first
+    at (inl past) = none_not_some first (sym (get_or_past (replicate n None) u None (omega (arith, past.1, length-replicate n none))) ∙ known)
+    at (inr below) = none_not_some first (sym (get_or-replicate n u None None below.1) ∙ known)
+
+pub one_more_known : (p : Problem) (classes : List (Option ℕ)) (u first : ℕ) → AreFirstTwins p classes → IsFirstTwin p u first → AreFirstTwins p (slice_set classes u (Some first))
+one_more_known p classes u first right new v c known = at (given classes u first v c known)
+  where
+    at : ((v ≡ u) × (c ≡ first)) ⊎ (user_at classes v ≡ Some c) → IsFirstTwin p v c
+    at (inl same) = subst (λ x. IsFirstTwin p x c) (sym same.0) (subst (IsFirstTwin p u) (sym same.1) new)
+    at (inr before) = right v c before

@@ -3,17 +3,15 @@ use Rattle.std.proofs.Common.{◌≡◌, ◌≢◌, refl, sym, ap, ◌∙◌, �
 use Rattle.std.proofs.lemmas.Bool.{false≢true, lt-ltb}
 use Rattle.std.proofs.lemmas.Bool.Decides.{eqb_tells, leb_tells}
 use Rattle.std.proofs.lemmas.Option.{slice_get_past}
-use Rattle.basics.proofs.Booleans.{and-false, bool_cases, not_yes, second_false}
+use Rattle.basics.proofs.Booleans.{and-false, bool_cases, second_false}
 use Rattle.constraint_forms.specs.declared.rule.Rule.{Rule}
 use Rattle.constraint_forms.specs.Rules.{names}
 use Rattle.constraint_forms.specs.Assigned.{user_at, planned, is_member}
 use Rattle.constraint_forms.proofs.RuleLaws.{totals_decide, falsified_by_named}
 use Rattle.refutation_tree.specs.Shapes.{Kids, no_kids}
 use Rattle.refutation_tree.proofs.ShapeLaws.{joined-none}
-use Rattle.policy_book.specs.Candidates.{breaks_none, is_candidate}
 use Rattle.policy_book.specs.Plans.{Problem, IsValidPlan, IsWellFormed, IsWithin}
 use Rattle.policy_book.specs.Refuting.{have_users, passing, is_misheld, is_broken, is_rule_naming}
-use Rattle.certificate_check.proofs.Below.{all_pass, each_passes}
 use Rattle.certificate_check.proofs.Assigned.{none_not_some, given_other, given_same}
 use Rattle.policy_book.proofs.Passing.{passing_at}
 use Rattle.wsp_solver.specs.Searches.{AreOfUsersBelow, IsAssignedPlan, NoLeafRefutes, NoLeafRefutesWithout, free_count}
@@ -91,22 +89,6 @@ quiet_again p a done s others tried = record {
     at k (inl past) named = ap (is_broken p a) (slice_get_past p.rules k past.1)
     at k (inr below) (inl named) = second_false (is_rule_naming s (slice_get p.rules k)) (is_broken p a (slice_get p.rules k)) (tried k below.1) named
     at k (inr below) (inr apart) = others.rules k apart
-
--- a user who is a candidate falsifies no rule
-pub candidate_quiet : (p : Problem) (a : List (Option ℕ)) (done : List Bool) (s : ℕ) → NoLeafRefutesWithout p a done s → breaks_none p a ≡ true → NoLeafRefutes p a done
-candidate_quiet p a done s others none = record { holders = others.holders; rules = λ k. at k (leb_tells (length p.rules) k) }
-  where
-    at : (k : ℕ) → ((leb (length p.rules) k ≡ true) × (length p.rules ≤ k)) ⊎ ((leb (length p.rules) k ≡ false) × (k < length p.rules)) → is_broken p a (slice_get p.rules k) ≡ false
-    at k (inl past) = ap (is_broken p a) (slice_get_past p.rules k past.1)
-    at k (inr below) = not_yes _ (each_passes (length p.rules) (λ j. not (is_broken p a (slice_get p.rules j))) none k below.1)
-
--- where no leaf refutes, no rule is falsified
-pub quiet_candidate : (p : Problem) (a : List (Option ℕ)) (done : List Bool) → NoLeafRefutes p a done → breaks_none p a ≡ true
-quiet_candidate p a done quiet = all_pass (length p.rules) (λ k. not (is_broken p a (slice_get p.rules k))) (λ k _. ap not (quiet.rules k))
-
--- of users who are authorised, a candidate is one with whom no rule is falsified
-pub fits_alike : (p : Problem) (a : List (Option ℕ)) (s u : ℕ) → u < p.users → p.authorised s u ≡ true → is_candidate p a s u ≡ breaks_none p (slice_set a s (Some u))
-fits_alike p a s u below may = rw (lt-ltb u p.users below, may) refl
 
 -- ---- branches
 

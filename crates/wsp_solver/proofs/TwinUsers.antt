@@ -13,7 +13,8 @@ use Rattle.policy_book.specs.Twins.{are_related_alike, are_twins, has_no_step, h
 use Rattle.certificate_check.specs.Walks.{AreUsersBelow, tree_users, user_onto}
 use Rattle.certificate_check.proofs.Assigned.{either}
 use Rattle.certificate_check.proofs.TwinLaws.{twins_chain}
-use Rattle.wsp_solver.specs.Crews.{AreClassesBelow, class_of}
+use Rattle.wsp_solver.specs.Crews.{IsFirstTwin}
+use Rattle.wsp_solver.proofs.Crews.{twins_turned_same}
 use Rattle.wsp_solver.specs.Trims.{kid_users}
 
 -- branches as they are kept, and as pure data
@@ -67,19 +68,17 @@ users_below n (twin_kid u v kids) users x known before h = users_below n kids us
 pub kid_user_below : (n : ℕ) (kids : Kids) (x : ℕ) → AreUsersBelow n kids → is_one_of (kid_users [] kids) x ≡ true → x < n
 kid_user_below n kids x known h = users_below n kids [] x known (λ e. absurd (false≢true e)) h
 
--- a user whose class is the user's own number has no twin among lower users
-pub first_alone : (p : Problem) (a : List (Option ℕ)) (classes : List ℕ) (u : ℕ) (users : List ℕ) → AreClassesBelow p p.users classes → u < p.users → class_of classes u ≡ u → ((w : ℕ) → is_one_of users w ≡ true → w < u) → has_twin p a u users ≡ false
-first_alone p a classes u [] right u_in first low = refl
-first_alone p a classes u (v ∷ vs) right u_in first low =
+-- a user who is the first twin has no twin among lower users
+pub first_alone : (p : Problem) (a : List (Option ℕ)) (u : ℕ) (users : List ℕ) → IsFirstTwin p u u → ((w : ℕ) → is_one_of users w ≡ true → w < u) → has_twin p a u users ≡ false
+first_alone p a u [] first low = refl
+first_alone p a u (v ∷ vs) first low =
     ap (λ b. b || has_twin p a u vs) (not_true (are_twins p a u v) (apart v (low v (or_left (v == v) (is_one_of vs v) (eq_is v v refl)))))
-    ∙ first_alone p a classes u vs right u_in first (λ w h. low w (or_right (v == w) (is_one_of vs w) h))
+    ∙ first_alone p a u vs first (λ w h. low w (or_right (v == w) (is_one_of vs w) h))
   where
     apart : (v : ℕ) → v < u → are_twins p a u v ≡ true → ⊥
     apart v below twins =
         let both = and_both (has_no_step a u && has_no_step a v) (may_do_the_same p u v && are_related_alike p u v) twins in
-        let known : v < p.users = omega (arith, below, u_in) in
-        let same = eq_back (class_of classes u) (class_of classes v) (right.alike u v u_in known ∙ both.1) in
-        omega (arith, same, first, below, right.most v known)
+        false≢true (sym (first.least v below) ∙ twins_turned_same p v u ∙ both.1)
 
 -- branches of users below n are of users below n + 1
 pub below_more : (n : ℕ) (kids : Kids) → AreUsersBelow n kids → AreUsersBelow (n + 1) kids

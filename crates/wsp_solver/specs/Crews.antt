@@ -27,22 +27,25 @@ AreDuties p duties = (u : ℕ) → u < p.users → duties_of duties u ≡ duties
 abbrev pub AreAllowed : Problem → List (List ℕ) → Type 0
 AreAllowed p rows = (s : ℕ) → s < length rows → (u : ℕ) → has_user (slice_index_or rows s []) u ≡ p.authorised s u
 
--- the class of a user in a table
-abbrev pub class_of : List ℕ → ℕ → ℕ
-class_of classes u = slice_index_or classes u 0
+-- a user is the first of those who are twins of another one where nothing is assigned
+pub record IsFirstTwin (p : Problem) (u first : ℕ) : Type 0 where
+  pub most : first < u + 1
+  pub twin : are_twins p [] first u ≡ true
+  pub least : (v : ℕ) → v < first → are_twins p [] v u ≡ false
 
--- a table has a class of each of the first n users; those who are twins where nothing is assigned,
--- and no others, have one class
-pub record AreClassesBelow (p : Problem) (n : ℕ) (classes : List ℕ) : Type 0 where
-  pub whole : length classes ≡ n
-  pub most : (u : ℕ) → u < n → class_of classes u < u + 1
-  pub alike : (u v : ℕ) → u < n → v < n → (class_of classes u == class_of classes v) ≡ are_twins p [] u v
+-- what a table knows of a user
+abbrev pub class_in : List (Option ℕ) → ℕ → Option ℕ
+class_in classes u = slice_index_or classes u None
+
+-- whoever a table knows of a user is the first twin
+abbrev pub AreFirstTwins : Problem → List (Option ℕ) → Type 0
+AreFirstTwins p classes = (u first : ℕ) → class_in classes u ≡ Some first → IsFirstTwin p u first
 
 -- what a search knows of each user is right
 pub record IsCrewOf (p : Problem) (crew : Crew) : Type 0 where
   pub few : p.steps ≤ STEP_LIMIT
   pub duties : AreDuties p crew.duties.items
-  pub classes : AreClassesBelow p p.users crew.classes.items
+  pub classes : AreFirstTwins p crew.classes.items
   pub named : AreNamed p crew.named.items
 
 -- a relation treats two users differently at a third one

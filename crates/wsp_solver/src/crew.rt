@@ -1,10 +1,10 @@
-//! What a search knows of each user: the steps for which the user is authorised, and a class, so that
-//! users of one class are twins wherever neither has a step.
-ghost use Rattle.std.specs.Prelude.{◌≡◌, ◌<◌, ◌+◌, ◌||◌, ◌==◌, ℕ, [], Some, length, slice_get, false, IfOk, IsTrue};
+//! What a search knows of each user: the steps for which the user is authorised, and the first twin,
+//! so that users with one first twin are twins wherever neither has a step.
+ghost use Rattle.std.specs.Prelude.{◌≡◌, ◌<◌, ◌||◌, ◌==◌, ℕ, [], None, Some, length, replicate, slice_get, false, IfOk, IsTrue};
 ghost use Rattle.policy_book.specs.Policies.{problem_of};
 ghost use Rattle.constraint_forms.specs.Rules.{all_read, any_read, reads};
 ghost use Rattle.policy_book.specs.Twins.{agree, all_below, are_related_alike, are_twins, is_alike_to, is_rule_alike, treats_alike};
-ghost use Rattle.wsp_solver.specs.Crews.{AreAllowed, AreClassesBelow, AreDuties, IsCrewOf, class_of, duties_below, duties_of, is_told_apart, reads_as, tells_apart};
+ghost use Rattle.wsp_solver.specs.Crews.{AreAllowed, AreDuties, AreFirstTwins, IsCrewOf, IsFirstTwin, class_in, duties_below, duties_of, is_told_apart, reads_as, tells_apart};
 ghost use Rattle.wsp_solver.specs.Searches.{AreNamed};
 
 use crate::leaf::steps_of_rule;
@@ -20,26 +20,21 @@ use wf_names::{FlowId, RelId, STEP_LIMIT, StepId, UserId, UserSet};
 pub(crate) struct Crew {
     /// The steps for which each user is authorised.
     pub(crate) duties: Vec<StepSet>,
-    /// The class of each user: twins where nothing is assigned, and no others, have one class.
-    pub(crate) classes: Vec<UserId>,
+    /// The first twin of each user who was asked for.
+    pub(crate) classes: Vec<Option<UserId>>,
     /// The steps that each rule names.
     pub(crate) named: Vec<StepSet>,
 }
 
 impl Crew {
     /// The users of a workflow's policy.
-    pub(crate) fn new(
-        alloc: Global,
-        p: &Policy,
-        f: FlowId,
-        finder: &mut Finder,
-    ) -> Result<Crew, AllocError>
+    pub(crate) fn new(alloc: Global, p: &Policy, f: FlowId) -> Result<Crew, AllocError>
         requires flow { f < length p.now.flows }
         ensures { IfOk result (IsCrewOf (problem_of p.now f)) }
     {
         prove!(step_count(p, f) <= STEP_LIMIT);
         let duties = all_duties(alloc, p, f)?;
-        let classes = all_classes(alloc, p, f, finder, &duties)?;
+        let classes = no_classes(alloc, p.roster().users().len())?;
         let named = all_named(alloc, p, f)?;
         Ok(Crew {
             duties,
@@ -113,59 +108,69 @@ fn duties(p: &Policy, f: FlowId, allowed: &[UserSet], u: UserId) -> StepSet
     set
 }
 
-fn all_classes(
-    alloc: Global,
-    p: &Policy,
-    f: FlowId,
-    finder: &mut Finder,
-    duties: &[StepSet],
-) -> Result<Vec<UserId>, AllocError>
-    requires flow { f < length p.now.flows }
-    requires duties { AreDuties (problem_of p.now f) duties.now }
-    ensures { IfOk result (λ classes. AreClassesBelow (problem_of p.now f)
-        (problem_of p.now f).users classes.items) }
+// The table of classes where nobody was asked for.
+fn no_classes(alloc: Global, users: u16) -> Result<Vec<Option<UserId>>, AllocError>
+    ensures { IfOk result (λ classes. classes.items ≡ replicate users None) }
 {
-    let mut classes = Vec::new(alloc);
-    'users: for u in 0..p.roster().users().len() {
-        let class = next_class(p, f, finder, duties, &classes, UserId(u));
-        classes.push(class)?;
-    }
-    Ok(classes)
+    let none: Option<UserId> = None;
+    vec![in alloc; none; users as usize]
 }
 
-// The class of the next user: that of an earlier twin, or else the user's own number.
-fn next_class(
+/// Finds the first twin of a user, where it is not known yet.
+pub(crate) fn know_class(p: &Policy, f: FlowId, crew: &mut Crew, finder: &mut Finder, u: UserId)
+    requires flow { f < length p.now.flows }
+    requires crew { IsCrewOf (problem_of p.now f) crew.old }
+    requires user { u < (problem_of p.now f).users }
+    ensures { IsCrewOf (problem_of p.now f) crew.new }
+{
+    let at = u.0 as usize;
+    if at < crew.classes.len() && crew.classes[at].is_none() {
+        let class = find_twin(p, f, finder, &crew.duties, u);
+        crew.classes[at] = Some(class);
+    }
+}
+
+/// The first twin of a user where nothing is assigned, which may be the same user.
+pub(crate) fn first_twin(
     p: &Policy,
     f: FlowId,
+    crew: &Crew,
     finder: &mut Finder,
-    duties: &[StepSet],
-    classes: &[UserId],
     u: UserId,
 ) -> UserId
     requires flow { f < length p.now.flows }
+    requires crew { IsCrewOf (problem_of p.now f) crew.now }
     requires user { u < (problem_of p.now f).users }
-    requires duties { AreDuties (problem_of p.now f) duties.now }
-    requires classes { AreClassesBelow (problem_of p.now f) u classes.now }
-    ensures alike { (v : ℕ) → v < u → (class_of classes.now v == result)
-        ≡ are_twins (problem_of p.now f) [] v u }
-    ensures most { result < u + 1 }
+    ensures { IsFirstTwin (problem_of p.now f) u result }
 {
-    'earlier: for v in 0..u.0 {
-        if are_alike(p, f, finder, duties, UserId(v), u) {
-            return class_at(classes, UserId(v));
-        }
+    match class_in(&crew.classes, u) {
+        Some(class) => class,
+        None => find_twin(p, f, finder, &crew.duties, u),
     }
-    u
 }
 
-/// The class of a user.
-pub(crate) fn class_at(classes: &[UserId], u: UserId) -> UserId
-    ensures { result ≡ class_of classes.now u }
+fn class_in(classes: &[Option<UserId>], u: UserId) -> Option<UserId>
+    ensures { result ≡ class_in classes.now u }
 {
     match classes.get(u.0 as usize) {
         Some(class) => *class,
-        None => UserId(0),
+        None => None,
     }
+}
+
+// The first twin of a user among those up to the user.
+fn find_twin(p: &Policy, f: FlowId, finder: &mut Finder, duties: &[StepSet], u: UserId) -> UserId
+    requires flow { f < length p.now.flows }
+    requires user { u < (problem_of p.now f).users }
+    requires duties { AreDuties (problem_of p.now f) duties.now }
+    ensures { IsFirstTwin (problem_of p.now f) u result }
+{
+    'earlier: for v in 0..u.0 {
+        if are_alike(p, f, finder, duties, UserId(v), u) {
+            return UserId(v);
+        }
+    }
+    u
 }
 
 /// The steps for which a user is authorised.

@@ -4,7 +4,6 @@ ghost use Rattle.wf_names.specs.declared.limits.TheConstants.{STEP_LIMIT};
 ghost use Rattle.constraint_forms.specs.declared.rule.Rule.{Rule as AnyRule};
 ghost use Rattle.refutation_tree.specs.Shapes.{holder, rule};
 ghost use Rattle.refutation_tree.specs.Views.{shape_of};
-ghost use Rattle.policy_book.specs.Candidates.{breaks_none};
 ghost use Rattle.policy_book.specs.Plans.{IsWellFormed, IsWithin};
 ghost use Rattle.policy_book.specs.Policies.{problem_of};
 ghost use Rattle.policy_book.specs.Refuting.{is_rule_naming, refutes};
@@ -140,7 +139,7 @@ fn first_falsified(p: &Policy, f: FlowId, a: &Assign, done: &StepSet) -> Option<
     None
 }
 
-/// The leaf of a rule that is falsified, where some rule is, and only rules that name a step can be.
+/// The leaf of a rule that is falsified, if there is one, where only rules that name a step can be.
 /// One is looked at first.
 pub(crate) fn broken_rule(
     p: &Policy,
@@ -150,17 +149,17 @@ pub(crate) fn broken_rule(
     s: StepId,
     first: u8,
     crew: &Crew,
-) -> Refutation
+) -> Option<Refutation>
     requires flow { f < length p.now.flows }
     requires crew { IsCrewOf (problem_of p.now f) crew.now }
     requires within { IsWithin (problem_of p.now f) a.now }
     requires others { NoLeafRefutesWithout (problem_of p.now f) a.now done.now s }
-    requires broken { breaks_none (problem_of p.now f) a.now ≡ false }
-    ensures { IsRefutation (problem_of p.now f) a.now done.now result }
+    ensures { MatchOption result (NoLeafRefutes (problem_of p.now f) a.now done.now)
+        (IsRefutation (problem_of p.now f) a.now done.now) }
 {
     match falsified_with(p, f, a, done, s, first) {
-        Some(k) => leaf_of_rule(p, f, crew, k),
-        None => unreachable!(),
+        Some(k) => Some(leaf_of_rule(p, f, crew, k)),
+        None => None,
     }
 }
 

@@ -9,15 +9,15 @@ ghost use Rattle.policy_book.specs.Refuting.{all_refute, authorised_users, have_
 ghost use Rattle.wsp_solver.specs.Crews.{IsCrewOf};
 ghost use Rattle.wsp_solver.specs.Trims.{IsTrimmed, IsTrimming};
 
-use crate::crew::Crew;
+use crate::crew::{Crew, know_class};
 use crate::leaf::{Refutation, held_wrongly, leaf_of_rule};
-use crate::steps::{step_count, united};
+use crate::steps::{joined, step_count};
 use crate::twin::twin_among;
 use plan_finder::Finder;
 use policy_book::{Assign, Policy, StepSet};
 use refutation_tree::{Branch, Branches, Kid, Tree};
 use std::alloc::{AllocError, Global};
-use wf_names::{FlowId, STEP_LIMIT, StepId};
+use wf_names::{FlowId, STEP_LIMIT, StepId, UserId};
 
 /// A lean tree made of one that refutes: it has leaves for twins of earlier users, and no node whose
 /// step its branches do not mention. Where memory is wanted, the tree that was handed in is lost.
@@ -35,8 +35,11 @@ pub fn trim(
     ensures { IfOk result (IsTrimmed (problem_of p.now f) a.now done.now (shape_of tree)) }
 {
     let mut finder = Finder::new(alloc, p, f, u32::MAX)?;
-    let crew = Crew::new(alloc, p, f, &mut finder)?;
-    Ok(trim_tree(alloc, p, f, a, done, &crew, &tree)?.tree)
+    let mut crew = Crew::new(alloc, p, f)?;
+    'users: for u in 0..p.roster().users().len() {
+        know_class(p, f, &mut crew, &mut finder, UserId(u));
+    }
+    Ok(trim_tree(alloc, p, f, a, done, &crew, &mut finder, &tree)?.tree)
 }
 
 /// The same, with the steps that the tree mentions.
@@ -48,6 +51,7 @@ pub(crate) fn trim_tree(
     a: &Assign,
     done: &StepSet,
     crew: &Crew,
+    finder: &mut Finder,
     tree: &Tree,
 ) -> Result<Refutation, AllocError>
     requires flow { f < length p.now.flows }
@@ -62,7 +66,7 @@ pub(crate) fn trim_tree(
         Tree::Rule(k) => Ok(leaf_of_rule(p, f, crew, *k)),
         Tree::Step(s, branches) => {
             let branches = branches.as_slice();
-            trim_node(alloc, p, f, a, done, crew, *s, branches)
+            trim_node(alloc, p, f, a, done, crew, finder, *s, branches)
         }
     }
 }
@@ -78,6 +82,7 @@ fn trim_node(
     a: &Assign,
     done: &StepSet,
     crew: &Crew,
+    finder: &mut Finder,
     s: StepId,
     branches: &[Branch],
 ) -> Result<Refutation, AllocError>
@@ -95,9 +100,10 @@ fn trim_node(
 {
     let mut kept = Branches::new(alloc);
     let mut steps = StepSet::empty();
+    let mut last = StepSet::empty();
     'branches: for branch in branches {
         let user = branch.user;
-        if let Some(twin) = twin_among(p, f, a, crew, &kept, user) {
+        if let Some(twin) = twin_among(p, f, a, crew, finder, &kept, user) {
             kept.push(Branch {
                 user,
                 kid: Kid::Twin(twin),
@@ -106,11 +112,12 @@ fn trim_node(
         }
         match &branch.kid {
             Kid::Tree(tree) => {
-                let kid = trim_tree(alloc, p, f, &a.with(s, user), done, crew, tree)?;
+                let kid = trim_tree(alloc, p, f, &a.with(s, user), done, crew, finder, tree)?;
                 if !kid.steps.has(s) {
-                    return trim_tree(alloc, p, f, a, done, crew, &kid.tree);
+                    return trim_tree(alloc, p, f, a, done, crew, finder, &kid.tree);
                 }
-                steps = united(&steps, &kid.steps);
+                steps = joined(&steps, &kid.steps, &last);
+                last = kid.steps;
                 kept.push(Branch {
                     user,
                     kid: Kid::Tree(kid.tree),

@@ -1,19 +1,18 @@
 //! The search over the users of the steps that are not assigned yet.
 ghost use Rattle.std.specs.Prelude.{◌≡◌, ◌<◌, ◌≤◌, length, IfOk, IsTrue};
 ghost use Rattle.wf_names.specs.declared.limits.TheConstants.{STEP_LIMIT};
-ghost use Rattle.policy_book.specs.Candidates.{breaks_none};
 ghost use Rattle.policy_book.specs.Plans.{AreAssigned, IsWithin};
 ghost use Rattle.policy_book.specs.Policies.{problem_of};
 ghost use Rattle.policy_book.specs.Refuting.{is_unassigned};
 ghost use Rattle.wsp_solver.specs.Crews.{IsCrewOf};
 ghost use Rattle.wsp_solver.specs.Searches.{HasDecided, HasRoom, HasSolved, HasSearched, NoLeafRefutes, NoLeafRefutesWithout};
 
-use crate::crew::{Crew, duties_at};
+use crate::crew::{Crew, duties_at, know_class};
 use crate::found::found;
 use crate::leaf::{Refutation, broken_rule, refuting_leaf};
 use crate::lean::trim_tree;
 use crate::next::{next_step, plan_of};
-use crate::steps::united;
+use crate::steps::joined;
 use crate::twin::twin_among;
 use plan_finder::Finder;
 use policy_book::{Assign, Plan, Policy, StepSet};
@@ -120,12 +119,12 @@ fn decided(
         return Ok(Searched::Refuted(leaf));
     }
     let mut finder = Finder::new(alloc, p, f, branches)?;
-    let crew = Crew::new(alloc, p, f, &mut finder)?;
+    let mut crew = Crew::new(alloc, p, f)?;
     finder.make_room(alloc)?;
-    match search(alloc, p, f, a, done, &crew, &mut finder, limited)? {
+    match search(alloc, p, f, a, done, &mut crew, &mut finder, limited)? {
         Searched::Plan(plan) => Ok(Searched::Plan(plan)),
         Searched::Refuted(found) => {
-            let lean = trim_tree(alloc, p, f, a, done, &crew, &found.tree)?;
+            let lean = trim_tree(alloc, p, f, a, done, &crew, &mut finder, &found.tree)?;
             Ok(Searched::Refuted(lean))
         }
         Searched::Stopped => Ok(Searched::Stopped),
@@ -140,16 +139,17 @@ fn search(
     f: FlowId,
     a: &Assign,
     done: &StepSet,
-    crew: &Crew,
+    crew: &mut Crew,
     finder: &mut Finder,
     limited: bool,
 ) -> Result<Searched, AllocError>
     requires flow { f < length p.now.flows }
     requires within { IsWithin (problem_of p.now f) a.now }
     requires assigned { AreAssigned done.now a.now }
-    requires crew { IsCrewOf (problem_of p.now f) crew.now }
+    requires crew { IsCrewOf (problem_of p.now f) crew.old }
     requires quiet { NoLeafRefutes (problem_of p.now f) a.now done.now }
-    ensures { IfOk result (HasSearched (problem_of p.now f) a.now done.now limited) }
+    ensures searched { IfOk result (HasSearched (problem_of p.now f) a.now done.now limited) }
+    ensures crew { IsCrewOf (problem_of p.now f) crew.new }
 {
     'runs: for _ in 0..RUNS {
         finder.begin_run(p, a)?;
@@ -176,7 +176,7 @@ fn decide(
     f: FlowId,
     a: &Assign,
     done: &StepSet,
-    crew: &Crew,
+    crew: &mut Crew,
     finder: &mut Finder,
     depth: u8,
     bounded: bool,
@@ -184,9 +184,10 @@ fn decide(
     requires flow { f < length p.now.flows }
     requires within { IsWithin (problem_of p.now f) a.now }
     requires assigned { AreAssigned done.now a.now }
-    requires crew { IsCrewOf (problem_of p.now f) crew.now }
+    requires crew { IsCrewOf (problem_of p.now f) crew.old }
     requires quiet { NoLeafRefutes (problem_of p.now f) a.now done.now }
-    ensures { IfOk result (HasSearched (problem_of p.now f) a.now done.now bounded) }
+    ensures searched { IfOk result (HasSearched (problem_of p.now f) a.now done.now bounded) }
+    ensures crew { IsCrewOf (problem_of p.now f) crew.new }
 {
     let _ = p.rules(f);
     match next_step(p, f, a, finder, depth) {
@@ -206,7 +207,7 @@ fn try_users(
     a: &Assign,
     done: &StepSet,
     s: StepId,
-    crew: &Crew,
+    crew: &mut Crew,
     finder: &mut Finder,
     depth: u8,
     bounded: bool,
@@ -214,15 +215,16 @@ fn try_users(
     requires flow { f < length p.now.flows }
     requires within { IsWithin (problem_of p.now f) a.now }
     requires assigned { AreAssigned done.now a.now }
-    requires crew { IsCrewOf (problem_of p.now f) crew.now }
+    requires crew { IsCrewOf (problem_of p.now f) crew.old }
     requires quiet { NoLeafRefutes (problem_of p.now f) a.now done.now }
     requires room { s < STEP_LIMIT }
     requires free { IsTrue (is_unassigned (problem_of p.now f) a.now s) }
-    ensures { IfOk result (HasSearched (problem_of p.now f) a.now done.now bounded) }
+    ensures searched { IfOk result (HasSearched (problem_of p.now f) a.now done.now bounded) }
+    ensures crew { IsCrewOf (problem_of p.now f) crew.new }
 {
     let mut branches = Branches::new(alloc);
     let mut steps = StepSet::empty();
-    let candidates = p.candidates(f, s, a);
+    let mut last = StepSet::empty();
     finder.find_reasons(a, depth, s);
     let before = finder.kept();
     'users: for u in 0..p.roster().users().len() {
@@ -230,7 +232,8 @@ fn try_users(
         if !is_authorised_user(p, f, crew, s, user) {
             continue;
         }
-        if let Some(twin) = twin_among(p, f, a, crew, &branches, user) {
+        know_class(p, f, crew, finder, user);
+        if let Some(twin) = twin_among(p, f, a, crew, finder, &branches, user) {
             finder.keep();
             branches.push(Branch {
                 user,
@@ -242,12 +245,11 @@ fn try_users(
             return Ok(Searched::Stopped);
         }
         let here = finder.kept();
-        let fits = candidates.has(user);
         let reason = finder.reason(depth, user);
         let given = a.with(s, user);
         let next = depth.saturating_add(1);
         match try_user(
-            alloc, p, f, &given, done, s, crew, finder, next, bounded, fits, reason,
+            alloc, p, f, &given, done, s, crew, finder, next, bounded, reason,
         )? {
             Searched::Plan(plan) => return Ok(Searched::Plan(plan)),
             Searched::Stopped => return Ok(Searched::Stopped),
@@ -258,7 +260,8 @@ fn try_users(
                     return Ok(Searched::Refuted(kid));
                 }
                 finder.keep();
-                steps = united(&steps, &kid.steps);
+                steps = joined(&steps, &kid.steps, &last);
+                last = kid.steps;
                 branches.push(Branch {
                     user,
                     kid: Kid::Tree(kid.tree),
@@ -273,7 +276,7 @@ fn try_users(
 }
 
 // Decides an assignment under which a leaf refutes only where it mentions the step that was given
-// last, to a user who is a candidate or not.
+// last. The rule that the finder knows of is looked at first.
 #[cycle(search)]
 fn try_user(
     alloc: Global,
@@ -282,25 +285,23 @@ fn try_user(
     a: &Assign,
     done: &StepSet,
     s: StepId,
-    crew: &Crew,
+    crew: &mut Crew,
     finder: &mut Finder,
     depth: u8,
     bounded: bool,
-    fits: bool,
     reason: u8,
 ) -> Result<Searched, AllocError>
     requires flow { f < length p.now.flows }
     requires within { IsWithin (problem_of p.now f) a.now }
     requires assigned { AreAssigned done.now a.now }
-    requires crew { IsCrewOf (problem_of p.now f) crew.now }
+    requires crew { IsCrewOf (problem_of p.now f) crew.old }
     requires others { NoLeafRefutesWithout (problem_of p.now f) a.now done.now s }
-    requires candidate { fits ≡ breaks_none (problem_of p.now f) a.now }
-    ensures { IfOk result (HasSearched (problem_of p.now f) a.now done.now bounded) }
+    ensures searched { IfOk result (HasSearched (problem_of p.now f) a.now done.now bounded) }
+    ensures crew { IsCrewOf (problem_of p.now f) crew.new }
 {
-    if fits {
-        decide(alloc, p, f, a, done, crew, finder, depth, bounded)
-    } else {
-        Ok(Searched::Refuted(broken_rule(p, f, a, done, s, reason, crew)))
+    match broken_rule(p, f, a, done, s, reason, crew) {
+        Some(leaf) => Ok(Searched::Refuted(leaf)),
+        None => decide(alloc, p, f, a, done, crew, finder, depth, bounded),
     }
 }
 

@@ -21,6 +21,19 @@ pub(crate) fn united(a: &StepSet, b: &StepSet) -> StepSet
     both
 }
 
+/// The same, where the first set has all steps of a third one. Many rules of one node name the same
+/// steps, one after the other.
+pub(crate) fn joined(a: &StepSet, b: &StepSet, known: &StepSet) -> StepSet
+    requires known { (t : ℕ) → is_member known.now t ≡ true → is_member a.now t ≡ true }
+    ensures { (t : ℕ) → is_member result t ≡ (is_member a.now t || is_member b.now t) }
+{
+    prove!(b.limit() == known.limit());
+    if *b == *known {
+        return *a;
+    }
+    united(a, b)
+}
+
 /// The steps that a rule names.
 pub(crate) fn steps_named(rule: &Rule) -> StepSet
     ensures { (t : ℕ) → is_member result t ≡ (nat_lt t STEP_LIMIT && names rule.now t) }

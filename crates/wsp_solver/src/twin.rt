@@ -6,24 +6,27 @@ ghost use Rattle.policy_book.specs.Policies.{problem_of};
 ghost use Rattle.policy_book.specs.Twins.{are_twins, has_no_step, has_twin, is_given_to, is_one_of};
 ghost use Rattle.certificate_check.specs.Walks.{AreUsersBelow, user_onto};
 ghost use Rattle.refutation_tree.specs.Views.{kids_of_items};
-ghost use Rattle.wsp_solver.specs.Crews.{IsCrewOf, class_of};
+ghost use Rattle.wsp_solver.specs.Crews.{IsCrewOf};
 ghost use Rattle.wsp_solver.specs.Trims.{kid_users};
 
-use crate::crew::{Crew, class_at};
+use crate::crew::{Crew, first_twin};
+use plan_finder::Finder;
 use policy_book::{Assign, Policy};
 use refutation_tree::{Branch, Branches, Kid};
 use wf_names::{FlowId, STEP_LIMIT, StepId, UserId};
 
 /// A user whose branch has a tree, and who is a twin of this one; if there is one. The branches are
-/// of lower users, so that there is none for the first user of a class.
+/// of lower users, so that there is none for a user who is the first twin.
 pub(crate) fn twin_among(
     p: &Policy,
     f: FlowId,
     a: &Assign,
     crew: &Crew,
+    finder: &mut Finder,
     branches: &Branches,
     u: UserId,
 ) -> Option<UserId>
+    requires flow { f < length p.now.flows }
     requires crew { IsCrewOf (problem_of p.now f) crew.now }
     requires users { AreUsersBelow u branches.now }
     requires user { u < (problem_of p.now f).users }
@@ -31,8 +34,7 @@ pub(crate) fn twin_among(
         ≡ false) (λ v. (is_one_of (kid_users [] branches.now) v ≡ true)
         × (are_twins (problem_of p.now f) a.now u v ≡ true)) }
 {
-    let class = class_at(&crew.classes, u);
-    if class == u {
+    if first_twin(p, f, crew, finder, u) == u {
         return None;
     }
     if !has_no_step(a, u) {
@@ -40,7 +42,7 @@ pub(crate) fn twin_among(
     }
     let items = branches.as_slice();
     'branches: for branch in items {
-        if is_twin_branch(p, f, a, crew, branch, u, class) {
+        if is_twin_branch(p, f, a, crew, finder, branch, u) {
             return Some(branch.user);
         }
     }
@@ -53,20 +55,20 @@ fn is_twin_branch(
     f: FlowId,
     a: &Assign,
     crew: &Crew,
+    finder: &mut Finder,
     branch: &Branch,
     u: UserId,
-    class: UserId,
 ) -> bool
+    requires flow { f < length p.now.flows }
     requires crew { IsCrewOf (problem_of p.now f) crew.now }
     requires first { branch.now.user < (problem_of p.now f).users }
     requires user { u < (problem_of p.now f).users }
     requires idle { IsTrue (has_no_step a.now u) }
-    requires class { class ≡ class_of crew.now.classes.items u }
     ensures { result ≡ has_twin (problem_of p.now f) a.now u
         (user_onto branch.now.kid branch.now.user []) }
 {
     match &branch.kid {
-        Kid::Tree(_) => are_twins(p, f, a, crew, branch.user, u, class),
+        Kid::Tree(_) => are_twins(p, f, a, crew, finder, branch.user, u),
         Kid::Twin(_) => false,
     }
 }
@@ -77,18 +79,36 @@ fn are_twins(
     f: FlowId,
     a: &Assign,
     crew: &Crew,
+    finder: &mut Finder,
     v: UserId,
     u: UserId,
-    class: UserId,
 ) -> bool
+    requires flow { f < length p.now.flows }
     requires crew { IsCrewOf (problem_of p.now f) crew.now }
     requires first { v < (problem_of p.now f).users }
     requires user { u < (problem_of p.now f).users }
     requires idle { IsTrue (has_no_step a.now u) }
-    requires class { class ≡ class_of crew.now.classes.items u }
     ensures { result ≡ are_twins (problem_of p.now f) a.now u v }
 {
-    class == class_at(&crew.classes, v) && has_no_step(a, v)
+    have_one_twin(p, f, crew, finder, v, u) && has_no_step(a, v)
+}
+
+// Whether two users have one first twin.
+fn have_one_twin(
+    p: &Policy,
+    f: FlowId,
+    crew: &Crew,
+    finder: &mut Finder,
+    v: UserId,
+    u: UserId,
+) -> bool
+    requires flow { f < length p.now.flows }
+    requires crew { IsCrewOf (problem_of p.now f) crew.now }
+    requires first { v < (problem_of p.now f).users }
+    requires user { u < (problem_of p.now f).users }
+    ensures { result ≡ are_twins (problem_of p.now f) [] u v }
+{
+    first_twin(p, f, crew, finder, u) == first_twin(p, f, crew, finder, v)
 }
 
 // Whether no step is given to a user.

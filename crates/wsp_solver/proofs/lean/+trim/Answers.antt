@@ -1,6 +1,6 @@
 use Rattle.std.proofs.Common.{◌≡◌, ◌<◌, ◌≤◌, ◌+◌, ℕ, Bool, true, false, not, ◌&&◌, nat_lt, List, [], Option, Some, is_some, length, drop, slice_set, sym, ap, subst, ◌∙◌, arith}
 use Rattle.std.proofs.lemmas.Bool.{ltb-true}
-use Rattle.basics.proofs.Booleans.{and_both}
+use Rattle.basics.proofs.Booleans.{and_both, or_right}
 use Rattle.constraint_forms.specs.Assigned.{user_at, is_member}
 use Rattle.refutation_tree.specs.Shapes.{Shape, Kids, holder, node, no_kids, nodes_of, nodes_of_kids}
 use Rattle.refutation_tree.specs.Views.{kid_onto, kids_of_items, shape_of}
@@ -76,7 +76,7 @@ trim_node-twin_among-requires-clause-users t c =
     let bs = c.args.branches.now in
     let i = c.branches.branch-index in
     let b = c.branch-item.result in
-    let users = next_users p c.args.s bs i b c.branches.kept (node 0 no_kids) c.branches-test.true c.branch-item.is c.branches.invariant.users in
+    let users = next_users p c.args.s bs i b c.branches.kept (node 0 no_kids) c.branches-test.true c.branch-item.is c.branches.invariant.0.users in
     (earlier_below (p.authorised c.args.s) 0 p.users b.user (node 0 no_kids) (kids_of_items (drop (i + 1) bs)) c.branches.kept users).0
 
 pub trim_node-twin_among-requires-clause-user : goal.trim_node-twin_among-requires-clause-user
@@ -89,9 +89,11 @@ trim_node-branches-preserved-in-Some t c =
     let bs = c.args.branches.now in
     let i = c.branches.branch-index in
     let b = c.branch-item.result in
-    let known = branch_user p c.args.s bs c.requires.users i c.branches-test.true b c.branch-item.is in
-    subst (λ k. IsTrimmedFront p c.args.a.now c.args.done.now c.args.s bs (i + 1) k c.branches.steps) (sym c.in_ok-push.ensures.ok)
-    (front_twin p c.args.a.now c.args.done.now c.args.s bs i b c.branches.kept c.branches.steps c.in-Some.twin c.branches-test.true c.branch-item.is known c.in-Some.ensures.0 c.in-Some.ensures.1 c.branches.invariant)
+    let known = branch_user p c.args.s bs c.requires.users i c.branches-test.true b c.branch-item.is in (
+      subst (λ k. IsTrimmedFront p c.args.a.now c.args.done.now c.args.s bs (i + 1) k c.branches.steps) (sym c.in_ok-push.ensures.ok)
+          (front_twin p c.args.a.now c.args.done.now c.args.s bs i b c.branches.kept c.branches.steps c.in-Some.twin c.branches-test.true c.branch-item.is known c.in-Some.ensures.0 c.in-Some.ensures.1 c.branches.invariant.0),
+      c.branches.invariant.1,
+    )
 
 pub trim_node-trim_tree-requires : goal.trim_node-trim_tree-requires
 trim_node-trim_tree-requires t c =
@@ -110,7 +112,7 @@ trim_node-trim_tree-requires t c =
           (
             subst (IsWithin p) (sym c.with.ensures.given) (within_given p a c.args.s b.user c.requires.within c.requires.free known),
             ap (λ x. refutes p x c.args.done.now (shape_of c.in-Tree.tree)) c.with.ensures.given
-                ∙ tree_refutes p a c.args.done.now c.args.s bs i b c.branches.kept c.branches.steps c.in-Tree.tree c.branches-test.true c.branch-item.is c.in-Tree.is c.branches.invariant,
+                ∙ tree_refutes p a c.args.done.now c.args.s bs i b c.branches.kept c.branches.steps c.in-Tree.tree c.branches-test.true c.branch-item.is c.in-Tree.is c.branches.invariant.0,
           ),
         ),
       ),
@@ -123,7 +125,7 @@ trim_node-unreachable-requires t c =
     let i = c.branches.branch-index in
     let b = c.branch-item.result in
     let known = branch_user p c.args.s bs c.requires.users i c.branches-test.true b c.branch-item.is in
-    twin_is_found p c.args.a.now c.args.done.now c.args.s bs i b c.branches.kept c.branches.steps c.in-Twin.field-0 c.branches-test.true c.branch-item.is c.in-Twin.is known c.requires.users c.branches.invariant c.in_default.ensures
+    twin_is_found p c.args.a.now c.args.done.now c.args.s bs i b c.branches.kept c.branches.steps c.in-Twin.field-0 c.branches-test.true c.branch-item.is c.in-Twin.is known c.requires.users c.branches.invariant.0 c.in_default.ensures
 
 -- a trimmed tree that does not mention the step refutes without it
 unmentioned : (p : Problem) (a given : List (Option ℕ)) (done : List Bool) (s u : ℕ) (old : Shape) (r : Refutation) → s < length a → given ≡ slice_set a s (Some u) → is_unassigned p a s ≡ true → IsTrimming p given done old r → is_member r.steps s ≡ false → refutes p a done (shape_of r.tree) ≡ true
@@ -181,17 +183,19 @@ trim_node-branches-preserved t c =
     let b = c.branch-item.result in
     let kid = c.in_ok-kid-in-Tree in
     let new = shape_of kid.kid.tree in
-    let known = branch_user p c.args.s bs c.requires.users i c.branches-test.true b c.branch-item.is in
-    subst (λ k. IsTrimmedFront p a c.args.done.now c.args.s bs (i + 1) k c.united-steps.result) (sym c.in_ok-push-in-Tree.ensures.ok)
-    (front_tree p a c.args.done.now c.args.s bs i b c.branches.kept c.branches.steps kid.kid.steps c.united-steps.result c.in-Tree.tree new c.branches-test.true c.branch-item.is known c.in-Tree.is
-    (ap (λ x. refutes p x c.args.done.now new) (sym c.with.ensures.given) ∙ kid.ensures.tree.refutes)
-    (ap (λ x. is_lean p x new) (sym c.with.ensures.given) ∙ kid.ensures.tree.lean)
-    (kid.ensures.steps c.args.s ∙ sym c.if-not-has.ensures.flag) c.in_default.ensures kid.ensures.tree.few kid.ensures.steps c.united-steps.ensures c.branches.invariant)
+    let known = branch_user p c.args.s bs c.requires.users i c.branches-test.true b c.branch-item.is in (
+      subst (λ k. IsTrimmedFront p a c.args.done.now c.args.s bs (i + 1) k c.joined-steps.result) (sym c.in_ok-push-in-Tree.ensures.ok)
+          (front_tree p a c.args.done.now c.args.s bs i b c.branches.kept c.branches.steps kid.kid.steps c.joined-steps.result c.in-Tree.tree new c.branches-test.true c.branch-item.is known c.in-Tree.is
+          (ap (λ x. refutes p x c.args.done.now new) (sym c.with.ensures.given) ∙ kid.ensures.tree.refutes)
+          (ap (λ x. is_lean p x new) (sym c.with.ensures.given) ∙ kid.ensures.tree.lean)
+          (kid.ensures.steps c.args.s ∙ sym c.if-not-has.ensures.flag) c.in_default.ensures kid.ensures.tree.few kid.ensures.steps c.joined-steps.ensures c.branches.invariant.0),
+      λ x h. c.joined-steps.ensures x ∙ or_right (is_member c.branches.steps x) (is_member kid.kid.steps x) h,
+    )
 
 pub trim_node-returns : goal.trim_node-returns
 trim_node-returns t c =
     let p = problem_of c.args.p.now c.args.f in
-    let ended = front_end p c.args.a.now c.args.done.now c.args.s c.args.branches.now c.branches.branch-index c.branches.kept c.branches.steps c.branches-test.false c.requires.free c.branches.invariant in record {
+    let ended = front_end p c.args.a.now c.args.done.now c.args.s c.args.branches.now c.branches.branch-index c.branches.kept c.branches.steps c.branches-test.false c.requires.free c.branches.invariant.0 in record {
       tree = record { refutes = ended.refutes; lean = ended.lean; few = ended.few };
       steps = ended.said;
     }

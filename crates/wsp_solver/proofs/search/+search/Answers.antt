@@ -1,12 +1,11 @@
 use Rattle.std.proofs.Common.{◌≡◌, ◌<◌, ℕ, length, is_some, None, true, not, ◌+◌, ◌&&◌, nat_lt, List, [], Option, sym, ap, subst, ◌∙◌, arith}
 use Rattle.std.proofs.lemmas.Bool.{and_from, ltb-true}
-use Rattle.constraint_forms.specs.Assigned.{user_at}
+use Rattle.constraint_forms.specs.Assigned.{is_member, user_at}
 use Rattle.refutation_tree.specs.Views.{shape_of}
-use Rattle.policy_book.specs.Candidates.{breaks_none}
 use Rattle.policy_book.specs.Plans.{Problem, AreAssigned, IsWithin, IsValidPlan}
 use Rattle.policy_book.specs.Policies.{problem_of}
 use Rattle.policy_book.specs.Refuting.{all_refute, authorised_users, have_users, is_unassigned, refutes}
-use Rattle.basics.proofs.Booleans.{and_both}
+use Rattle.basics.proofs.Booleans.{and_both, or_right}
 use Rattle.certificate_check.proofs.Assigned.{not_some}
 use Rattle.certificate_check.proofs.Refuted.{assigned_given}
 use Rattle.certificate_check.proofs.Trees.{within_given}
@@ -14,13 +13,13 @@ use Rattle.certificate_check.specs.Walks.{AreUsersBelow}
 use Rattle.wsp_solver.specs.Searches.{AreOfUsersBelow, AreMentionedIn, HasSearched, NoLeafRefutesWithout, free_count}
 use Rattle.wsp_solver.proofs.Members.{mentioned_push, mentioned_push_twin}
 use Rattle.certificate_check.proofs.Dropped.{unmentioned_step_drops as drops}
-use Rattle.wsp_solver.proofs.Searching.{candidate_quiet, fits_alike, quiet_given, valid_full, valid_without, users_skip, users_end, count_less}
+use Rattle.wsp_solver.proofs.Searching.{quiet_given, valid_full, valid_without, users_skip, users_end, count_less}
 use Rattle.wsp_solver.proofs.Pushes.{below_push, below_push_twin, refute_push, refute_push_twin, users_push, users_push_twin}
 use Rattle.wsp_solver.proofs.TwinUsers.{below_more}
 use Rattle.wsp_solver.proofs.search.+search.Goals as goal
 
-pub decide-returns-in-None : goal.decide-returns-in-None
-decide-returns-in-None t c =
+pub decide-returns-in-None-clause-searched : goal.decide-returns-in-None-clause-searched
+decide-returns-in-None-clause-searched t c =
     valid_full (problem_of c.args.p.now c.args.f) c.args.a.now c.args.done.now c.plan_of.result c.rules.ensures.well_formed c.requires.within c.requires.quiet c.plan_of.ensures
 
 -- the number of users, as the loop has it
@@ -39,7 +38,7 @@ pub try_users-users-preserved-then-not-is_authorised_user :
 try_users-users-preserved-then-not-is_authorised_user t c =
     let p = problem_of c.args.p.now c.args.f in
     let known = users_known _ _ _ c.len-u-end.ensures.count (c.users-2.ensures.names ∙ ap (λ r. r.users) c.roster.ensures.roster) in
-    (users_skip (p.authorised c.args.s) c.users.u p.users c.users.branches (omega (arith, known, c.users-test.true)) (sym c.if-not-is_authorised_user.ensures) c.users.invariant.0, c.users.invariant.1, c.users.invariant.2, below_more c.users.u c.users.branches c.users.invariant.3)
+    (users_skip (p.authorised c.args.s) c.users.u p.users c.users.branches (omega (arith, known, c.users-test.true)) (sym c.if-not-is_authorised_user.ensures) c.users.invariant.0, c.users.invariant.1, c.users.invariant.2, below_more c.users.u c.users.branches c.users.invariant.3, c.users.invariant.4, c.users.invariant.5)
 
 pub try_users-try_user-requires : goal.try_users-try_user-requires
 try_users-try_user-requires t c =
@@ -57,36 +56,33 @@ try_users-try_user-requires t c =
           (
             subst (AreAssigned c.args.done.now) (sym c.with-given.ensures.given) (assigned_given a c.args.done.now s c.users.u c.requires.assigned (step_open p a s c.requires.free)),
             (
-              c.requires.crew,
-              (
-                subst (λ x. NoLeafRefutesWithout p x c.args.done.now s) (sym c.with-given.ensures.given) (quiet_given p a c.args.done.now s c.users.u (omega (arith, c.requires.room, c.with-given.ensures.len)) (sym c.if-not-is_authorised_user.ensures) c.requires.quiet),
-                c.has-fits.ensures.member ∙ c.candidates-candidates.ensures c.users.u ∙ fits_alike p a s c.users.u (omega (arith, known, c.users-test.true)) (sym c.if-not-is_authorised_user.ensures) ∙ ap (breaks_none p) (sym c.with-given.ensures.given),
-              ),
+              c.know_class.ensures,
+              subst (λ x. NoLeafRefutesWithout p x c.args.done.now s) (sym c.with-given.ensures.given) (quiet_given p a c.args.done.now s c.users.u (omega (arith, c.requires.room, c.with-given.ensures.len)) (sym c.if-not-is_authorised_user.ensures) c.requires.quiet),
             ),
           ),
         ),
       ),
     )
 
-pub try_users-returns-in-Plan : goal.try_users-returns-in-Plan
-try_users-returns-in-Plan t c =
+pub try_users-returns-in-Plan-clause-searched : goal.try_users-returns-in-Plan-clause-searched
+try_users-returns-in-Plan-clause-searched t c =
     let p = problem_of c.args.p.now c.args.f in
     let done = c.args.done.now in
-    let found = subst (HasSearched p c.with-given.result done c.args.bounded) c.in-Plan.is c.in_ok-plan.ensures in
+    let found = subst (HasSearched p c.with-given.result done c.args.bounded) c.in-Plan.is c.in_ok-plan.ensures.searched in
     valid_without p c.args.a.now done c.in-Plan.plan c.args.s c.users.u (step_open p c.args.a.now c.args.s c.requires.free)
     (subst (λ x. IsValidPlan p x done c.in-Plan.plan) c.with-given.ensures.given found)
 
-pub try_users-returns-in-Stopped : goal.try_users-returns-in-Stopped
-try_users-returns-in-Stopped t c = subst (HasSearched (problem_of c.args.p.now c.args.f) c.with-given.result c.args.done.now c.args.bounded) c.in-Stopped.is c.in_ok-plan.ensures
+pub try_users-returns-in-Stopped-clause-searched : goal.try_users-returns-in-Stopped-clause-searched
+try_users-returns-in-Stopped-clause-searched t c = subst (HasSearched (problem_of c.args.p.now c.args.f) c.with-given.result c.args.done.now c.args.bounded) c.in-Stopped.is c.in_ok-plan.ensures.searched
 
-pub try_users-returns-then-not-has : goal.try_users-returns-then-not-has
-try_users-returns-then-not-has t c =
+pub try_users-returns-then-not-has-clause-searched : goal.try_users-returns-then-not-has-clause-searched
+try_users-returns-then-not-has-clause-searched t c =
     let p = problem_of c.args.p.now c.args.f in
     let done = c.args.done.now in
     let a = c.args.a.now in
     let s = c.args.s in
     let kid = c.in-Refuted.kid in
-    let found = subst (HasSearched p c.with-given.result done c.args.bounded) c.in-Refuted.is c.in_ok-plan.ensures in
+    let found = subst (HasSearched p c.with-given.result done c.args.bounded) c.in-Refuted.is c.in_ok-plan.ensures.searched in
     let here = subst (λ x. refutes p x done (shape_of kid.tree) ≡ true) c.with-given.ensures.given found.refutes in
     let quiet = found.steps s ∙ sym c.if-not-has.ensures.flag in record {
       refutes = drops p a done s c.users.u (shape_of kid.tree) (omega (arith, c.requires.room, c.with-given.ensures.len)) (step_open p a s c.requires.free) quiet here;
@@ -107,6 +103,8 @@ try_users-users-preserved-in-Some t c =
       subst (λ k. all_refute p a c.args.done.now s [] k ≡ true) (sym pushed) (refute_push_twin p a c.args.done.now s u twin front [] c.users.invariant.1 c.in-Some.ensures.0 c.in-Some.ensures.1),
       subst (λ k. AreMentionedIn p.rules k c.users.steps) (sym pushed) (mentioned_push_twin p.rules front u twin c.users.steps c.users.invariant.2),
       subst (AreUsersBelow (u + 1)) (sym pushed) (below_push_twin (u + 1) u twin front (omega arith) (below_more u front c.users.invariant.3)),
+      c.know_class.ensures,
+      c.users.invariant.5,
     )
 
 pub try_users-users-preserved : goal.try_users-users-preserved
@@ -120,18 +118,20 @@ try_users-users-preserved t c =
     let kid = c.in-Refuted.kid in
     let tree = shape_of kid.tree in
     let known = users_known _ _ _ c.len-u-end.ensures.count (c.users-2.ensures.names ∙ ap (λ r. r.users) c.roster.ensures.roster) in
-    let found = subst (HasSearched p c.with-given.result done c.args.bounded) c.in-Refuted.is c.in_ok-plan.ensures in
+    let found = subst (HasSearched p c.with-given.result done c.args.bounded) c.in-Refuted.is c.in_ok-plan.ensures.searched in
     let here = subst (λ x. refutes p x done tree ≡ true) c.with-given.ensures.given found.refutes in
-    let said = mentioned_push p.rules front u tree c.users.steps kid.steps c.united-steps.result c.users.invariant.2 found.steps c.united-steps.ensures in
+    let said = mentioned_push p.rules front u tree c.users.steps kid.steps c.joined-steps.result c.users.invariant.2 found.steps c.joined-steps.ensures in
     let pushed = c.in_ok-push-in-Refuted.ensures.ok in (
       subst (AreOfUsersBelow (p.authorised s) (u + 1) p.users) (sym pushed) (users_push (p.authorised s) u p.users front tree (omega (arith, known, c.users-test.true)) (sym c.if-not-is_authorised_user.ensures) c.users.invariant.0),
       subst (λ k. all_refute p a done s [] k ≡ true) (sym pushed) (refute_push p a done s u tree front [] c.users.invariant.1 here),
-      subst (λ k. AreMentionedIn p.rules k c.united-steps.result) (sym pushed) said,
+      subst (λ k. AreMentionedIn p.rules k c.joined-steps.result) (sym pushed) said,
       subst (AreUsersBelow (u + 1)) (sym pushed) (below_push (u + 1) u tree front (omega arith) (below_more u front c.users.invariant.3)),
+      c.try_user.ensures.crew,
+      λ x h. c.joined-steps.ensures x ∙ or_right (is_member c.users.steps x) (is_member kid.steps x) h,
     )
 
-pub try_users-returns : goal.try_users-returns
-try_users-returns t c =
+pub try_users-returns-clause-searched : goal.try_users-returns-clause-searched
+try_users-returns-clause-searched t c =
     let p = problem_of c.args.p.now c.args.f in
     let front = c.users.branches in
     let known = users_known _ _ _ c.len-u-end.ensures.count (c.users-2.ensures.names ∙ ap (λ r. r.users) c.roster.ensures.roster) in
@@ -144,7 +144,4 @@ try_users-returns t c =
 
 pub try_user-decide-requires : goal.try_user-decide-requires
 try_user-decide-requires t c =
-    let p = problem_of c.args.p.now c.args.f in
-    let a = c.args.a.now in
-    let quiet = candidate_quiet p a c.args.done.now c.args.s c.requires.others (sym c.requires.candidate ∙ c.if-fits.true) in
-    (omega (arith, c.decreases), (c.requires.flow, (c.requires.within, (c.requires.assigned, (c.requires.crew, quiet)))))
+    (omega (arith, c.decreases), (c.requires.flow, (c.requires.within, (c.requires.assigned, (c.requires.crew, c.in-None.ensures)))))

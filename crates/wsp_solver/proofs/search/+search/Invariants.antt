@@ -1,7 +1,9 @@
-use Rattle.std.proofs.Common.{◌≡◌, ◌+◌, ◌*◌, [], true}
+use Rattle.std.proofs.Common.{◌≡◌, ◌+◌, ◌*◌, ℕ, [], true}
+use Rattle.constraint_forms.specs.Assigned.{is_member}
 use Rattle.policy_book.specs.Policies.{problem_of}
 use Rattle.policy_book.specs.Refuting.{all_refute}
 use Rattle.certificate_check.specs.Walks.{AreUsersBelow}
+use Rattle.wsp_solver.specs.Crews.{IsCrewOf}
 use Rattle.wsp_solver.specs.Searches.{AreOfUsersBelow, AreMentionedIn, free_count}
 use Rattle.wsp_solver.proofs.search.+search.Given as goal
 
@@ -19,4 +21,6 @@ invariant-try_users-users l =
     AreOfUsersBelow ((problem_of l.p l.f).authorised l.s) l.u (problem_of l.p l.f).users l.branches ×
     (all_refute (problem_of l.p l.f) l.a l.done l.s [] l.branches ≡ true) ×
     AreMentionedIn (problem_of l.p l.f).rules l.branches l.steps ×
-    AreUsersBelow l.u l.branches
+    AreUsersBelow l.u l.branches ×
+    IsCrewOf (problem_of l.p l.f) l.crew ×
+    ((t : ℕ) → is_member l.last t ≡ true → is_member l.steps t ≡ true)

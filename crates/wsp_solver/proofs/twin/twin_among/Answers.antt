@@ -1,4 +1,4 @@
-use Rattle.std.proofs.Common.{◌≡◌, ℕ, ◌+◌, ◌||◌, List, [], take, sym, ap, subst, ◌∙◌, arith}
+use Rattle.std.proofs.Common.{◌≡◌, ◌+◌, ◌||◌, [], take, sym, ap, subst, ◌∙◌, arith}
 use Rattle.std.proofs.lemmas.List.{take_all}
 use Rattle.refutation_tree.specs.Shapes.{Kids}
 use Rattle.policy_book.specs.Policies.{problem_of}
@@ -6,7 +6,7 @@ use Rattle.policy_book.specs.Twins.{has_twin, is_one_of}
 use Rattle.basics.proofs.Booleans.{eq_back, or_left}
 use Rattle.certificate_check.specs.Walks.{AreUsersBelow, tree_users, user_onto}
 use Rattle.certificate_check.proofs.Trees.{one_of_all, one_of_more, tree_users-more, user_below}
-use Rattle.wsp_solver.specs.Crews.{class_of}
+use Rattle.wsp_solver.specs.Crews.{IsFirstTwin}
 use Rattle.wsp_solver.specs.Trims.{kid_users}
 use Rattle.wsp_solver.proofs.Crews.{busy_alone}
 use Rattle.wsp_solver.proofs.TwinUsers.{first_alone, kid_user_below, kid_users-items, twin_here, twin_onto}
@@ -51,6 +51,5 @@ returns-then-not-has_no_step c = busy_alone (problem_of c.args.p.now c.args.f) c
 pub returns-then-eq : goal.returns-then-eq
 returns-then-eq c =
     let p = problem_of c.args.p.now c.args.f in
-    let class = c.class_at-class.ensures ∙ ap (λ (x : List ℕ). class_of x c.args.u) c.deref.ensures.value in
-    first_alone p c.args.a.now c.args.crew.now.classes.items c.args.u (kid_users [] c.args.branches.now) c.requires.crew.classes c.requires.user (sym class ∙ eq_back c.class_at-class.result c.args.u (sym c.if-eq.ensures))
+    first_alone p c.args.a.now c.args.u (kid_users [] c.args.branches.now) (subst (IsFirstTwin p c.args.u) (eq_back c.first_twin.result c.args.u (sym c.if-eq.ensures)) c.first_twin.ensures)
     (λ w h. kid_user_below c.args.u c.args.branches.now w c.requires.users h)
