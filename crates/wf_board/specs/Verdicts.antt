@@ -69,6 +69,7 @@ IsViewFor b given v = ⊥
 abbrev pub IsRight : Book → Ask → Verdict → Type 0
 IsRight b what verdict.Nothing = Unit {0}
 IsRight b what verdict.NoMemory = Unit {0}
+IsRight b what verdict.OverBudget = Unit {0}
 IsRight b what (verdict.Plan plan) = IsPlanFor b (decision_aside b what) plan
 IsRight b what (verdict.Refuted tree) = IsTreeFor b (decision_aside b what) tree
 IsRight b what (verdict.Edited edition) = IsEditionFor b (decision_aside b what) edition
@@ -119,19 +120,25 @@ abbrev pub is_opening : Result Deed Denial → Bool
 is_opening (Ok (deed.Open f)) = true
 is_opening given = false
 
--- where want of memory may be answered: it is the verdict, where one is needed, or there was none for the list of roles
--- of a denial, or for an opening without room
+-- a verdict that was not found out: there was no memory, or the search would keep more than its budget
+abbrev pub is_want : Verdict → Bool
+is_want verdict.NoMemory = true
+is_want verdict.OverBudget = true
+is_want v = false
+
+-- where want of memory may be answered: the verdict, where one is needed, was not found out, or there was none for the list
+-- of roles of a denial, or for an opening without room
 abbrev pub MayLackMemory : BoardShape → Ask → Verdict → Type 0
 MayLackMemory b what v =
-    ((v ≡ verdict.NoMemory) × (needs_verdict (decision_of (state_on b).book what) ≡ true))
+    ((is_want v ≡ true) × (needs_verdict (decision_of (state_on b).book what) ≡ true))
     ⊎ ((takes_memory (decision_of (state_on b).book what) ≡ true)
     ⊎ ((is_opening (decision_of (state_on b).book what) ≡ true) × (b.cases.spare ≡ 0)))
 
--- where want of memory may be answered once a decider was there: a verdict is needed, and none was given or it is that; or
--- there was none for the list of roles of a denial, or for an opening without room
+-- where want of memory may be answered once a decider was there: a verdict is needed, and none was given or it was not found
+-- out; or there was none for the list of roles of a denial, or for an opening without room
 abbrev pub LacksMemory : BoardShape → Ask → Verdict → Type 0
 LacksMemory b what v =
-    (((v ≡ verdict.Nothing) ⊎ (v ≡ verdict.NoMemory)) × (needs_verdict (decision_of (state_on b).book what) ≡ true))
+    (((v ≡ verdict.Nothing) ⊎ (is_want v ≡ true)) × (needs_verdict (decision_of (state_on b).book what) ≡ true))
     ⊎ ((takes_memory (decision_of (state_on b).book what) ≡ true)
     ⊎ ((is_opening (decision_of (state_on b).book what) ≡ true) × (b.cases.spare ≡ 0)))
 

@@ -56,7 +56,7 @@ pub(crate) fn answer(
         Verdict::View(view) => Answered::Done(by_view(p, cases, ask, view)),
         Verdict::Edited(_) => unreachable!(),
         Verdict::Nothing => without_verdict(alloc, p, cases, ask),
-        Verdict::NoMemory => match without_verdict(alloc, p, cases, ask) {
+        Verdict::NoMemory | Verdict::OverBudget => match without_verdict(alloc, p, cases, ask) {
             Answered::Done(reply) => Answered::Done(reply),
             Answered::Needs => Answered::Done(Reply::NoMemory),
         },
@@ -108,7 +108,7 @@ pub(crate) fn take(p: &Policy, cases: &mut Cases, ask: &Ask, deed: Deed, verdict
         Verdict::View(view) => by_view(p, cases, ask, view),
         Verdict::Edited(_) => unreachable!(),
         Verdict::Nothing => unreachable!(),
-        Verdict::NoMemory => Reply::NoMemory,
+        Verdict::NoMemory | Verdict::OverBudget => Reply::NoMemory,
     }
 }
 

@@ -1,4 +1,6 @@
 //! Verdicts on whether cases can be completed, and what a board answers with one.
+ghost use Rattle.std.specs.Prelude.{◌≡◌};
+ghost use Rattle.wf_board.specs.Verdicts.{is_want};
 
 use crate::{Deed, Edition};
 use constraint_forms::Plan;
@@ -33,6 +35,17 @@ pub enum Verdict {
     View(View),
     /// There was no memory to find out.
     NoMemory,
+    /// The search would keep more than its budget.
+    OverBudget,
+}
+
+impl Verdict {
+    /// Whether it was not found out: there was no memory, or the search is over its budget.
+    pub fn is_want(&self) -> bool
+        ensures { result ≡ is_want self.now }
+    {
+        matches!(self, Verdict::NoMemory | Verdict::OverBudget)
+    }
 }
 
 /// What a board answers.
