@@ -14,6 +14,7 @@ use case_record::Case;
 use constraint_forms::{Assign, Plan, StepSet};
 use policy_book::Policy;
 use std::alloc::{AllocError, Global};
+use wf_board::TREE_LIMIT;
 use wf_names::{FlowId, StepId, UserId};
 use wsp_solver::{Outcome, Unsolved, plan_near, solve_within};
 
@@ -35,11 +36,6 @@ impl From<AllocError> for Unfound {
         Unfound::NoMemory
     }
 }
-
-/// The most branches that a search for the server keeps, and the most leaves and nodes of a tree that
-/// it answers. A name has at most 40 bytes, so each takes at most 108 bytes of an entry, and an entry
-/// with such a tree at most 16,777,216, which is the longest line that an audit reads.
-const BRANCHES: u32 = 150_000;
 
 /// A plan for a case with one of its steps given to a user: the one that is kept for it, where it
 /// gives the user the step.
@@ -129,7 +125,7 @@ fn solve_for_entry(
     requires assigned { AreAssigned done.now a.now }
     ensures { IfOk result (HasSolved (problem_of p.now f) a.now done.now) }
 {
-    match solve_within(alloc, p, f, a, done, BRANCHES) {
+    match solve_within(alloc, p, f, a, done, TREE_LIMIT) {
         Ok(outcome) => Ok(outcome),
         Err(Unsolved::NoMemory) => Err(Unfound::NoMemory),
         Err(Unsolved::OverBudget) => Err(Unfound::OverBudget),
