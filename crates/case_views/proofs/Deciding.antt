@@ -123,7 +123,8 @@ pub work_decides : (b : Book) (u : ℕ) (listed : Result (List WorkItem) Unfound
 work_decides b u (Ok items) v found is = subst (DecidesWork b u) (sym is) found
 work_decides b u (Err e) v found is = unfound_is (DecidesWork b u) e v is tt tt
 
-pub what_if_decides : (b : Book) (a : Amendment) (listed : Result (List ℕ) Unfound) (v : Verdict) → IfOk listed (AreStranded (amended b.policy a) (open_cases b.cases)) →
+pub what_if_decides : (b : Book) (a : Amendment) (listed : Result (List ℕ) Unfound) (v : Verdict) →
+    IfOk listed (AreStranded (amended b.policy a) (open_cases b.cases)) →
     MatchResult listed (λ numbers. v ≡ verdict.View (view.WhatIf numbers)) (λ e. v ≡ verdict_without e) → DecidesWhatIf b a v
 what_if_decides b a (Ok numbers) v found is = subst (DecidesWhatIf b a) (sym is) found
 what_if_decides b a (Err e) v found is = unfound_is (DecidesWhatIf b a) e v is tt tt

@@ -55,25 +55,29 @@ tree_long p f tree names is small =
 denied_long : (d : Data) → length (compact_text (single (codes "denied") d)) ≡ 11 + length (compact_text d)
 unfolding escape_byte
 denied_long d =
-    let parts : length (compact_text (single (codes "denied") d)) ≡ 10 + (length (compact_text d) + 1) = around (codes "{\"denied\":") (compact_text d) (codes "}") in
+    let parts : length (compact_text (single (codes "denied") d)) ≡ 10 + (length (compact_text d) + 1) =
+    around (codes "{\"denied\":") (compact_text d) (codes "}") in
     omega (arith, parts)
 
 unsatisfiable_long : (d : Data) → length (compact_text (single (codes "unsatisfiable") d)) ≡ 18 + length (compact_text d)
 unfolding escape_byte
 unsatisfiable_long d =
-    let parts : length (compact_text (single (codes "unsatisfiable") d)) ≡ 17 + (length (compact_text d) + 1) = around (codes "{\"unsatisfiable\":") (compact_text d) (codes "}") in
+    let parts : length (compact_text (single (codes "unsatisfiable") d)) ≡ 17 + (length (compact_text d) + 1) =
+    around (codes "{\"unsatisfiable\":") (compact_text d) (codes "}") in
     omega (arith, parts)
 
 stranded_long : (d : Data) → length (compact_text (single (codes "stranded") d)) ≡ 13 + length (compact_text d)
 unfolding escape_byte
 stranded_long d =
-    let parts : length (compact_text (single (codes "stranded") d)) ≡ 12 + (length (compact_text d) + 1) = around (codes "{\"stranded\":") (compact_text d) (codes "}") in
+    let parts : length (compact_text (single (codes "stranded") d)) ≡ 12 + (length (compact_text d) + 1) =
+    around (codes "{\"stranded\":") (compact_text d) (codes "}") in
     omega (arith, parts)
 
 strands_long : (d : Data) → length (compact_text (single (codes "strands") d)) ≡ 12 + length (compact_text d)
 unfolding escape_byte
 strands_long d =
-    let parts : length (compact_text (single (codes "strands") d)) ≡ 11 + (length (compact_text d) + 1) = around (codes "{\"strands\":") (compact_text d) (codes "}") in
+    let parts : length (compact_text (single (codes "strands") d)) ≡ 11 + (length (compact_text d) + 1) =
+    around (codes "{\"strands\":") (compact_text d) (codes "}") in
     omega (arith, parts)
 
 -- the case beside the tree
@@ -93,15 +97,19 @@ beside_long n d known =
     omega (arith, parts, length-decimal-le 5 n (omega arith) (omega (arith, known)) (omega (arith, known)))
 
 -- a reply that denies by a tree
-reply_long : (p : PolicyShape) (flows : ℕ → Option ℕ) (o : Option ℕ) (given : Reply) → HasNames p → IsReply p flows o given → is_by_tree given ≡ true → shows_large given ≡ false →
+reply_long : (p : PolicyShape) (flows : ℕ → Option ℕ) (o : Option ℕ) (given : Reply) → HasNames p → IsReply p flows o given →
+    is_by_tree given ≡ true → shows_large given ≡ false →
     length (compact_text (reply_data p given)) ≤ 16200100
 reply_long p flows o (reply.Denied (denial.Unsatisfiable f tree)) names is by_tree small =
-    omega (arith, denied_long (single (codes "unsatisfiable") (tree_data p f (shape_of tree))), unsatisfiable_long (tree_data p f (shape_of tree)), tree_long p f tree names is.1 small)
+    let text = tree_data p f (shape_of tree) in
+    omega (arith, denied_long (single (codes "unsatisfiable") text), unsatisfiable_long text, tree_long p f tree names is.1 small)
 reply_long p flows o (reply.Denied (denial.Stranded f tree)) names is by_tree small =
-    omega (arith, denied_long (single (codes "stranded") (tree_data p f (shape_of tree))), stranded_long (tree_data p f (shape_of tree)), tree_long p f tree names is.1 small)
+    let text = tree_data p f (shape_of tree) in
+    omega (arith, denied_long (single (codes "stranded") text), stranded_long text, tree_long p f tree names is.1 small)
 reply_long p flows o (reply.Denied (denial.Strands n f tree)) names is by_tree small =
     let text = tree_data p f (shape_of tree) in
-    omega (arith, denied_long (single (codes "strands") (strands_data n text)), strands_long (strands_data n text), beside_long n text is.0, tree_long p f tree names is.1.1 small)
+    let denied = denied_long (single (codes "strands") (strands_data n text)) in
+    omega (arith, denied, strands_long (strands_data n text), beside_long n text is.0, tree_long p f tree names is.1.1 small)
 reply_long p flows o given names is by_tree small = let apart : false ≡ true = by_tree in cc
 
 -- ---- an entry
@@ -126,7 +134,8 @@ pub trees_fit_lines : TreesFitLines
 unfolding entry_text escape_byte
 trees_fit_lines p flows e names is by_tree small =
     let given = compact_text (reply_data p e.reply) in
-    let text = codes "{\"at\":" ++ (decimal e.at ++ (codes ",\"lane\":" ++ (decimal e.lane ++ (codes ",\"line\":" ++ (decimal e.line ++ (codes ",\"reply\":" ++ (given ++ codes "}"))))))) in
+    let rest = codes ",\"line\":" ++ (decimal e.line ++ (codes ",\"reply\":" ++ (given ++ codes "}"))) in
+    let text = codes "{\"at\":" ++ (decimal e.at ++ (codes ",\"lane\":" ++ (decimal e.lane ++ rest))) in
     let place = is.place in
     let lane = is.lane in
     let line = is.line in

@@ -18,9 +18,9 @@ ghost use Rattle.wf_board.specs.Deeds.{answered_of, FitsDeed, IsLeftTo, IsUndeci
 ghost use Rattle.wf_board.specs.Found.{AreFound, IsFound, IsOpenAt};
 ghost use Rattle.wf_board.specs.States.{is_full};
 ghost use Rattle.wf_board.specs.Steps.{face_of};
-ghost use Rattle.wf_board.specs.Taking.{full_or, keeps_policy, HasAnsweredAlone, HasAnsweredBy, HasChanged, HasTakenStep, IsKept};
+ghost use Rattle.wf_board.specs.Taking.{full_or, keeps_policy, HasAnsweredAlone, HasAnsweredBy, HasChanged, HasTakenStep, IsKept, IsUsable};
 ghost use Rattle.wf_board.specs.Trees.{is_large, shows_large};
-ghost use Rattle.wf_board.specs.Verdicts.{is_opening, IsMadeOf, IsPlanFor, IsRight, IsStrandingFor, IsTreeFor};
+ghost use Rattle.wf_board.specs.Verdicts.{is_opening, is_unusable, IsMadeOf, IsPlanFor, IsRight, IsStrandingFor, IsTreeFor};
 
 use crate::decision::{Refused, decision_of, is_full, needs_plan};
 use crate::resolve::resolve;
@@ -54,6 +54,17 @@ pub(crate) fn answer(
             Answered::Needs => Answered::Done(Reply::NoMemory),
         };
     }
+    answer_by(alloc, p, cases, ask, verdict)
+}
+
+/// Answers with a verdict that a reply can be made of, or with none.
+fn answer_by(alloc: Global, p: &Policy, cases: &mut Cases, ask: &Ask, verdict: Verdict) -> Answered
+    requires kept { IsKept p.now cases.old }
+    requires right { IsRight (book_of p.now cases.old) ask.now verdict }
+    requires same { keeps_policy verdict ≡ true }
+    requires usable { is_unusable verdict ≡ false }
+    ensures answered { HasAnsweredBy p.now cases.old cases.new ask.now verdict result }
+{
     match verdict {
         Verdict::Plan(plan) => Answered::Done(by_plan(p, cases, ask, plan)),
         Verdict::Refuted(tree) => Answered::Done(by_tree(p, cases, ask, tree)),
@@ -109,6 +120,20 @@ pub(crate) fn take(p: &Policy, cases: &mut Cases, ask: &Ask, deed: Deed, verdict
     if verdict.is_unusable() {
         return Reply::NoMemory;
     }
+    take_by(p, cases, ask, deed, verdict)
+}
+
+/// Answers by a verdict that a reply can be made of.
+fn take_by(p: &Policy, cases: &mut Cases, ask: &Ask, deed: Deed, verdict: Verdict) -> Reply
+    requires kept { IsKept p.now cases.old }
+    requires undecided { IsUndecided p.now cases.old ask.now deed }
+    requires fits { FitsDeed (book_of p.now cases.old) deed verdict }
+    requires usable { IsUsable verdict }
+    ensures taken { HasTakenStep p.now cases.old cases.new
+        (decision_of (book_of p.now cases.old) ask.now) result }
+    ensures small { shows_large result ≡ false }
+    ensures unchanged { result ≡ replies.NoMemory → cases.new ≡ cases.old }
+{
     match verdict {
         Verdict::Plan(plan) => plan_for(p, cases, deed, plan),
         Verdict::Refuted(tree) => tree_for(p, cases, deed, tree),

@@ -55,7 +55,8 @@ impl Verdict {
     {
         match self {
             Verdict::Refuted(tree) | Verdict::Strands(_, tree) => is_large(tree),
-            _ => self.is_want(),
+            Verdict::NoMemory | Verdict::OverBudget => true,
+            Verdict::Nothing | Verdict::Plan(_) | Verdict::Edited(_) | Verdict::View(_) => false,
         }
     }
 }

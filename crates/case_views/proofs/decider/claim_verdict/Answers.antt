@@ -19,4 +19,5 @@ returns-in-Ok c =
 pub returns-in-Err : goal.returns-in-Err
 returns-in-Err c =
     let k = c.args.case.now in
-    unfound_is (DecidesFor (problem_of c.args.p.now k.flow) (assigned_with k c.args.step c.args.user) (finished_of k)) c.in-Err.unfound c.verdict_without.result c.verdict_without.ensures tt tt
+    unfound_is (DecidesFor (problem_of c.args.p.now k.flow) (assigned_with k c.args.step c.args.user) (finished_of k))
+    c.in-Err.unfound c.verdict_without.result c.verdict_without.ensures tt tt
