@@ -1,5 +1,5 @@
 -- What a board answers shows no tree that is too large.
-use Rattle.std.proofs.Common.{◌≡◌, ℕ, inl, inr, Bool, true, false, Result, Ok, Err, refl, ap, ◌∙◌}
+use Rattle.std.proofs.Common.{◌≡◌, ℕ, inl, inr, Bool, true, false, Result, Ok, Err, refl, sym, ap, subst, ◌∙◌, arith}
 use Rattle.basics.proofs.Booleans.{bool_cases}
 use Rattle.grant_table.specs.Tables.{CasesShape}
 use Rattle.policy_book.specs.Shapes.{PolicyShape}
@@ -23,10 +23,11 @@ use Rattle.wf_board.specs.Decisions.{decision_of, needs_plan, needs_verdict}
 use Rattle.wf_board.specs.Deeds.{HasStepped, IsLeftTo, answered_of}
 use Rattle.wf_board.specs.States.{State}
 use Rattle.wf_board.specs.Steps.{Answers, IsReplyTo}
-use Rattle.wf_board.specs.Taking.{HasAnsweredAlone, board_of}
+use Rattle.wf_board.specs.Taking.{HasAnsweredAlone, HasAnsweredBy, IsKept, board_of}
 use Rattle.wf_board.specs.Trees.{is_large, shows_large}
-use Rattle.wf_board.specs.Verdicts.{HasAnswered, HasUsed, IsMadeOf, has_shown_large}
-use Rattle.wf_board.proofs.Admission.{cause_bare}
+use Rattle.wf_board.specs.Verdicts.{HasAnswered, HasUsed, IsMadeOf, has_shown_large, is_unusable}
+use Rattle.wf_board.proofs.Admission.{cause_bare, want_answers, want_stays}
+use Rattle.wf_board.proofs.PlansKept.{want_rows}
 
 -- a reply that is made of a verdict
 made_small : (v : Verdict) (given : Reply) → IsMadeOf v given → shows_large given ≡ false
@@ -96,3 +97,47 @@ stepped_small p before after edits what (stepped.Done given) alone left =
       },
       (alone.0.next edits, left),
     )
+
+-- ---- a verdict that no reply can be made of
+
+apart_from_nothing : {X : Type 0} (v : Verdict) → is_unusable v ≡ true → v ≡ verdict.Nothing → X
+apart_from_nothing v unusable is = let apart : false ≡ true = sym (ap is_unusable is) ∙ unusable in cc
+
+apart_needs : {X : Type 0} (b : Bool) → b ≡ true → b ≡ false → X
+apart_needs b needs none = let apart : true ≡ false = sym needs ∙ none in cc
+
+same_reply : (one other : Reply) → answered.Done one ≡ answered.Done other → one ≡ other
+same_reply one other same = cc
+
+-- what was answered without one
+pub done_unusable : (p : PolicyShape) (before after : CasesShape) (what : Ask) (v : Verdict) (given : Reply) → is_unusable v ≡ true →
+    HasAnsweredAlone p before after (decision_of (book_of p before) what) (answered.Done given) → HasAnsweredBy p before after what v (answered.Done given)
+done_unusable p before after what v given unusable alone =
+    let taken = alone.0 in
+    let decision = decision_of (book_of p before) what in
+    record {
+      kept = taken.kept;
+      answered = λ edits. (taken.step edits, taken.next edits);
+      needs = λ needs nothing. apart_from_nothing v unusable nothing;
+      made = λ needs. apart_needs (needs_verdict decision) needs alone.1.0;
+      memory = λ edits short. inr (inl (alone.1.1 (same_reply given reply.NoMemory short)).0);
+      lacking = λ short. (alone.1.1 (same_reply given reply.NoMemory short)).1;
+      rows = taken.rows;
+      room = taken.room;
+    }
+
+-- and where one is needed
+pub needed_unusable : (p : PolicyShape) (before after : CasesShape) (what : Ask) (v : Verdict) → is_unusable v ≡ true → IsKept p before →
+    HasAnsweredAlone p before after (decision_of (book_of p before) what) answered.Needs → HasAnsweredBy p before after what v (answered.Done reply.NoMemory)
+needed_unusable p before after what v unusable kept alone =
+    let decision = decision_of (book_of p before) what in
+    subst (λ (t : CasesShape). HasAnsweredBy p before t what v (answered.Done reply.NoMemory)) (sym alone.1) record {
+      kept = kept;
+      answered = λ edits. (want_answers (state_on (board_of p before edits)) decision, sym (want_stays (state_on (board_of p before edits)) decision));
+      needs = λ needs nothing. apart_from_nothing v unusable nothing;
+      made = λ needs. tt;
+      memory = λ edits short. inl (unusable, alone.0);
+      lacking = λ short. refl;
+      rows = sym (want_rows p before decision);
+      room = omega arith;
+    }

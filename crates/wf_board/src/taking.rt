@@ -49,12 +49,22 @@ pub(crate) fn answer(
     ensures answered { HasAnsweredBy p.now cases.old cases.new ask.now verdict result }
 {
     if verdict.is_unusable() {
-        return match without_verdict(alloc, p, cases, ask) {
-            Answered::Done(reply) => Answered::Done(reply),
-            Answered::Needs => Answered::Done(Reply::NoMemory),
-        };
+        return answer_want(alloc, p, cases, ask);
     }
     answer_by(alloc, p, cases, ask, verdict)
+}
+
+/// Answers what needs no verdict, and else that there was no memory, whatever the verdict is that no
+/// reply can be made of.
+fn answer_want(alloc: Global, p: &Policy, cases: &mut Cases, ask: &Ask) -> Answered
+    requires { IsKept p.now cases.old }
+    ensures { (v : Verdict) → is_unusable v ≡ true
+        → HasAnsweredBy p.now cases.old cases.new ask.now v result }
+{
+    match without_verdict(alloc, p, cases, ask) {
+        Answered::Done(reply) => Answered::Done(reply),
+        Answered::Needs => Answered::Done(Reply::NoMemory),
+    }
 }
 
 /// Answers with a verdict that a reply can be made of, or with none.
