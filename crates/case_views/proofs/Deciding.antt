@@ -1,5 +1,5 @@
 -- What the decider finds on a deed.
-use Rattle.std.proofs.Common.{◌≡◌, ℕ, ◌<◌, Bool, true, false, List, length, Option, None, Some, Result, Ok, Err, slice_set, refl, sym, ap, subst, ◌∙◌}
+use Rattle.std.proofs.Common.{◌≡◌, ℕ, ◌<◌, Bool, true, false, List, length, Option, None, Some, Result, Ok, Err, IfOk, MatchResult, slice_set, refl, sym, ap, subst, ◌∙◌}
 use Rattle.std.specs.Option.{option_map}
 use Rattle.std.proofs.lemmas.Bool.Decides.{eqb_tells}
 use Rattle.first_fault.specs.Reading.{Gives}
@@ -12,6 +12,7 @@ use Rattle.case_record.specs.Cases.{CaseShape, assigned_of, finished_of, is_open
 use Rattle.grant_table.specs.declared.rows.Row.{Row}
 use Rattle.grant_table.specs.Tables.{case_in, plan_of, row_at}
 use Rattle.wf_talk.specs.declared.reply.Denial.{Denial}
+use Rattle.wf_talk.specs.declared.reply.WorkItem.{WorkItem}
 use Rattle.denial_reasons.specs.Causes.{assigned_with}
 use Rattle.wsp_solver.specs.Searches.{HasSolved}
 use Rattle.wsp_solver.specs.declared.search.Outcome.{Outcome}
@@ -22,7 +23,9 @@ use Rattle.wf_board.specs.declared.decision.Refused.{Refused}
 use Rattle.wf_board.specs.declared.decision.Refused.TheVariants as refused
 use Rattle.wf_board.specs.declared.verdict.Verdict.{Verdict}
 use Rattle.wf_board.specs.declared.verdict.Verdict.TheVariants as verdict
-use Rattle.wf_board.specs.States.{Book}
+use Rattle.wf_board.specs.declared.verdict.View.TheVariants as view
+use Rattle.wf_board.specs.States.{Book, open_cases}
+use Rattle.wf_board.specs.Views.{AreStranded, IsWorkOf}
 use Rattle.wf_board.specs.Decisions.{decision_aside, needs_verdict, takes_memory}
 use Rattle.wf_board.specs.Refusals.{denial_in}
 use Rattle.wf_board.specs.Verdicts.{Decides}
@@ -34,7 +37,10 @@ use Rattle.wf_board.proofs.Within.{claimed_within, planned_within}
 use Rattle.wf_board.proofs.Exact.{finished_assigned}
 use Rattle.admin_edits.specs.declared.amendment.Amendment.{Amendment}
 use Rattle.wf_board.specs.Deeds.{DecidesDeed}
-use Rattle.case_views.specs.Deciding.{DecidesChange, DecidesFor, DecidesWhatIf, DecidesWork, IsVerdictOf}
+use Rattle.admin_edits.specs.Edits.{amended}
+use Rattle.case_views.specs.declared.found.Unfound.{Unfound}
+use Rattle.case_views.specs.declared.found.Unfound.TheVariants as unfound
+use Rattle.case_views.specs.Deciding.{DecidesChange, DecidesFor, DecidesWhatIf, DecidesWork, IsVerdictOf, verdict_without}
 
 -- a row that is there, with its case
 found_row : (o : Option Row) (c : CaseShape) → option_map (λ (r : Row). r.case) o ≡ Some c → (r : Row) × ((o ≡ Some r) × (r.case ≡ c))
@@ -106,6 +112,23 @@ pub verdict_decides : (p : Problem) (a : List (Option ℕ)) (d : List Bool) (o :
 verdict_decides p a d (outcome.Plan plan) v found is = subst (DecidesFor p a d) (sym is) found
 verdict_decides p a d (outcome.Refuted tree) v found is = subst (DecidesFor p a d) (sym is) found.refutes
 
+-- what was not found out is one of two verdicts
+pub unfound_is : (Q : Verdict → Type 0) (u : Unfound) (v : Verdict) → v ≡ verdict_without u → Q verdict.NoMemory → Q verdict.OverBudget → Q v
+unfound_is Q unfound.NoMemory v is memory budget = subst Q (sym is) memory
+unfound_is Q unfound.OverBudget v is memory budget = subst Q (sym is) budget
+
+-- a list is a verdict
+pub work_decides : (b : Book) (u : ℕ) (listed : Result (List WorkItem) Unfound) (v : Verdict) → IfOk listed (IsWorkOf b u) →
+    MatchResult listed (λ items. v ≡ verdict.View (view.Work items)) (λ e. v ≡ verdict_without e) → DecidesWork b u v
+work_decides b u (Ok items) v found is = subst (DecidesWork b u) (sym is) found
+work_decides b u (Err e) v found is = unfound_is (DecidesWork b u) e v is tt tt
+
+pub what_if_decides : (b : Book) (a : Amendment) (listed : Result (List ℕ) Unfound) (v : Verdict) →
+    IfOk listed (AreStranded (amended b.policy a) (open_cases b.cases)) →
+    MatchResult listed (λ numbers. v ≡ verdict.View (view.WhatIf numbers)) (λ e. v ≡ verdict_without e) → DecidesWhatIf b a v
+what_if_decides b a (Ok numbers) v found is = subst (DecidesWhatIf b a) (sym is) found
+what_if_decides b a (Err e) v found is = unfound_is (DecidesWhatIf b a) e v is tt tt
+
 -- a verdict on an opening
 pub decides_open : (b : Book) (f : ℕ) (v : Verdict) → DecidesFor (problem_of b.policy f) no_users no_steps v → DecidesDeed b (deed.Open f) v
 decides_open b f verdict.Nothing h = absurd h
@@ -113,6 +136,7 @@ decides_open b f (verdict.View v) h = absurd h
 decides_open b f (verdict.Edited edition) h = absurd h
 decides_open b f (verdict.Strands m tree) h = absurd h
 decides_open b f verdict.NoMemory h = record { fits = tt; nothing = λ e. cc; something = λ e same. cc }
+decides_open b f verdict.OverBudget h = record { fits = tt; nothing = λ e. cc; something = λ e same. cc }
 decides_open b f (verdict.Plan plan) h = record { fits = h; nothing = λ e. cc; something = λ e same. cc }
 decides_open b f (verdict.Refuted tree) h = record { fits = h; nothing = λ e. cc; something = λ e same. cc }
 
@@ -123,6 +147,7 @@ decides_claim b n c t u (verdict.View v) h = absurd h
 decides_claim b n c t u (verdict.Edited edition) h = absurd h
 decides_claim b n c t u (verdict.Strands m tree) h = absurd h
 decides_claim b n c t u verdict.NoMemory h = record { fits = tt; nothing = λ e. cc; something = λ e same. cc }
+decides_claim b n c t u verdict.OverBudget h = record { fits = tt; nothing = λ e. cc; something = λ e same. cc }
 decides_claim b n c t u (verdict.Plan plan) h = record { fits = h; nothing = λ e. cc; something = λ e same. cc }
 decides_claim b n c t u (verdict.Refuted tree) h = record { fits = h; nothing = λ e. cc; something = λ e same. cc }
 
@@ -131,6 +156,7 @@ pub decides_change : (b : Book) (a : Amendment) (v : Verdict) → DecidesChange 
 decides_change b a verdict.Nothing h = absurd h
 decides_change b a (verdict.View v) h = absurd h
 decides_change b a verdict.NoMemory h = record { fits = tt; nothing = λ e. cc; something = λ e same. cc }
+decides_change b a verdict.OverBudget h = record { fits = tt; nothing = λ e. cc; something = λ e same. cc }
 decides_change b a (verdict.Plan plan) h = absurd h
 decides_change b a (verdict.Refuted tree) h = absurd h
 decides_change b a (verdict.Edited edition) h = record { fits = h; nothing = λ e. cc; something = λ e same. cc }
@@ -140,6 +166,7 @@ decides_change b a (verdict.Strands n tree) h = record { fits = h; nothing = λ 
 pub decides_work : (b : Book) (u : ℕ) (v : Verdict) → DecidesWork b u v → DecidesDeed b (deed.Work u) v
 decides_work b u verdict.Nothing h = absurd h
 decides_work b u verdict.NoMemory h = record { fits = tt; nothing = λ e. cc; something = λ e same. cc }
+decides_work b u verdict.OverBudget h = record { fits = tt; nothing = λ e. cc; something = λ e same. cc }
 decides_work b u (verdict.Plan plan) h = absurd h
 decides_work b u (verdict.Refuted tree) h = absurd h
 decides_work b u (verdict.Edited edition) h = absurd h
@@ -150,6 +177,7 @@ decides_work b u (verdict.View v) h = record { fits = h; nothing = λ e. cc; som
 pub decides_what_if : (b : Book) (a : Amendment) (v : Verdict) → DecidesWhatIf b a v → DecidesDeed b (deed.WhatIf a) v
 decides_what_if b a verdict.Nothing h = absurd h
 decides_what_if b a verdict.NoMemory h = record { fits = tt; nothing = λ e. cc; something = λ e same. cc }
+decides_what_if b a verdict.OverBudget h = record { fits = tt; nothing = λ e. cc; something = λ e same. cc }
 decides_what_if b a (verdict.Plan plan) h = absurd h
 decides_what_if b a (verdict.Refuted tree) h = absurd h
 decides_what_if b a (verdict.Edited edition) h = absurd h

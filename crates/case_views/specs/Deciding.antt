@@ -19,30 +19,42 @@ use Rattle.wf_board.specs.Edited.{ArePlansOf, IsFirstStranded, IsTreeOf}
 use Rattle.wf_board.specs.Verdicts.{IsEditionFor, IsStrandingFor, IsViewFor}
 use Rattle.case_views.specs.declared.edit_decider.Left.{Left}
 use Rattle.case_views.specs.declared.edit_decider.Left.TheVariants as left
+use Rattle.case_views.specs.declared.found.Unfound.{Unfound}
+use Rattle.case_views.specs.declared.found.Unfound.TheVariants as unfound
 
--- a plan or a tree for an assignment, or want of memory
+-- why there is no other verdict, as one
+abbrev pub verdict_without : Unfound → Verdict
+verdict_without unfound.NoMemory = verdict.NoMemory
+verdict_without unfound.OverBudget = verdict.OverBudget
+
+-- a plan or a tree for an assignment, unless it was not found out
 abbrev pub DecidesFor : Problem → List (Option ℕ) → List Bool → Verdict → Type 0
 DecidesFor p assigned finished verdict.NoMemory = Unit {0}
+DecidesFor p assigned finished verdict.OverBudget = Unit {0}
 DecidesFor p assigned finished (verdict.Plan plan) = IsValidPlan p assigned finished plan
 DecidesFor p assigned finished (verdict.Refuted tree) = IsTrue (refutes p assigned finished (shape_of tree))
 DecidesFor p assigned finished v = ⊥
 
--- the policy after a change with plans for the open cases, the first of them that it leaves without one, or want of memory
+-- the policy after a change with plans for the open cases, or the first of them that it leaves without one, unless it was not
+-- found out
 abbrev pub DecidesChange : Book → Amendment → Verdict → Type 0
 DecidesChange b a verdict.NoMemory = Unit {0}
+DecidesChange b a verdict.OverBudget = Unit {0}
 DecidesChange b a (verdict.Edited edition) = IsEditionFor b (Ok (deed.Change a)) edition
 DecidesChange b a (verdict.Strands n tree) = IsStrandingFor b (Ok (deed.Change a)) n tree
 DecidesChange b a v = ⊥
 
--- the work of a user, or want of memory
+-- the work of a user, unless it was not found out
 abbrev pub DecidesWork : Book → ℕ → Verdict → Type 0
 DecidesWork b u verdict.NoMemory = Unit {0}
+DecidesWork b u verdict.OverBudget = Unit {0}
 DecidesWork b u (verdict.View v) = IsViewFor b (Ok (deed.Work u)) v
 DecidesWork b u v = ⊥
 
--- the open cases that a change would strand, or want of memory
+-- the open cases that a change would strand, unless it was not found out
 abbrev pub DecidesWhatIf : Book → Amendment → Verdict → Type 0
 DecidesWhatIf b a verdict.NoMemory = Unit {0}
+DecidesWhatIf b a verdict.OverBudget = Unit {0}
 DecidesWhatIf b a (verdict.View v) = IsViewFor b (Ok (deed.WhatIf a)) v
 DecidesWhatIf b a v = ⊥
 

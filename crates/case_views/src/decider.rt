@@ -8,10 +8,10 @@ ghost use Rattle.wf_board.specs.Boards.{book_of};
 ghost use Rattle.wf_board.specs.Deeds.{DecidesDeed};
 ghost use Rattle.wf_board.specs.Found.{AreFound, IsAllowed, IsFound};
 ghost use Rattle.wf_board.specs.Kept.{ArePlanned};
-ghost use Rattle.case_views.specs.Deciding.{DecidesFor, DecidesWhatIf, DecidesWork, IsVerdictOf};
+ghost use Rattle.case_views.specs.Deciding.{verdict_without, DecidesFor, DecidesWhatIf, DecidesWork, IsVerdictOf};
 
 use crate::edit_decider::edit_verdict;
-use crate::found::{outcome_fresh, outcome_with};
+use crate::found::{Unfound, outcome_fresh, outcome_with};
 use crate::stranded::stranded_by;
 use crate::work_lists::work_of;
 use admin_edits::Amendment;
@@ -19,7 +19,7 @@ use case_record::Case;
 use constraint_forms::Plan;
 use grant_table::Cases;
 use policy_book::Policy;
-use std::alloc::{AllocError, Global};
+use std::alloc::Global;
 use wf_board::{Decider, Deed, Refused, Snap, Verdict, View, decision_aside};
 use wf_names::{CaseId, FlowId, StepId, UserId};
 use wf_talk::{Ask, CaseList, WorkList};
@@ -93,7 +93,7 @@ fn claim_verdict(
     };
     match outcome_with(alloc, p, case, &kept, step, user) {
         Ok(outcome) => verdict_of(outcome),
-        Err(_) => Verdict::NoMemory,
+        Err(unfound) => verdict_without(unfound),
     }
 }
 
@@ -104,7 +104,7 @@ fn open_verdict(alloc: Global, p: &Policy, f: FlowId, recent: Option<Plan>) -> V
 {
     match outcome_fresh(alloc, p, f, recent) {
         Ok(outcome) => verdict_of(outcome),
-        Err(_) => Verdict::NoMemory,
+        Err(unfound) => verdict_without(unfound),
     }
 }
 
@@ -118,6 +118,16 @@ fn verdict_of(outcome: Outcome) -> Verdict
     }
 }
 
+/// Why there is no other verdict, as one.
+pub(crate) fn verdict_without(unfound: Unfound) -> Verdict
+    ensures { result ≡ verdict_without unfound }
+{
+    match unfound {
+        Unfound::NoMemory => Verdict::NoMemory,
+        Unfound::OverBudget => Verdict::OverBudget,
+    }
+}
+
 // The verdict on a user's work.
 fn work_verdict(alloc: Global, p: &Policy, cases: &Cases, user: UserId) -> Verdict
     requires kept { ArePlanned p.now cases.now.rows }
@@ -128,13 +138,13 @@ fn work_verdict(alloc: Global, p: &Policy, cases: &Cases, user: UserId) -> Verdi
 }
 
 /// A work list as a verdict.
-pub(crate) fn work_view(listed: Result<WorkList, AllocError>) -> Verdict
+pub(crate) fn work_view(listed: Result<WorkList, Unfound>) -> Verdict
     ensures { MatchResult listed (λ items. result ≡ Verdict.View (View.Work items))
-        (λ _. result ≡ Verdict.NoMemory) }
+        (λ unfound. result ≡ verdict_without unfound) }
 {
     match listed {
         Ok(items) => Verdict::View(View::Work(items)),
-        Err(_) => Verdict::NoMemory,
+        Err(unfound) => verdict_without(unfound),
     }
 }
 
@@ -148,12 +158,12 @@ fn what_if_verdict(alloc: Global, p: &Policy, cases: &Cases, a: &Amendment) -> V
 }
 
 /// A list of stranded cases as a verdict.
-pub(crate) fn what_if_view(listed: Result<CaseList, AllocError>) -> Verdict
+pub(crate) fn what_if_view(listed: Result<CaseList, Unfound>) -> Verdict
     ensures { MatchResult listed (λ cases. result ≡ Verdict.View (View.WhatIf cases))
-        (λ _. result ≡ Verdict.NoMemory) }
+        (λ unfound. result ≡ verdict_without unfound) }
 {
     match listed {
         Ok(cases) => Verdict::View(View::WhatIf(cases)),
-        Err(_) => Verdict::NoMemory,
+        Err(unfound) => verdict_without(unfound),
     }
 }

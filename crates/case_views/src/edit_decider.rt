@@ -12,7 +12,8 @@ ghost use Rattle.wf_board.specs.Kept.{ArePlanned, IsOfPolicy, IsPlanned};
 ghost use Rattle.case_views.specs.Deciding.{DecidesChange, HasAdded, IsAdded, IsLeft, IsPartAdded, IsVerdictOn};
 ghost use Rattle.case_views.specs.Listing.{IsLeftAt, open_in};
 
-use crate::found::outcome_near;
+use crate::decider::verdict_without;
+use crate::found::{Unfound, outcome_near};
 use admin_edits::{Amendment, amended, may_hurt};
 use basics::List;
 use case_record::Case;
@@ -44,18 +45,18 @@ pub(crate) fn edit_verdict(alloc: Global, p: &Policy, cases: &Cases, a: &Amendme
 {
     match edited(alloc, p, cases, a) {
         Ok(verdict) => verdict,
-        Err(_) => Verdict::NoMemory,
+        Err(unfound) => verdict_without(unfound),
     }
 }
 
-fn edited(alloc: Global, p: &Policy, cases: &Cases, a: &Amendment) -> Result<Verdict, AllocError>
+fn edited(alloc: Global, p: &Policy, cases: &Cases, a: &Amendment) -> Result<Verdict, Unfound>
     requires kept { ArePlanned p.now cases.now.rows }
     requires allowed { IsAllowed p.now a.now }
     ensures { IfOk result (DecidesChange (book_of p.now cases.now) a.now) }
 {
     let after = amended(p, *a)?;
     let left = left_open(alloc, p, a, &after, cases.rows())?;
-    edition_of(alloc, after, left)
+    Ok(edition_of(alloc, after, left)?)
 }
 
 /// What a change leaves the open cases, as a verdict.
@@ -75,7 +76,7 @@ fn left_open(
     a: &Amendment,
     after: &Policy,
     rows: &[Row],
-) -> Result<Left, AllocError>
+) -> Result<Left, Unfound>
     requires allowed { IsAllowed p.now a.now }
     requires after { after.now ≡ amended p.now a.now }
     requires kept { ArePlanned p.now rows.now }
@@ -100,7 +101,7 @@ fn add_plan(
     after: &Policy,
     row: &Row,
     plans: &mut Vec<Plan>,
-) -> Result<Option<Tree>, AllocError>
+) -> Result<Option<Tree>, Unfound>
     requires allowed { IsAllowed p.now a.now }
     requires after { after.now ≡ amended p.now a.now }
     requires known { IsOfPolicy p.now row.now.case }
@@ -108,7 +109,7 @@ fn add_plan(
     ensures { IfOk result (HasAdded after.now row.now plans.old.items plans.new.items) }
 {
     let left = left_at(alloc, p, a, after, row)?;
-    add_part(&left, plans)
+    Ok(add_part(&left, plans)?)
 }
 
 /// Adds a plan that was found for a case that is open, or copies the tree that shows why there is
@@ -144,7 +145,7 @@ pub(crate) fn left_at(
     a: &Amendment,
     after: &Policy,
     row: &Row,
-) -> Result<Option<Outcome>, AllocError>
+) -> Result<Option<Outcome>, Unfound>
     requires allowed { IsAllowed p.now a.now }
     requires after { after.now ≡ amended p.now a.now }
     requires known { IsOfPolicy p.now row.now.case }
@@ -167,7 +168,7 @@ fn plan_for(
     after: &Policy,
     case: &Case,
     kept: Plan,
-) -> Result<Outcome, AllocError>
+) -> Result<Outcome, Unfound>
     requires allowed { IsAllowed p.now a.now }
     requires after { after.now ≡ amended p.now a.now }
     requires known { IsOfPolicy p.now case.now }
@@ -183,7 +184,7 @@ fn plan_for(
 }
 
 // A plan for a case, near another where one is valid, and else what a search finds.
-fn outcome_of(alloc: Global, p: &Policy, case: &Case, kept: &Plan) -> Result<Outcome, AllocError>
+fn outcome_of(alloc: Global, p: &Policy, case: &Case, kept: &Plan) -> Result<Outcome, Unfound>
     requires flow { case.now.flow < length p.now.flows }
     requires within { IsWithin (problem_of p.now case.now.flow) (assigned_of case.now) }
     ensures { IfOk result (HasSolved (problem_of p.now case.now.flow) (assigned_of case.now)

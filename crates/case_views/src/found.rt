@@ -14,13 +14,28 @@ use case_record::Case;
 use constraint_forms::{Assign, Plan, StepSet};
 use policy_book::Policy;
 use std::alloc::{AllocError, Global};
+use wf_board::TREE_LIMIT;
 use wf_names::{FlowId, StepId, UserId};
 use wsp_solver::{Outcome, Unsolved, plan_near, solve_within};
 
-/// The most branches that a search for the server keeps, and the most leaves and nodes of a tree that
-/// it answers. A name has at most 40 bytes, so each takes at most 108 bytes of an entry, and an entry
-/// with such a tree at most 16,777,216, which is the longest line that an audit reads.
-const BRANCHES: u32 = 150_000;
+/// Why something was not found out.
+#[derive(Clone, Copy)]
+pub enum Unfound {
+    /// An allocation was refused.
+    NoMemory,
+    /// A search would keep more than its budget.
+    OverBudget,
+}
+
+impl From<AllocError> for Unfound {
+    ghost use Rattle.case_views.specs.declared.found.Unfound.TheVariants.{NoMemory};
+
+    ghost from_gives = { λ _ r. r ≡ NoMemory };
+
+    fn from(_: AllocError) -> Unfound {
+        Unfound::NoMemory
+    }
+}
 
 /// A plan for a case with one of its steps given to a user: the one that is kept for it, where it
 /// gives the user the step.
@@ -31,7 +46,7 @@ pub(crate) fn outcome_with(
     kept: &Plan,
     step: StepId,
     user: UserId,
-) -> Result<Outcome, AllocError>
+) -> Result<Outcome, Unfound>
     requires known { IsOfPolicy p.now case.now }
     requires valid { IsPlanOf p.now case.now kept.now }
     requires step { step < length case.now.states }
@@ -65,7 +80,7 @@ pub(crate) fn outcome_fresh(
     p: &Policy,
     f: FlowId,
     recent: Option<Plan>,
-) -> Result<Outcome, AllocError>
+) -> Result<Outcome, Unfound>
     requires { f < length p.now.flows }
     ensures { IfOk result (HasSolved (problem_of p.now f) no_users no_steps) }
 {
@@ -85,7 +100,7 @@ pub(crate) fn outcome_near(
     a: &Assign,
     done: &StepSet,
     kept: &Plan,
-) -> Result<Outcome, AllocError>
+) -> Result<Outcome, Unfound>
     requires flow { f < length p.now.flows }
     requires within { IsWithin (problem_of p.now f) a.now }
     requires assigned { AreAssigned done.now a.now }
@@ -97,22 +112,22 @@ pub(crate) fn outcome_near(
     }
 }
 
-// What a search finds that has room in an entry. This is the one place where want of memory is
-// answered without a refused allocation: where the search is over its budget (`OverBudget`).
+// What a search finds that has room in an entry.
 fn solve_for_entry(
     alloc: Global,
     p: &Policy,
     f: FlowId,
     a: &Assign,
     done: &StepSet,
-) -> Result<Outcome, AllocError>
+) -> Result<Outcome, Unfound>
     requires flow { f < length p.now.flows }
     requires within { IsWithin (problem_of p.now f) a.now }
     requires assigned { AreAssigned done.now a.now }
     ensures { IfOk result (HasSolved (problem_of p.now f) a.now done.now) }
 {
-    match solve_within(alloc, p, f, a, done, BRANCHES) {
+    match solve_within(alloc, p, f, a, done, TREE_LIMIT) {
         Ok(outcome) => Ok(outcome),
-        Err(Unsolved::NoMemory | Unsolved::OverBudget) => Err(AllocError),
+        Err(Unsolved::NoMemory) => Err(Unfound::NoMemory),
+        Err(Unsolved::OverBudget) => Err(Unfound::OverBudget),
     }
 }

@@ -11,6 +11,7 @@ mod stranded;
 mod work_lists;
 
 pub use decider::PlainDecider;
+pub use found::Unfound;
 pub use spread::SpreadDecider;
 pub use stranded::what_if;
 pub use work_lists::worklist;

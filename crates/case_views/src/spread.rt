@@ -12,8 +12,9 @@ ghost use Rattle.wf_board.specs.Views.{AreStranded, IsWorkOf};
 ghost use Rattle.case_views.specs.Deciding.{DecidesChange, DecidesWhatIf, DecidesWork, IsLeft};
 ghost use Rattle.case_views.specs.Listing.{IsLeftAt, list_of, open_in};
 
-use crate::decider::{no_verdict, verdict_on, what_if_view, work_view};
+use crate::decider::{no_verdict, verdict_on, verdict_without, what_if_view, work_view};
 use crate::edit_decider::{Left, add_part, edition_of};
+use crate::found::Unfound;
 use crate::spread_parts::{left_parts, stranded_parts, work_parts};
 use crate::stranded::add_number;
 use admin_edits::{Amendment, amended};
@@ -97,7 +98,7 @@ fn change_verdict<R: Threads + Sync>(
 {
     match edited(rt, alloc, p, cases, a) {
         Ok(verdict) => verdict,
-        Err(_) => Verdict::NoMemory,
+        Err(unfound) => verdict_without(unfound),
     }
 }
 
@@ -107,7 +108,7 @@ fn edited<R: Threads + Sync>(
     p: &Policy,
     cases: &Cases,
     a: &Amendment,
-) -> Result<Verdict, AllocError>
+) -> Result<Verdict, Unfound>
     requires kept { ArePlanned p.now cases.now.rows }
     requires allowed { IsAllowed p.now a.now }
     ensures { IfOk result (DecidesChange (book_of p.now cases.now) a.now) }
@@ -116,7 +117,7 @@ fn edited<R: Threads + Sync>(
     let rows = cases.rows();
     let parts = left_parts(rt, alloc, p, a, &after, rows)?;
     let left = left_of(alloc, rows, &parts)?;
-    edition_of(alloc, after, left)
+    Ok(edition_of(alloc, after, left)?)
 }
 
 // What is left of the open cases among these rows, where this is left of each.
@@ -156,13 +157,13 @@ fn spread_work<R: Threads + Sync>(
     p: &Policy,
     cases: &Cases,
     u: UserId,
-) -> Result<WorkList, AllocError>
+) -> Result<WorkList, Unfound>
     requires kept { ArePlanned p.now cases.now.rows }
     requires user { u < length p.now.roster.users }
     ensures { IfOk result (IsWorkOf (book_of p.now cases.now) u) }
 {
     let parts = work_parts(rt, alloc, p, u, cases.rows())?;
-    joined_work(alloc, &parts)
+    Ok(joined_work(alloc, &parts)?)
 }
 
 // All of some work lists, one after the other.
@@ -197,7 +198,7 @@ fn spread_stranded<R: Threads + Sync>(
     p: &Policy,
     cases: &Cases,
     a: &Amendment,
-) -> Result<CaseList, AllocError>
+) -> Result<CaseList, Unfound>
     requires kept { ArePlanned p.now cases.now.rows }
     requires allowed { IsAllowed p.now a.now }
     ensures { IfOk result (AreStranded (amended p.now a.now)
@@ -205,7 +206,7 @@ fn spread_stranded<R: Threads + Sync>(
 {
     let after = amended(p, *a)?;
     let parts = stranded_parts(rt, alloc, p, a, &after, cases.rows())?;
-    joined_cases(alloc, &parts)
+    Ok(joined_cases(alloc, &parts)?)
 }
 
 // The numbers that there are, in order.

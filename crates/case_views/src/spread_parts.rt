@@ -7,13 +7,14 @@ ghost use Rattle.wf_board.specs.Kept.{ArePlanned};
 ghost use Rattle.case_views.specs.Listing.{AreStrandedIn, IsKeptRow, IsLeftAt, IsWorkIn, list_of};
 
 use crate::edit_decider::left_at;
+use crate::found::Unfound;
 use crate::stranded::stranded_at;
 use crate::work_lists::work_at;
 use admin_edits::Amendment;
 use grant_table::Row;
 use policy_book::Policy;
 use rayon::prelude::*;
-use std::alloc::{AllocError, Global};
+use std::alloc::Global;
 use std::thread::Threads;
 use wf_names::{CaseId, UserId};
 use wf_talk::WorkList;
@@ -29,17 +30,17 @@ pub(crate) fn work_parts<R: Threads + Sync>(
     p: &Policy,
     u: UserId,
     rows: &[Row],
-) -> Result<Vec<WorkList>, AllocError>
+) -> Result<Vec<WorkList>, Unfound>
     requires kept { ArePlanned p.now rows.now }
     requires user { u < length p.now.roster.users }
     ensures { IfOk result (λ parts. AllZip (λ r part. IsWorkIn p.now u (r ∷ []) part) rows.now
         parts.items) }
 {
-    let parts: Result<Vec<WorkList>, AllocError> = rows
+    let parts: Result<Vec<WorkList>, Unfound> = rows
         .par_iter()
         .with_min_len(PIECE)
         .map(
-            |row: &Row| -> Result<WorkList, AllocError>
+            |row: &Row| -> Result<WorkList, Unfound>
                 requires { IsKeptRow p.now row.now × (u < length p.now.roster.users) }
                 ensures { IfOk result (IsWorkIn p.entry.now u (row.now ∷ [])) }
             { work_at(alloc, p, u, row) },
@@ -56,18 +57,18 @@ pub(crate) fn stranded_parts<R: Threads + Sync>(
     a: &Amendment,
     after: &Policy,
     rows: &[Row],
-) -> Result<Vec<Option<CaseId>>, AllocError>
+) -> Result<Vec<Option<CaseId>>, Unfound>
     requires allowed { IsAllowed p.now a.now }
     requires after { after.now ≡ amended p.now a.now }
     requires kept { ArePlanned p.now rows.now }
     ensures { IfOk result (λ parts. AllZip
         (λ r part. AreStrandedIn after.now (r ∷ []) (list_of part)) rows.now parts.items) }
 {
-    let parts: Result<Vec<Option<CaseId>>, AllocError> = rows
+    let parts: Result<Vec<Option<CaseId>>, Unfound> = rows
         .par_iter()
         .with_min_len(PIECE)
         .map(
-            |row: &Row| -> Result<Option<CaseId>, AllocError>
+            |row: &Row| -> Result<Option<CaseId>, Unfound>
                 requires { IsKeptRow p.now row.now × IsAllowed p.now a.now
                     × (after.now ≡ amended p.now a.now) }
                 ensures { IfOk result (λ part. AreStrandedIn after.entry.now (row.now ∷ [])
@@ -86,17 +87,17 @@ pub(crate) fn left_parts<R: Threads + Sync>(
     a: &Amendment,
     after: &Policy,
     rows: &[Row],
-) -> Result<Vec<Option<Outcome>>, AllocError>
+) -> Result<Vec<Option<Outcome>>, Unfound>
     requires allowed { IsAllowed p.now a.now }
     requires after { after.now ≡ amended p.now a.now }
     requires kept { ArePlanned p.now rows.now }
     ensures { IfOk result (λ parts. AllZip (IsLeftAt after.now) rows.now parts.items) }
 {
-    let parts: Result<Vec<Option<Outcome>>, AllocError> = rows
+    let parts: Result<Vec<Option<Outcome>>, Unfound> = rows
         .par_iter()
         .with_min_len(PIECE)
         .map(
-            |row: &Row| -> Result<Option<Outcome>, AllocError>
+            |row: &Row| -> Result<Option<Outcome>, Unfound>
                 requires { IsKeptRow p.now row.now × IsAllowed p.now a.now
                     × (after.now ≡ amended p.now a.now) }
                 ensures { IfOk result (IsLeftAt after.entry.now row.now) }

@@ -9,6 +9,7 @@ ghost use Rattle.wf_board.specs.Views.{AreStranded};
 ghost use Rattle.case_views.specs.Listing.{AreStrandedIn, list_of};
 
 use crate::edit_decider::left_at;
+use crate::found::Unfound;
 use admin_edits::{Amendment, amended, amendment_of};
 use grant_table::{Cases, Row};
 use policy_book::Policy;
@@ -21,7 +22,7 @@ use wsp_solver::Outcome;
 /// The open cases that an edit against which there is no cause would leave without a valid plan,
 /// ascending. The plan that is kept for a case is taken where the edit cannot hurt it, else a plan
 /// near it where one is valid, and else a search is made. Nothing is changed.
-pub fn what_if(alloc: Global, snap: &Snap, by: &Name, e: &Edit) -> Result<CaseList, AllocError>
+pub fn what_if(alloc: Global, snap: &Snap, by: &Name, e: &Edit) -> Result<CaseList, Unfound>
     requires { edit_cause snap.now.policy by.now e.now ≡ None }
     ensures { IfOk result (AreStranded (edited_policy snap.now.policy by.now e.now)
         (open_cases (book_on snap.now).cases)) }
@@ -38,7 +39,7 @@ pub(crate) fn stranded_by(
     p: &Policy,
     cases: &Cases,
     a: &Amendment,
-) -> Result<CaseList, AllocError>
+) -> Result<CaseList, Unfound>
     requires kept { ArePlanned p.now cases.now.rows }
     requires allowed { IsAllowed p.now a.now }
     ensures { IfOk result (AreStranded (amended p.now a.now)
@@ -55,7 +56,7 @@ fn stranded_in(
     a: &Amendment,
     after: &Policy,
     rows: &[Row],
-) -> Result<CaseList, AllocError>
+) -> Result<CaseList, Unfound>
     requires allowed { IsAllowed p.now a.now }
     requires after { after.now ≡ amended p.now a.now }
     requires kept { ArePlanned p.now rows.now }
@@ -76,7 +77,7 @@ pub(crate) fn stranded_at(
     a: &Amendment,
     after: &Policy,
     row: &Row,
-) -> Result<Option<CaseId>, AllocError>
+) -> Result<Option<CaseId>, Unfound>
     requires allowed { IsAllowed p.now a.now }
     requires after { after.now ≡ amended p.now a.now }
     requires known { IsOfPolicy p.now row.now.case }

@@ -6,13 +6,13 @@ ghost use Rattle.wf_board.specs.Kept.{ArePlanned, IsOfPolicy, IsPlanned};
 ghost use Rattle.wf_board.specs.Views.{IsGrantable, IsWorkOf, item_of, steps_from};
 ghost use Rattle.case_views.specs.Listing.{AreGrantable, HasListed, IsWorkIn, is_plan};
 
-use crate::found::outcome_with;
+use crate::found::{Unfound, outcome_with};
 use case_record::Case;
 use constraint_forms::Plan;
 use denial_reasons::has_cause;
 use grant_table::{Cases, Row};
 use policy_book::Policy;
-use std::alloc::{AllocError, Global};
+use std::alloc::Global;
 use wf_board::Snap;
 use wf_names::{StepId, UserId};
 use wf_talk::{WorkItem, WorkList};
@@ -22,7 +22,7 @@ use wsp_solver::Outcome;
 /// case and step. A step against which there is a cause is left at once; for the others the plan
 /// that is kept for the case decides where it gives the user the step, else a plan near it where one
 /// is valid, and else a search.
-pub fn worklist(alloc: Global, snap: &Snap, u: UserId) -> Result<WorkList, AllocError>
+pub fn worklist(alloc: Global, snap: &Snap, u: UserId) -> Result<WorkList, Unfound>
     requires { u < length snap.now.policy.roster.users }
     ensures { IfOk result (IsWorkOf (book_on snap.now) u) }
 {
@@ -35,7 +35,7 @@ pub(crate) fn work_of(
     p: &Policy,
     cases: &Cases,
     u: UserId,
-) -> Result<WorkList, AllocError>
+) -> Result<WorkList, Unfound>
     requires kept { ArePlanned p.now cases.now.rows }
     requires user { u < length p.now.roster.users }
     ensures { IfOk result (IsWorkOf (book_of p.now cases.now) u) }
@@ -44,7 +44,7 @@ pub(crate) fn work_of(
 }
 
 // The work of a user in the cases of rows.
-fn work_in(alloc: Global, p: &Policy, u: UserId, rows: &[Row]) -> Result<WorkList, AllocError>
+fn work_in(alloc: Global, p: &Policy, u: UserId, rows: &[Row]) -> Result<WorkList, Unfound>
     requires kept { ArePlanned p.now rows.now }
     requires user { u < length p.now.roster.users }
     ensures { IfOk result (IsWorkIn p.now u rows.now) }
@@ -58,12 +58,7 @@ fn work_in(alloc: Global, p: &Policy, u: UserId, rows: &[Row]) -> Result<WorkLis
 }
 
 /// The work of a user in the case of a row.
-pub(crate) fn work_at(
-    alloc: Global,
-    p: &Policy,
-    u: UserId,
-    row: &Row,
-) -> Result<WorkList, AllocError>
+pub(crate) fn work_at(alloc: Global, p: &Policy, u: UserId, row: &Row) -> Result<WorkList, Unfound>
     requires known { IsOfPolicy p.now row.now.case }
     requires planned { IsPlanned p.now row.now.case row.now.plan }
     requires user { u < length p.now.roster.users }
@@ -82,7 +77,7 @@ fn granted_steps(
     u: UserId,
     row: &Row,
     kept: &Plan,
-) -> Result<WorkList, AllocError>
+) -> Result<WorkList, Unfound>
     requires known { IsOfPolicy p.now row.now.case }
     requires valid { IsPlanOf p.now row.now.case kept.now }
     requires user { u < length p.now.roster.users }
@@ -105,7 +100,7 @@ fn add_step(
     kept: &Plan,
     step: StepId,
     items: &mut WorkList,
-) -> Result<(), AllocError>
+) -> Result<(), Unfound>
     requires known { IsOfPolicy p.now row.now.case }
     requires valid { IsPlanOf p.now row.now.case kept.now }
     requires user { u < length p.now.roster.users }
@@ -138,7 +133,7 @@ fn is_granted(
     case: &Case,
     kept: &Plan,
     step: StepId,
-) -> Result<bool, AllocError>
+) -> Result<bool, Unfound>
     requires known { IsOfPolicy p.now case.now }
     requires valid { IsPlanOf p.now case.now kept.now }
     requires user { u < length p.now.roster.users }

@@ -7,3 +7,4 @@ pub mod Replies
 pub mod Entries
 pub mod Texts
 pub mod Listed
+pub mod Long

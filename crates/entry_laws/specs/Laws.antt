@@ -1,16 +1,21 @@
 -- Every entry of a legal history is a line that the reader of transcripts accepts.
-use Rattle.std.specs.Prelude.{◌≡◌, ◌≢◌, ℕ, ◌+◌, ◌<◌, ◌≤◌, ◌^◌, List, [], ◌∷◌, ◌++◌, length, Option, option_map}
+use Rattle.std.specs.Prelude.{◌≡◌, ◌≢◌, ℕ, ◌+◌, ◌<◌, ◌≤◌, ◌^◌, Bool, false, true, List, [], ◌∷◌, ◌++◌, length, Option, option_map}
 use Rattle.std.specs.List.{All}
-use Rattle.wf_names.specs.declared.limits.TheConstants.{STEP_LIMIT}
+use Rattle.wf_names.specs.Table.{AreNames}
+use Rattle.wf_names.specs.declared.limits.TheConstants.{STEP_LIMIT, TRANSCRIPT_LINE_LIMIT}
 use Rattle.policy_book.specs.Shapes.{PolicyShape}
 use Rattle.policy_book.specs.Policies.{flow_at}
 use Rattle.policy_book.specs.Facts.{IsSoundPolicy}
 use Rattle.wf_talk.specs.declared.entry.Entry.{Entry}
+use Rattle.wf_talk.specs.declared.reply.Reply.{Reply}
+use Rattle.wf_talk.specs.declared.reply.Reply.TheVariants as reply
+use Rattle.wf_talk.specs.declared.reply.Denial.TheVariants as denial
 use Rattle.wf_talk.specs.Jobs.{IsNamedAsk}
 use Rattle.wf_board.specs.States.{State, numbered_case, opening_state}
 use Rattle.wf_board.specs.Histories.{IsLegal, state_after}
+use Rattle.wf_board.specs.Trees.{shows_large}
 use Rattle.wire_json.specs.Replies.{entry_text}
-use Rattle.entry_reader.specs.Lines.{IsLineOf}
+use Rattle.entry_reader.specs.Lines.{IsEntry, IsLineOf}
 
 -- which workflow each case of a state is of
 abbrev pub flows_of : State → ℕ → Option ℕ
@@ -48,3 +53,21 @@ pub record IsOneLine (text : List ℕ) : Type 0 where
 -- the text of every entry does
 abbrev pub TextsAreLines : Type 0
 TextsAreLines = (p : PolicyShape) (e : Entry) → IsOneLine (entry_text p e)
+
+-- the names of users and steps have a name's form
+pub record HasNames (p : PolicyShape) : Type 0 where
+  pub users : AreNames p.roster.users
+  pub steps : (f : ℕ) → AreNames (flow_at p f).flow.steps
+
+-- a reply that denies by a tree
+abbrev pub is_by_tree : Reply → Bool
+is_by_tree (reply.Denied (denial.Unsatisfiable f tree)) = true
+is_by_tree (reply.Denied (denial.Stranded f tree)) = true
+is_by_tree (reply.Denied (denial.Strands n f tree)) = true
+is_by_tree given = false
+
+-- the text of an entry that denies by a tree which is not too large is, without its LF, no longer than a line of an audit
+abbrev pub TreesFitLines : Type 0
+TreesFitLines =
+    (p : PolicyShape) (flows : ℕ → Option ℕ) (e : Entry) → HasNames p → IsEntry p flows e →
+    is_by_tree e.reply ≡ true → shows_large e.reply ≡ false → length (entry_text p e) ≤ TRANSCRIPT_LINE_LIMIT + 1

@@ -3,7 +3,7 @@
 
 use crate::fixture::{FLOW, PAY};
 use admin_edits::edit_cause;
-use case_views::{PlainDecider, SpreadDecider, what_if, worklist};
+use case_views::{PlainDecider, SpreadDecider, Unfound, what_if, worklist};
 use std::alloc::{AllocError, Global};
 use std::test::Fail;
 use std::thread::Threads;
@@ -156,17 +156,21 @@ fn lists(alloc: Global, board: &Board) -> Result<bool, AllocError> {
         return Ok(false);
     };
     let snap = board.snap(alloc, &Ask::Request(Request::Worklist { user }))?;
-    has_lists(alloc, &snap)
+    match has_lists(alloc, &snap) {
+        Ok(told) => Ok(told),
+        Err(Unfound::NoMemory) => Err(AllocError),
+        Err(Unfound::OverBudget) => Ok(false),
+    }
 }
 
-fn has_lists(alloc: Global, snap: &Snap) -> Result<bool, AllocError> {
+fn has_lists(alloc: Global, snap: &Snap) -> Result<bool, Unfound> {
     if snap.policy().roster().users().len() != 4 {
         return Ok(false);
     }
     Ok(are_approvals(worklist(alloc, snap, CYD)?.as_slice()) && strands(alloc, snap)?)
 }
 
-fn strands(alloc: Global, snap: &Snap) -> Result<bool, AllocError> {
+fn strands(alloc: Global, snap: &Snap) -> Result<bool, Unfound> {
     let (Some(by), Some(edit)) = (Name::read("eve"), dismissal()) else {
         return Ok(false);
     };

@@ -14,6 +14,7 @@ use Rattle.wf_board.specs.States.{Book, State, numbered_case, flow_named, step_n
 use Rattle.wf_board.specs.Resolved.{on_step, open_case_at, resolve}
 use Rattle.wf_board.specs.Decisions.{cause_aside, cause_full, decision_aside, decision_of, needs_verdict, unless_denied}
 use Rattle.wf_board.specs.Admitting.{HasVerdict, rests_on_all}
+use Rattle.wf_board.specs.Verdicts.{is_want}
 use Rattle.wf_board.specs.declared.verdict.Verdict.{Verdict}
 use Rattle.wf_board.specs.declared.verdict.Verdict.TheVariants as verdict
 use Rattle.wf_talk.specs.declared.reply.Reply.{Reply}
@@ -82,6 +83,6 @@ without_needs s what given v none = none_verdict s what given v (needs_left (dec
 pub without_all : (s : State) (what : Ask) (given : Reply) (v : Verdict) → asks_of_all what ≡ false → HasVerdict s what given v
 without_all s what given v other = none_verdict s what given v (none_left s.book what other)
 
--- and a decider's does
-pub with_found : (s : State) (what : Ask) (given : Reply) (v : Verdict) → v ≢ verdict.Nothing → v ≢ verdict.NoMemory → HasVerdict s what given v
-with_found s what given v some memory left answered = (some, memory)
+-- and a decider's does, if it was found out
+pub with_found : (s : State) (what : Ask) (given : Reply) (v : Verdict) → v ≢ verdict.Nothing → is_want v ≡ false → HasVerdict s what given v
+with_found s what given v some is_found left answered = (some, is_found)

@@ -25,7 +25,7 @@ use policy_book::Policy;
 use std::alloc::{AllocError, Global};
 use std::marker::Model;
 use std::sync::Arc;
-use wf_board::{Board, Decider, Verdict, is_view};
+use wf_board::{Board, Decider, is_view};
 use wf_talk::{Ask, Ends, Entry, Job, Jobs, Journal, Reply};
 
 /// An audit of a transcript, line by line.
@@ -307,7 +307,7 @@ impl Auditor {
     {
         let _few = self.record.number();
         let verdict = verdict_for(&self.board, alloc, decider, &job.ask, &reply);
-        if matches!(verdict, Verdict::NoMemory) {
+        if verdict.is_want() {
             return Err(Flaw::NoMemory);
         }
         self.record.reserve()?;

@@ -1,9 +1,9 @@
 //! The verdict that is needed to take a reply.
-ghost use Rattle.std.specs.Prelude.{◌≡◌, ◌≢◌, true};
+ghost use Rattle.std.specs.Prelude.{◌≡◌, ◌≢◌, false, true};
 ghost use Rattle.wf_board.specs.Admitting.{HasVerdict};
 ghost use Rattle.wf_board.specs.Boards.{state_on};
 ghost use Rattle.wf_board.specs.Decisions.{decision_of, needs_verdict};
-ghost use Rattle.wf_board.specs.Verdicts.{IsRight};
+ghost use Rattle.wf_board.specs.Verdicts.{is_want, IsRight};
 ghost use Rattle.transcript_audit.specs.Keeping.{asks_of_all};
 
 use std::alloc::Global;
@@ -22,7 +22,7 @@ pub(crate) fn verdict_for<V: Decider>(
 ) -> Verdict
     requires ready { V.ready decider.now }
     ensures right { IsRight (state_on board.now).book ask.now result }
-    ensures verdict { result ≢ Verdict.NoMemory
+    ensures verdict { is_want result ≡ false
         → HasVerdict (state_on board.now) ask.now reply.now result }
 {
     if matches!(reply, Reply::NoMemory) {

@@ -48,7 +48,7 @@ use Rattle.wf_board.specs.Views.{AreStranded, IsWorkOf, steps_of}
 use Rattle.wf_talk.specs.declared.reply.WorkItem.{WorkItem}
 use Rattle.wf_board.specs.Steps.{Answers, IsReplyTo, IsStep, state_after_decision}
 use Rattle.wf_board.specs.Taking.{board_of, full_or, keeps_policy, HasTakenStep, IsKept}
-use Rattle.wf_board.specs.Verdicts.{IsEditionFor, IsMadeOf, IsPlanFor, IsRight, IsStrandingFor, IsTreeFor, IsViewFor}
+use Rattle.wf_board.specs.Verdicts.{IsEditionFor, IsMadeOf, IsPlanFor, IsRight, IsStrandingFor, IsTreeFor, IsViewFor, is_want}
 use Rattle.wf_board.proofs.Amended.{IsChange, IsFoundCase, change_decided, edition_change, plans_complete, same_case, stranded_case}
 use Rattle.wf_board.specs.KeptPlans.{rows_after}
 use Rattle.wf_board.proofs.Answering.{same_taken}
@@ -245,12 +245,16 @@ cause_admitted p t r d given b result kept memory decided test is =
 
 -- ---- verdicts
 
+no_want : {X : Type 0} → true ≡ false → X
+no_want apart = cc
+
 -- a right verdict on a view that is left, by which the policy stays, is its list
 viewed : (b : Book) (what : Ask) (d : Deed) (v : Verdict) → decision_aside b what ≡ Ok d → ((plan : List ℕ) → ¬ IsPlanFor b (Ok d) plan) → ((tree : Tree) → ¬ IsTreeFor b (Ok d) tree) →
     ((n : ℕ) (tree : Tree) → ¬ IsStrandingFor b (Ok d) n tree) → ((x : View) → IsViewFor b (Ok d) x → IsVerdictFor b d (verdict.View x)) →
-    IsRight b what v → keeps_policy v ≡ true → (v ≢ verdict.Nothing) × (v ≢ verdict.NoMemory) → IsVerdictFor b d v
+    IsRight b what v → keeps_policy v ≡ true → (v ≢ verdict.Nothing) × (is_want v ≡ false) → IsVerdictFor b d v
 viewed b what d verdict.Nothing aside plan tree strands view is stays some = absurd (some.0 refl)
-viewed b what d verdict.NoMemory aside plan tree strands view is stays some = absurd (some.1 refl)
+viewed b what d verdict.NoMemory aside plan tree strands view is stays some = no_want some.1
+viewed b what d verdict.OverBudget aside plan tree strands view is stays some = no_want some.1
 viewed b what d (verdict.Plan x) aside plan tree strands view is stays some = absurd (plan x (subst (λ r. IsPlanFor b r x) aside is))
 viewed b what d (verdict.Refuted x) aside plan tree strands view is stays some = absurd (tree x (subst (λ r. IsTreeFor b r x) aside is))
 viewed b what d (verdict.Edited edition) aside plan tree strands view is stays some = cc
@@ -272,9 +276,10 @@ verdict_for b s what given v (deed.TurnAway bad) same right keeps has memory dec
 verdict_for b s what given v (deed.Change a) same right keeps has memory decided aside =
     of_change v right keeps (has (ap (λ (x : Book). rests_on_all (decision_of x what)) same ∙ ap rests_on_all decided) memory)
   where
-    of_change : (x : Verdict) → IsRight b what x → keeps_policy x ≡ true → (x ≢ verdict.Nothing) × (x ≢ verdict.NoMemory) → IsVerdictFor b (deed.Change a) x
+    of_change : (x : Verdict) → IsRight b what x → keeps_policy x ≡ true → (x ≢ verdict.Nothing) × (is_want x ≡ false) → IsVerdictFor b (deed.Change a) x
     of_change verdict.Nothing is stays some = absurd (some.0 refl)
-    of_change verdict.NoMemory is stays some = absurd (some.1 refl)
+    of_change verdict.NoMemory is stays some = no_want some.1
+    of_change verdict.OverBudget is stays some = no_want some.1
     of_change (verdict.Plan plan) is stays some = absurd (subst (λ r. IsPlanFor b r plan) aside is)
     of_change (verdict.Refuted tree) is stays some = absurd (subst (λ r. IsTreeFor b r tree) aside is)
     of_change (verdict.Edited edition) is stays some = cc

@@ -29,6 +29,7 @@ claim_within p rows n c t u found = claimed_within p c t u found.case.known foun
 pub certified_right : (b : Book) (what : Ask) (v : Verdict) → IsCertified b what v → IsRight b what v
 certified_right b what verdict.Nothing is = tt
 certified_right b what verdict.NoMemory is = tt
+certified_right b what verdict.OverBudget is = tt
 certified_right b what (verdict.Edited edition) is = absurd is
 certified_right b what (verdict.Strands n tree) is = absurd is
 certified_right b what (verdict.View v) is = absurd is
@@ -64,6 +65,7 @@ pub open_certificate : (b : Book) (f : ℕ) (v : Verdict) (result : Bool) → re
     result ≡ true ↔ IsCertificate b (Ok (deed.Open f)) v
 open_certificate b f verdict.Nothing result is = is
 open_certificate b f verdict.NoMemory result is = is
+open_certificate b f verdict.OverBudget result is = is
 open_certificate b f (verdict.Plan plan) result is = is
 open_certificate b f (verdict.Edited edition) result is = is
 open_certificate b f (verdict.Strands m tree) result is = is
@@ -74,6 +76,7 @@ pub claim_certificate : (b : Book) (n : ℕ) (c : CaseShape) (t u : ℕ) (v : Ve
     result ≡ true ↔ IsCertificateOf (problem_of b.policy c.flow) (assigned_with c t u) (finished_of c) v → result ≡ true ↔ IsCertificate b (Ok (deed.Claim n c t u)) v
 claim_certificate b n c t u verdict.Nothing result is = is
 claim_certificate b n c t u verdict.NoMemory result is = is
+claim_certificate b n c t u verdict.OverBudget result is = is
 claim_certificate b n c t u (verdict.Plan plan) result is = is
 claim_certificate b n c t u (verdict.Edited edition) result is = is
 claim_certificate b n c t u (verdict.Strands m tree) result is = is

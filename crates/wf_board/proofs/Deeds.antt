@@ -16,6 +16,7 @@ pub fits_open : (p : PolicyShape) (rows : List Row) (ever : ℕ) (d : Deed) (v :
     FitsDeed (with_cases p (map numbered (open_rows rows)) ever) d v → FitsDeed (with_cases p (map numbered rows) ever) d v
 fits_open p rows ever d verdict.Nothing over is = tt
 fits_open p rows ever d verdict.NoMemory over is = tt
+fits_open p rows ever d verdict.OverBudget over is = tt
 fits_open p rows ever (deed.Change a) (verdict.Plan plan) over is = absurd is
 fits_open p rows ever (deed.Work u) (verdict.Plan plan) over is = absurd is
 fits_open p rows ever (deed.WhatIf a) (verdict.Plan plan) over is = absurd is

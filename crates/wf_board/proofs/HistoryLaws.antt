@@ -14,7 +14,7 @@ use Rattle.wf_board.specs.States.{State, opening_state}
 use Rattle.wf_board.specs.Decisions.{decision_of}
 use Rattle.wf_board.specs.Steps.{Answers, IsReplyTo, IsStep, state_after_decision, state_after_deed, state_after_step}
 use Rattle.wf_board.specs.Counting.{counted, is_edited, lane_end}
-use Rattle.wf_board.specs.Histories.{AreAnsweredOnce, AreWantsRightful, BatchRests, EachAfter, FillsJobs, IsAnsweredOnce, IsLegal, IsRetry, IsRightAfter, IsWantRightful, RestsFrom, batch_end, batch_jobs, batch_start, job_of_entry, lane_jobs, state_after}
+use Rattle.wf_board.specs.Histories.{AreAnsweredOnce, AreRightful, BatchRests, EachAfter, FillsJobs, IsAnsweredOnce, IsLegal, IsRetry, IsRightAfter, IsRightful, RestsFrom, batch_end, batch_jobs, batch_start, job_of_entry, lane_jobs, state_after}
 
 -- the state after one more entry
 pub after_more : (s : State) (entries : List Entry) (e : Entry) → state_after s (entries ++ e ∷ []) ≡ state_after_step (state_after s entries) e.ask e.reply
@@ -120,8 +120,8 @@ pub once_more : (entries : List Entry) (e : Entry) → AreAnsweredOnce entries �
 once_more [] e once last = (last, tt)
 once_more (x ∷ xs) e once last = (once.0, once_more xs e once.1 last)
 
--- with one more entry that is answered with want of memory only where it may be all are
-pub wants_more : (entries : List Entry) (e : Entry) → AreWantsRightful entries → IsWantRightful e → AreWantsRightful (entries ++ e ∷ [])
+-- with one more entry that is rightful all are
+pub wants_more : (entries : List Entry) (e : Entry) → AreRightful entries → IsRightful e → AreRightful (entries ++ e ∷ [])
 wants_more [] e wants last = (last, tt)
 wants_more (x ∷ xs) e wants last = (wants.0, wants_more xs e wants.1 last)
 

@@ -16,6 +16,7 @@ pub mod Grants
 pub mod Rows
 pub mod Planned
 pub mod Answering
+pub mod Small
 pub mod PlansKept
 pub mod Deeds
 pub mod Unhurt

@@ -235,6 +235,7 @@ no_view b r v plain is = absurd is
 pub plain_right : (b c : Book) (what : Ask) (v : Verdict) → IsAlwaysAside what → IsRight b what v → IsRight c what v
 plain_right b c what verdict.Nothing plain is = tt
 plain_right b c what verdict.NoMemory plain is = tt
+plain_right b c what verdict.OverBudget plain is = tt
 plain_right b c what (verdict.Plan plan) plain is = no_plan b (decision_aside b what) plan (plain b) is
 plain_right b c what (verdict.Refuted tree) plain is = no_tree b (decision_aside b what) tree (plain b) is
 plain_right b c what (verdict.Edited edition) plain is = no_edition b (decision_aside b what) edition (plain b) is
@@ -314,6 +315,7 @@ pub right_same : (p : PolicyShape) (xs ys : List Numbered) (m k : ℕ) (what : A
     MayChange xs ys (decision_aside (with_cases p xs m) what) → IsRight (with_cases p xs m) what v → IsRight (with_cases p ys k) what v
 right_same p xs ys m k what verdict.Nothing same may is = tt
 right_same p xs ys m k what verdict.NoMemory same may is = tt
+right_same p xs ys m k what verdict.OverBudget same may is = tt
 right_same p xs ys m k what (verdict.Plan plan) same may is =
     subst (λ r. IsPlanFor (with_cases p ys k) r plan) same (plan_same p xs ys m k (decision_aside (with_cases p xs m) what) plan is)
 right_same p xs ys m k what (verdict.Refuted tree) same may is =

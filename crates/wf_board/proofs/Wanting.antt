@@ -20,6 +20,7 @@ use Rattle.wf_board.specs.Resolved.{on_step, open_case_at, resolve}
 use Rattle.wf_board.specs.Boards.{BoardShape, state_on}
 use Rattle.wf_board.specs.Decisions.{cause_aside, cause_full, decision_aside, decision_of, is_held_by, needs_verdict, takes_memory, unless_denied}
 use Rattle.wf_board.specs.Histories.{may_lack_memory}
+use Rattle.wf_board.specs.Trees.{shows_large}
 use Rattle.wf_board.specs.Verdicts.{IsDecided, LacksMemory, MayLackMemory, is_opening}
 use Rattle.wf_board.proofs.Snaps.{IsAlwaysAside, finish_plain, needs_aside, plain_needs, release_plain, return_plain, show_plain, withdraw_plain}
 
@@ -172,8 +173,10 @@ lacks_rightly b what v (inl short) = needs_rightly (state_on b).book what short.
 lacks_rightly b what v (inr (inl takes)) = roles_rightly (state_on b).book what takes
 lacks_rightly b what v (inr (inr short)) = needs_rightly (state_on b).book what (opening_needs (decision_of (state_on b).book what) short.0)
 
-pub decided_rightly : (b : BoardShape) (what : Ask) (v : Verdict) (given : Reply) → IsDecided b what v given → given ≡ reply.NoMemory → may_lack_memory what ≡ true
-decided_rightly b what v given decided short = lacks_rightly b what v (decided.memory short)
+-- and no tree that is too large is shown
+pub decided_rightly : (b : BoardShape) (what : Ask) (v : Verdict) (given : Reply) → IsDecided b what v given →
+    (given ≡ reply.NoMemory → may_lack_memory what ≡ true) × (shows_large given ≡ false)
+decided_rightly b what v given decided = (λ short. lacks_rightly b what v (decided.memory short), decided.small)
 
 -- where an answer may lack memory, so may what is decided
 pub answer_lacks : (b : BoardShape) (what : Ask) (v : Verdict) → MayLackMemory b what v → LacksMemory b what v

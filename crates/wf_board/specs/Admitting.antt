@@ -11,7 +11,7 @@ use Rattle.wf_board.specs.declared.verdict.Verdict.{Verdict}
 use Rattle.wf_board.specs.declared.verdict.Verdict.TheVariants as verdict
 use Rattle.wf_board.specs.States.{State}
 use Rattle.wf_board.specs.Decisions.{decision_of, takes_memory}
-use Rattle.wf_board.specs.Verdicts.{is_opening}
+use Rattle.wf_board.specs.Verdicts.{is_opening, is_want}
 
 -- an edit against which there is no cause
 abbrev pub is_edit_left : Result Deed Denial → Bool
@@ -25,10 +25,10 @@ rests_on_all (Ok (deed.Work u)) = true
 rests_on_all (Ok (deed.WhatIf a)) = true
 rests_on_all given = false
 
--- an edit or a view, against which there is no cause, has a verdict, unless its reply is want of memory
+-- an edit or a view, against which there is no cause, has a verdict that was found out, unless its reply is want of memory
 abbrev pub HasVerdict : State → Ask → Reply → Verdict → Type 0
 HasVerdict s what given v =
-    rests_on_all (decision_of s.book what) ≡ true → given ≢ reply.NoMemory → (v ≢ verdict.Nothing) × (v ≢ verdict.NoMemory)
+    rests_on_all (decision_of s.book what) ≡ true → given ≢ reply.NoMemory → (v ≢ verdict.Nothing) × (is_want v ≡ false)
 
 -- where there may be no memory to take a reply, with room for so many more cases: for the list of roles of a denial, for
 -- an opening without room, or for the policy after an edit

@@ -25,6 +25,7 @@ use Rattle.wf_board.specs.Verdicts.{IsDecided, IsEditionFor, IsPlanFor, IsStrand
 abbrev pub FitsDeed : Book → Deed → Verdict → Type 0
 FitsDeed b given verdict.Nothing = Unit {0}
 FitsDeed b given verdict.NoMemory = Unit {0}
+FitsDeed b given verdict.OverBudget = Unit {0}
 FitsDeed b given (verdict.Plan plan) = IsPlanFor b (Ok given) plan
 FitsDeed b given (verdict.Refuted tree) = IsTreeFor b (Ok given) tree
 FitsDeed b given (verdict.Edited edition) = IsEditionFor b (Ok given) edition

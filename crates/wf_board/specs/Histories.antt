@@ -11,6 +11,7 @@ use Rattle.wf_talk.specs.declared.reply.Reply.TheVariants.{Again, NoMemory}
 use Rattle.wf_board.specs.States.{State}
 use Rattle.wf_board.specs.Decisions.{decision_of, is_view, needs_verdict}
 use Rattle.wf_board.specs.Steps.{IsStep, state_after_step}
+use Rattle.wf_board.specs.Trees.{shows_large}
 use Rattle.wf_board.specs.Counting.{counted, counted_end, lane_end}
 
 -- the state after a history
@@ -104,11 +105,11 @@ may_lack_memory (ask.Request (request.Worklist user)) = true
 may_lack_memory (ask.Request (request.WhatIf by edit)) = true
 may_lack_memory what = false
 
--- an entry is answered with want of memory only where a board may have none
-abbrev pub IsWantRightful : Entry → Type 0
-IsWantRightful e = e.reply ≡ NoMemory → may_lack_memory e.ask ≡ true
+-- an entry is answered with want of memory only where a board may have none, and shows no tree that is too large
+abbrev pub IsRightful : Entry → Type 0
+IsRightful e = (e.reply ≡ NoMemory → may_lack_memory e.ask ≡ true) × (shows_large e.reply ≡ false)
 
--- each of these entries is
-abbrev pub AreWantsRightful : List Entry → Type 0
-AreWantsRightful [] = Unit {0}
-AreWantsRightful (e ∷ es) = IsWantRightful e × AreWantsRightful es
+-- each of these entries is so
+abbrev pub AreRightful : List Entry → Type 0
+AreRightful [] = Unit {0}
+AreRightful (e ∷ es) = IsRightful e × AreRightful es

@@ -11,6 +11,7 @@ pub mod Kept
 pub mod Found
 pub mod Boards
 pub mod KeptPlans
+pub mod Trees
 pub mod Verdicts
 pub mod Deeds
 pub mod Admitting

@@ -1,5 +1,5 @@
 -- Inside: how a board answers over its policy and its table of cases.
-use Rattle.std.specs.Prelude.{◌≡◌, ℕ, ◌+◌, ◌≤◌, Bool, false, true, List, Option, Result, Ok, IsTrue}
+use Rattle.std.specs.Prelude.{◌≡◌, ◌≢◌, ℕ, ◌+◌, ◌≤◌, Bool, false, true, List, Option, Result, Ok, IsTrue}
 use Rattle.first_fault.specs.Reading.{◌>>=◌}
 use Rattle.refutation_tree.specs.Views.{shape_of}
 use Rattle.policy_book.specs.Shapes.{PolicyShape}
@@ -27,7 +27,7 @@ use Rattle.wf_board.specs.KeptPlans.{rows_after}
 use Rattle.wf_board.specs.Decisions.{cause_aside, cause_full, decision_of, needs_verdict, takes_memory, unless_denied}
 use Rattle.wf_board.specs.Steps.{Answers, room_taken, state_after_decision, with_changed}
 use Rattle.wf_board.specs.Kept.{AreNumbered, ArePlanned}
-use Rattle.wf_board.specs.Verdicts.{HasAnswered, HasUsed, MayLackMemory, room_used}
+use Rattle.wf_board.specs.Verdicts.{HasAnswered, HasUsed, MayLackMemory, is_unusable, room_used}
 
 -- what a board keeps of its table
 pub record IsKept (p : PolicyShape) (t : CasesShape) : Type 0 where
@@ -42,6 +42,12 @@ board_of p t edits = record { policy = p; cases = t; edits = edits }
 abbrev pub keeps_policy : Verdict → Bool
 keeps_policy (verdict.Edited edition) = false
 keeps_policy v = true
+
+-- a verdict that a reply can be made of, by which the policy stays
+pub record IsUsable (v : Verdict) : Type 0 where
+  pub given : v ≢ verdict.Nothing
+  pub same : keeps_policy v ≡ true
+  pub usable : is_unusable v ≡ false
 
 -- a deed is such a change
 pub record IsHarmless (d : Deed) (a : Amendment) : Type 0 where

@@ -33,6 +33,7 @@ use Rattle.wf_board.specs.Edited.{ArePlansOf, IsFirstStranded}
 use Rattle.wf_board.specs.Views.{AreStranded, IsWorkOf}
 use Rattle.wf_board.specs.Decisions.{decision_aside, decision_of, needs_verdict, takes_memory}
 use Rattle.wf_board.specs.Steps.{IsStep, room_taken, state_after_step}
+use Rattle.wf_board.specs.Trees.{is_large, shows_large}
 
 -- a plan by which the case of a deed can be completed
 abbrev pub IsPlanFor : Book → Result Deed Denial → List ℕ → Type 0
@@ -69,6 +70,7 @@ IsViewFor b given v = ⊥
 abbrev pub IsRight : Book → Ask → Verdict → Type 0
 IsRight b what verdict.Nothing = Unit {0}
 IsRight b what verdict.NoMemory = Unit {0}
+IsRight b what verdict.OverBudget = Unit {0}
 IsRight b what (verdict.Plan plan) = IsPlanFor b (decision_aside b what) plan
 IsRight b what (verdict.Refuted tree) = IsTreeFor b (decision_aside b what) tree
 IsRight b what (verdict.Edited edition) = IsEditionFor b (decision_aside b what) edition
@@ -91,15 +93,15 @@ pub record Decides (b : Book) (what : Ask) (v : Verdict) : Type 0 where
   pub nothing : needs_verdict (decision_aside b what) ≡ false → v ≡ verdict.Nothing
   pub something : needs_verdict (decision_aside b what) ≡ true → v ≢ verdict.Nothing
 
--- a reply is made of this very verdict, where one was needed
+-- a reply is made of this very verdict, where one was needed, and shows no tree that is too large
 abbrev pub IsMadeOf : Verdict → Reply → Type 0
 IsMadeOf v reply.NoMemory = Unit {0}
 IsMadeOf (verdict.Plan plan) (reply.Granted q) = q ≡ plan
 IsMadeOf (verdict.Plan plan) (reply.Opened n q) = q ≡ plan
-IsMadeOf (verdict.Refuted tree) (reply.Denied (denial.Stranded f t)) = t ≡ tree
-IsMadeOf (verdict.Refuted tree) (reply.Denied (denial.Unsatisfiable f t)) = t ≡ tree
+IsMadeOf (verdict.Refuted tree) (reply.Denied (denial.Stranded f t)) = (t ≡ tree) × (is_large tree ≡ false)
+IsMadeOf (verdict.Refuted tree) (reply.Denied (denial.Unsatisfiable f t)) = (t ≡ tree) × (is_large tree ≡ false)
 IsMadeOf (verdict.Edited edition) (reply.Edited number) = Unit {0}
-IsMadeOf (verdict.Strands n tree) (reply.Denied (denial.Strands m f t)) = (m ≡ n) × (t ≡ tree)
+IsMadeOf (verdict.Strands n tree) (reply.Denied (denial.Strands m f t)) = (m ≡ n) × ((t ≡ tree) × (is_large tree ≡ false))
 IsMadeOf (verdict.View (view.Work items)) (reply.Work given) = given ≡ items
 IsMadeOf (verdict.View (view.WhatIf numbers)) (reply.WhatIf given) = given ≡ numbers
 IsMadeOf v given = ⊥
@@ -108,6 +110,11 @@ IsMadeOf v given = ⊥
 abbrev pub HasUsed : Verdict → Answered → Type 0
 HasUsed v Needs = v ≡ verdict.Nothing
 HasUsed v (Done given) = IsMadeOf v given
+
+-- what the board answered shows a tree that is too large
+abbrev pub has_shown_large : Answered → Bool
+has_shown_large Needs = false
+has_shown_large (Done given) = shows_large given
 
 -- how much of the room for more cases an answer takes
 abbrev pub room_used : Answered → ℕ
@@ -119,19 +126,31 @@ abbrev pub is_opening : Result Deed Denial → Bool
 is_opening (Ok (deed.Open f)) = true
 is_opening given = false
 
--- where want of memory may be answered: it is the verdict, where one is needed, or there was none for the list of roles
--- of a denial, or for an opening without room
+-- a verdict that was not found out: there was no memory, or the search would keep more than its budget
+abbrev pub is_want : Verdict → Bool
+is_want verdict.NoMemory = true
+is_want verdict.OverBudget = true
+is_want v = false
+
+-- a verdict that no reply can be made of: it was not found out, or its tree is too large for an entry
+abbrev pub is_unusable : Verdict → Bool
+is_unusable (verdict.Refuted tree) = is_large tree
+is_unusable (verdict.Strands n tree) = is_large tree
+is_unusable v = is_want v
+
+-- where want of memory may be answered: no reply can be made of the verdict, where one is needed, or there was none for the
+-- list of roles of a denial, or for an opening without room
 abbrev pub MayLackMemory : BoardShape → Ask → Verdict → Type 0
 MayLackMemory b what v =
-    ((v ≡ verdict.NoMemory) × (needs_verdict (decision_of (state_on b).book what) ≡ true))
+    ((is_unusable v ≡ true) × (needs_verdict (decision_of (state_on b).book what) ≡ true))
     ⊎ ((takes_memory (decision_of (state_on b).book what) ≡ true)
     ⊎ ((is_opening (decision_of (state_on b).book what) ≡ true) × (b.cases.spare ≡ 0)))
 
--- where want of memory may be answered once a decider was there: a verdict is needed, and none was given or it is that; or
--- there was none for the list of roles of a denial, or for an opening without room
+-- where want of memory may be answered once a decider was there: a verdict is needed, and none was given or no reply can be
+-- made of it; or there was none for the list of roles of a denial, or for an opening without room
 abbrev pub LacksMemory : BoardShape → Ask → Verdict → Type 0
 LacksMemory b what v =
-    (((v ≡ verdict.Nothing) ⊎ (v ≡ verdict.NoMemory)) × (needs_verdict (decision_of (state_on b).book what) ≡ true))
+    (((v ≡ verdict.Nothing) ⊎ (is_unusable v ≡ true)) × (needs_verdict (decision_of (state_on b).book what) ≡ true))
     ⊎ ((takes_memory (decision_of (state_on b).book what) ≡ true)
     ⊎ ((is_opening (decision_of (state_on b).book what) ≡ true) × (b.cases.spare ≡ 0)))
 
@@ -140,6 +159,7 @@ pub record IsDecided (b : BoardShape) (what : Ask) (v : Verdict) (given : Reply)
   pub step : IsStep (state_on b) what given
   pub made : needs_verdict (decision_of (state_on b).book what) ≡ true → v ≢ verdict.Nothing → IsMadeOf v given
   pub memory : given ≡ reply.NoMemory → LacksMemory b what v
+  pub small : shows_large given ≡ false
 
 -- the board has answered
 abbrev pub HasAnswered : BoardShape → BoardShape → Ask → Verdict → Answered → Type 0

@@ -1,5 +1,5 @@
 //! The board: a policy and its cases.
-ghost use Rattle.std.specs.Prelude.{◌≡◌, ◌≢◌, ◌<◌, ◌≤◌, ◌+◌, ◌↔◌, map, true, IfOk, IsErrOf, OnErr, OnOk, Some};
+ghost use Rattle.std.specs.Prelude.{◌≡◌, ◌≢◌, ◌<◌, ◌≤◌, ◌+◌, ◌↔◌, map, false, true, IfOk, IsErrOf, OnErr, OnOk, Some};
 ghost use Rattle.std.specs.Arc.{arc_value};
 ghost use Rattle.wf_board.specs.Admission.{HasAdmittedStep};
 ghost use Rattle.wf_board.specs.Admitting.{HasVerdict, MayLackMemoryFor};
@@ -12,7 +12,8 @@ ghost use Rattle.wf_board.specs.Kept.{AreNumbered, ArePlanned, IsSoundState, Kee
 ghost use Rattle.wf_board.specs.States.{opening_state};
 ghost use Rattle.wf_board.specs.Steps.{room_taken, state_after_step, IsStep};
 ghost use Rattle.wf_board.specs.Taking.{keeps_policy, IsHarmlessChange};
-ghost use Rattle.wf_board.specs.Verdicts.{HasAnswered, HasUsed, IsCertified, IsDecided, IsEditionFor, IsRight, MayLackMemory, room_used, snap_of, snap_rows};
+ghost use Rattle.wf_board.specs.Trees.{shows_large};
+ghost use Rattle.wf_board.specs.Verdicts.{has_shown_large, HasAnswered, HasUsed, IsCertified, IsDecided, IsEditionFor, IsRight, MayLackMemory, room_used, snap_of, snap_rows};
 
 use crate::admit::admit;
 use crate::certified::accepts;
@@ -99,6 +100,7 @@ impl Board {
             → HasUsed verdict result }
         ensures memory { result ≡ Answered.Done Reply.NoMemory
             → MayLackMemory self.old ask.now verdict }
+        ensures small { has_shown_large result ≡ false }
         ensures lacking { result ≡ Answered.Done Reply.NoMemory → self.new ≡ self.old }
         ensures plans { KeepsPlansBy self.old self.new ask.now verdict result }
         ensures room { self.old.cases.spare ≤ self.new.cases.spare + 1 }
@@ -312,6 +314,7 @@ impl Board {
         requires undecided { IsUndecided self.old.policy self.old.cases ask.now deed }
         requires few { self.old.edits < 4294967295 }
         ensures step { IsStep (state_on self.old) ask.now result }
+        ensures small { shows_large result ≡ false }
         ensures next { state_on self.new ≡ state_after_step (state_on self.old) ask.now result }
         ensures plans { KeepsPlans self.old self.new ask.now Verdict.Nothing result }
         ensures lacking { result ≡ Reply.NoMemory → self.new ≡ self.old }
@@ -334,6 +337,7 @@ impl Board {
         requires given { verdict ≢ Verdict.Nothing }
         requires few { self.old.edits < 4294967295 }
         ensures step { IsStep (state_on self.old) ask.now result }
+        ensures small { shows_large result ≡ false }
         ensures next { state_on self.new ≡ state_after_step (state_on self.old) ask.now result }
         ensures plans { KeepsPlans self.old self.new ask.now verdict result }
         ensures lacking { result ≡ Reply.NoMemory → self.new ≡ self.old }
@@ -356,6 +360,7 @@ impl Board {
         requires harmless { IsHarmlessChange (state_on self.old).book ask.now change }
         requires few { self.old.edits < 4294967295 }
         ensures step { IsStep (state_on self.old) ask.now result }
+        ensures small { shows_large result ≡ false }
         ensures next { state_on self.new ≡ state_after_step (state_on self.old) ask.now result }
         ensures plans { KeepsPlans self.old self.new ask.now Verdict.Nothing result }
         ensures lacking { result ≡ Reply.NoMemory → self.new ≡ self.old }

@@ -18,8 +18,9 @@ ghost use Rattle.wf_board.specs.Deeds.{answered_of, FitsDeed, IsLeftTo, IsUndeci
 ghost use Rattle.wf_board.specs.Found.{AreFound, IsFound, IsOpenAt};
 ghost use Rattle.wf_board.specs.States.{is_full};
 ghost use Rattle.wf_board.specs.Steps.{face_of};
-ghost use Rattle.wf_board.specs.Taking.{full_or, keeps_policy, HasAnsweredAlone, HasAnsweredBy, HasChanged, HasTakenStep, IsKept};
-ghost use Rattle.wf_board.specs.Verdicts.{is_opening, IsMadeOf, IsPlanFor, IsRight, IsStrandingFor, IsTreeFor};
+ghost use Rattle.wf_board.specs.Taking.{full_or, keeps_policy, HasAnsweredAlone, HasAnsweredBy, HasChanged, HasTakenStep, IsKept, IsUsable};
+ghost use Rattle.wf_board.specs.Trees.{is_large, shows_large};
+ghost use Rattle.wf_board.specs.Verdicts.{is_opening, is_unusable, IsMadeOf, IsPlanFor, IsRight, IsStrandingFor, IsTreeFor};
 
 use crate::decision::{Refused, decision_of, is_full, needs_plan};
 use crate::resolve::resolve;
@@ -47,6 +48,33 @@ pub(crate) fn answer(
     requires same { keeps_policy verdict ≡ true }
     ensures answered { HasAnsweredBy p.now cases.old cases.new ask.now verdict result }
 {
+    if verdict.is_unusable() {
+        return answer_want(alloc, p, cases, ask);
+    }
+    answer_by(alloc, p, cases, ask, verdict)
+}
+
+/// Answers what needs no verdict, and else that there was no memory, whatever the verdict is that no
+/// reply can be made of.
+fn answer_want(alloc: Global, p: &Policy, cases: &mut Cases, ask: &Ask) -> Answered
+    requires { IsKept p.now cases.old }
+    ensures { (v : Verdict) → is_unusable v ≡ true
+        → HasAnsweredBy p.now cases.old cases.new ask.now v result }
+{
+    match without_verdict(alloc, p, cases, ask) {
+        Answered::Done(reply) => Answered::Done(reply),
+        Answered::Needs => Answered::Done(Reply::NoMemory),
+    }
+}
+
+/// Answers with a verdict that a reply can be made of, or with none.
+fn answer_by(alloc: Global, p: &Policy, cases: &mut Cases, ask: &Ask, verdict: Verdict) -> Answered
+    requires kept { IsKept p.now cases.old }
+    requires right { IsRight (book_of p.now cases.old) ask.now verdict }
+    requires same { keeps_policy verdict ≡ true }
+    requires usable { is_unusable verdict ≡ false }
+    ensures answered { HasAnsweredBy p.now cases.old cases.new ask.now verdict result }
+{
     match verdict {
         Verdict::Plan(plan) => Answered::Done(by_plan(p, cases, ask, plan)),
         Verdict::Refuted(tree) => Answered::Done(by_tree(p, cases, ask, tree)),
@@ -56,10 +84,7 @@ pub(crate) fn answer(
         Verdict::View(view) => Answered::Done(by_view(p, cases, ask, view)),
         Verdict::Edited(_) => unreachable!(),
         Verdict::Nothing => without_verdict(alloc, p, cases, ask),
-        Verdict::NoMemory => match without_verdict(alloc, p, cases, ask) {
-            Answered::Done(reply) => Answered::Done(reply),
-            Answered::Needs => Answered::Done(Reply::NoMemory),
-        },
+        Verdict::NoMemory | Verdict::OverBudget => unreachable!(),
     }
 }
 
@@ -99,6 +124,24 @@ pub(crate) fn take(p: &Policy, cases: &mut Cases, ask: &Ask, deed: Deed, verdict
     requires same { keeps_policy verdict ≡ true }
     ensures taken { HasTakenStep p.now cases.old cases.new
         (decision_of (book_of p.now cases.old) ask.now) result }
+    ensures small { shows_large result ≡ false }
+    ensures unchanged { result ≡ replies.NoMemory → cases.new ≡ cases.old }
+{
+    if verdict.is_unusable() {
+        return Reply::NoMemory;
+    }
+    take_by(p, cases, ask, deed, verdict)
+}
+
+/// Answers by a verdict that a reply can be made of.
+fn take_by(p: &Policy, cases: &mut Cases, ask: &Ask, deed: Deed, verdict: Verdict) -> Reply
+    requires kept { IsKept p.now cases.old }
+    requires undecided { IsUndecided p.now cases.old ask.now deed }
+    requires fits { FitsDeed (book_of p.now cases.old) deed verdict }
+    requires usable { IsUsable verdict }
+    ensures taken { HasTakenStep p.now cases.old cases.new
+        (decision_of (book_of p.now cases.old) ask.now) result }
+    ensures small { shows_large result ≡ false }
     ensures unchanged { result ≡ replies.NoMemory → cases.new ≡ cases.old }
 {
     match verdict {
@@ -108,7 +151,7 @@ pub(crate) fn take(p: &Policy, cases: &mut Cases, ask: &Ask, deed: Deed, verdict
         Verdict::View(view) => by_view(p, cases, ask, view),
         Verdict::Edited(_) => unreachable!(),
         Verdict::Nothing => unreachable!(),
-        Verdict::NoMemory => Reply::NoMemory,
+        Verdict::NoMemory | Verdict::OverBudget => unreachable!(),
     }
 }
 
@@ -141,6 +184,7 @@ fn plan_for(p: &Policy, cases: &mut Cases, deed: Deed, plan: Plan) -> Reply
         deed) result }
     ensures made { needs_verdict (full_or (book_of p.now cases.old) deed) ≡ true
         → IsMadeOf (verdicts.Plan plan) result }
+    ensures small { shows_large result ≡ false }
     ensures memory { result ≡ replies.NoMemory
         → (is_opening (full_or (book_of p.now cases.old) deed) ≡ true) × (cases.old.spare ≡ 0) }
     ensures unchanged { result ≡ replies.NoMemory → cases.new ≡ cases.old }
@@ -165,6 +209,7 @@ fn by_tree(p: &Policy, cases: &Cases, ask: &Ask, tree: Tree) -> Reply
     requires kept { IsKept p.now cases.now }
     requires tree { IsTreeFor (book_of p.now cases.now)
         (decision_aside (book_of p.now cases.now) ask.now) tree }
+    requires fits { is_large tree ≡ false }
     ensures taken { HasTakenStep p.now cases.now cases.now
         (decision_of (book_of p.now cases.now) ask.now) result }
     ensures made { needs_verdict (decision_of (book_of p.now cases.now) ask.now) ≡ true
@@ -181,10 +226,12 @@ fn by_tree(p: &Policy, cases: &Cases, ask: &Ask, tree: Tree) -> Reply
 fn tree_for(p: &Policy, cases: &Cases, deed: Deed, tree: Tree) -> Reply
     requires kept { IsKept p.now cases.now }
     requires tree { IsTreeFor (book_of p.now cases.now) (Ok deed) tree }
+    requires fits { is_large tree ≡ false }
     ensures taken { HasTakenStep p.now cases.now cases.now (full_or (book_of p.now cases.now)
         deed) result }
     ensures made { needs_verdict (full_or (book_of p.now cases.now) deed) ≡ true
         → IsMadeOf (verdicts.Refuted tree) result }
+    ensures small { shows_large result ≡ false }
     ensures memory { result ≢ replies.NoMemory }
 {
     match deed {
@@ -201,10 +248,12 @@ fn tree_for(p: &Policy, cases: &Cases, deed: Deed, tree: Tree) -> Reply
 fn unsatisfiable(p: &Policy, cases: &Cases, flow: FlowId, tree: Tree) -> Reply
     requires kept { IsKept p.now cases.now }
     requires tree { IsTreeFor (book_of p.now cases.now) (Ok (deeds.Open flow)) tree }
+    requires fits { is_large tree ≡ false }
     ensures taken { HasTakenStep p.now cases.now cases.now
         (full_or (book_of p.now cases.now) (deeds.Open flow)) result }
     ensures made { is_full (book_of p.now cases.now) ≡ false
         → IsMadeOf (verdicts.Refuted tree) result }
+    ensures small { shows_large result ≡ false }
     ensures memory { result ≢ replies.NoMemory }
 {
     if is_full(p, cases) {
@@ -218,9 +267,11 @@ fn by_stranding(p: &Policy, cases: &Cases, ask: &Ask, number: CaseId, tree: Tree
     requires kept { IsKept p.now cases.now }
     requires tree { IsStrandingFor (book_of p.now cases.now)
         (decision_aside (book_of p.now cases.now) ask.now) number tree }
+    requires fits { is_large tree ≡ false }
     ensures taken { HasTakenStep p.now cases.now cases.now
         (decision_of (book_of p.now cases.now) ask.now) result }
     ensures made { IsMadeOf (verdicts.Strands number tree) result }
+    ensures small { shows_large result ≡ false }
     ensures memory { result ≢ replies.NoMemory }
 {
     let _ = p;
@@ -290,6 +341,7 @@ pub(crate) fn open(p: &Policy, cases: &mut Cases, flow: FlowId, plan: Plan) -> R
         (full_or (book_of p.now cases.old) (deeds.Open flow)) result }
     ensures made { is_full (book_of p.now cases.old) ≡ false
         → IsMadeOf (verdicts.Plan plan) result }
+    ensures small { shows_large result ≡ false }
     ensures memory { result ≡ replies.NoMemory
         → (is_full (book_of p.now cases.old) ≡ false) × (cases.old.spare ≡ 0) }
     ensures unchanged { result ≡ replies.NoMemory → cases.new ≡ cases.old }

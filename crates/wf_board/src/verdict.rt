@@ -1,6 +1,9 @@
 //! Verdicts on whether cases can be completed, and what a board answers with one.
+ghost use Rattle.std.specs.Prelude.{◌≡◌};
+ghost use Rattle.wf_board.specs.Trees.{is_large};
+ghost use Rattle.wf_board.specs.Verdicts.{is_unusable, is_want};
 
-use crate::{Deed, Edition};
+use crate::{Deed, Edition, TREE_LIMIT};
 use constraint_forms::Plan;
 use refutation_tree::Tree;
 use wf_names::CaseId;
@@ -33,6 +36,36 @@ pub enum Verdict {
     View(View),
     /// There was no memory to find out.
     NoMemory,
+    /// The search would keep more than its budget.
+    OverBudget,
+}
+
+impl Verdict {
+    /// Whether it was not found out: there was no memory, or the search is over its budget.
+    pub fn is_want(&self) -> bool
+        ensures { result ≡ is_want self.now }
+    {
+        matches!(self, Verdict::NoMemory | Verdict::OverBudget)
+    }
+
+    /// Whether no reply can be made of it: it was not found out, or its tree is too large for an
+    /// entry.
+    pub fn is_unusable(&self) -> bool
+        ensures { result ≡ is_unusable self.now }
+    {
+        match self {
+            Verdict::Refuted(tree) | Verdict::Strands(_, tree) => is_large(tree),
+            Verdict::NoMemory | Verdict::OverBudget => true,
+            Verdict::Nothing | Verdict::Plan(_) | Verdict::Edited(_) | Verdict::View(_) => false,
+        }
+    }
+}
+
+// Whether a tree has more leaves and nodes than an entry shows.
+fn is_large(tree: &Tree) -> bool
+    ensures { result ≡ is_large tree.now }
+{
+    tree.nodes() > TREE_LIMIT as u64
 }
 
 /// What a board answers.

@@ -1,5 +1,5 @@
 //! Answers views over the open cases, and takes the replies to them that somebody else gave.
-ghost use Rattle.std.specs.Prelude.{◌≡◌, ◌≢◌, ◌↔◌, Ok, true};
+ghost use Rattle.std.specs.Prelude.{◌≡◌, ◌≢◌, ◌↔◌, Ok, false, true};
 ghost use Rattle.wf_talk.specs.declared.reply.Reply.TheVariants as replies;
 ghost use Rattle.wf_board.specs.declared.deed.Deed.TheVariants as deeds;
 ghost use Rattle.wf_board.specs.declared.verdict.Verdict.TheVariants as verdicts;
@@ -8,6 +8,7 @@ ghost use Rattle.wf_board.specs.Boards.{book_of};
 ghost use Rattle.wf_board.specs.Decisions.{decision_aside, decision_of};
 ghost use Rattle.wf_board.specs.Found.{IsAllowed};
 ghost use Rattle.wf_board.specs.Taking.{HasTakenStep, IsKept};
+ghost use Rattle.wf_board.specs.Trees.{shows_large};
 ghost use Rattle.wf_board.specs.Verdicts.{IsMadeOf, IsViewFor};
 
 use crate::admit::when;
@@ -26,6 +27,7 @@ pub(crate) fn by_view(p: &Policy, cases: &Cases, ask: &Ask, view: View) -> Reply
     ensures taken { HasTakenStep p.now cases.now cases.now
         (decision_of (book_of p.now cases.now) ask.now) result }
     ensures made { IsMadeOf (verdicts.View view) result }
+    ensures small { shows_large result ≡ false }
     ensures memory { result ≢ replies.NoMemory }
 {
     let _ = p;

@@ -125,7 +125,7 @@ again_grows d places t place spare next_place is next stale lost last end known 
       sized = sized;
       right = again_right d places t place is next stale lost last end;
       rests = again_rests d.start d.entries e d.rounds place refl (enough_rounds d places t is next (may_lose d t next stale lost) last);
-      want = λ short. absurd (cc);
+      want = (λ short. absurd (cc), refl);
       state = sym (again_stays (state_on d.board) t.ask (reply.Again d.rounds place) d.rounds place refl);
       room = room;
       cases = omega arith;

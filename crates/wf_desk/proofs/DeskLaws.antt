@@ -10,7 +10,7 @@ use Rattle.wf_talk.specs.declared.job.Job.{Job}
 use Rattle.wf_talk.specs.declared.request.Ask.{Ask}
 use Rattle.wf_board.specs.Boards.{BoardShape, state_on}
 use Rattle.wf_board.specs.Counting.{counted, counts_for, lane_end}
-use Rattle.wf_board.specs.Histories.{AreWantsRightful, IsRightAfter, IsWantRightful, RestsFrom, job_of_entry, lane_jobs}
+use Rattle.wf_board.specs.Histories.{AreRightful, IsRightAfter, IsRightful, RestsFrom, job_of_entry, lane_jobs}
 use Rattle.wf_board.proofs.HistoryLaws.{after_more, each_more, edits_within, rests_more, wants_more}
 use Rattle.wf_board.specs.States.{State, opening_state}
 use Rattle.wf_board.specs.Steps.{state_after_step}
@@ -96,7 +96,7 @@ pub record Grows (d : DeskShape) (places : List ℕ) (e : Entry) (b : BoardShape
   pub sized : e.lane < length places
   pub right : IsRightAfter (opening_state d.opening) d.rounds d.entries e
   pub rests : RestsFrom d.start d.entries e
-  pub want : IsWantRightful e
+  pub want : IsRightful e
   pub state : state_on b ≡ state_after_step (state_on d.board) e.ask e.reply
   pub room : d.spare ≤ spare + 1
   pub cases : d.board.cases.spare ≤ b.cases.spare + 1
@@ -123,7 +123,7 @@ sound_grown d places e b spare place is grows = record {
   front = λ lane. front_grown d places e b spare place lane is grows;
   rests = rests_more d.start d.entries e is.sound.begun is.sound.rests grows.rests;
   kept = let kept = is.sound.kept in omega (arith, kept, length-append d.entries (e ∷ []));
-  wants = subst AreWantsRightful (sym (drop-append-le d.restored d.entries (e ∷ []) is.sound.kept)) (wants_more (drop d.restored d.entries) e is.sound.wants grows.want);
+  wants = subst AreRightful (sym (drop-append-le d.restored d.entries (e ∷ []) is.sound.kept)) (wants_more (drop d.restored d.entries) e is.sound.wants grows.want);
   room = let old = is.sound.room in let cases = grows.cases in omega (arith, old, cases, length-append d.entries (e ∷ []));
 }
 

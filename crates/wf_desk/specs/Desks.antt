@@ -9,7 +9,7 @@ use Rattle.wf_talk.specs.declared.reply.Reply.TheVariants.{NoMemory}
 pub use Rattle.wf_talk.specs.Jobs.{AreOfLanes}
 use Rattle.wf_board.specs.Boards.{BoardShape, state_on}
 use Rattle.wf_board.specs.States.{State, opening_state}
-use Rattle.wf_board.specs.Histories.{AreWantsRightful, EachAfter, IsLegal, RestsFrom, job_of_entry, lane_jobs, state_after}
+use Rattle.wf_board.specs.Histories.{AreRightful, EachAfter, IsLegal, RestsFrom, job_of_entry, lane_jobs, state_after}
 use Rattle.wf_desk.specs.declared.loss.Loss.{Loss}
 
 -- the policy at the beginning, how many lanes there are, after how many lost rounds a request is answered again, the
@@ -54,7 +54,7 @@ IsDone d = (lane : ℕ) → next_job d lane ≡ None
 -- what the type of a desk keeps: the entries are a legal history, and the board shows the state after it; each lane's
 -- entries of the batch answer its first jobs, in order; what is answered again rests on entries of the batch; of the
 -- entries that were not taken up, only an opening, a claim, an edit or a view over the open cases is answered with want
--- of memory; and there is room for a case for each job that is left
+-- of memory, and none shows a tree that is too large; and there is room for a case for each job that is left
 pub record IsSoundDesk (d : DeskShape) : Type 0 where
   pub legal : IsLegal (opening_state d.opening) d.rounds d.entries
   pub state : state_on d.board ≡ state_after (opening_state d.opening) d.entries
@@ -62,7 +62,7 @@ pub record IsSoundDesk (d : DeskShape) : Type 0 where
   pub front : (lane : ℕ) → served d lane ≡ take (length (served d lane)) (lane_jobs lane d.jobs)
   pub rests : EachAfter (RestsFrom d.start) (take d.start d.entries) (drop d.start d.entries)
   pub kept : d.restored ≤ length d.entries
-  pub wants : AreWantsRightful (drop d.restored d.entries)
+  pub wants : AreRightful (drop d.restored d.entries)
   pub room : d.start + length d.jobs ≤ length d.entries + d.board.cases.spare
 
 -- a lane's next job was not lost so far

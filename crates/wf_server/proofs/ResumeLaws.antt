@@ -9,7 +9,7 @@ use Rattle.policy_book.specs.Shapes.{PolicyShape}
 use Rattle.policy_reader.specs.FilePolicies.{IsFilePolicy}
 use Rattle.wf_talk.specs.declared.entry.Entry.{Entry}
 use Rattle.wf_talk.specs.declared.job.Job.{Job}
-use Rattle.wf_board.specs.Histories.{AreAnsweredOnce, AreWantsRightful, IsLegal, batch_start}
+use Rattle.wf_board.specs.Histories.{AreAnsweredOnce, AreRightful, IsLegal, batch_start}
 use Rattle.wf_board.specs.Laws.{HistoriesAreExact, HistoriesKeepCompletable}
 use Rattle.wf_board.specs.States.{opening_state}
 use Rattle.wf_desk.specs.Desks.{AreOfLanes, DeskShape}
@@ -304,7 +304,7 @@ went_orderly s cut n r served loads =
 -- a run whose session went on
 pub gone_on : (names : Names) (options : Options) (repeats : Bool) (b : Beginning) (r : Run) → AreOptions options → r.load_faults_after ≡ r.load_faults
     → ((s : Session) (cut : Cut) (transcript : List ℕ) → HasBegun s cut transcript b → Served (setting_behind s (length b.desk.entries)) (next_input cut) PIECE r.before r.after r.told r.fault)
-    → take (length b.desk.entries) r.told.entries ≡ b.desk.entries → AreWantsRightful (drop (length b.desk.entries) r.told.entries)
+    → take (length b.desk.entries) r.told.entries ≡ b.desk.entries → AreRightful (drop (length b.desk.entries) r.told.entries)
     → (repeats ≡ false → AreAnsweredOnce (drop (length b.desk.entries) r.told.entries) ⊎ (options.rounds ≡ 0))
     → OverFiles r.files names options.lanes (StopsBy (Ok b)) (λ p cut transcript. BeginsBy (session_of p options.lanes options.rounds cut) cut transcript (Ok b))
     → ResumesRun names options repeats r

@@ -11,7 +11,7 @@ use Rattle.wf_commands.specs.Load.{GivesPolicy, IsLoadEnding, PolicyOf}
 use Rattle.wf_server.specs.declared.serve.TheConstants.{PIECE}
 use Rattle.line_cutter.specs.Jobs.{start}
 use Rattle.wf_server.specs.Sessions.{Served}
-use Rattle.wf_board.specs.Histories.{AreWantsRightful}
+use Rattle.wf_board.specs.Histories.{AreRightful}
 use Rattle.command_words.specs.Words.{AreOptions, Options}
 use Rattle.wf_server.specs.Serving.{setting, EndsBefore, ServesFile, ServesRun}
 
@@ -87,7 +87,7 @@ refused_run policy options r fault is gives ending nothing loads reads writes li
 
 -- the policy was there, and was served
 pub is_served : (f : Filed) (p : PolicyShape) (options : Options) (r : Run) → GivesPolicy f (Ok p) → IsFilePolicy p
-    → Served (setting p options) (start options.lanes) PIECE r.before r.after r.told r.fault → AreWantsRightful r.told.entries → OverFile f r.fault (λ file. ServesFile file options r)
+    → Served (setting p options) (start options.lanes) PIECE r.before r.after r.told r.fault → AreRightful r.told.entries → OverFile f r.fault (λ file. ServesFile file options r)
 is_served untold p options r gives sound served wants =
     (gives.0, inr (record { policy = p; within = gives.1.0; read = gives.1.1; sound = sound; served = served; wants = wants }))
 is_served missing p options r gives sound served wants = cc

@@ -4,7 +4,7 @@ use Rattle.std.proofs.Common.{◌⊎◌}
 use Rattle.wf_outside.specs.Outside.{HasPart, with_bytes}
 use Rattle.policy_book.specs.Shapes.{PolicyShape}
 use Rattle.wf_talk.specs.declared.entry.Entry.{Entry}
-use Rattle.wf_board.specs.Histories.{AreAnsweredOnce, AreWantsRightful}
+use Rattle.wf_board.specs.Histories.{AreAnsweredOnce, AreRightful}
 use Rattle.line_cutter.specs.Jobs.{Cut, next_input}
 use Rattle.run_record.specs.declared.fault.RunFault.{RunFault}
 use Rattle.run_record.specs.declared.fault.RunFault.TheVariants.{Found, Write, NoMemory}
@@ -55,7 +55,7 @@ pub record GoesOnFrom (s : Session) (cut : Cut) (transcript : List ℕ) (repeats
   pub taken : IsTakenUp s transcript entries
   pub begins : take (length entries) r.told.entries ≡ entries
   pub served : Served (setting_behind s (length entries)) (next_input cut) PIECE r.before r.after r.told r.fault
-  pub wants : AreWantsRightful (drop (length entries) r.told.entries)
+  pub wants : AreRightful (drop (length entries) r.told.entries)
   pub once : repeats ≡ false → AreAnsweredOnce (drop (length entries) r.told.entries)
 
 -- what becomes of a transcript of which no line is too long: there is no memory before it is taken up, or it is refused, or

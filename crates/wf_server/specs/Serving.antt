@@ -10,7 +10,7 @@ use Rattle.run_record.specs.declared.fault.RunFault.TheVariants.{Policy, Load, N
 use Rattle.run_record.specs.Run.{Run, IsUntouched, IsOrderly, OverFile}
 use Rattle.line_cutter.specs.Jobs.{start}
 use Rattle.wf_server.specs.declared.serve.TheConstants.{PIECE}
-use Rattle.wf_board.specs.Histories.{AreWantsRightful}
+use Rattle.wf_board.specs.Histories.{AreRightful}
 use Rattle.wf_server.specs.Sessions.{Served, Setting}
 use Rattle.command_words.specs.Words.{AreOptions, Options}
 
@@ -35,7 +35,7 @@ pub record ServesPolicy (file : List ℕ) (options : Options) (r : Run) : Type 0
   pub read : policy_of_file file ≡ Ok policy
   pub sound : IsFilePolicy policy
   pub served : Served (setting policy options) (start options.lanes) PIECE r.before r.after r.told r.fault
-  pub wants : AreWantsRightful r.told.entries
+  pub wants : AreRightful r.told.entries
 
 -- a run over a policy file ends before its session, or serves the policy
 abbrev pub ServesFile : List ℕ → Options → Run → Type 0

@@ -4,7 +4,7 @@ ghost use Rattle.std.proofs.Common.{◌⊎◌};
 ghost use Rattle.run_record.specs.Fault.{status_of, CountsWrites};
 ghost use Rattle.run_record.specs.Report.{nothing_told, told_by};
 ghost use Rattle.run_record.specs.Run.{run_of, streams_of};
-ghost use Rattle.wf_board.specs.Histories.{AreAnsweredOnce, AreWantsRightful};
+ghost use Rattle.wf_board.specs.Histories.{AreAnsweredOnce, AreRightful};
 ghost use Rattle.line_cutter.specs.Jobs.{Cut, next_input};
 ghost use Rattle.transcript_resume.specs.Resumed.{Session};
 ghost use Rattle.resume_command.specs.declared.start.TheConstants.{PIECE};
@@ -109,7 +109,7 @@ fn go_on<S: Source, K: Sink, W: Fn(Desk) -> Desk>(
         ≡ beginning.desk.entries }
     ensures once { ServesOnce (W.post way.now)
         → AreAnsweredOnce (drop (length beginning.desk.entries) (told_by result).entries) }
-    ensures wants { AreWantsRightful
+    ensures wants { AreRightful
         (drop (length beginning.desk.entries) (told_by result).entries) }
     ensures status { result.status ≡ status_of result.fault }
 {

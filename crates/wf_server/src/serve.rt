@@ -3,7 +3,7 @@ ghost use Rattle.std.specs.Prelude.{◌≡◌, false};
 ghost use Rattle.run_record.specs.Fault.{status_of, is_before_input};
 ghost use Rattle.run_record.specs.Report.{told_by};
 ghost use Rattle.run_record.specs.Run.{run_of, streams_of};
-ghost use Rattle.wf_board.specs.Histories.{AreAnsweredOnce, AreWantsRightful};
+ghost use Rattle.wf_board.specs.Histories.{AreAnsweredOnce, AreRightful};
 ghost use Rattle.line_cutter.specs.Jobs.{start};
 ghost use Rattle.wf_server.specs.Sessions.{Served};
 ghost use Rattle.command_words.specs.Words.{AreOptions};
@@ -67,7 +67,7 @@ fn serve_policy<S: Source, K: Sink, W: Fn(Desk) -> Desk>(
         (streams_of S.left S.faults K.held K.faults source.new sink.new)
         (told_by result) result.fault }
     ensures once { ServesOnce (W.post way.now) → AreAnsweredOnce (told_by result).entries }
-    ensures wants { AreWantsRightful (told_by result).entries }
+    ensures wants { AreRightful (told_by result).entries }
     ensures late { is_before_input result.fault ≡ false }
     ensures status { result.status ≡ status_of result.fault }
 {

@@ -1,7 +1,7 @@
 //! The session: batch after batch is read, answered and written.
 ghost use Rattle.std.specs.Prelude.{◌≡◌, ◌<◌, take, drop, None};
 ghost use Rattle.wf_board.specs.States.{opening_state};
-ghost use Rattle.wf_board.specs.Histories.{AreAnsweredOnce, AreWantsRightful, IsLegal};
+ghost use Rattle.wf_board.specs.Histories.{AreAnsweredOnce, AreRightful, IsLegal};
 ghost use Rattle.wf_desk.specs.Desks.{IsSoundDesk};
 ghost use Rattle.line_cutter.specs.Jobs.{Cut, start};
 ghost use Rattle.batch_reader.specs.Reading.{IsReady, left_to_read};
@@ -44,7 +44,7 @@ pub(crate) fn run_session<S: Source, K: Sink, W: Fn(Desk) -> Desk>(
         (told_by result) result.fault }
     ensures legal { IsLegal (opening_state policy) options.rounds (told_by result).entries }
     ensures once { ServesOnce (W.post way.now) → AreAnsweredOnce (told_by result).entries }
-    ensures wants { AreWantsRightful (told_by result).entries }
+    ensures wants { AreRightful (told_by result).entries }
     ensures status { result.status ≡ status_of result.fault }
 {
     let Ok(desk) = Desk::new(alloc, policy, options.lanes, options.rounds) else {
@@ -92,7 +92,7 @@ pub(crate) fn serve_batches<S: Source, K: Sink, W: Fn(Desk) -> Desk>(
     ensures legal { IsLegal (opening_state desk.opening) desk.rounds (told_by result).entries }
     ensures once { ServesOnce (W.post way.now) → AreAnsweredOnce (drop desk.restored desk.entries)
         → AreAnsweredOnce (drop desk.restored (told_by result).entries) }
-    ensures wants { AreWantsRightful (drop desk.restored (told_by result).entries) }
+    ensures wants { AreRightful (drop desk.restored (told_by result).entries) }
     ensures status { result.status ≡ status_of result.fault }
 {
     'serving: loop {

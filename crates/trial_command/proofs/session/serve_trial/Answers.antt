@@ -1,7 +1,7 @@
 use Rattle.std.proofs.Common.{◌≡◌, drop, rules, sym, subst}
 use Rattle.policy_book.specs.Facts.{IsSoundPolicy}
 use Rattle.wf_board.specs.States.{opening_state}
-use Rattle.wf_board.specs.Histories.{AreWantsRightful, IsLegal}
+use Rattle.wf_board.specs.Histories.{AreRightful, IsLegal}
 use Rattle.trial_maker.specs.TrialPolicy.{trial_policy}
 use Rattle.trial_command.proofs.session.serve_trial.Goals as goal
 
@@ -10,9 +10,9 @@ returns g c =
     let sound : IsSoundPolicy (trial_policy c.args.seed) = search rules in
     let legal : IsLegal (opening_state (trial_policy c.args.seed)) 0 c.into_parts-entries.result.1.entries = search rules in
     let restored : c.serve_batches.new.desk.restored ≡ 0 = search rules in
-    let wants : AreWantsRightful c.into_parts-entries.result.1.entries =
-    subst AreWantsRightful (sym c.into_parts-entries.ensures.entries)
-    (subst (λ n. AreWantsRightful (drop n c.serve_batches.new.desk.entries)) restored c.into_parts-entries.ensures.sound.wants) in
+    let wants : AreRightful c.into_parts-entries.result.1.entries =
+    subst AreRightful (sym c.into_parts-entries.ensures.entries)
+    (subst (λ n. AreRightful (drop n c.serve_batches.new.desk.entries)) restored c.into_parts-entries.ensures.sound.wants) in
     record {
       jobs = search rules;
       ends = search rules;

@@ -3,7 +3,7 @@ use Rattle.batch_reader.specs.Reading.{ReaderShape}
 use Rattle.line_cutter.specs.Jobs.{next_input}
 use Rattle.run_record.specs.Report.{Told, told_by}
 use Rattle.run_record.specs.Run.{Streams}
-use Rattle.wf_board.specs.Histories.{AreAnsweredOnce, AreWantsRightful}
+use Rattle.wf_board.specs.Histories.{AreAnsweredOnce, AreRightful}
 use Rattle.resume_command.specs.declared.start.TheConstants.{PIECE}
 use Rattle.wf_server.specs.Sessions.{Setting}
 use Rattle.wf_server.specs.Batches.{told_of}
@@ -73,7 +73,7 @@ returns-in-Ok-clause-once g c serves =
 pub returns-in-Ok-clause-wants : goal.returns-in-Ok-clause-wants
 returns-in-Ok-clause-wants g c =
     let restored : c.answer_requests-served.result.0.restored ≡ c.args.beginning.desk.restored = ap (λ (s : Setting). s.restored) c.answer_requests-served.ensures.setting in
-    subst (λ n. AreWantsRightful (drop n (told_by c.serve_batches.result).entries)) (restored ∙ c.requires.begun.1.1.1.restored) c.serve_batches.ensures.wants
+    subst (λ n. AreRightful (drop n (told_by c.serve_batches.result).entries)) (restored ∙ c.requires.begun.1.1.1.restored) c.serve_batches.ensures.wants
 
 pub returns-clause-served : goal.returns-clause-served
 returns-clause-served g c s cut transcript h =
@@ -110,5 +110,5 @@ returns-clause-wants g c =
     let d = c.answer_requests-served.result.0 in
     let b = c.args.beginning.desk in
     let restored : d.restored ≡ b.restored = ap (λ (s : Setting). s.restored) c.answer_requests-served.ensures.setting in
-    subst (λ (t : Told). AreWantsRightful (drop (length b.entries) t.entries)) (sym c.report_of.ensures.told)
-    (subst (λ n. AreWantsRightful (drop n d.entries)) (restored ∙ size) c.report_of.ensures.sound.wants)
+    subst (λ (t : Told). AreRightful (drop (length b.entries) t.entries)) (sym c.report_of.ensures.told)
+    (subst (λ n. AreRightful (drop n d.entries)) (restored ∙ size) c.report_of.ensures.sound.wants)

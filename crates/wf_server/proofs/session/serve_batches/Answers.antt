@@ -2,7 +2,7 @@ use Rattle.std.proofs.Common.{◌≡◌, ℕ, ◌<◌, ◌∙◌, drop, take, re
 use Rattle.line_cutter.specs.Jobs.{Cut}
 use Rattle.run_record.specs.Report.{Told}
 use Rattle.run_record.specs.Run.{Streams}
-use Rattle.wf_board.specs.Histories.{AreAnsweredOnce, AreWantsRightful, IsLegal}
+use Rattle.wf_board.specs.Histories.{AreAnsweredOnce, AreRightful, IsLegal}
 use Rattle.wf_board.specs.States.{opening_state}
 use Rattle.wf_server.specs.Sessions.{Setting}
 use Rattle.wf_server.specs.Batches.{told_of, Serves}
@@ -62,8 +62,8 @@ returns-in-Some-clause-legal g c =
 pub returns-in-Some-clause-wants : goal.returns-in-Some-clause-wants
 returns-in-Some-clause-wants g c =
     let same = c.serve_batch-next.ensures.setting ∙ c.serving.invariant.setting in
-    subst (λ (t : Told). AreWantsRightful (drop c.args.desk.restored t.entries)) (sym c.report_of.ensures.told)
-    (subst (λ (set : Setting). AreWantsRightful (drop set.restored c.serve_batch-next.result.0.entries)) same c.report_of.ensures.sound.wants)
+    subst (λ (t : Told). AreRightful (drop c.args.desk.restored t.entries)) (sym c.report_of.ensures.told)
+    (subst (λ (set : Setting). AreRightful (drop set.restored c.serve_batch-next.result.0.entries)) same c.report_of.ensures.sound.wants)
 
 pub returns-in-Some-clause-begins : goal.returns-in-Some-clause-begins
 returns-in-Some-clause-begins g c =

@@ -10,6 +10,7 @@ use Rattle.wf_board.specs.Verdicts.{HasAnswered, HasUsed, MayLackMemory, room_us
 use Rattle.wf_board.specs.KeptPlans.{KeepsPlansBy}
 use Rattle.wf_board.proofs.Answering.{one_at_most}
 use Rattle.wf_board.proofs.PlansKept.{keeps_by}
+use Rattle.wf_board.proofs.Small.{answered_small}
 use Rattle.wf_board.proofs.board.Board.answer.Goals as goal
 
 pub returns-in-Edited-clause-memory : goal.returns-in-Edited-clause-memory
@@ -26,6 +27,7 @@ returns-in_default c =
       needs = subst (λ b. needs_verdict (decision_of (state_on b).book what) ≡ true → c.args.verdict ≡ verdicts.Nothing → given ≡ Needs) c.self.view_is by.needs;
       made = subst (λ b. needs_verdict (decision_of (state_on b).book what) ≡ true → HasUsed c.args.verdict given) c.self.view_is by.made;
       memory = subst (λ b. given ≡ Done replies.NoMemory → MayLackMemory b what c.args.verdict) c.self.view_is (by.memory edits);
+      small = answered_small (board_of (arc_value c.self.inside.policy) c.self.inside.cases edits) (board_of (arc_value c.self.inside.policy) c.answer.new.cases edits) what c.args.verdict given (by.answered edits) by.made;
       plans = subst (λ b. KeepsPlansBy b (board_of (arc_value c.self.inside.policy) c.answer.new.cases edits) what c.args.verdict given) c.self.view_is (keeps_by _ _ _ edits what c.args.verdict given c.in_default.not-Edited by.rows);
       lacking = λ short. ap (λ (t : _). board_of (arc_value c.self.inside.policy) t edits) (by.lacking short) ∙ c.self.view_is;
       room = subst (λ b. b.cases.spare ≤ c.answer.new.cases.spare + 1) c.self.view_is (one_at_most c.self.inside.cases.spare c.answer.new.cases.spare given by.room);

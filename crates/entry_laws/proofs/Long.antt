@@ -1,0 +1,151 @@
+-- The text of an entry that denies by a tree fits into a line.
+use Rattle.std.proofs.Common.{◌≡◌, ℕ, ◌+◌, ◌*◌, ◌<◌, ◌≤◌, ◌^◌, Bool, false, true, List, [], ◌∷◌, ◌++◌, length, Option, refl, ap, ◌∙◌, arith}
+use Rattle.std.specs.Prelude.{codes, decimal}
+use Rattle.std.proofs.lemmas.Fmt.{length-decimal-le}
+use Rattle.std.proofs.lemmas.List.{length-append}
+use Rattle.basics.proofs.Booleans.{lt_back_no}
+use Rattle.json.specs.Print.{escape_byte}
+use Rattle.serde_json.specs.Data.{Data}
+use Rattle.serde_json.specs.Written.{compact_text}
+use Rattle.wf_names.specs.declared.limits.TheConstants.{CASE_NUMBER_LIMIT, TRANSCRIPT_LINE_LIMIT}
+use Rattle.refutation_tree.specs.declared.tree.Tree.{Tree}
+use Rattle.refutation_tree.specs.Shapes.{Shape, Kids, holder, rule, node, no_kids, tree_kid, twin_kid, nodes_of}
+use Rattle.refutation_tree.specs.Views.{shape_of}
+use Rattle.policy_book.specs.Shapes.{PolicyShape}
+use Rattle.wf_talk.specs.declared.entry.Entry.{Entry}
+use Rattle.wf_talk.specs.declared.reply.Reply.{Reply}
+use Rattle.wf_talk.specs.declared.reply.Reply.TheVariants as reply
+use Rattle.wf_talk.specs.declared.reply.Denial.TheVariants as denial
+use Rattle.wf_board.specs.declared.limits.TheConstants.{TREE_LIMIT}
+use Rattle.wf_board.specs.Trees.{is_large, shows_large}
+use Rattle.wire_json.specs.Entries.{single}
+use Rattle.wire_json.specs.Lengths.{HasSmallRules, HaveSmallRules}
+use Rattle.wire_json.specs.Replies.{entry_text, reply_data, strands_data}
+use Rattle.wire_json.specs.Trees.{tree_data}
+use Rattle.wire_json.proofs.Lengths.{tree_texts_are_short}
+use Rattle.entry_reader.specs.Lines.{IsEntry}
+use Rattle.entry_reader.specs.Within.{AreKids, IsReply, IsTree}
+use Rattle.entry_laws.specs.Laws.{HasNames, TreesFitLines, is_by_tree}
+
+around : (a x b : List ℕ) → length (a ++ (x ++ b)) ≡ length a + (length x + length b)
+around a x b = length-append a (x ++ b) ∙ ap (λ n. length a + n) (length-append x b)
+
+-- ---- a tree
+
+mutual
+  small_rules : (p : PolicyShape) (f : ℕ) (t : Shape) → IsTree p f t → HasSmallRules t
+  small_rules p f (holder s) is = tt
+  small_rules p f (rule k) is = is
+  small_rules p f (node s kids) is = small_rules_of p f kids is.1
+
+  small_rules_of : (p : PolicyShape) (f : ℕ) (kids : Kids) → AreKids p f kids → HaveSmallRules kids
+  small_rules_of p f no_kids is = tt
+  small_rules_of p f (tree_kid u t kids) is = (small_rules p f t is.1.0, small_rules_of p f kids is.1.1)
+  small_rules_of p f (twin_kid u v kids) is = small_rules_of p f kids is.1.1
+
+-- a tree that is not too large
+tree_long : (p : PolicyShape) (f : ℕ) (tree : Tree) → HasNames p → IsTree p f (shape_of tree) → is_large tree ≡ false →
+    length (compact_text (tree_data p f (shape_of tree))) ≤ 16200000
+tree_long p f tree names is small =
+    let few : nodes_of (shape_of tree) ≤ TREE_LIMIT = lt_back_no TREE_LIMIT (nodes_of (shape_of tree)) small in
+    omega (arith, few, tree_texts_are_short p f (shape_of tree) names.users (names.steps f) (small_rules p f (shape_of tree) is))
+
+-- ---- a denial by it
+
+denied_long : (d : Data) → length (compact_text (single (codes "denied") d)) ≡ 11 + length (compact_text d)
+unfolding escape_byte
+denied_long d =
+    let parts : length (compact_text (single (codes "denied") d)) ≡ 10 + (length (compact_text d) + 1) =
+    around (codes "{\"denied\":") (compact_text d) (codes "}") in
+    omega (arith, parts)
+
+unsatisfiable_long : (d : Data) → length (compact_text (single (codes "unsatisfiable") d)) ≡ 18 + length (compact_text d)
+unfolding escape_byte
+unsatisfiable_long d =
+    let parts : length (compact_text (single (codes "unsatisfiable") d)) ≡ 17 + (length (compact_text d) + 1) =
+    around (codes "{\"unsatisfiable\":") (compact_text d) (codes "}") in
+    omega (arith, parts)
+
+stranded_long : (d : Data) → length (compact_text (single (codes "stranded") d)) ≡ 13 + length (compact_text d)
+unfolding escape_byte
+stranded_long d =
+    let parts : length (compact_text (single (codes "stranded") d)) ≡ 12 + (length (compact_text d) + 1) =
+    around (codes "{\"stranded\":") (compact_text d) (codes "}") in
+    omega (arith, parts)
+
+strands_long : (d : Data) → length (compact_text (single (codes "strands") d)) ≡ 12 + length (compact_text d)
+unfolding escape_byte
+strands_long d =
+    let parts : length (compact_text (single (codes "strands") d)) ≡ 11 + (length (compact_text d) + 1) =
+    around (codes "{\"strands\":") (compact_text d) (codes "}") in
+    omega (arith, parts)
+
+-- the case beside the tree
+case_long : (number tree : List ℕ) → length (codes "{\"case\":" ++ (number ++ (codes ",\"tree\":" ++ (tree ++ codes "}")))) ≡ 17 + (length number + length tree)
+case_long number tree =
+    let outer = around (codes "{\"case\":") number (codes ",\"tree\":" ++ (tree ++ codes "}")) in
+    let inner = around (codes ",\"tree\":") tree (codes "}") in
+    let first : length (codes "{\"case\":") ≡ 8 = refl in
+    let second : length (codes ",\"tree\":") ≡ 8 = refl in
+    let last : length (codes "}") ≡ 1 = refl in
+    omega (arith, outer, inner, first, second, last)
+
+beside_long : (n : ℕ) (d : Data) → n ≤ CASE_NUMBER_LIMIT → length (compact_text (strands_data n d)) ≤ 22 + length (compact_text d)
+unfolding escape_byte
+beside_long n d known =
+    let parts : length (compact_text (strands_data n d)) ≡ 17 + (length (decimal n) + length (compact_text d)) = case_long (decimal n) (compact_text d) in
+    omega (arith, parts, length-decimal-le 5 n (omega arith) (omega (arith, known)) (omega (arith, known)))
+
+-- a reply that denies by a tree
+reply_long : (p : PolicyShape) (flows : ℕ → Option ℕ) (o : Option ℕ) (given : Reply) → HasNames p → IsReply p flows o given →
+    is_by_tree given ≡ true → shows_large given ≡ false →
+    length (compact_text (reply_data p given)) ≤ 16200100
+reply_long p flows o (reply.Denied (denial.Unsatisfiable f tree)) names is by_tree small =
+    let text = tree_data p f (shape_of tree) in
+    omega (arith, denied_long (single (codes "unsatisfiable") text), unsatisfiable_long text, tree_long p f tree names is.1 small)
+reply_long p flows o (reply.Denied (denial.Stranded f tree)) names is by_tree small =
+    let text = tree_data p f (shape_of tree) in
+    omega (arith, denied_long (single (codes "stranded") text), stranded_long text, tree_long p f tree names is.1 small)
+reply_long p flows o (reply.Denied (denial.Strands n f tree)) names is by_tree small =
+    let text = tree_data p f (shape_of tree) in
+    let denied = denied_long (single (codes "strands") (strands_data n text)) in
+    omega (arith, denied, strands_long (strands_data n text), beside_long n text is.0, tree_long p f tree names is.1.1 small)
+reply_long p flows o given names is by_tree small = let apart : false ≡ true = by_tree in cc
+
+-- ---- an entry
+
+-- what stands beside the reply
+entry_long : (at lane line given : List ℕ) →
+    length (codes "{\"at\":" ++ (at ++ (codes ",\"lane\":" ++ (lane ++ (codes ",\"line\":" ++ (line ++ (codes ",\"reply\":" ++ (given ++ codes "}"))))))))
+    ≡ 32 + (length at + (length lane + (length line + length given)))
+entry_long at lane line given =
+    let one = around (codes "{\"at\":") at (codes ",\"lane\":" ++ (lane ++ (codes ",\"line\":" ++ (line ++ (codes ",\"reply\":" ++ (given ++ codes "}")))))) in
+    let two = around (codes ",\"lane\":") lane (codes ",\"line\":" ++ (line ++ (codes ",\"reply\":" ++ (given ++ codes "}")))) in
+    let three = around (codes ",\"line\":") line (codes ",\"reply\":" ++ (given ++ codes "}")) in
+    let four = around (codes ",\"reply\":") given (codes "}") in
+    let a : length (codes "{\"at\":") ≡ 6 = refl in
+    let b : length (codes ",\"lane\":") ≡ 8 = refl in
+    let c : length (codes ",\"line\":") ≡ 8 = refl in
+    let d : length (codes ",\"reply\":") ≡ 9 = refl in
+    let e : length (codes "}") ≡ 1 = refl in
+    omega (arith, one, two, three, four, a, b, c, d, e)
+
+pub trees_fit_lines : TreesFitLines
+unfolding entry_text escape_byte
+trees_fit_lines p flows e names is by_tree small =
+    let given = compact_text (reply_data p e.reply) in
+    let rest = codes ",\"line\":" ++ (decimal e.line ++ (codes ",\"reply\":" ++ (given ++ codes "}"))) in
+    let text = codes "{\"at\":" ++ (decimal e.at ++ (codes ",\"lane\":" ++ (decimal e.lane ++ rest))) in
+    let place = is.place in
+    let lane = is.lane in
+    let line = is.line in
+    let whole : length (entry_text p e) ≡ length text + 1 = length-append text (10 ∷ []) in
+    omega (
+      arith,
+      whole,
+      entry_long (decimal e.at) (decimal e.lane) (decimal e.line) given,
+      reply_long p flows _ e.reply names is.reply by_tree small,
+      length-decimal-le 10 e.at (omega arith) (omega (arith, place)) (omega (arith, place)),
+      length-decimal-le 3 e.lane (omega arith) (omega (arith, lane)) (omega (arith, lane)),
+      length-decimal-le 10 e.line (omega arith) (omega (arith, line)) (omega (arith, line)),
+    )
