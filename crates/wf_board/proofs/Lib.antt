@@ -18,6 +18,8 @@ pub mod Planned
 pub mod Answering
 pub mod PlansKept
 pub mod Deeds
+pub mod Meeting
+pub mod Unbroken
 pub mod Unhurt
 pub mod Fixed
 pub mod Admission

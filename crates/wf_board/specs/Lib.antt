@@ -13,6 +13,7 @@ pub mod Boards
 pub mod KeptPlans
 pub mod Verdicts
 pub mod Deeds
+pub mod Breaking
 pub mod Admitting
 pub mod Grants
 pub mod Decided
