@@ -27,7 +27,7 @@ use Rattle.admin_edits.specs.Edits.{amended, without_roles}
 use Rattle.admin_edits.specs.Hurting.{UnhurtPlansStayValid, gives_open, is_number, is_over}
 
 -- what a plan has to keep under another policy, so that it stays valid
-stays : (p q : Problem) (assigned : List (Option ℕ)) (finished : List Bool) (plan : List ℕ) → q.steps ≡ p.steps → p.users ≤ q.users → q.rules ≡ p.rules →
+pub stays : (p q : Problem) (assigned : List (Option ℕ)) (finished : List Bool) (plan : List ℕ) → q.steps ≡ p.steps → p.users ≤ q.users → q.rules ≡ p.rules →
     ((s : ℕ) → s < p.steps → is_member finished s ≡ false → p.authorised s (planned plan s) ≡ true → q.authorised s (planned plan s) ≡ true) →
     ((k : ℕ) (rule : Rule) → slice_get p.rules k ≡ Some rule → is_satisfied p.related rule (planned plan) ≡ true → is_satisfied q.related rule (planned plan) ≡ true) →
     IsValidPlan p assigned finished plan → IsValidPlan q assigned finished plan
@@ -44,7 +44,7 @@ stays p q assigned finished plan steps users rules authorised related valid = re
 -- ---- who is authorised
 
 -- some number that passes one test passes another
-more_below : (n : ℕ) (test other : ℕ → Bool) → ((k : ℕ) → test k ≡ true → other k ≡ true) → any_below n test ≡ true → any_below n other ≡ true
+pub more_below : (n : ℕ) (test other : ℕ → Bool) → ((k : ℕ) → test k ≡ true → other k ≡ true) → any_below n test ≡ true → any_below n other ≡ true
 more_below zero test other more is = is
 more_below (suc n) test other more is = elim (or_cases (any_below n test) (test n) is) [
   | inl before ↦ or_left (any_below n other) (other n) (more_below n test other more before)
@@ -56,7 +56,7 @@ still_in : (pairs : Pairs) (k q : ℕ × ℕ) → set.contains pairs q ≡ true 
 still_in pairs k q is = set.contains-insert pair_cmp_total pairs k q ∙ or_right _ (set.contains pairs q) is
 
 -- and in it without another
-not_taken : (pairs : Pairs) (k q : ℕ × ℕ) → (q ≡ k → ⊥) → set.contains pairs q ≡ true → set.contains (set.remove pairs k) q ≡ true
+pub not_taken : (pairs : Pairs) (k q : ℕ × ℕ) → (q ≡ k → ⊥) → set.contains pairs q ≡ true → set.contains (set.remove pairs k) q ≡ true
 not_taken pairs k q other is =
     set.contains-remove pair_cmp_total pairs k q
     ∙ elim (eq_by_cmp pair_cmp q k) as (λ b. eq_by_cmp pair_cmp q k ≡ b → (not b && set.contains pairs q) ≡ true) [
@@ -65,7 +65,7 @@ not_taken pairs k q other is =
     ] refl
 
 -- the roles of another user stay when all of a user's are taken away
-others_keep : (n u v r : ℕ) (members : Pairs) → v ≢ u → set.contains members (v, r) ≡ true → set.contains (without_roles n u members) (v, r) ≡ true
+pub others_keep : (n u v r : ℕ) (members : Pairs) → v ≢ u → set.contains members (v, r) ≡ true → set.contains (without_roles n u members) (v, r) ≡ true
 others_keep zero u v r members other is = is
 others_keep (suc n) u v r members other is =
     not_taken (without_roles n u members) (u, n) (v, r) (λ e. other (ap (λ (x : ℕ × ℕ). x.0) e)) (others_keep n u v r members other is)
@@ -79,7 +79,7 @@ goes_to_another finished plan u s none within open_ is =
 -- ---- workflows
 
 -- all that a policy says of a workflow
-abbrev problem_with : PolicyShape → WorkflowShape → Problem
+abbrev pub problem_with : PolicyShape → WorkflowShape → Problem
 problem_with p w = record {
   steps = length w.flow.steps;
   users = length p.roster.users;
@@ -120,7 +120,7 @@ change_other (r ∷ rs) (suc n) zero kind other = refl
 change_other (r ∷ rs) (suc n) (suc m) kind other = change_other rs n m kind (λ e. other (ap (λ (k : ℕ). suc k) e))
 
 -- another relation is as it was
-kind_other : (rs : List RelationShape) (rho sigma : ℕ) (kind : RelationKind) → sigma ≢ rho → kind_of (with_kind rs rho kind) sigma ≡ kind_of rs sigma
+pub kind_other : (rs : List RelationShape) (rho sigma : ℕ) (kind : RelationKind) → sigma ≢ rho → kind_of (with_kind rs rho kind) sigma ≡ kind_of rs sigma
 kind_other rs zero sigma kind other = refl
 kind_other rs (suc zero) sigma kind other = refl
 kind_other rs (suc (suc n)) zero kind other = refl
@@ -135,7 +135,7 @@ holds_other rs rho kind (Some (complement n)) u v other =
     ap (λ (k : Option RelationKind). not (set.contains (listed_pairs k) (u, v))) (kind_other rs rho n kind (λ e. differ (n == rho) (eq_is n rho e) other))
 
 -- and relates the same users, if it is not the complement of the one that changes
-related_other : (rs : List RelationShape) (rho sigma : ℕ) (kind : RelationKind) (u v : ℕ) → sigma ≢ rho → is_number rho (complement_of rs sigma) ≡ false →
+pub related_other : (rs : List RelationShape) (rho sigma : ℕ) (kind : RelationKind) (u v : ℕ) → sigma ≢ rho → is_number rho (complement_of rs sigma) ≡ false →
     is_related (with_kind rs rho kind) sigma u v ≡ is_related rs sigma u v
 related_other rs rho zero kind u v other none = refl
 related_other rs rho (suc zero) kind u v other none = refl
@@ -152,7 +152,7 @@ all_same k [] a b same = refl
 all_same k (m ∷ ms) a b same = ap (λ (t : Bool). (not m || t) && all_from (k + 1) ms a) (same k) ∙ ap (λ (t : Bool). (not m || b k) && t) (all_same (k + 1) ms a b same)
 
 -- a rule rests on the relations that it reads alone
-satisfied_same : (a b : Relating) (rule : Rule) (f : ℕ → ℕ) → ((rho u v : ℕ) → reads rule rho ≡ true → b rho u v ≡ a rho u v) → is_satisfied b rule f ≡ is_satisfied a rule f
+pub satisfied_same : (a b : Relating) (rule : Rule) (f : ℕ → ℕ) → ((rho u v : ℕ) → reads rule rho ≡ true → b rho u v ≡ a rho u v) → is_satisfied b rule f ≡ is_satisfied a rule f
 satisfied_same a b (Pair rho first second) f same = same rho (f first) (f second) (eq_same rho)
 satisfied_same a b (SomeOf rho group step) f same = any_same 0 group _ _ (λ x. same rho (f x) (f step) (eq_same rho))
 satisfied_same a b (AllOf rho group step) f same = all_same 0 group _ _ (λ x. same rho (f x) (f step) (eq_same rho))

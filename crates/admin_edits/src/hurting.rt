@@ -67,7 +67,7 @@ fn some_is_over(relations: &Relations, rho: RelId, rules: &Rules) -> bool
 }
 
 /// Whether a rule reads a relation or its complement.
-fn is_over(relations: &Relations, rho: RelId, rule: &Rule) -> bool
+pub fn is_over(relations: &Relations, rho: RelId, rule: &Rule) -> bool
     ensures { result ≡ is_over relations.now rho rule.now }
 {
     match rule.relation() {

@@ -1,7 +1,7 @@
 //! The decider for changes of the policy, on one thread.
-ghost use Rattle.std.specs.Prelude.{◌≡◌, ◌<◌, IfOk, length};
+ghost use Rattle.std.specs.Prelude.{◌≡◌, ◌<◌, IfOk, IfSome, length};
 ghost use Rattle.policy_book.specs.Policies.{problem_of};
-ghost use Rattle.policy_book.specs.Plans.{AreAssigned, IsWithin};
+ghost use Rattle.policy_book.specs.Plans.{AreAssigned, IsValidPlan, IsWithin};
 ghost use Rattle.case_record.specs.Cases.{assigned_of, finished_of};
 ghost use Rattle.admin_edits.specs.Edits.{amended};
 ghost use Rattle.wsp_solver.specs.Searches.{HasSolved};
@@ -14,7 +14,7 @@ ghost use Rattle.case_views.specs.Listing.{IsLeftAt, open_in};
 
 use crate::decider::verdict_without;
 use crate::found::{Unfound, outcome_near};
-use admin_edits::{Amendment, amended, may_hurt};
+use admin_edits::{Amendment, amended};
 use basics::List;
 use case_record::Case;
 use constraint_forms::{Assign, Plan, StepSet};
@@ -23,9 +23,9 @@ use policy_book::Policy;
 use refutation_tree::Tree;
 use std::alloc::{AllocError, Global};
 use std::sync::Arc;
-use wf_board::{Edition, Plans, Verdict};
-use wf_names::CaseId;
-use wsp_solver::Outcome;
+use wf_board::{Edition, Plans, Verdict, may_break};
+use wf_names::{CaseId, FlowId};
+use wsp_solver::{Outcome, plan_near};
 
 /// What a change leaves the open cases.
 #[derive(Drop)]
@@ -83,9 +83,10 @@ fn left_open(
     ensures { IfOk result (IsLeft after.now (open_in rows.now)) }
 {
     let mut plans = Vec::with_capacity(alloc, rows.len())?;
+    let mut recent = None;
     'rows: for i in 0..rows.len() {
         let row = &rows[i];
-        if let Some(tree) = add_plan(alloc, p, a, after, row, &mut plans)? {
+        if let Some(tree) = add_plan(alloc, p, a, after, row, &mut recent, &mut plans)? {
             return Ok(Left::Stranded(row.number(), tree));
         }
     }
@@ -100,6 +101,7 @@ fn add_plan(
     a: &Amendment,
     after: &Policy,
     row: &Row,
+    recent: &mut Option<Plan>,
     plans: &mut Vec<Plan>,
 ) -> Result<Option<Tree>, Unfound>
     requires allowed { IsAllowed p.now a.now }
@@ -108,7 +110,7 @@ fn add_plan(
     requires planned { IsPlanned p.now row.now.case row.now.plan }
     ensures { IfOk result (HasAdded after.now row.now plans.old.items plans.new.items) }
 {
-    let left = left_at(alloc, p, a, after, row)?;
+    let left = left_at(alloc, p, a, after, row, recent)?;
     Ok(add_part(&left, plans)?)
 }
 
@@ -138,13 +140,15 @@ fn add_outcome(outcome: &Outcome, plans: &mut Vec<Plan>) -> Result<Option<Tree>,
     }
 }
 
-/// What the changed policy leaves the case of a row, if it is open.
+/// What the changed policy leaves the case of a row, if it is open. A plan that was found for another
+/// case is tried first, and the one that is found here is kept for the next.
 pub(crate) fn left_at(
     alloc: Global,
     p: &Policy,
     a: &Amendment,
     after: &Policy,
     row: &Row,
+    recent: &mut Option<Plan>,
 ) -> Result<Option<Outcome>, Unfound>
     requires allowed { IsAllowed p.now a.now }
     requires after { after.now ≡ amended p.now a.now }
@@ -154,13 +158,13 @@ pub(crate) fn left_at(
 {
     match row.plan() {
         Some(kept) if row.case().phase().is_live() => {
-            Ok(Some(plan_for(alloc, p, a, after, row.case(), kept)?))
+            Ok(Some(plan_for(alloc, p, a, after, row.case(), kept, recent)?))
         }
         _ => Ok(None),
     }
 }
 
-// A plan for a case under the changed policy: the one that it has, where the change cannot hurt it.
+// A plan for a case under the changed policy: the one that it has, where it stays valid.
 fn plan_for(
     alloc: Global,
     p: &Policy,
@@ -168,6 +172,7 @@ fn plan_for(
     after: &Policy,
     case: &Case,
     kept: Plan,
+    recent: &mut Option<Plan>,
 ) -> Result<Outcome, Unfound>
     requires allowed { IsAllowed p.now a.now }
     requires after { after.now ≡ amended p.now a.now }
@@ -176,22 +181,71 @@ fn plan_for(
     ensures { IfOk result (HasSolved (problem_of after.now case.now.flow) (assigned_of case.now)
         (finished_of case.now)) }
 {
-    if may_hurt(p, a, case.flow(), &case.finished(), &kept) {
-        outcome_of(alloc, after, case, &kept)
+    if may_break(p, after, a, case, &kept) {
+        outcome_of(alloc, after, case, &kept, recent)
     } else {
         Ok(Outcome::Plan(kept))
     }
 }
 
-// A plan for a case, near another where one is valid, and else what a search finds.
-fn outcome_of(alloc: Global, p: &Policy, case: &Case, kept: &Plan) -> Result<Outcome, Unfound>
+// A plan for a case, near one of two others where one is valid, and else what a search finds.
+fn outcome_of(
+    alloc: Global,
+    p: &Policy,
+    case: &Case,
+    kept: &Plan,
+    recent: &mut Option<Plan>,
+) -> Result<Outcome, Unfound>
     requires flow { case.now.flow < length p.now.flows }
     requires within { IsWithin (problem_of p.now case.now.flow) (assigned_of case.now) }
     ensures { IfOk result (HasSolved (problem_of p.now case.now.flow) (assigned_of case.now)
         (finished_of case.now)) }
 {
     let (assigned, done) = progress_of(case);
-    outcome_near(alloc, p, case.flow(), &assigned, &done, kept)
+    let outcome = outcome_by(alloc, p, case.flow(), &assigned, &done, recent, kept)?;
+    if let Outcome::Plan(plan) = &outcome {
+        *recent = Some(*plan);
+    }
+    Ok(outcome)
+}
+
+// A plan for an assignment: one near a plan that was found for another case, or near the one that is
+// kept, where one is valid, and else what a search finds.
+fn outcome_by(
+    alloc: Global,
+    p: &Policy,
+    f: FlowId,
+    a: &Assign,
+    done: &StepSet,
+    recent: &Option<Plan>,
+    kept: &Plan,
+) -> Result<Outcome, Unfound>
+    requires flow { f < length p.now.flows }
+    requires within { IsWithin (problem_of p.now f) a.now }
+    requires assigned { AreAssigned done.now a.now }
+    ensures { IfOk result (HasSolved (problem_of p.now f) a.now done.now) }
+{
+    match near_recent(p, f, a, done, recent) {
+        Some(near) => Ok(Outcome::Plan(near)),
+        None => outcome_near(alloc, p, f, a, done, kept),
+    }
+}
+
+fn near_recent(
+    p: &Policy,
+    f: FlowId,
+    a: &Assign,
+    done: &StepSet,
+    recent: &Option<Plan>,
+) -> Option<Plan>
+    requires flow { f < length p.now.flows }
+    requires within { IsWithin (problem_of p.now f) a.now }
+    ensures { IfSome result (IsValidPlan (problem_of p.now f) a.now done.now) }
+{
+    match recent {
+        Some(plan) => plan_near(p, f, a, done, plan),
+        None => None,
+    }
 }
 
 // What is assigned in a case, and what of it is finished.

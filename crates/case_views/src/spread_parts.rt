@@ -73,7 +73,7 @@ pub(crate) fn stranded_parts<R: Threads + Sync>(
                     × (after.now ≡ amended p.now a.now) }
                 ensures { IfOk result (λ part. AreStrandedIn after.entry.now (row.now ∷ [])
                     (list_of part)) }
-            { stranded_at(alloc, p, a, after, row) },
+            { stranded_at(alloc, p, a, after, row, &mut None) },
         )
         .collect(rt, alloc)?;
     parts
@@ -101,7 +101,7 @@ pub(crate) fn left_parts<R: Threads + Sync>(
                 requires { IsKeptRow p.now row.now × IsAllowed p.now a.now
                     × (after.now ≡ amended p.now a.now) }
                 ensures { IfOk result (IsLeftAt after.entry.now row.now) }
-            { left_at(alloc, p, a, after, row) },
+            { left_at(alloc, p, a, after, row, &mut None) },
         )
         .collect(rt, alloc)?;
     parts

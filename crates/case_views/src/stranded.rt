@@ -11,6 +11,7 @@ ghost use Rattle.case_views.specs.Listing.{AreStrandedIn, list_of};
 use crate::edit_decider::left_at;
 use crate::found::Unfound;
 use admin_edits::{Amendment, amended, amendment_of};
+use constraint_forms::Plan;
 use grant_table::{Cases, Row};
 use policy_book::Policy;
 use std::alloc::{AllocError, Global};
@@ -63,20 +64,23 @@ fn stranded_in(
     ensures { IfOk result (AreStrandedIn after.now rows.now) }
 {
     let mut numbers = CaseList::new(alloc);
+    let mut recent = None;
     'rows: for i in 0..rows.len() {
-        let number = stranded_at(alloc, p, a, after, &rows[i])?;
+        let number = stranded_at(alloc, p, a, after, &rows[i], &mut recent)?;
         add_number(number, &mut numbers)?;
     }
     Ok(numbers)
 }
 
-/// The case of a row, if it is open and would be stranded.
+/// The case of a row, if it is open and would be stranded. A plan that was found for another case is
+/// tried first, and the one that is found here is kept for the next.
 pub(crate) fn stranded_at(
     alloc: Global,
     p: &Policy,
     a: &Amendment,
     after: &Policy,
     row: &Row,
+    recent: &mut Option<Plan>,
 ) -> Result<Option<CaseId>, Unfound>
     requires allowed { IsAllowed p.now a.now }
     requires after { after.now ≡ amended p.now a.now }
@@ -85,7 +89,7 @@ pub(crate) fn stranded_at(
     ensures { IfOk result (λ number. AreStrandedIn after.now (row.now ∷ []) (list_of number)) }
 {
     let _sound = after.admin();
-    match left_at(alloc, p, a, after, row)? {
+    match left_at(alloc, p, a, after, row, recent)? {
         Some(Outcome::Refuted(_)) => Ok(Some(row.number())),
         Some(Outcome::Plan(_)) => Ok(None),
         None => Ok(None),

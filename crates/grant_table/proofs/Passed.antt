@@ -11,7 +11,7 @@ use Rattle.grant_table.proofs.Places.{ascend_from_less}
 use Rattle.grant_table.proofs.Replanning.{replanned_closed, replanned_open}
 
 -- the first of rows of which none is open is not open
-closed_first : (n : ℕ) (r : Row) (rs : List Row) → open_count (take (suc n) (r ∷ rs)) ≡ 0 → is_open_row r ≡ false
+pub closed_first : (n : ℕ) (r : Row) (rs : List Row) → open_count (take (suc n) (r ∷ rs)) ≡ 0 → is_open_row r ≡ false
 closed_first n r rs none = elim (bool_cases (is_open_row r)) [
   | inl hit ↦
       let one : ◌≡◌ {A = ℕ} (ones r) 1 = ap (λ b. cond b 1 0) hit in
@@ -19,7 +19,7 @@ closed_first n r rs none = elim (bool_cases (is_open_row r)) [
   | inr miss ↦ miss
 ]
 
-closed_rest : (n : ℕ) (r : Row) (rs : List Row) → open_count (take (suc n) (r ∷ rs)) ≡ 0 → open_count (take n rs) ≡ 0
+pub closed_rest : (n : ℕ) (r : Row) (rs : List Row) → open_count (take (suc n) (r ∷ rs)) ≡ 0 → open_count (take n rs) ≡ 0
 closed_rest n r rs none = omega (arith, none, counted r (take n rs))
 
 pub open_passed : (n : ℕ) (rows : List Row) → open_count (take n rows) ≡ 0 → open_rows (drop n rows) ≡ open_rows rows

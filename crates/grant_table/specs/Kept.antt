@@ -1,5 +1,5 @@
 -- Inside: how a table of cases is kept.
-use Rattle.std.specs.Prelude.{◌≡◌, ℕ, zero, suc, ◌+◌, ◌<◌, ◌≤◌, true, false, nat_eq, List, [], ◌∷◌, length, take, slice_get, Option, None, Some, is_some}
+use Rattle.std.specs.Prelude.{◌≡◌, ℕ, zero, suc, ◌+◌, ◌<◌, ◌≤◌, true, false, nat_eq, List, [], ◌∷◌, length, take, drop, slice_get, Option, None, Some, is_some}
 use Rattle.wf_names.specs.declared.limits.TheConstants.{OPEN_CASE_LIMIT, CASE_LIMIT}
 use Rattle.case_record.specs.Cases.{is_open}
 use Rattle.grant_table.specs.declared.rows.Row.{Row}
@@ -34,6 +34,10 @@ pub record IsSoundTable (rows : List Row) (ever live : ℕ) : Type 0 where
 pub record ArePassed (rows : List Row) (first : ℕ) : Type 0 where
   pub ended : open_count (take first rows) ≡ 0
   pub within : first ≤ length rows
+
+-- some rows without the first so many, of which no case is open
+abbrev pub IsOpenPart : List Row → List Row → Type 0
+IsOpenPart rows part = (first : ℕ) × ArePassed rows first × (part ≡ drop first rows)
 
 -- what the code keeps: a sound table, and the cases that have ended before all others
 pub record IsKeptTable (rows : List Row) (ever live first : ℕ) : Type 0 where

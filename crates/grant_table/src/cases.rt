@@ -3,14 +3,14 @@ ghost use Rattle.std.specs.Prelude.{◌≡◌, ℕ, ◌+◌, ◌-◌, ◌<◌, �
 ghost use Rattle.wf_names.specs.declared.limits.TheConstants.{CASE_LIMIT, OPEN_CASE_LIMIT, STEP_LIMIT};
 ghost use Rattle.wf_names.specs.States.{is_done};
 ghost use Rattle.case_record.specs.Cases.{is_open};
-ghost use Rattle.grant_table.specs.Kept.{IsSoundTable};
+ghost use Rattle.grant_table.specs.Kept.{IsOpenPart, IsSoundTable};
 ghost use Rattle.grant_table.specs.Tables.{case_at, finished_row, freed_row, held_row, is_open_case, next_open, only, open_count, open_rows, ones, plan_at, replanned, row_at, with_case, with_row, withdrawn_row, IsNextOpen, HasFreeStep, HasHeldStep};
 
 use crate::changes::{finished, freed, held, withdrawn};
 use crate::recent::Recent;
 use crate::rows::{
-    Row, case_of, next_behind, one_live, only, open_behind, past_ended, plan_in, put, replan,
-    row_of, still_open,
+    Row, behind, case_of, next_behind, one_live, only, open_behind, past_ended, plan_in, put,
+    replan, row_of, still_open,
 };
 use case_record::Case;
 use constraint_forms::Plan;
@@ -165,6 +165,13 @@ impl Cases {
         ensures { result.now ≡ self.now.rows }
     {
         &self.rows
+    }
+
+    /// The rows from the first open case on, and some before it maybe.
+    pub fn open_part(&self) -> &[Row]
+        ensures { IsOpenPart self.now.rows result.now }
+    {
+        behind(&self.rows, self.first)
     }
 
     /// How many cases are open.

@@ -148,7 +148,7 @@ fn next_open(rows: &[Row], from: u32) -> Option<u16>
 }
 
 /// The rows behind the first so many.
-fn behind(rows: &[Row], first: usize) -> &[Row]
+pub(crate) fn behind(rows: &[Row], first: usize) -> &[Row]
     requires { first ≤ length rows.now }
     ensures { result.now ≡ drop first rows.now }
 {

@@ -81,7 +81,7 @@ pub there_replanned : (n : ℕ) (rows : List Row) (plans : List (List ℕ)) → 
 there_replanned n rows plans =
     sym (case_numbered n (replanned rows plans)) ∙ ap (λ es. numbered_case es n) (numbered_replanned rows plans) ∙ case_numbered n rows
 
-closed_planned : (p : PolicyShape) (c : CaseShape) (o : Option (List ℕ)) → is_some o ≡ is_open c → is_open c ≡ false → IsPlanned p c o
+pub closed_planned : (p : PolicyShape) (c : CaseShape) (o : Option (List ℕ)) → is_some o ≡ is_open c → is_open c ≡ false → IsPlanned p c o
 closed_planned p c None kept closed = closed
 closed_planned p c (Some plan) kept closed = let apart : true ≡ false = kept ∙ closed in cc
 

@@ -19,6 +19,8 @@ pub mod Answering
 pub mod Small
 pub mod PlansKept
 pub mod Deeds
+pub mod Meeting
+pub mod Unbroken
 pub mod Unhurt
 pub mod Fixed
 pub mod Admission

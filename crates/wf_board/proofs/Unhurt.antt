@@ -12,14 +12,16 @@ use Rattle.admin_edits.specs.Edits.{amended}
 use Rattle.admin_edits.specs.Found.{IsKnownChange}
 use Rattle.admin_edits.specs.Hurting.{may_hurt}
 use Rattle.admin_edits.proofs.Unhurt.{unhurt_plans_stay_valid}
+use Rattle.wf_board.specs.declared.deed.Deed.TheVariants as deed
 use Rattle.wf_board.specs.declared.verdict.Verdict.TheVariants as verdict
 use Rattle.wf_board.specs.declared.verdict.Answered.TheVariants.{Done}
 use Rattle.wf_board.specs.States.{open_cases}
 use Rattle.wf_board.specs.Boards.{book_of, numbered, state_on}
 use Rattle.wf_board.specs.Edited.{CanAllBeCompleted}
-use Rattle.wf_board.specs.Kept.{EachRow, IsOfPolicy, IsPlanned}
+use Rattle.wf_board.specs.Kept.{ArePlanned, EachRow, IsOfPolicy, IsPlanned}
 use Rattle.wf_board.specs.Steps.{Answers, state_after_decision}
-use Rattle.wf_board.specs.Taking.{IsHarmlessChange, IsKept, board_of, is_harmless}
+use Rattle.wf_board.specs.Deeds.{IsUndecided, is_harmless}
+use Rattle.wf_board.specs.Taking.{IsKept, KeepsAll, board_of}
 use Rattle.wf_board.specs.Verdicts.{HasAnswered}
 use Rattle.wf_board.proofs.Amended.{of_policy_amended}
 use Rattle.wf_board.proofs.Planned.{planned_open}
@@ -59,16 +61,22 @@ abbrev pub HasChangedTo : PolicyShape → CasesShape → ℕ → Ask → PolicyS
 HasChangedTo p t edits what q =
     IsKept q t × HasAnswered (board_of p t edits) (board_of q t (edits + 1)) what verdict.Nothing (Done (reply.Edited (edits + 1)))
 
-pub harmless_taken : (p q : PolicyShape) (t : CasesShape) (edits : ℕ) (what : Ask) (a : Amendment) → IsKept p t → IsHarmlessChange (book_of p t) what a → q ≡ amended p a →
+-- the plans stay valid under a change that makes none invalid
+pub harmless_keeps : (p : PolicyShape) (a : Amendment) (rows : List Row) → IsKnownChange p a → is_harmless a ≡ true → ArePlanned p rows → KeepsAll p a rows (amended p a)
+harmless_keeps p a rows found harmless kept = record {
+  policy = refl;
+  planned = each_still (λ r. IsPlanned p r.case r.plan) (λ r. IsPlanned (amended p a) r.case r.plan) rows
+      (λ r known. planned_still p a r.case r.plan found harmless known) kept.plans;
+}
+
+pub unbroken_taken : (p q : PolicyShape) (t : CasesShape) (edits : ℕ) (what : Ask) (a : Amendment) → IsKept p t → IsUndecided p t what (deed.Change a) → KeepsAll p a t.rows q →
     HasChangedTo p t edits what q
-harmless_taken p q t edits what a kept is same =
-    let found = is.allowed.found in
-    let planned = each_still (λ r. IsPlanned p r.case r.plan) (λ r. IsPlanned (amended p a) r.case r.plan) t.rows
-    (λ r known. planned_still p a r.case r.plan found is.harmless known) kept.planned.plans in
-    let cases = each_still (λ r. IsOfPolicy p r.case) (λ r. IsOfPolicy (amended p a) r.case) t.rows (λ r known. of_policy_amended p a r.case found known) kept.planned.cases in
+unbroken_taken p q t edits what a kept is keeps =
+    let planned = subst (λ (x : PolicyShape). EachRow (λ r. IsPlanned x r.case r.plan) t.rows) keeps.policy keeps.planned in
+    let cases = each_still (λ r. IsOfPolicy p r.case) (λ r. IsOfPolicy (amended p a) r.case) t.rows (λ r known. of_policy_amended p a r.case is.found.found known) kept.planned.cases in
     let s = state_on (board_of p t edits) in
     let given = reply.Edited (edits + 1) in
-    subst (HasChangedTo p t edits what) (sym same) (
+    subst (HasChangedTo p t edits what) (sym keeps.policy) (
       record { planned = record { cases = cases; plans = planned }; numbered = kept.numbered },
       subst (λ r. Answers s r given × (state_on (board_of (amended p a) t (edits + 1)) ≡ state_after_decision s r given)) (sym is.decided)
           ((refl, planned_complete (amended p a) t.rows planned), refl),

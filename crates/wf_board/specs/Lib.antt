@@ -14,6 +14,7 @@ pub mod KeptPlans
 pub mod Trees
 pub mod Verdicts
 pub mod Deeds
+pub mod Breaking
 pub mod Admitting
 pub mod Grants
 pub mod Decided

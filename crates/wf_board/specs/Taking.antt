@@ -13,20 +13,19 @@ use Rattle.wf_talk.specs.declared.reply.Reply.{Reply}
 use Rattle.wf_talk.specs.declared.reply.Reply.TheVariants as reply
 use Rattle.wf_talk.specs.declared.reply.Denial.{Denial}
 use Rattle.admin_edits.specs.declared.amendment.Amendment.{Amendment}
+use Rattle.admin_edits.specs.Edits.{amended}
 use Rattle.wf_board.specs.declared.deed.Deed.{Deed}
 use Rattle.wf_board.specs.declared.deed.Deed.TheVariants as deed
-use Rattle.wf_board.specs.Found.{IsAllowed}
 use Rattle.wf_board.specs.declared.verdict.Verdict.{Verdict}
 use Rattle.wf_board.specs.declared.verdict.Verdict.TheVariants as verdict
 use Rattle.wf_board.specs.declared.verdict.Answered.{Answered}
 use Rattle.wf_board.specs.declared.verdict.Answered.TheVariants.{Done, Needs}
 use Rattle.wf_board.specs.States.{Book}
 use Rattle.wf_board.specs.Boards.{BoardShape, book_of, state_on}
-pub use Rattle.wf_board.specs.Deeds.{is_harmless}
 use Rattle.wf_board.specs.KeptPlans.{rows_after}
 use Rattle.wf_board.specs.Decisions.{cause_aside, cause_full, decision_of, needs_verdict, takes_memory, unless_denied}
 use Rattle.wf_board.specs.Steps.{Answers, room_taken, state_after_decision, with_changed}
-use Rattle.wf_board.specs.Kept.{AreNumbered, ArePlanned}
+use Rattle.wf_board.specs.Kept.{AreNumbered, ArePlanned, EachRow, IsPlanned}
 use Rattle.wf_board.specs.Verdicts.{HasAnswered, HasUsed, MayLackMemory, is_unusable, room_used}
 
 -- what a board keeps of its table
@@ -49,16 +48,10 @@ pub record IsUsable (v : Verdict) : Type 0 where
   pub same : keeps_policy v ≡ true
   pub usable : is_unusable v ≡ false
 
--- a deed is such a change
-pub record IsHarmless (d : Deed) (a : Amendment) : Type 0 where
-  pub deed : d ≡ deed.Change a
-  pub harmless : is_harmless a ≡ true
-
--- what is asked is such a change, and no cause is against it
-pub record IsHarmlessChange (b : Book) (what : Ask) (a : Amendment) : Type 0 where
-  pub decided : decision_of b what ≡ Ok (deed.Change a)
-  pub allowed : IsAllowed b.policy a
-  pub harmless : is_harmless a ≡ true
+-- a policy is that after a change, and each kept plan is valid under it
+pub record KeepsAll (p : PolicyShape) (a : Amendment) (rows : List Row) (q : PolicyShape) : Type 0 where
+  pub policy : q ≡ amended p a
+  pub planned : EachRow (λ r. IsPlanned q r.case r.plan) rows
 
 -- a deed, or the cause that no more cases can be opened
 abbrev pub full_or : Book → Deed → Result Deed Denial

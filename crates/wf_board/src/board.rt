@@ -1,24 +1,24 @@
 //! The board: a policy and its cases.
-ghost use Rattle.std.specs.Prelude.{◌≡◌, ◌≢◌, ◌<◌, ◌≤◌, ◌+◌, ◌↔◌, map, false, true, IfOk, IsErrOf, OnErr, OnOk, Some};
+ghost use Rattle.std.specs.Prelude.{◌≡◌, ◌≢◌, ◌<◌, ◌≤◌, ◌+◌, ◌↔◌, map, false, true, IfOk, IfSome, IsErrOf, OnErr, OnOk, Some};
 ghost use Rattle.std.specs.Arc.{arc_value};
 ghost use Rattle.wf_board.specs.Admission.{HasAdmittedStep};
 ghost use Rattle.wf_board.specs.Admitting.{HasVerdict, MayLackMemoryFor};
 ghost use Rattle.wf_board.specs.Boards.{book_of, state_on};
 ghost use Rattle.wf_board.specs.Decisions.{decision_aside, decision_of, needs_plan, needs_verdict};
 ghost use Rattle.wf_board.specs.Deeds.{answered_of, is_over_open, FitsDeed, HasStepped, IsUndecided};
-ghost use Rattle.wf_board.specs.Found.{IsFound};
+ghost use Rattle.wf_board.specs.Found.{IsAllowed, IsFound};
 ghost use Rattle.wf_board.specs.KeptPlans.{kept_plans, KeepsPlans, KeepsPlansBy};
 ghost use Rattle.wf_board.specs.Kept.{AreNumbered, ArePlanned, IsSoundState, KeepsCompletable};
 ghost use Rattle.wf_board.specs.States.{opening_state};
 ghost use Rattle.wf_board.specs.Steps.{room_taken, state_after_step, IsStep};
-ghost use Rattle.wf_board.specs.Taking.{keeps_policy, IsHarmlessChange};
+ghost use Rattle.wf_board.specs.Taking.{keeps_policy, KeepsAll};
 ghost use Rattle.wf_board.specs.Trees.{shows_large};
 ghost use Rattle.wf_board.specs.Verdicts.{has_shown_large, HasAnswered, HasUsed, IsCertified, IsDecided, IsEditionFor, IsRight, MayLackMemory, room_used, snap_of, snap_rows};
 
 use crate::admit::admit;
 use crate::certified::accepts;
 use crate::decision::needs_verdict;
-use crate::harmless::{changed, harmless_change};
+use crate::harmless::unbroken;
 use crate::taking::{answer, step, take};
 use crate::{AdmitFault, Answered, Decider, Deed, Edition, Snap, Stepped, Verdict};
 use admin_edits::Amendment;
@@ -321,13 +321,95 @@ impl Board {
         ensures room { self.old.cases.spare ≤ self.new.cases.spare + 1 }
         ensures spare { self.old.cases.spare ≤ self.new.cases.spare + room_taken result }
     {
-        match harmless_change(&deed) {
-            Some(change) => self.change(alloc, ask, change),
-            None => {
-                let found = self.verdict(alloc, decider, &deed);
-                self.take(ask, deed, found)
-            }
+        match deed {
+            Deed::Change { amendment } => self.settle_change(alloc, decider, ask, amendment),
+            other => self.settle_by(alloc, decider, ask, other),
         }
+    }
+
+    /// Answers a change of the policy that is left to decide. Where the kept plans stay valid under
+    /// it, it is taken, and nothing has to be found.
+    fn settle_change<V: Decider>(
+        &mut self,
+        alloc: Global,
+        decider: &V,
+        ask: &Ask,
+        change: Amendment,
+    ) -> Reply
+        requires ready { V.ready decider.now }
+        requires undecided { IsUndecided self.old.policy self.old.cases
+            ask.now (Deed.Change change) }
+        requires few { self.old.edits < 4294967295 }
+        ensures step { IsStep (state_on self.old) ask.now result }
+        ensures next { state_on self.new ≡ state_after_step (state_on self.old) ask.now result }
+        ensures plans { KeepsPlans self.old self.new ask.now Verdict.Nothing result }
+        ensures lacking { result ≡ Reply.NoMemory → self.new ≡ self.old }
+        ensures room { self.old.cases.spare ≤ self.new.cases.spare + 1 }
+        ensures spare { self.old.cases.spare ≤ self.new.cases.spare + room_taken result }
+    {
+        match self.unbroken(alloc, &change) {
+            Ok(kept) => self.settle_kept(alloc, decider, ask, change, kept),
+            Err(_) => Reply::NoMemory,
+        }
+    }
+
+    /// The policy after a change, where the kept plans stay valid under it.
+    fn unbroken(
+        &self,
+        alloc: Global,
+        change: &Amendment,
+    ) -> Result<Option<Arc<Policy, Global>>, AllocError>
+        requires { IsAllowed self.now.policy change.now }
+        ensures { IfOk result (λ after. IfSome after
+            (λ q. KeepsAll self.now.policy change.now self.now.cases.rows (arc_value q))) }
+    {
+        let policy: &Policy = &self.policy;
+        unbroken(alloc, policy, change, &self.cases)
+    }
+
+    /// Answers a change of the policy that is left to decide: with the policy after it, where the kept
+    /// plans stay valid under that, and else by the verdict of a decider.
+    fn settle_kept<V: Decider>(
+        &mut self,
+        alloc: Global,
+        decider: &V,
+        ask: &Ask,
+        change: Amendment,
+        kept: Option<Arc<Policy, Global>>,
+    ) -> Reply
+        requires ready { V.ready decider.now }
+        requires undecided { IsUndecided self.old.policy self.old.cases
+            ask.now (Deed.Change change) }
+        requires kept { IfSome kept
+            (λ q. KeepsAll self.old.policy change self.old.cases.rows (arc_value q)) }
+        requires few { self.old.edits < 4294967295 }
+        ensures step { IsStep (state_on self.old) ask.now result }
+        ensures next { state_on self.new ≡ state_after_step (state_on self.old) ask.now result }
+        ensures plans { KeepsPlans self.old self.new ask.now Verdict.Nothing result }
+        ensures lacking { result ≡ Reply.NoMemory → self.new ≡ self.old }
+        ensures room { self.old.cases.spare ≤ self.new.cases.spare + 1 }
+        ensures spare { self.old.cases.spare ≤ self.new.cases.spare + room_taken result }
+    {
+        match kept {
+            Some(after) => self.change(ask, change, after),
+            None => self.settle_by(alloc, decider, ask, Deed::Change { amendment: change }),
+        }
+    }
+
+    /// Answers a request of which the deed is left to decide, by the verdict of a decider.
+    fn settle_by<V: Decider>(&mut self, alloc: Global, decider: &V, ask: &Ask, deed: Deed) -> Reply
+        requires ready { V.ready decider.now }
+        requires undecided { IsUndecided self.old.policy self.old.cases ask.now deed }
+        requires few { self.old.edits < 4294967295 }
+        ensures step { IsStep (state_on self.old) ask.now result }
+        ensures next { state_on self.new ≡ state_after_step (state_on self.old) ask.now result }
+        ensures plans { KeepsPlans self.old self.new ask.now Verdict.Nothing result }
+        ensures lacking { result ≡ Reply.NoMemory → self.new ≡ self.old }
+        ensures room { self.old.cases.spare ≤ self.new.cases.spare + 1 }
+        ensures spare { self.old.cases.spare ≤ self.new.cases.spare + room_taken result }
+    {
+        let found = self.verdict(alloc, decider, &deed);
+        self.take(ask, deed, found)
     }
 
     /// Answers a request of which the deed is left to decide, by a verdict on the deed.
@@ -356,27 +438,24 @@ impl Board {
     }
 
     /// Takes a changed policy under which the plans stay.
-    fn change(&mut self, alloc: Global, ask: &Ask, change: Amendment) -> Reply
-        requires harmless { IsHarmlessChange (state_on self.old).book ask.now change }
+    fn change(&mut self, ask: &Ask, change: Amendment, after: Arc<Policy, Global>) -> Reply
+        requires undecided { IsUndecided self.old.policy self.old.cases
+            ask.now (Deed.Change change) }
+        requires kept { KeepsAll self.old.policy change self.old.cases.rows (arc_value after) }
         requires few { self.old.edits < 4294967295 }
         ensures step { IsStep (state_on self.old) ask.now result }
         ensures small { shows_large result ≡ false }
         ensures next { state_on self.new ≡ state_after_step (state_on self.old) ask.now result }
         ensures plans { KeepsPlans self.old self.new ask.now Verdict.Nothing result }
-        ensures lacking { result ≡ Reply.NoMemory → self.new ≡ self.old }
+        ensures taken { result ≡ Reply.Edited (self.old.edits + 1) }
         ensures spare { self.new.cases.spare ≡ self.old.cases.spare }
     {
         let _ = ask;
-        let before: &Policy = &self.policy;
-        match changed(alloc, before, change) {
-            Ok(policy) => {
-                let number = self.edits + 1;
-                self.policy = policy;
-                self.edits = number;
-                Reply::Edited { number }
-            }
-            Err(_) => Reply::NoMemory,
-        }
+        let _ = change;
+        let number = self.edits + 1;
+        self.policy = after;
+        self.edits = number;
+        Reply::Edited { number }
     }
 
     /// The verdict of a decider on a deed. An edit or a view over the open cases is decided over

@@ -1,13 +1,16 @@
-//! Changes of the policy that make no valid plan invalid.
-ghost use Rattle.std.specs.Prelude.{◌≡◌, IfOk, IfSome};
+//! Changes of the policy that make no kept plan invalid.
+ghost use Rattle.std.specs.Prelude.{◌≡◌, true, IfOk, IfSome};
 ghost use Rattle.std.specs.Arc.{arc_value};
 ghost use Rattle.admin_edits.specs.Edits.{amended};
 ghost use Rattle.wf_board.specs.Found.{IsAllowed};
 ghost use Rattle.wf_board.specs.Deeds.{is_harmless, is_harmless_deed};
-ghost use Rattle.wf_board.specs.Taking.{IsHarmless};
+ghost use Rattle.wf_board.specs.Kept.{ArePlanned};
+ghost use Rattle.wf_board.specs.Taking.{KeepsAll};
 
 use crate::Deed;
+use crate::breaking::all_stay;
 use admin_edits::{Amendment, amended};
+use grant_table::Cases;
 use policy_book::Policy;
 use std::alloc::{AllocError, Global};
 use std::sync::Arc;
@@ -19,16 +22,6 @@ pub fn is_harmless_deed(deed: &Deed) -> bool
     match deed {
         Deed::Change { amendment } => is_harmless(amendment),
         _ => false,
-    }
-}
-
-/// The change that a deed is, where it makes no plan invalid.
-pub(crate) fn harmless_change(deed: &Deed) -> Option<Amendment>
-    ensures { IfSome result (IsHarmless deed.now) }
-{
-    match deed {
-        Deed::Change { amendment } if is_harmless(amendment) => Some(*amendment),
-        _ => None,
     }
 }
 
@@ -45,14 +38,32 @@ fn is_harmless(a: &Amendment) -> bool
     )
 }
 
-/// A policy with one change that has no fault, to be shared.
-pub(crate) fn changed(
+/// The policy after a change, to be shared, where each kept plan stays valid under it.
+pub(crate) fn unbroken(
     alloc: Global,
     p: &Policy,
-    a: Amendment,
-) -> Result<Arc<Policy, Global>, AllocError>
-    requires { IsAllowed p.now a }
-    ensures { IfOk result (λ q. arc_value q ≡ amended p.now a) }
+    a: &Amendment,
+    cases: &Cases,
+) -> Result<Option<Arc<Policy, Global>>, AllocError>
+    requires allowed { IsAllowed p.now a.now }
+    requires kept { ArePlanned p.now cases.now.rows }
+    ensures { IfOk result (λ after. IfSome after
+        (λ q. KeepsAll p.now a.now cases.now.rows (arc_value q))) }
 {
-    Ok(Arc::new(alloc, amended(p, a)?)?)
+    let after = amended(p, *a)?;
+    if keeps_all(p, &after, a, cases) {
+        Ok(Some(Arc::new(alloc, after)?))
+    } else {
+        Ok(None)
+    }
+}
+
+/// Whether each kept plan stays valid under a change.
+fn keeps_all(p: &Policy, after: &Policy, a: &Amendment, cases: &Cases) -> bool
+    requires allowed { IsAllowed p.now a.now }
+    requires after { after.now ≡ amended p.now a.now }
+    requires kept { ArePlanned p.now cases.now.rows }
+    ensures { result ≡ true → KeepsAll p.now a.now cases.now.rows after.now }
+{
+    is_harmless(a) || all_stay(p, after, a, cases)
 }

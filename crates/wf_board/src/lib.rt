@@ -5,6 +5,7 @@
 mod admit;
 mod alike;
 mod board;
+mod breaking;
 mod certified;
 mod counting;
 mod decider;
@@ -25,6 +26,7 @@ mod views;
 
 pub use admit::AdmitFault;
 pub use board::Board;
+pub use breaking::may_break;
 pub use counting::counts;
 pub use decider::Decider;
 pub use decision::{Refused, decision_aside, is_view};

@@ -1,0 +1,8 @@
+use Rattle.std.proofs.Common.{◌≡◌, ◌==◌, false}
+use Rattle.constraint_forms.specs.Assigned.{planned}
+use Rattle.policy_book.specs.Policies.{any_below}
+use Rattle.wf_board.proofs.breaking.gives.Given as goal
+
+-- none of the steps so far
+abbrev pub invariant-steps : goal.invariant-steps
+invariant-steps l = any_below l.s (λ s. planned l.plan s == l.u) ≡ false

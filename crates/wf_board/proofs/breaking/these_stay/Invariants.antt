@@ -1,0 +1,7 @@
+use Rattle.std.proofs.Common.{take}
+use Rattle.wf_board.specs.Kept.{EachRow, IsPlanned}
+use Rattle.wf_board.proofs.breaking.these_stay.Given as goal
+
+-- each row so far has a plan
+abbrev pub invariant-rows : goal.invariant-rows
+invariant-rows l = EachRow (λ r. IsPlanned l.after r.case r.plan) (take l.i l.rows)
