@@ -341,6 +341,7 @@ impl Board {
             ask.now (Deed.Change change) }
         requires few { self.old.edits < 4294967295 }
         ensures step { IsStep (state_on self.old) ask.now result }
+        ensures small { shows_large result ≡ false }
         ensures next { state_on self.new ≡ state_after_step (state_on self.old) ask.now result }
         ensures plans { KeepsPlans self.old self.new ask.now Verdict.Nothing result }
         ensures lacking { result ≡ Reply.NoMemory → self.new ≡ self.old }
@@ -384,6 +385,7 @@ impl Board {
             (λ q. KeepsAll self.old.policy change self.old.cases.rows (arc_value q)) }
         requires few { self.old.edits < 4294967295 }
         ensures step { IsStep (state_on self.old) ask.now result }
+        ensures small { shows_large result ≡ false }
         ensures next { state_on self.new ≡ state_after_step (state_on self.old) ask.now result }
         ensures plans { KeepsPlans self.old self.new ask.now Verdict.Nothing result }
         ensures lacking { result ≡ Reply.NoMemory → self.new ≡ self.old }
@@ -402,6 +404,7 @@ impl Board {
         requires undecided { IsUndecided self.old.policy self.old.cases ask.now deed }
         requires few { self.old.edits < 4294967295 }
         ensures step { IsStep (state_on self.old) ask.now result }
+        ensures small { shows_large result ≡ false }
         ensures next { state_on self.new ≡ state_after_step (state_on self.old) ask.now result }
         ensures plans { KeepsPlans self.old self.new ask.now Verdict.Nothing result }
         ensures lacking { result ≡ Reply.NoMemory → self.new ≡ self.old }
