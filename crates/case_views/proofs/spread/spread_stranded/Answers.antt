@@ -6,8 +6,8 @@ use Rattle.case_views.specs.Listing.{AreStrandedIn, list_of}
 use Rattle.case_views.proofs.Spreading.{stranded_joined}
 use Rattle.case_views.proofs.spread.spread_stranded.Goals as goal
 
-pub returns-in_ok-joined_cases : goal.returns-in_ok-joined_cases
-returns-in_ok-joined_cases g c =
+pub returns : goal.returns
+returns g c =
     let q = amended c.args.p.now c.args.a.now in
     let numbers = flat_map list_of c.in_ok-parts.parts.items in
     let all = stranded_joined c.in_ok-after.after c.rows.result.now c.in_ok-parts.parts.items c.in_ok-parts.ensures in
