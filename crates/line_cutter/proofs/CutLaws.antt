@@ -152,53 +152,6 @@ pub cut_all-append : (c : Cut) (xs ys : List ℕ) → cut_all c (xs ++ ys) ≡ c
 cut_all-append c [] ys = refl
 cut_all-append c (x ∷ xs) ys = cut_all-append (step c x) xs ys
 
--- ---- whole lines
-
-ends_step : (c : Cut) → c.stop ≡ None → c.number < SESSION_LINE_LIMIT → step c 10 ≡ end_line c
-unfolding step
-ends_step c going lines = grind (arith, common_steps)
-
-opened_step : (c d : Cut) (bytes : List ℕ) → c.stop ≡ None → c.number < SESSION_LINE_LIMIT → d ≡ end_line (record c { line = bytes }) → d ≡ step (record c { line = bytes }) 10
-opened_step c d bytes going lines e = e ∙ sym (ends_step (record c { line = bytes }) going lines)
-
-opened_sound : (c : Cut) (bytes : List ℕ) → IsSound c → length bytes ≤ LINE_LIMIT → IsSound (record c { line = bytes })
-opened_sound c bytes h short = record { lines = h.lines; short = short; begins = h.begins; batch = h.batch; last = h.last }
-
--- the front of a piece that fits into a line
-pub front_short : (piece : List ℕ) (n k : ℕ) → n ≤ length piece → k + n ≤ LINE_LIMIT → length (take n piece) ≤ LINE_LIMIT
-front_short piece n k within short = omega (arith, short, length-take-le n piece within)
-
-pub line_cut : (c d : Cut) (piece : List ℕ) (n : ℕ) → n < length piece → slice_index piece n ≡ 10 → c.line ≡ [] → c.stop ≡ None → c.number < SESSION_LINE_LIMIT → length c.line + n ≤ LINE_LIMIT
-    → ((k : ℕ) → k < n → slice_index piece k ≢ 10) → d ≡ end_line (record c { line = take n piece }) → Cuts c d (take (n + 1) piece)
-line_cut c d piece n within end empty going lines short others e =
-    let bytes : List ℕ = take n piece in
-    let before : cut_all c bytes ≡ record c { line = bytes } =
-    plain_front c piece n (omega (arith, within)) going lines short others ∙ ap (λ l. record c { line = l ++ bytes }) empty in
-    let whole : take (n + 1) piece ≡ bytes ++ 10 ∷ [] = take_more piece n 0 within ∙ ap (λ b. bytes ++ b ∷ []) end in
-    record {
-      cut = opened_step c d bytes going lines e ∙ sym (ap (cut_all c) whole ∙ cut_all-append c bytes (10 ∷ []) ∙ ap (λ x. step x 10) before);
-      front = bytes;
-      last = 10;
-      whole = whole;
-      none = ap (λ (x : Cut). x.ends) before;
-      going = ap (λ (x : Cut). x.stop) before ∙ going;
-    }
-
-pub line_ended : (c d : Cut) (bytes : List ℕ) → IsSound c → c.ends ≡ [] → c.stop ≡ None → c.number < SESSION_LINE_LIMIT → length bytes ≤ LINE_LIMIT
-    → d ≡ end_line (record c { line = bytes }) → d.ends ≢ [] → IsEnded d
-line_ended c d bytes h none going lines short e some =
-    ended_byte (record c { line = bytes }) d 10 (opened_sound c bytes h short) none (opened_step c d bytes going lines e) some
-
-pub line_stopped : (c d : Cut) (bytes : List ℕ) → c.ends ≡ [] → c.stop ≡ None → c.number < SESSION_LINE_LIMIT → d ≡ end_line (record c { line = bytes })
-    → (stop : Stop) → d.stop ≡ Some stop → d.ends ≡ []
-line_stopped c d bytes none going lines e = stops_byte (record c { line = bytes }) d 10 going none (opened_step c d bytes going lines e)
-
-pub line_further : (c d : Cut) (bytes : List ℕ) → c.line ≡ [] → d ≡ end_line (record c { line = bytes }) → place c < place d
-line_further c d bytes empty e = rw e (grind (arith, common_steps, empty, ends_of_line (record c { line = bytes })))
-
-pub line_sound : (c d : Cut) (bytes : List ℕ) → IsSound c → c.number < SESSION_LINE_LIMIT → length bytes ≤ LINE_LIMIT → d ≡ end_line (record c { line = bytes }) → IsSound d
-line_sound c d bytes h lines short e = rw e (sound_line (record c { line = bytes }) (opened_sound c bytes h short) lines)
-
 -- ---- what was handed over
 
 handed_end : (jobs : List Job) (batch_ends : List ℕ) (c : Cut) → end_batch (after_handing jobs batch_ends c) ≡ after_handing jobs batch_ends (end_batch c)

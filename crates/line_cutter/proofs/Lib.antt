@@ -1,4 +1,5 @@
 pub mod CutLaws
+mod WholeLines
 pub mod Adding
 pub mod Order
 mod Named

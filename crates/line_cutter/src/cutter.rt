@@ -90,9 +90,9 @@ impl Cutter {
         self.ends.len() != 0
     }
 
-    /// Cuts the next bytes of a piece: a whole line with its end, a run of a line without it, or one
-    /// byte. Answers how many bytes were cut. No byte is cut after one that ends a batch, or at which
-    /// the cutting stops.
+    /// Cuts the next bytes of a piece: a whole line with its end, a run of a line without it, or
+    /// one byte. Answers how many bytes were cut. No byte is cut after one that ends a batch, or at
+    /// which the cutting stops.
     #[tactic(auto, using(crate::proofs::CutLaws::one_cut, crate::proofs::CutLaws::plain_cut, crate::proofs::CutLaws::plain_sound))]
     pub fn feed(&mut self, piece: &[u8]) -> Result<usize, AllocError>
         requires some { 0 < length piece.now }
