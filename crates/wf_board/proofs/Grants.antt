@@ -1,6 +1,8 @@
 -- A claim is granted exactly where its user is authorised, its step is ready, and its case can then be completed.
-use Rattle.std.proofs.Common.{◌≡◌, ℕ, suc, ◌+◌, ◌<◌, Bool, true, false, ◌&&◌, nat_lt, List, [], ◌∷◌, length, Option, None, Some, option_map, is_none, slice_get, if◌then◌else◌, ◌⊎◌, inl, inr, refl, sym, ap, subst, ◌∙◌, arith}
-use Rattle.std.specs.Prelude.{◌↔◌}
+use Rattle.std.proofs.Common.{◌≡◌, ℕ, suc, ◌+◌, ◌<◌, Bool, true, false, not, ◌&&◌, nat_lt, List, [], ◌∷◌, length, Option, None, Some, option_map, is_none, slice_get, if◌then◌else◌, ◌⊎◌, inl, inr, refl, sym, ap, subst, ◌∙◌, arith}
+use Rattle.std.specs.Prelude.{◌↔◌, ◌||◌}
+use Rattle.std.specs.List.{list_any}
+use Rattle.std.proofs.lemmas.Bool.{false≢true}
 use Rattle.std.proofs.lemmas.Bool.Decides.{nat_tests}
 use Rattle.basics.proofs.Booleans.{and_both, and_from}
 use Rattle.first_fault.specs.Reading.{◌>>=◌}
@@ -9,16 +11,18 @@ use Rattle.wf_names.specs.declared.states.StepState.{StepState}
 use Rattle.wf_names.specs.declared.states.StepState.TheVariants.{Free, Held, Finished}
 use Rattle.constraint_forms.specs.declared.rule.Rule.{Rule}
 use Rattle.constraint_forms.specs.Assigned.{user_at}
-use Rattle.constraint_forms.specs.Rules.{Relating, is_falsified}
+use Rattle.constraint_forms.specs.Rules.{Relating, is_falsified, names}
+use Rattle.constraint_forms.proofs.RuleLaws.{falsified_by_named}
 use Rattle.refutation_tree.specs.Shapes.{rule}
 use Rattle.policy_book.specs.Shapes.{PolicyShape}
 use Rattle.policy_book.specs.Facts.{IsSoundPolicy}
 use Rattle.policy_book.specs.Policies.{flow_at, is_authorised, problem_of}
-use Rattle.policy_book.specs.Plans.{IsCompletable}
+use Rattle.policy_book.specs.Plans.{AreAssigned, IsCompletable}
 use Rattle.policy_book.specs.Refuting.{is_broken}
+use Rattle.certificate_check.proofs.Assigned.{given_other}
 use Rattle.certificate_check.proofs.Refuted.{refutes_soundly}
-use Rattle.case_record.specs.Cases.{CaseShape, finished_of, state_at}
-use Rattle.case_record.specs.Ready.{first_missing, is_free}
+use Rattle.case_record.specs.Cases.{CaseShape, assigned_of, finished_of, state_at}
+use Rattle.case_record.specs.Ready.{first_missing, is_free, is_ready}
 use Rattle.wf_talk.specs.declared.request.Request.TheVariants as request
 use Rattle.wf_talk.specs.declared.request.Ask.TheVariants as ask
 use Rattle.wf_talk.specs.declared.reply.Reply.{Reply}
@@ -31,9 +35,10 @@ use Rattle.wf_board.specs.States.{Book, State}
 use Rattle.wf_board.specs.Decisions.{cause_full, decision_of, unless_denied}
 use Rattle.wf_board.specs.Steps.{Answers}
 use Rattle.wf_board.specs.Grants.{AreNamed, MayBeGranted}
+use Rattle.wf_board.specs.Edited.{CanBeCompleted}
 use Rattle.wf_board.specs.Laws.{GrantsAreExact}
 use Rattle.wf_board.proofs.Told.{place_within, unless_tells}
-use Rattle.wf_board.proofs.Exact.{claimed_assigned, claims_are_exact, well_formed}
+use Rattle.wf_board.proofs.Exact.{claimed_assigned, claims_are_exact, finished_assigned, well_formed}
 
 -- ---- what no cause tells
 
@@ -100,17 +105,21 @@ falsified_found related users k m (r ∷ rs) h = at_first (is_falsified related 
     at_first false is found rest = later (rest found)
 
 -- where a rule is falsified nothing can be completed
+none_falsified : (p : PolicyShape) (c : CaseShape) (a : List (Option ℕ)) → IsSoundPolicy p → c.flow < length p.flows → AreAssigned (finished_of c) a →
+    IsCompletable (problem_of p c.flow) a (finished_of c) → is_none (first_falsified (problem_of p c.flow).related (user_at a) 0 (flow_at p c.flow).rules) ≡ true
+none_falsified p c a sound known assigned complete = by_search (first_falsified (problem_of p c.flow).related (user_at a) 0 (flow_at p c.flow).rules) refl
+  where
+    by_search : (o : Option ℕ) → first_falsified (problem_of p c.flow).related (user_at a) 0 (flow_at p c.flow).rules ≡ o → is_none o ≡ true
+    by_search None is = refl
+    by_search (Some k) is =
+        let found = falsified_found (problem_of p c.flow).related (user_at a) 0 k (flow_at p c.flow).rules is in
+        let broken : is_broken (problem_of p c.flow) a (slice_get (flow_at p c.flow).rules found.place) ≡ true = rw found.there found.falsified in
+        absurd (refutes_soundly (problem_of p c.flow) a (finished_of c) (rule found.place) (well_formed p c.flow sound known) assigned broken complete)
+
 no_rule_falsified : (p : PolicyShape) (c : CaseShape) (t u : ℕ) → IsSoundPolicy p → c.flow < length p.flows → state_at c t ≡ Free →
     IsCompletable (problem_of p c.flow) (assigned_with c t u) (finished_of c) →
     is_none (first_falsified (problem_of p c.flow).related (user_at (assigned_with c t u)) 0 (flow_at p c.flow).rules) ≡ true
-no_rule_falsified p c t u sound known free complete = by_search (first_falsified (problem_of p c.flow).related (user_at (assigned_with c t u)) 0 (flow_at p c.flow).rules) refl
-  where
-    by_search : (o : Option ℕ) → first_falsified (problem_of p c.flow).related (user_at (assigned_with c t u)) 0 (flow_at p c.flow).rules ≡ o → is_none o ≡ true
-    by_search None is = refl
-    by_search (Some k) is =
-        let found = falsified_found (problem_of p c.flow).related (user_at (assigned_with c t u)) 0 k (flow_at p c.flow).rules is in
-        let broken : is_broken (problem_of p c.flow) (assigned_with c t u) (slice_get (flow_at p c.flow).rules found.place) ≡ true = rw found.there found.falsified in
-        absurd (refutes_soundly (problem_of p c.flow) (assigned_with c t u) (finished_of c) (rule found.place) (well_formed p c.flow sound known) (claimed_assigned c t u free) broken complete)
+no_rule_falsified p c t u sound known free complete = none_falsified p c (assigned_with c t u) sound known (claimed_assigned c t u free) complete
 
 -- ---- the decision
 
@@ -124,9 +133,8 @@ decided_claim b n step user c t u named = rw (named.its_case, named.live, named.
     unless_full (Some d) = refl
 
 -- no cause is against a claim that may be granted
-granted_none : (s : State) (c : CaseShape) (t u : ℕ) → IsSoundPolicy s.book.policy → c.flow < length s.book.policy.flows → MayBeGranted s.book.policy c t u → first_cause s.book.policy c t u ≡ None
-granted_none s c t u sound known may =
-    let p = s.book.policy in
+granted_none : (p : PolicyShape) (c : CaseShape) (t u : ℕ) → IsSoundPolicy p → c.flow < length p.flows → MayBeGranted p c t u → first_cause p c t u ≡ None
+granted_none p c t u sound known may =
     let ready = and_both (nat_lt t (length c.states) && is_free (state_at c t)) (is_none (first_missing c (flow_at p c.flow).flow.order t)) may.ready in
     let free = (and_both (nat_lt t (length c.states)) (is_free (state_at c t)) ready.0).1 in
     none_all _ _ _ _
@@ -135,6 +143,55 @@ granted_none s c t u sound known may =
     (passed (is_authorised p c.flow t u) (denial.Role (permitted_roles p c.flow t)) may.authorised)
     (made_of_nothing (first_falsified (problem_of p c.flow).related (user_at (assigned_with c t u)) 0 (flow_at p c.flow).rules) denial.Rule
     (no_rule_falsified p c t u sound known (free_is (state_at c t) free) may.completable))
+
+none_later : (a b : Bool) → a || b ≡ false → b ≡ false
+none_later true b h = cc
+none_later false b h = h
+
+-- a rule that does not name the step is falsified where it was before the step is given, and each that does is looked at
+still_none : (related : Relating) (c : CaseShape) (t u k : ℕ) (rules : List Rule) → list_any (λ r. names r t && is_falsified related r (user_at (assigned_with c t u))) rules ≡ false
+    → first_falsified related (user_at (assigned_of c)) k rules ≡ None → first_falsified related (user_at (assigned_with c t u)) k rules ≡ None
+still_none related c t u k [] quiet before = refl
+still_none related c t u k (r ∷ rs) quiet before =
+    by_rule (names r t) (is_falsified related r (user_at (assigned_with c t u))) (is_falsified related r (user_at (assigned_of c))) refl refl refl (still_none related c t u (k + 1) rs)
+  where
+    alike : names r t ≡ false → is_falsified related r (user_at (assigned_with c t u)) ≡ is_falsified related r (user_at (assigned_of c))
+    alike apart = falsified_by_named related r (user_at (assigned_with c t u)) (user_at (assigned_of c))
+        (λ x named. given_other (assigned_of c) t u x (λ same. false≢true (sym apart ∙ ap (names r) (sym same) ∙ named)))
+
+    by_rule : (n now was : Bool) → names r t ≡ n → is_falsified related r (user_at (assigned_with c t u)) ≡ now → is_falsified related r (user_at (assigned_of c)) ≡ was
+        → (list_any (λ x. names x t && is_falsified related x (user_at (assigned_with c t u))) rs ≡ false → first_falsified related (user_at (assigned_of c)) (k + 1) rs ≡ None
+        → first_falsified related (user_at (assigned_with c t u)) (k + 1) rs ≡ None)
+        → first_falsified related (user_at (assigned_with c t u)) k (r ∷ rs) ≡ None
+    by_rule n now true named is old rest = cc (ap (λ b. if b then Some k else first_falsified related (user_at (assigned_of c)) (k + 1) rs) (sym old) ∙ before)
+    by_rule true true false named is old rest =
+        cc (sym (ap (λ b. b || list_any (λ x. names x t && is_falsified related x (user_at (assigned_with c t u))) rs) (ap (λ b. b && is_falsified related r (user_at (assigned_with c t u))) named ∙ is)) ∙ quiet)
+    by_rule false true false named is old rest = absurd (false≢true (sym old ∙ sym (alike named) ∙ is))
+    by_rule n false false named is old rest =
+        ap (λ b. if b then Some k else first_falsified related (user_at (assigned_with c t u)) (k + 1) rs) is
+        ∙ rest (none_later _ _ quiet) (ap (λ b. if b then Some k else first_falsified related (user_at (assigned_of c)) (k + 1) rs) (sym old) ∙ before)
+
+pub told_false : (b : Bool) → not b ≡ true → b ≡ false
+told_false true h = cc
+told_false false h = refl
+
+nothing : (o : Option ℕ) → is_none o ≡ true → o ≡ None
+nothing None h = refl
+nothing (Some n) h = cc
+
+-- no cause is against the claim of a ready step, where the case can be completed and no rule that names the step is falsified
+pub clear_none : (p : PolicyShape) (c : CaseShape) (t u : ℕ) → IsSoundPolicy p → c.flow < length p.flows → CanBeCompleted p c
+    → is_ready c (flow_at p c.flow).flow.order t ≡ true → is_authorised p c.flow t u ≡ true
+    → list_any (λ r. names r t && is_falsified (problem_of p c.flow).related r (user_at (assigned_with c t u))) (flow_at p c.flow).rules ≡ false → first_cause p c t u ≡ None
+clear_none p c t u sound known complete ready may quiet =
+    let tests = and_both (nat_lt t (length c.states) && is_free (state_at c t)) (is_none (first_missing c (flow_at p c.flow).flow.order t)) ready in
+    let free = (and_both (nat_lt t (length c.states)) (is_free (state_at c t)) tests.0).1 in
+    let before = nothing _ (none_falsified p c (assigned_of c) sound known (finished_assigned c) complete) in
+    none_all _ _ _ _
+    (users_of_free (state_at c t) denial.Taken free)
+    (made_of_nothing (first_missing c (flow_at p c.flow).flow.order t) (denial.Order c.flow) tests.1)
+    (passed (is_authorised p c.flow t u) (denial.Role (permitted_roles p c.flow t)) may)
+    (ap (option_map denial.Rule) (still_none (problem_of p c.flow).related c t u 0 (flow_at p c.flow).rules quiet before))
 
 -- where there is no cause, the user is authorised and the step ready
 none_granted : (s : State) (c : CaseShape) (t u : ℕ) → t < length c.states → first_cause s.book.policy c t u ≡ None →
@@ -179,7 +236,7 @@ grants_are_exact s n step user c t u given sound named is_step memory = by_cause
     by_cause (Some d) cause =
         let denied = subst (λ r. Answers s r given) (decided ∙ ap (unless_denied (deed.Claim n c t u)) cause) is_step in (
           λ granted. absurd (no_grant d given granted.0 denied granted.1),
-          λ may. absurd (none_apart d (sym (granted_none s c t u sound.policy known may) ∙ cause)),
+          λ may. absurd (none_apart d (sym (granted_none s.book.policy c t u sound.policy known may) ∙ cause)),
         )
       where
         none_apart : (e : Denial) → None ≡ Some e → ⊥

@@ -1,11 +1,17 @@
 //! What a line asks, or the first cause against it.
-ghost use Rattle.std.specs.Prelude.{◌≡◌, Ok, true, IfErr, IfOk, OnErr};
+ghost use Rattle.std.specs.Prelude.{◌≡◌, ◌<◌, ◌&&◌, length, None, Ok, true, IfErr, IfOk, OnErr};
+ghost use Rattle.std.specs.List.{list_any};
 ghost use Rattle.wf_names.specs.States.{is_held};
 ghost use Rattle.first_fault.specs.Reading.{Gives};
 ghost use Rattle.case_record.specs.Cases.{state_at};
 ghost use Rattle.denial_reasons.specs.Causes as causes;
 ghost use Rattle.wf_board.specs.Boards.{book_of};
-ghost use Rattle.wf_board.specs.Kept.{ArePlanned};
+ghost use Rattle.constraint_forms.specs.Assigned.{user_at};
+ghost use Rattle.constraint_forms.specs.Rules.{is_falsified, names};
+ghost use Rattle.policy_book.specs.Policies.{flow_at, problem_of};
+ghost use Rattle.denial_reasons.specs.Causes.{assigned_with};
+ghost use Rattle.wf_board.specs.Edited.{CanBeCompleted};
+ghost use Rattle.wf_board.specs.Kept.{ArePlanned, IsOfPolicy};
 ghost use Rattle.wf_board.specs.Found.{IsFound};
 ghost use Rattle.wf_board.specs.Decisions.{cause_aside, cause_full, decision_aside, decision_of, is_held_by, is_view, needs_plan, needs_verdict, takes_memory};
 ghost use Rattle.wf_board.specs.Taking.{undenied};
@@ -15,11 +21,12 @@ ghost use Rattle.wf_board.specs.States.{is_full};
 use crate::Deed;
 use crate::resolve::resolve;
 use case_record::Case;
+use constraint_forms::{Assign, Rule, falsified};
 use denial_reasons::{first_cause, has_cause};
 use grant_table::Cases;
 use policy_book::Policy;
 use std::alloc::{AllocError, Global};
-use wf_names::{CASE_LIMIT, OPEN_CASE_LIMIT, StepId, StepState, UserId};
+use wf_names::{CASE_LIMIT, FlowId, OPEN_CASE_LIMIT, StepId, StepState, UserId};
 use wf_talk::{Ask, Denial, Request};
 
 /// Why a deed is not done.
@@ -131,7 +138,8 @@ fn cause_aside(
     cases: &Cases,
     deed: &Deed,
 ) -> Result<Option<Denial>, AllocError>
-    requires { IsFound p.now cases.now.rows deed.now }
+    requires kept { ArePlanned p.now cases.now.rows }
+    requires found { IsFound p.now cases.now.rows deed.now }
     ensures cause { IfOk result (λ cause. cause ≡ cause_aside (book_of p.now cases.now) deed.now) }
     ensures memory { OnErr result
         (causes.takes_memory (cause_aside (book_of p.now cases.now) deed.now) ≡ true) }
@@ -144,7 +152,7 @@ fn cause_aside(
             step,
             user,
             ..
-        } => first_cause(alloc, p, case, *step, *user),
+        } => claim_cause(alloc, p, case, *step, *user),
         Deed::Finish {
             case,
             step,
@@ -160,6 +168,92 @@ fn cause_aside(
         Deed::Release { case, step, .. } => Ok(unless_held(case, *step)),
         _ => Ok(None),
     }
+}
+
+/// Why a claim is denied. Its case can be completed as it stands, so that no rule is falsified but
+/// by the step that is claimed.
+fn claim_cause(
+    alloc: Global,
+    p: &Policy,
+    case: &Case,
+    s: StepId,
+    u: UserId,
+) -> Result<Option<Denial>, AllocError>
+    requires known { IsOfPolicy p.now case.now }
+    requires step { s < length case.now.states }
+    requires user { u < length p.now.roster.users }
+    requires complete { CanBeCompleted p.now case.now }
+    ensures cause { IfOk result (λ cause. cause ≡ causes.first_cause p.now case.now s u) }
+    ensures memory { OnErr result
+        (causes.takes_memory (causes.first_cause p.now case.now s u) ≡ true) }
+{
+    if is_clear(p, case, s, u) {
+        return Ok(None);
+    }
+    first_cause(alloc, p, case, s, u)
+}
+
+/// Whether there is no cause against a claim of a case that can be completed as it stands.
+fn is_clear(p: &Policy, case: &Case, s: StepId, u: UserId) -> bool
+    requires known { IsOfPolicy p.now case.now }
+    requires step { s < length case.now.states }
+    requires user { u < length p.now.roster.users }
+    requires complete { CanBeCompleted p.now case.now }
+    ensures { result ≡ true → causes.first_cause p.now case.now s u ≡ None }
+{
+    let f = case.flow();
+    if !case.ready(p.flow(f), s) {
+        return false;
+    }
+    if !p.authorised(f, s, u) {
+        return false;
+    }
+    let _sound = p.admin();
+    !breaks_rule(p, case, s, u)
+}
+
+/// Whether a rule that names a step is falsified once a user has the step.
+fn breaks_rule(p: &Policy, case: &Case, s: StepId, u: UserId) -> bool
+    requires known { IsOfPolicy p.now case.now }
+    requires step { s < length case.now.states }
+    ensures { result ≡ list_any (λ r. names r s
+        && is_falsified (problem_of p.now case.now.flow).related r
+        (user_at (assigned_with case.now s u))) (flow_at p.now case.now.flow).rules }
+{
+    let f = case.flow();
+    let given = assigned_with(case, s, u);
+    breaks_one(p, f, p.rules(f).as_slice(), s, &given)
+}
+
+/// Whether one of these rules names a step and is falsified.
+fn breaks_one(p: &Policy, f: FlowId, rules: &[Rule], s: StepId, given: &Assign) -> bool
+    ensures { result ≡ list_any (λ r. names r s && is_falsified (problem_of p.now f).related
+        r (user_at given.now)) rules.now }
+{
+    'rules: for rule in rules {
+        if breaks(p, f, rule, s, given) {
+            return true;
+        }
+    }
+    false
+}
+
+/// Whether a rule names a step and is falsified.
+fn breaks(p: &Policy, f: FlowId, rule: &Rule, s: StepId, given: &Assign) -> bool
+    ensures { result ≡ (names rule.now s && is_falsified (problem_of p.now f).related
+        rule.now (user_at given.now)) }
+{
+    let _ = f;
+    rule.names(s) && falsified(rule, p, given)
+}
+
+/// What is assigned in a case, and a step given to a user with it.
+fn assigned_with(case: &Case, s: StepId, u: UserId) -> Assign
+    requires { s < length case.now.states }
+    ensures { result ≡ assigned_with case.now s u }
+{
+    let _within = case.steps();
+    case.assigned().with(s, u)
 }
 
 /// That a user does not hold a step.
