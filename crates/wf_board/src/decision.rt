@@ -216,8 +216,9 @@ fn is_clear(p: &Policy, case: &Case, s: StepId, u: UserId) -> bool
 fn breaks_rule(p: &Policy, case: &Case, s: StepId, u: UserId) -> bool
     requires known { IsOfPolicy p.now case.now }
     requires step { s < length case.now.states }
-    ensures { result ≡ list_any (λ r. names r s && is_falsified (problem_of p.now case.now.flow).related
-        r (user_at (assigned_with case.now s u))) (flow_at p.now case.now.flow).rules }
+    ensures { result ≡ list_any (λ r. names r s
+        && is_falsified (problem_of p.now case.now.flow).related r
+        (user_at (assigned_with case.now s u))) (flow_at p.now case.now.flow).rules }
 {
     let f = case.flow();
     let given = assigned_with(case, s, u);

@@ -1,11 +1,7 @@
-use Rattle.std.proofs.Common.{◌≡◌, ◌&&◌, true, false, sym, ap, ◌∙◌, arith}
-use Rattle.std.specs.List.{list_any}
+use Rattle.std.proofs.Common.{◌≡◌, true, sym, ◌∙◌, arith}
 use Rattle.std.proofs.lemmas.Grind.{common_steps}
-use Rattle.constraint_forms.specs.Assigned.{user_at}
-use Rattle.constraint_forms.specs.Rules.{is_falsified, names}
-use Rattle.policy_book.specs.Policies.{flow_at, is_authorised, problem_of}
+use Rattle.policy_book.specs.Policies.{flow_at, is_authorised}
 use Rattle.case_record.specs.Ready.{is_ready}
-use Rattle.denial_reasons.specs.Causes.{assigned_with}
 use Rattle.wf_board.proofs.Grants.{clear_none, told_false}
 use Rattle.wf_board.proofs.decision.is_clear.Goals as goal
 
