@@ -1,6 +1,6 @@
 //! Which step of a case to try next.
 
-use crate::bits::{bit, has_bit, pop};
+use crate::bits::{Cells, bit, has_bit, pop};
 use crate::problem::{Demand, Law, Over, Problem};
 use crate::rows::{add_user, clear, count, has_user, is_empty, join, meet, put, strike, take_user};
 use crate::work::Work;
@@ -14,6 +14,7 @@ pub(crate) fn advised(problem: &Problem, work: &mut Work, a: &Assign) -> Option<
     let mut best = None;
     let mut least = (u32::MAX, 1u32);
     let mut fewest = u32::MAX;
+    let weights = weights_of(problem, work, open);
     for s in 0..problem.steps {
         if !has_bit(open, s) {
             continue;
@@ -26,10 +27,10 @@ pub(crate) fn advised(problem: &Problem, work: &mut Work, a: &Assign) -> Option<
                 fewest = users;
             }
         } else if fewest == u32::MAX {
-            let weight = weight_of(problem, work, open, s);
-            if best.is_none() || is_less((candidates, weight), least) {
+            let share = (candidates, weights.at(s));
+            if best.is_none() || is_less(share, least) {
                 best = Some(StepId(s));
-                least = (candidates, weight);
+                least = share;
             }
         }
     }
@@ -82,7 +83,16 @@ fn open_steps(problem: &Problem, a: &Assign) -> u32 {
     open
 }
 
-// The weights of the rules that a step has with other open steps.
+// For each open step the weights of the rules that it has with other open steps.
+fn weights_of(problem: &Problem, work: &Work, open: u32) -> Cells {
+    let mut weights = Cells::all(1);
+    for (k, law) in problem.laws.as_slice().iter().enumerate() {
+        weights.add_to(law.scope & open, work.tree_rule(k));
+    }
+    weights
+}
+
+// The same for one step.
 fn weight_of(problem: &Problem, work: &Work, open: u32, s: u8) -> u32 {
     let mut weight = 1u32;
     for (k, law) in problem.laws.as_slice().iter().enumerate() {

@@ -59,6 +59,18 @@ impl Cells {
         }
     }
 
+    /// Adds to the number of each member of a set with two members or more.
+    pub(crate) fn add_to(&mut self, set: u32, more: u32) {
+        let mut left = set;
+        if left & left.wrapping_sub(1) == 0 {
+            return;
+        }
+        for _ in 0..32u8 {
+            let Some(m) = pop(&mut left) else { break };
+            self.set(m, self.at(m).saturating_add(more));
+        }
+    }
+
     /// One more for one.
     pub(crate) fn raise(&mut self, m: u8) {
         self.set(m, self.at(m).saturating_add(1));

@@ -1,6 +1,6 @@
 //! Where the search branches next.
 
-use crate::bits::{Cells, pop};
+use crate::bits::Cells;
 use crate::problem::{Problem, is_declared};
 use crate::rows::{count, has_one};
 use crate::state::State;
@@ -69,14 +69,7 @@ fn is_less(a: Share, b: Share) -> bool {
 fn weights_of_steps(problem: &Problem, state: &State, work: &Work) -> Cells {
     let mut weights = work.steps;
     for (k, law) in problem.laws.as_slice().iter().enumerate() {
-        let mut open = law.scope & state.open;
-        if open & open.wrapping_sub(1) != 0 {
-            let weight = work.rule(k);
-            for _ in 0..32u8 {
-                let Some(s) = pop(&mut open) else { break };
-                weights.set(s, weights.at(s).saturating_add(weight));
-            }
-        }
+        weights.add_to(law.scope & state.open, work.rule(k));
     }
     weights
 }

@@ -9,6 +9,12 @@ const FIRST_LIMIT: u32 = 1_000;
 /// The most tries of a run.
 const GREATEST_LIMIT: u32 = 1 << 30;
 
+/// After so many tries a short run of one more root ends, where its tree seems to become more than so
+/// many times as large as that of another root.
+const LOOK: u32 = 500;
+
+const TIMES: u64 = 2;
+
 /// How many roots are tried beside the one that seems best.
 const FEW: u32 = 6;
 
@@ -85,9 +91,9 @@ impl Guide {
         self.kept > self.most
     }
 
-    /// The bound of this run.
-    pub(crate) fn limit(&self) -> u32 {
-        self.limit
+    /// How many tries the run had within its bound.
+    pub(crate) fn tries(&self) -> u32 {
+        smaller(self.spent, self.limit)
     }
 
     /// Begins the next run, where these are the steps that seem best as roots. Each of them is the
@@ -147,18 +153,46 @@ impl Guide {
         self.depth = depth;
         self.tried.raise(depth);
         self.spent = self.spent.saturating_add(1);
-        self.spent <= self.limit && self.kept <= self.most
+        self.spent <= self.limit && self.kept <= self.most && !self.is_hopeless()
+    }
+
+    // Whether a run that tries one more root tells already that its tree becomes too large.
+    fn is_hopeless(&self) -> bool {
+        if self.run < 2 || self.limit != FIRST_LIMIT || self.spent != LOOK {
+            return false;
+        }
+        match self.size() {
+            Some(size) => (size as u64) > (self.least() as u64).saturating_mul(TIMES),
+            None => false,
+        }
+    }
+
+    // How many tries a whole search seems to take, as far as this run tells.
+    fn size(&self) -> Option<u32> {
+        let whole = (self.spent as u64).saturating_mul(WHOLE);
+        match whole.checked_div(self.share()) {
+            Some(size) => Some(capped(size)),
+            None => None,
+        }
+    }
+
+    // The smallest size that is known.
+    fn least(&self) -> u32 {
+        let mut least = u32::MAX;
+        for s in 0..STEP_LIMIT {
+            let size = self.sizes.at((s & 0xff) as u8);
+            if size > 0 {
+                least = smaller(size, least);
+            }
+        }
+        least
     }
 
     // Notes how large the tree of the last run seems to become. Where that is more than a shorter run
     // told, trees of roots that only had shorter runs seem to become larger too.
     fn note(&mut self) {
         let Some(root) = self.root else { return };
-        let share = self.share();
-        if share == 0 {
-            return;
-        }
-        let size = capped((self.spent as u64).saturating_mul(WHOLE) / share);
+        let Some(size) = self.size() else { return };
         let before = self.sizes.at(root);
         if before > 0 && before < size {
             self.enlarge(root, before, size);

@@ -101,7 +101,7 @@ impl Finder {
         }
         let mut found = None;
         if let Some(space) = &mut self.space {
-            let limit = (self.guide.limit() as u64).saturating_mul(work_a_try(&self.problem));
+            let limit = (self.guide.tries() as u64).saturating_mul(work_a_try(&self.problem));
             self.work.begin(self.run, limit);
             match run_once(alloc, &self.problem, space, &mut self.work, self.run)? {
                 Ending::Found(plan) => found = Some(plan),
