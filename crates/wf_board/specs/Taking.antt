@@ -43,7 +43,8 @@ keeps_policy (verdict.Edited edition) = false
 keeps_policy v = true
 
 -- a policy is that after a change, and each kept plan is valid under it
-pub record KeepsAll (p : PolicyShape) (a : Amendment) (rows : List Row) (q : PolicyShape) : Type 0 where
+pub record KeepsAll (p : PolicyShape) (a : Amendment) (rows : List Row) (q : PolicyShape)
+    : Type 0 where
   pub policy : q ≡ amended p a
   pub planned : EachRow (λ r. IsPlanned q r.case r.plan) rows
 
