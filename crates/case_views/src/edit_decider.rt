@@ -140,8 +140,8 @@ fn add_outcome(outcome: &Outcome, plans: &mut Vec<Plan>) -> Result<Option<Tree>,
     }
 }
 
-/// What the changed policy leaves the case of a row, if it is open. A plan that was found for another
-/// case is tried first, and the one that is found here is kept for the next.
+/// What the changed policy leaves the case of a row, if it is open. Where its plan is broken, the one
+/// that was found for another case is tried first, and what is found here is kept for the next.
 pub(crate) fn left_at(
     alloc: Global,
     p: &Policy,
@@ -209,8 +209,8 @@ fn outcome_of(
     Ok(outcome)
 }
 
-// A plan for an assignment: one near a plan that was found for another case, or near the one that is
-// kept, where one is valid, and else what a search finds.
+// A plan for an assignment: one near a plan that was found for another case, or near the one that
+// is kept, where one is valid, and else what a search finds.
 fn outcome_by(
     alloc: Global,
     p: &Policy,

@@ -72,8 +72,8 @@ fn stranded_in(
     Ok(numbers)
 }
 
-/// The case of a row, if it is open and would be stranded. A plan that was found for another case is
-/// tried first, and the one that is found here is kept for the next.
+/// The case of a row, if it is open and would be stranded. Where its plan is broken, the one that
+/// was found for another case is tried first, and what is found here is kept for the next.
 pub(crate) fn stranded_at(
     alloc: Global,
     p: &Policy,

@@ -23,21 +23,25 @@ use Rattle.wf_board.specs.Breaking.{gives}
 
 -- ---- rules
 
-any_same_in : (k : ℕ) (group : List Bool) (a b : ℕ → Bool) → ((i : ℕ) → is_member group i ≡ true → b (k + i) ≡ a (k + i)) → any_from k group b ≡ any_from k group a
+any_same_in : (k : ℕ) (group : List Bool) (a b : ℕ → Bool) → ((i : ℕ) → is_member group i ≡ true → b (k + i) ≡ a (k + i)) →
+    any_from k group b ≡ any_from k group a
 any_same_in k [] a b same = refl
 any_same_in k (true ∷ ms) a b same =
     let here : k + 0 ≡ k = omega arith in
     ap (λ (t : Bool). t || any_from (k + 1) ms b) (subst (λ (n : ℕ). b n ≡ a n) here (same 0 refl))
-    ∙ ap (λ (t : Bool). a k || t) (any_same_in (k + 1) ms a b (λ i is. let next : k + suc i ≡ k + 1 + i = omega arith in subst (λ (n : ℕ). b n ≡ a n) next (same (suc i) is)))
+    ∙ ap (λ (t : Bool). a k || t)
+    (any_same_in (k + 1) ms a b (λ i is. let next : k + suc i ≡ k + 1 + i = omega arith in subst (λ (n : ℕ). b n ≡ a n) next (same (suc i) is)))
 any_same_in k (false ∷ ms) a b same =
     any_same_in (k + 1) ms a b (λ i is. let next : k + suc i ≡ k + 1 + i = omega arith in subst (λ (n : ℕ). b n ≡ a n) next (same (suc i) is))
 
-all_same_in : (k : ℕ) (group : List Bool) (a b : ℕ → Bool) → ((i : ℕ) → is_member group i ≡ true → b (k + i) ≡ a (k + i)) → all_from k group b ≡ all_from k group a
+all_same_in : (k : ℕ) (group : List Bool) (a b : ℕ → Bool) → ((i : ℕ) → is_member group i ≡ true → b (k + i) ≡ a (k + i)) →
+    all_from k group b ≡ all_from k group a
 all_same_in k [] a b same = refl
 all_same_in k (true ∷ ms) a b same =
     let here : k + 0 ≡ k = omega arith in
     ap (λ (t : Bool). t && all_from (k + 1) ms b) (subst (λ (n : ℕ). b n ≡ a n) here (same 0 refl))
-    ∙ ap (λ (t : Bool). a k && t) (all_same_in (k + 1) ms a b (λ i is. let next : k + suc i ≡ k + 1 + i = omega arith in subst (λ (n : ℕ). b n ≡ a n) next (same (suc i) is)))
+    ∙ ap (λ (t : Bool). a k && t)
+    (all_same_in (k + 1) ms a b (λ i is. let next : k + suc i ≡ k + 1 + i = omega arith in subst (λ (n : ℕ). b n ≡ a n) next (same (suc i) is)))
 all_same_in k (false ∷ ms) a b same =
     all_same_in (k + 1) ms a b (λ i is. let next : k + suc i ≡ k + 1 + i = omega arith in subst (λ (n : ℕ). b n ≡ a n) next (same (suc i) is))
 
@@ -48,18 +52,23 @@ all_same_first : (group : List Bool) (a b : ℕ → Bool) → ((i : ℕ) → is_
 all_same_first group a b same = all_same_in 0 group a b (λ i is. let here : i ≡ 0 + i = omega arith in subst (λ (n : ℕ). b n ≡ a n) here (same i is))
 
 -- a rule of a workflow asks only how the users of its steps are related
-pub satisfied_among : (a b : Relating) (rule : Rule) (n : ℕ) (f : ℕ → ℕ) → IsRuleOf n rule → ((rho s t : ℕ) → s < n → t < n → b rho (f s) (f t) ≡ a rho (f s) (f t)) →
+pub satisfied_among : (a b : Relating) (rule : Rule) (n : ℕ) (f : ℕ → ℕ) → IsRuleOf n rule →
+    ((rho s t : ℕ) → s < n → t < n → b rho (f s) (f t) ≡ a rho (f s) (f t)) →
     is_satisfied b rule f ≡ is_satisfied a rule f
 satisfied_among a b (Pair rho first second) n f names same =
     same rho first second (names first (or_left _ _ (eq_same first))) (names second (or_right (second == first) _ (eq_same second)))
 satisfied_among a b (SomeOf rho group step) n f names same =
-    any_same_first group (λ x. a rho (f x) (f step)) (λ x. b rho (f x) (f step)) (λ i is. same rho i step (names i (or_right (i == step) _ is)) (names step (or_left _ _ (eq_same step))))
+    any_same_first group (λ x. a rho (f x) (f step)) (λ x. b rho (f x) (f step))
+    (λ i is. same rho i step (names i (or_right (i == step) _ is)) (names step (or_left _ _ (eq_same step))))
 satisfied_among a b (AllOf rho group step) n f names same =
-    all_same_first group (λ x. a rho (f x) (f step)) (λ x. b rho (f x) (f step)) (λ i is. same rho i step (names i (or_right (i == step) _ is)) (names step (or_left _ _ (eq_same step))))
+    all_same_first group (λ x. a rho (f x) (f step)) (λ x. b rho (f x) (f step))
+    (λ i is. same rho i step (names i (or_right (i == step) _ is)) (names step (or_left _ _ (eq_same step))))
 satisfied_among a b (SomeTo rho step group) n f names same =
-    any_same_first group (λ x. a rho (f step) (f x)) (λ x. b rho (f step) (f x)) (λ i is. same rho step i (names step (or_left _ _ (eq_same step))) (names i (or_right (i == step) _ is)))
+    any_same_first group (λ x. a rho (f step) (f x)) (λ x. b rho (f step) (f x))
+    (λ i is. same rho step i (names step (or_left _ _ (eq_same step))) (names i (or_right (i == step) _ is)))
 satisfied_among a b (AllTo rho step group) n f names same =
-    all_same_first group (λ x. a rho (f step) (f x)) (λ x. b rho (f step) (f x)) (λ i is. same rho step i (names step (or_left _ _ (eq_same step))) (names i (or_right (i == step) _ is)))
+    all_same_first group (λ x. a rho (f step) (f x)) (λ x. b rho (f step) (f x))
+    (λ i is. same rho step i (names step (or_left _ _ (eq_same step))) (names i (or_right (i == step) _ is)))
 satisfied_among a b (AtMost limit group) n f names same = refl
 satisfied_among a b (AtLeast limit group) n f names same = refl
 
@@ -78,7 +87,8 @@ kind_here rs (suc zero) kind old is = cc
 kind_here rs (suc (suc n)) kind old is = kind_there rs n kind old is
 
 -- where two users are in the new pairs as they were in the old ones, they are so in those of every relation
-in_pairs : (rs : List RelationShape) (rho : ℕ) (old new : Pairs) (n x y : ℕ) → kind_of rs rho ≡ Some (listed old) → set.contains new (x, y) ≡ set.contains old (x, y) →
+in_pairs : (rs : List RelationShape) (rho : ℕ) (old new : Pairs) (n x y : ℕ) → kind_of rs rho ≡ Some (listed old) →
+    set.contains new (x, y) ≡ set.contains old (x, y) →
     set.contains (pairs_of (with_kind rs rho (listed new)) n) (x, y) ≡ set.contains (pairs_of rs n) (x, y)
 in_pairs rs rho old new n x y is same = elim (eqb_tells n rho) [
   | inl here ↦
@@ -91,7 +101,8 @@ in_pairs rs rho old new n x y is same = elim (eqb_tells n rho) [
 ]
 
 -- and related as before
-related_still : (rs : List RelationShape) (rho : ℕ) (old new : Pairs) (own x y : ℕ) → kind_of rs rho ≡ Some (listed old) → set.contains new (x, y) ≡ set.contains old (x, y) →
+related_still : (rs : List RelationShape) (rho : ℕ) (old new : Pairs) (own x y : ℕ) → kind_of rs rho ≡ Some (listed old) →
+    set.contains new (x, y) ≡ set.contains old (x, y) →
     is_related (with_kind rs rho (listed new)) own x y ≡ is_related rs own x y
 related_still rs rho old new zero x y is same = refl
 related_still rs rho old new (suc zero) x y is same = refl
@@ -107,7 +118,8 @@ related_still rs rho old new (suc (suc m)) x y is same = elim (eqb_tells (suc (s
       ∙ holds_still rs rho old new (kind_of rs (suc (suc m))) x y is same
 ]
   where
-    holds_still : (rs : List RelationShape) (rho : ℕ) (old new : Pairs) (k : Option RelationKind) (x y : ℕ) → kind_of rs rho ≡ Some (listed old) → set.contains new (x, y) ≡ set.contains old (x, y) →
+    holds_still : (rs : List RelationShape) (rho : ℕ) (old new : Pairs) (k : Option RelationKind) (x y : ℕ) → kind_of rs rho ≡ Some (listed old) →
+        set.contains new (x, y) ≡ set.contains old (x, y) →
         kind_holds (with_kind rs rho (listed new)) k x y ≡ kind_holds rs k x y
     holds_still rs rho old new None x y is same = refl
     holds_still rs rho old new (Some (listed pairs)) x y is same = refl
@@ -143,10 +155,12 @@ taken_other pairs k q other =
 
 -- a plan gives a step to a user
 given_at : (plan : List ℕ) (u s : ℕ) → s < length plan → planned plan s ≡ u → gives plan u ≡ true
-given_at plan u s below is = any_below-at (length plan) s (λ t. planned plan t == u) below (subst (λ (n : ℕ). (planned plan s == n) ≡ true) is (eq_same (planned plan s)))
+given_at plan u s below is = any_below-at (length plan) s (λ t. planned plan t == u) below
+    (subst (λ (n : ℕ). (planned plan s == n) ≡ true) is (eq_same (planned plan s)))
 
 -- two users of a plan are no pair of which the plan gives a step to one alone
-pub apart_from : (plan : List ℕ) (u v s t : ℕ) → (gives plan u && gives plan v) ≡ false → s < length plan → t < length plan → ◌≡◌ {A = ℕ × ℕ} (planned plan s, planned plan t) (u, v) → ⊥
+pub apart_from : (plan : List ℕ) (u v s t : ℕ) → (gives plan u && gives plan v) ≡ false → s < length plan → t < length plan →
+    ◌≡◌ {A = ℕ × ℕ} (planned plan s, planned plan t) (u, v) → ⊥
 apart_from plan u v s t none first second is =
     differ (gives plan u && gives plan v)
     (and_from _ _ (given_at plan u s first (ap (λ (x : ℕ × ℕ). x.0) is)) (given_at plan v t second (ap (λ (x : ℕ × ℕ). x.1) is))) none

@@ -60,7 +60,8 @@ second_still true b d still both = still both
 second_still false b d still both = absurd (cc)
 
 -- a step that is not barred and not finished is one that its user may perform
-may_still : (q : PolicyShape) (c : CaseShape) (plan : List ℕ) (s : ℕ) → is_barred q c plan s ≡ false → is_member (finished_of c) s ≡ false → is_authorised q c.flow s (planned plan s) ≡ true
+may_still : (q : PolicyShape) (c : CaseShape) (plan : List ℕ) (s : ℕ) → is_barred q c plan s ≡ false → is_member (finished_of c) s ≡ false →
+    is_authorised q c.flow s (planned plan s) ≡ true
 may_still q c plan s free open_ =
     let unfinished : not (is_finished (state_at c s)) ≡ true = ap not (sym (finished_of-at c s) ∙ open_) in
     elim (bool_cases (is_authorised q c.flow s (planned plan s))) [
@@ -69,10 +70,12 @@ may_still q c plan s free open_ =
     ]
 
 -- a user of a step that is not finished may still perform it
-still_hers : (q : PolicyShape) (c : CaseShape) (plan : List ℕ) (u s : ℕ) → loses_step q c plan u ≡ false → s < length plan → is_member (finished_of c) s ≡ false →
+still_hers : (q : PolicyShape) (c : CaseShape) (plan : List ℕ) (u s : ℕ) → loses_step q c plan u ≡ false → s < length plan →
+    is_member (finished_of c) s ≡ false →
     (planned plan s == u) ≡ true → is_authorised q c.flow s (planned plan s) ≡ true
 still_hers q c plan u s none below open_ hers =
-    may_still q c plan s (second_fails (planned plan s == u) (is_barred q c plan s) (none_below (length plan) (λ t. (planned plan t == u) && is_barred q c plan t) none s below) hers) open_
+    may_still q c plan s
+    (second_fails (planned plan s == u) (is_barred q c plan s) (none_below (length plan) (λ t. (planned plan t == u) && is_barred q c plan t) none s below) hers) open_
 
 -- where memberships change, of one user alone, and this one loses no step
 members_unbroken : (p : PolicyShape) (members : Pairs) (c : CaseShape) (plan : List ℕ) (u : ℕ) →
@@ -86,12 +89,14 @@ members_unbroken p members c plan u keep none valid =
     let within : s < length plan = omega (arith, h, valid.whole) in
     elim (eqb_tells (planned plan s) u) [
       | inl hers ↦ still_hers q c plan u s none within open_ hers.0
-      | inr other ↦ more_below (length p.roster.roles) (λ r. has_role p.roster (planned plan s) r && set.contains (flow_at p c.flow).flow.permits (r, s)) (λ r. set.contains members (planned plan s, r) && set.contains (flow_at p c.flow).flow.permits (r, s))
+      | inr other ↦ more_below (length p.roster.roles) (λ r. has_role p.roster (planned plan s) r && set.contains (flow_at p c.flow).flow.permits (r, s))
+          (λ r. set.contains members (planned plan s, r) && set.contains (flow_at p c.flow).flow.permits (r, s))
           (λ r both. first_still (has_role p.roster (planned plan s) r) (set.contains members (planned plan s, r)) (set.contains (flow_at p c.flow).flow.permits (r, s)) (keep (planned plan s) r other.1) both) is
     ])
     (λ k rule is obeyed. obeyed) valid
 
-satisfied_there : (q : PolicyShape) (rule : Rule) (plan : List ℕ) → not (is_satisfied (is_related q.relations) rule (planned plan)) ≡ false → is_satisfied (is_related q.relations) rule (planned plan) ≡ true
+satisfied_there : (q : PolicyShape) (rule : Rule) (plan : List ℕ) → not (is_satisfied (is_related q.relations) rule (planned plan)) ≡ false →
+    is_satisfied (is_related q.relations) rule (planned plan) ≡ true
 satisfied_there q rule plan h = elim (bool_cases (is_satisfied (is_related q.relations) rule (planned plan))) [
   | inl is ↦ is
   | inr broken ↦ absurd (differ (not (is_satisfied (is_related q.relations) rule (planned plan))) (ap not broken) h)
@@ -125,7 +130,8 @@ rules_unbroken p rho kind c plan none valid =
     valid
 
 -- where one pair changes, and the plan does not give steps to both its users
-pair_unbroken : (p : PolicyShape) (rho u v : ℕ) (old new : Pairs) (c : CaseShape) (plan : List ℕ) → IsSoundPolicy p → kind_of p.relations rho ≡ Some (listed old) →
+pair_unbroken : (p : PolicyShape) (rho u v : ℕ) (old new : Pairs) (c : CaseShape) (plan : List ℕ) → IsSoundPolicy p →
+    kind_of p.relations rho ≡ Some (listed old) →
     ((q : ℕ × ℕ) → (q ≡ (u, v) → ⊥) → set.contains new q ≡ set.contains old q) → (gives plan u && gives plan v) ≡ false →
     IsPlanOf p c plan → IsPlanOf (record p { relations = with_kind p.relations rho (listed new) }) c plan
 pair_unbroken p rho u v old new c plan sound is others none valid =
@@ -138,7 +144,8 @@ pair_unbroken p rho u v old new c plan sound is others none valid =
     valid
 
 -- where one pair changes, and the rules over its relation are satisfied if the plan gives steps to both its users
-pairs_unbroken : (p : PolicyShape) (rho u v : ℕ) (old new : Pairs) (c : CaseShape) (plan : List ℕ) → IsSoundPolicy p → kind_of p.relations rho ≡ Some (listed old) →
+pairs_unbroken : (p : PolicyShape) (rho u v : ℕ) (old new : Pairs) (c : CaseShape) (plan : List ℕ) → IsSoundPolicy p →
+    kind_of p.relations rho ≡ Some (listed old) →
     ((q : ℕ × ℕ) → (q ≡ (u, v) → ⊥) → set.contains new q ≡ set.contains old q) →
     ((gives plan u && gives plan v) && breaks_rule p.relations (record p { relations = with_kind p.relations rho (listed new) }) rho c.flow plan) ≡ false →
     IsPlanOf p c plan → IsPlanOf (record p { relations = with_kind p.relations rho (listed new) }) c plan
@@ -167,7 +174,9 @@ forbidden_unbroken p g r s c plan within none valid =
                 subst (λ (n : ℕ). is_barred q c plan n ≡ false) (sym here.1)
                 (second_fails (c.flow == g) (is_barred q c plan s) none (eq_is c.flow g new.0)) in
                 subst (λ (x : WorkflowShape). (problem_with p x).authorised t (planned plan t) ≡ true) new.1 (may_still q c plan t free open_)
-            | inr other ↦ more_below (length p.roster.roles) (λ n. has_role p.roster (planned plan t) n && set.contains (flow_at p c.flow).flow.permits (n, t)) (λ n. has_role p.roster (planned plan t) n && set.contains w.flow.permits (n, t))
+            | inr other ↦ more_below (length p.roster.roles)
+                (λ n. has_role p.roster (planned plan t) n && set.contains (flow_at p c.flow).flow.permits (n, t))
+                (λ n. has_role p.roster (planned plan t) n && set.contains w.flow.permits (n, t))
                 (λ n both. second_still (has_role p.roster (planned plan t) n) (set.contains (flow_at p c.flow).flow.permits (n, t)) (set.contains w.flow.permits (n, t))
                 (λ permitted. not_taken (flow_at p g).flow.permits (r, s) (n, t) (λ e. other.1 (ap (λ (x : ℕ × ℕ). x.1) e))
                 (subst (λ (x : WorkflowShape). set.contains x.flow.permits (n, t) ≡ true) was permitted)) both) is
@@ -175,7 +184,8 @@ forbidden_unbroken p g r s c plan within none valid =
           (λ k rule is obeyed. obeyed) valid)
     ]
 
-pub unbroken : (p : PolicyShape) (a : Amendment) (c : CaseShape) (plan : List ℕ) → IsSoundPolicy p → IsAllowed p a → breaks p (amended p a) a c plan ≡ false → IsPlanOf p c plan → IsPlanOf (amended p a) c plan
+pub unbroken : (p : PolicyShape) (a : Amendment) (c : CaseShape) (plan : List ℕ) → IsSoundPolicy p → IsAllowed p a → breaks p (amended p a) a c plan ≡ false →
+    IsPlanOf p c plan → IsPlanOf (amended p a) c plan
 unbroken p (amend.AddUser name) c plan sound is none valid =
     unhurt_plans_stay_valid p (amend.AddUser name) c.flow (assigned_of c) (finished_of c) plan is.found refl valid
 unbroken p (amend.Leave u) c plan sound is none valid =
@@ -201,10 +211,12 @@ unbroken p (amend.Retire g) c plan sound is none valid =
     unhurt_plans_stay_valid p (amend.Retire g) c.flow (assigned_of c) (finished_of c) plan is.found refl valid
 
 -- a valid plan has its steps and its users after a change too
-pub has_plan : (p : PolicyShape) (a : Amendment) (c : CaseShape) (plan : List ℕ) → IsKnownChange p a → IsOfPolicy p c → IsPlanOf p c plan → HasPlanFor (amended p a) c.flow plan
+pub has_plan : (p : PolicyShape) (a : Amendment) (c : CaseShape) (plan : List ℕ) → IsKnownChange p a → IsOfPolicy p c → IsPlanOf p c plan →
+    HasPlanFor (amended p a) c.flow plan
 has_plan p a c plan found known valid =
     let names = changes_keep_names p a found in
-    let longer : length (amended p a).roster.users ≡ length p.roster.users + length names.more = ap length names.users ∙ length-append p.roster.users names.more in
+    let longer : length (amended p a).roster.users ≡ length p.roster.users + length names.more = ap length names.users ∙ length-append p.roster.users
+    names.more in
     record {
       flow = subst (λ n. c.flow < n) (sym names.flows) known.flow;
       whole = valid.whole ∙ ap length (sym (names.steps c.flow));
@@ -239,7 +251,8 @@ pub row_planned : (q : PolicyShape) (c d : CaseShape) (o : Option (List ℕ)) (p
 row_planned q c d o plan is same valid = subst (IsPlanned q c) is (subst (λ k. IsPlanOf q k plan) same valid)
 
 -- what holds of the rows so far and of the next one
-pub each_more : (P : Row → Type 0) (rows : List Row) (i : ℕ) (r : Row) → i < length rows → r ≡ get_or rows i r → EachRow P (take i rows) → P r → EachRow P (take (i + 1) rows)
+pub each_more : (P : Row → Type 0) (rows : List Row) (i : ℕ) (r : Row) → i < length rows → r ≡ get_or rows i r → EachRow P (take i rows) → P r →
+    EachRow P (take (i + 1) rows)
 each_more P rows i r below is each one = subst (EachRow P) (sym (take_next rows i r below is)) (each_added P (take i rows) r each one)
 
 pub each_behind : (P : Row → Type 0) (n : ℕ) (rows : List Row) → EachRow P rows → EachRow P (drop n rows)
@@ -254,7 +267,8 @@ planned_part p rows part is kept = subst (ArePlanned p) (sym is.2) (record {
 })
 
 -- where no case of the first rows is open, the plans of the others are all that there are
-planned_before : (q : PolicyShape) (n : ℕ) (rows : List Row) → ArePlannedWhileOpen rows → open_count (take n rows) ≡ 0 → EachRow (λ r. IsPlanned q r.case r.plan) (drop n rows) →
+planned_before : (q : PolicyShape) (n : ℕ) (rows : List Row) → ArePlannedWhileOpen rows → open_count (take n rows) ≡ 0 →
+    EachRow (λ r. IsPlanned q r.case r.plan) (drop n rows) →
     EachRow (λ r. IsPlanned q r.case r.plan) rows
 planned_before q zero rows kept none each = each
 planned_before q (suc n) [] kept none each = tt

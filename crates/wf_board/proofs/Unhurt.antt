@@ -62,18 +62,21 @@ HasChangedTo p t edits what q =
     IsKept q t × HasAnswered (board_of p t edits) (board_of q t (edits + 1)) what verdict.Nothing (Done (reply.Edited (edits + 1)))
 
 -- the plans stay valid under a change that makes none invalid
-pub harmless_keeps : (p : PolicyShape) (a : Amendment) (rows : List Row) → IsKnownChange p a → is_harmless a ≡ true → ArePlanned p rows → KeepsAll p a rows (amended p a)
+pub harmless_keeps : (p : PolicyShape) (a : Amendment) (rows : List Row) → IsKnownChange p a → is_harmless a ≡ true →
+    ArePlanned p rows → KeepsAll p a rows (amended p a)
 harmless_keeps p a rows found harmless kept = record {
   policy = refl;
   planned = each_still (λ r. IsPlanned p r.case r.plan) (λ r. IsPlanned (amended p a) r.case r.plan) rows
       (λ r known. planned_still p a r.case r.plan found harmless known) kept.plans;
 }
 
-pub unbroken_taken : (p q : PolicyShape) (t : CasesShape) (edits : ℕ) (what : Ask) (a : Amendment) → IsKept p t → IsUndecided p t what (deed.Change a) → KeepsAll p a t.rows q →
+pub unbroken_taken : (p q : PolicyShape) (t : CasesShape) (edits : ℕ) (what : Ask) (a : Amendment) → IsKept p t →
+    IsUndecided p t what (deed.Change a) → KeepsAll p a t.rows q →
     HasChangedTo p t edits what q
 unbroken_taken p q t edits what a kept is keeps =
     let planned = subst (λ (x : PolicyShape). EachRow (λ r. IsPlanned x r.case r.plan) t.rows) keeps.policy keeps.planned in
-    let cases = each_still (λ r. IsOfPolicy p r.case) (λ r. IsOfPolicy (amended p a) r.case) t.rows (λ r known. of_policy_amended p a r.case is.found.found known) kept.planned.cases in
+    let cases = each_still (λ r. IsOfPolicy p r.case) (λ r. IsOfPolicy (amended p a) r.case) t.rows
+    (λ r known. of_policy_amended p a r.case is.found.found known) kept.planned.cases in
     let s = state_on (board_of p t edits) in
     let given = reply.Edited (edits + 1) in
     subst (HasChangedTo p t edits what) (sym keeps.policy) (

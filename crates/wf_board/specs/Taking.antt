@@ -49,7 +49,8 @@ pub record IsUsable (v : Verdict) : Type 0 where
   pub usable : is_unusable v ≡ false
 
 -- a policy is that after a change, and each kept plan is valid under it
-pub record KeepsAll (p : PolicyShape) (a : Amendment) (rows : List Row) (q : PolicyShape) : Type 0 where
+pub record KeepsAll (p : PolicyShape) (a : Amendment) (rows : List Row) (q : PolicyShape)
+    : Type 0 where
   pub policy : q ≡ amended p a
   pub planned : EachRow (λ r. IsPlanned q r.case r.plan) rows
 

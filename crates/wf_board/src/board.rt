@@ -368,8 +368,8 @@ impl Board {
         unbroken(alloc, policy, change, &self.cases)
     }
 
-    /// Answers a change of the policy that is left to decide: with the policy after it, where the kept
-    /// plans stay valid under that, and else by the verdict of a decider.
+    /// Answers a change of the policy that is left to decide: with the policy after it, where the
+    /// kept plans stay valid under that, and else by the verdict of a decider.
     fn settle_kept<V: Decider>(
         &mut self,
         alloc: Global,

@@ -6,4 +6,5 @@ these_stay-requires-clause-kept c = planned_part c.args.p.now c.args.cases.now.r
 
 pub returns : goal.returns
 returns c = λ stay.
-    planned_whole c.args.after.now c.args.cases.now.rows c.open_part.result.now c.open_part.ensures c.live-planned.ensures.kept.planned (c.these_stay.ensures stay)
+    planned_whole c.args.after.now c.args.cases.now.rows c.open_part.result.now c.open_part.ensures c.live-planned.ensures.kept.planned
+    (c.these_stay.ensures stay)

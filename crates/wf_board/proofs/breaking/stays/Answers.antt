@@ -7,4 +7,5 @@ may_break-requires-clause-valid c =
 
 pub returns-in-Some : goal.returns-in-Some
 returns-in-Some c = λ kept.
-    row_planned c.args.after.now c.args.row.now.case c.case.result.now c.args.row.now.plan c.in-Some.plan c.in-Some.ensures c.case.ensures (c.may_break.ensures (not_back c.may_break.result kept))
+    row_planned c.args.after.now c.args.row.now.case c.case.result.now c.args.row.now.plan c.in-Some.plan c.in-Some.ensures c.case.ensures
+    (c.may_break.ensures (not_back c.may_break.result kept))
