@@ -40,8 +40,8 @@ mutual
 
   small_rules_of : (p : PolicyShape) (f : ℕ) (kids : Kids) → AreKids p f kids → HaveSmallRules kids
   small_rules_of p f no_kids is = tt
-  small_rules_of p f (tree_kid u t kids) is = (small_rules p f t is.1.0, small_rules_of p f kids is.1.1)
-  small_rules_of p f (twin_kid u v kids) is = small_rules_of p f kids is.1.1
+  small_rules_of p f (tree_kid u t kids) is = (small_rules p f t is.1, small_rules_of p f kids is.2)
+  small_rules_of p f (twin_kid u v kids) is = small_rules_of p f kids is.2
 
 -- a tree that is not too large
 tree_long : (p : PolicyShape) (f : ℕ) (tree : Tree) → HasNames p → IsTree p f (shape_of tree) → is_large tree ≡ false →
@@ -109,7 +109,7 @@ reply_long p flows o (reply.Denied (denial.Stranded f tree)) names is by_tree sm
 reply_long p flows o (reply.Denied (denial.Strands n f tree)) names is by_tree small =
     let text = tree_data p f (shape_of tree) in
     let denied = denied_long (single (codes "strands") (strands_data n text)) in
-    omega (arith, denied, strands_long (strands_data n text), beside_long n text is.0, tree_long p f tree names is.1.1 small)
+    omega (arith, denied, strands_long (strands_data n text), beside_long n text is.0, tree_long p f tree names is.2 small)
 reply_long p flows o given names is by_tree small = let apart : false ≡ true = by_tree in cc
 
 -- ---- an entry
