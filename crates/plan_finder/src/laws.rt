@@ -1,6 +1,6 @@
 //! What the rules leave, once blocks have changed.
 
-use crate::bits::{bit, has_bit, pop};
+use crate::bits::{bit, has_bit, pop, pop_law};
 use crate::links::{
     add_ahead, keep_block, keep_options, keep_step, make_other, make_related, make_same,
 };
@@ -9,6 +9,7 @@ use crate::problem::{Demand, Law, Link, Over, Problem};
 use crate::rows::{clear, has_user, is_empty, join, only_user, take_user};
 use crate::state::State;
 use crate::work::Work;
+use wf_names::RULE_LIMIT;
 
 /// How often blocks are looked at again after one step of the search, at most.
 const PASSES: u32 = 4_096;
@@ -53,8 +54,13 @@ fn settle_block(
             return false;
         }
     }
-    for (k, law) in problem.laws.as_slice().iter().enumerate() {
-        if law.scope & state.members.at(b) != 0 && !follow(problem, state, work, law, todo) {
+    let mut laws = problem.laws_of_some(state.members.at(b));
+    for _ in 0..RULE_LIMIT {
+        let Some(k) = pop_law(&mut laws) else { break };
+        let Some(law) = problem.laws.as_slice().get(k) else {
+            break
+        };
+        if !follow(problem, state, work, law, todo) {
             work.blame(k);
             return false;
         }

@@ -2,8 +2,8 @@
 
 use crate::bits::bit;
 use crate::matching::users_of;
-use crate::problem::{Link, Problem};
-use crate::rows::{clear, count, exceeds, is_empty, join, meet, user_at};
+use crate::problem::{Link, Problem, place_of};
+use crate::rows::{Rows, clear, count, join_wants, keep, user_at};
 use crate::state::State;
 use crate::work::Work;
 
@@ -94,11 +94,12 @@ pub(crate) fn add_ahead(
 ) {
     let from = state.block(state.home(x));
     let _ = work.spend((count(from) as usize).saturating_mul(problem.width));
+    let rows = link.rows(false);
     unite(
         work.spare.row_mut(0),
         from,
-        link,
-        false,
+        rows,
+        link.places,
         users_of(state, to),
     );
 }
@@ -109,12 +110,18 @@ fn reach_back(problem: &Problem, link: Link<'_>, state: &State, work: &mut Work,
     let from = state.block(state.home(s));
     let _ = work.spend((count(from) as usize).saturating_mul(problem.width));
     clear(work.spare.row_mut(0));
-    unite(work.spare.row_mut(0), from, link, true, users_of(state, to));
+    let rows = link.rows(true);
+    unite(
+        work.spare.row_mut(0),
+        from,
+        rows,
+        link.places,
+        users_of(state, to),
+    );
 }
 
-// Puts in those to whom some user of a row is related, or those who are related to one, until all who
-// are wanted are in.
-fn unite(into: &mut [u64], from: &[u64], link: Link<'_>, back: bool, wanted: &[u64]) {
+// Puts the rows of the users of a row in, until all who are wanted are in.
+fn unite(into: &mut [u64], from: &[u64], rows: &Rows, places: &[u16], wanted: &[u64]) {
     for (at, word) in from.iter().enumerate() {
         let mut left = *word;
         for _ in 0..64u8 {
@@ -123,12 +130,7 @@ fn unite(into: &mut [u64], from: &[u64], link: Link<'_>, back: bool, wanted: &[u
             }
             let user = user_at(at, left.trailing_zeros());
             left &= left.wrapping_sub(1);
-            if back {
-                join(into, link.back(user));
-            } else {
-                join(into, link.ahead(user));
-            }
-            if !exceeds(wanted, into) {
+            if !join_wants(into, rows.row(place_of(places, user)), wanted) {
                 return;
             }
         }
@@ -137,22 +139,23 @@ fn unite(into: &mut [u64], from: &[u64], link: Link<'_>, back: bool, wanted: &[u
 
 /// An open step keeps the users of the spare row. Tells whether one is left.
 pub(crate) fn keep_step(state: &mut State, work: &Work, s: u8) -> bool {
-    let _ = meet(state.step_mut(s), work.spare.row(0));
-    !is_empty(state.step(s))
+    !keep(state.step_mut(s), work.spare.row(0)).none
 }
 
 /// A block keeps the users of the spare row. Tells whether one is left.
 pub(crate) fn keep_block(state: &mut State, work: &Work, b: u8, todo: &mut u32) -> bool {
-    if meet(state.block_mut(b), work.spare.row(0)) {
+    let kept = keep(state.block_mut(b), work.spare.row(0));
+    if kept.changed {
         *todo |= bit(b);
     }
-    !is_empty(state.block(b))
+    !kept.none
 }
 
 // A block keeps the users who are related to themselves. Tells whether one is left.
 fn keep_own(link: Link<'_>, state: &mut State, b: u8, todo: &mut u32) -> bool {
-    if meet(state.block_mut(b), link.own.row(0)) {
+    let kept = keep(state.block_mut(b), link.own.row(0));
+    if kept.changed {
         *todo |= bit(b);
     }
-    !is_empty(state.block(b))
+    !kept.none
 }
