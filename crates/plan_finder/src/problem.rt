@@ -540,7 +540,7 @@ fn read_row(
 ) -> Result<(), AllocError> {
     match source.row(u, back) {
         Some(row) => rows.put_at(at, row.as_words())?,
-        None => rows.put_at(at, UserSet::empty().as_words())?,
+        None => rows.clear_at(at)?,
     }
     if source.turned {
         turn(rows.row_mut(at), everyone);

@@ -49,6 +49,18 @@ impl Rows {
         Ok(())
     }
 
+    /// Puts an empty row at a place, as `put_at` does.
+    pub(crate) fn clear_at(&mut self, at: usize) -> Result<(), AllocError> {
+        if self.row(at).len() > 0 {
+            clear(self.row_mut(at));
+            return Ok(());
+        }
+        for _ in 0..self.width {
+            self.words.push(0)?;
+        }
+        Ok(())
+    }
+
     /// Makes room for so many rows more.
     pub(crate) fn reserve(&mut self, count: usize) -> Result<(), AllocError> {
         self.words.reserve(count.saturating_mul(self.width))
