@@ -1,11 +1,11 @@
 //! Which step of a case to try next.
 
-use crate::bits::{Cells, bit, has_bit, pop};
+use crate::bits::{Cells, bit, has_bit, pop, pop_law};
 use crate::problem::{Demand, Law, Over, Problem};
 use crate::rows::{add_user, clear, count, has_user, is_empty, join, meet, put, strike, take_user};
 use crate::work::Work;
 use constraint_forms::Assign;
-use wf_names::{STEP_LIMIT, StepId};
+use wf_names::{RULE_LIMIT, STEP_LIMIT, StepId};
 
 /// A step that is not assigned: few candidates and rules of much weight speak for a step, and before
 /// all that it has no candidate.
@@ -19,7 +19,7 @@ pub(crate) fn advised(problem: &Problem, work: &mut Work, a: &Assign) -> Option<
         if !has_bit(open, s) {
             continue;
         }
-        let candidates = count_candidates(problem, work, a, s);
+        let candidates = count_candidates(problem, work, a, open, s);
         if candidates == 0 {
             let users = count(problem.allowed.row(s as usize));
             if users < fewest {
@@ -42,7 +42,7 @@ pub(crate) fn best_roots(problem: &Problem, work: &mut Work, a: &Assign, most: u
     let open = open_steps(problem, a);
     let mut shares = [(0u32, 1u32); STEP_LIMIT];
     for s in 0..problem.steps {
-        let candidates = count_candidates(problem, work, a, s);
+        let candidates = count_candidates(problem, work, a, open, s);
         if (s as usize) < STEP_LIMIT {
             shares[s as usize] = (candidates, weight_of(problem, work, open, s));
         }
@@ -104,15 +104,27 @@ fn weight_of(problem: &Problem, work: &Work, open: u32, s: u8) -> u32 {
 }
 
 // How many authorised users a step may be given to without falsifying a rule. The rule that leaves nobody is blamed.
-fn count_candidates(problem: &Problem, work: &mut Work, a: &Assign, s: u8) -> u32 {
+fn count_candidates(problem: &Problem, work: &mut Work, a: &Assign, open: u32, s: u8) -> u32 {
     put(work.spare.row_mut(0), problem.allowed.row(s as usize));
-    for (k, law) in problem.laws.as_slice().iter().enumerate() {
-        if has_bit(law.scope, s) {
-            restrict(problem, work, law, a, s);
-            if is_empty(work.spare.row(0)) {
-                work.blame_tried(k);
-                return 0;
-            }
+    let mut left = problem.laws_of(s);
+    if is_empty(work.spare.row(0)) {
+        if let Some(k) = pop_law(&mut left) {
+            work.blame_tried(k);
+        }
+        return 0;
+    }
+    for _ in 0..RULE_LIMIT {
+        let Some(k) = pop_law(&mut left) else { break };
+        let Some(law) = problem.laws.as_slice().get(k) else {
+            break
+        };
+        if law.is_free(open | bit(s)) {
+            continue;
+        }
+        restrict(problem, work, law, a, s);
+        if is_empty(work.spare.row(0)) {
+            work.blame_tried(k);
+            return 0;
         }
     }
     count(work.spare.row(0))

@@ -25,6 +25,16 @@ pub(crate) fn pop(set: &mut u32) -> Option<u8> {
     Some((m & 31) as u8)
 }
 
+/// Takes a number out of a set of laws.
+pub(crate) fn pop_law(set: &mut u64) -> Option<usize> {
+    if *set == 0 {
+        return None;
+    }
+    let k = set.trailing_zeros();
+    *set &= set.wrapping_sub(1);
+    Some((k & 63) as usize)
+}
+
 /// A number for each step or block.
 #[derive(Clone, Copy)]
 pub(crate) struct Cells {

@@ -1,10 +1,11 @@
 //! Where the search branches next.
 
-use crate::bits::Cells;
-use crate::problem::{Problem, is_declared};
+use crate::bits::{Cells, pop_law};
+use crate::problem::Problem;
 use crate::rows::{count, has_one};
 use crate::state::State;
 use crate::work::Work;
+use wf_names::RULE_LIMIT;
 
 /// What a node of the search branches over.
 #[derive(Clone, Copy, PartialEq, Eq)]
@@ -77,10 +78,10 @@ fn weights_of_steps(problem: &Problem, state: &State, work: &Work) -> Cells {
 // The users of a block, and the weights of its rules over declared relations.
 fn share_of_block(problem: &Problem, state: &State, work: &Work, b: u8) -> Share {
     let mut weight = 0u32;
-    for (k, law) in problem.laws.as_slice().iter().enumerate() {
-        if law.scope & state.members.at(b) != 0 && is_declared(law.over) {
-            weight = weight.saturating_add(work.rule(k));
-        }
+    let mut laws = problem.related_laws(state.members.at(b));
+    for _ in 0..RULE_LIMIT {
+        let Some(k) = pop_law(&mut laws) else { break };
+        weight = weight.saturating_add(work.rule(k));
     }
     Share {
         branches: count(state.block(b)),

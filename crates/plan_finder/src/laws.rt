@@ -1,24 +1,31 @@
 //! What the rules leave, once blocks have changed.
 
-use crate::bits::{bit, has_bit, pop};
+use crate::bits::{bit, has_bit, pop, pop_law};
 use crate::links::{
-    add_ahead, keep_block, keep_options, keep_step, make_other, make_related, make_same,
+    Changed, add_ahead, keep_block, keep_options, keep_step, make_other, make_related, make_same,
 };
 use crate::matching::{can_match, can_reach};
 use crate::problem::{Demand, Law, Link, Over, Problem};
 use crate::rows::{clear, has_user, is_empty, join, only_user, take_user};
 use crate::state::State;
 use crate::work::Work;
+use wf_names::RULE_LIMIT;
 
 /// How often blocks are looked at again after one step of the search, at most.
 const PASSES: u32 = 4_096;
 
 /// Follows the change of some blocks to what the rules leave. Tells whether everything can still be met.
 pub(crate) fn settle(problem: &Problem, state: &mut State, work: &mut Work, changed: u32) -> bool {
-    let mut todo = changed;
+    let mut changed = Changed {
+        blocks: changed,
+        now: 0,
+    };
     for _ in 0..PASSES {
-        let Some(b) = pop(&mut todo) else { break };
-        if !settle_block(problem, state, work, b, &mut todo) {
+        let Some(b) = pop(&mut changed.blocks) else {
+            break
+        };
+        changed.now = bit(b);
+        if !settle_block(problem, state, work, b, &mut changed) {
             return false;
         }
     }
@@ -43,18 +50,23 @@ fn settle_block(
     state: &mut State,
     work: &mut Work,
     b: u8,
-    todo: &mut u32,
+    changed: &mut Changed,
 ) -> bool {
     if is_empty(state.block(b)) {
         return false;
     }
     if let Some(user) = only_user(state.block(b)) {
-        if !leave_others(state, b, user, todo) {
+        if !leave_others(state, b, user, changed) {
             return false;
         }
     }
-    for (k, law) in problem.laws.as_slice().iter().enumerate() {
-        if law.scope & state.members.at(b) != 0 && !follow(problem, state, work, law, todo) {
+    let mut laws = problem.laws_of_some(state.members.at(b));
+    for _ in 0..RULE_LIMIT {
+        let Some(k) = pop_law(&mut laws) else { break };
+        let Some(law) = problem.laws.as_slice().get(k) else {
+            break
+        };
+        if !follow(problem, state, work, law, changed) {
             work.blame(k);
             return false;
         }
@@ -63,11 +75,11 @@ fn settle_block(
 }
 
 // The one user of a block leaves all others. Tells whether each keeps somebody.
-fn leave_others(state: &mut State, b: u8, user: u16, todo: &mut u32) -> bool {
+fn leave_others(state: &mut State, b: u8, user: u16, changed: &mut Changed) -> bool {
     for c in 0..state.blocks {
         if c != b && has_user(state.block(c), user) {
             take_user(state.block_mut(c), user);
-            *todo |= bit(c);
+            changed.blocks |= bit(c);
             if is_empty(state.block(c)) {
                 return false;
             }
@@ -82,11 +94,11 @@ fn follow(
     state: &mut State,
     work: &mut Work,
     law: &Law,
-    todo: &mut u32,
+    changed: &mut Changed,
 ) -> bool {
     match law.demand {
-        Demand::Each => follow_each(problem, state, work, law, todo),
-        Demand::Some => follow_some(problem, state, work, law, todo),
+        Demand::Each => follow_each(problem, state, work, law, changed),
+        Demand::Some => follow_some(problem, state, work, law, changed),
         Demand::AtMost(most) => follow_at_most(state, law, most),
         Demand::AtLeast(least) => follow_at_least(state, law, least),
     }
@@ -125,13 +137,13 @@ fn follow_some(
     state: &mut State,
     work: &mut Work,
     law: &Law,
-    todo: &mut u32,
+    changed: &mut Changed,
 ) -> bool {
     match law.over {
         Over::Same => follow_some_plain(state, law, true),
         Over::Other => follow_some_plain(state, law, false),
         Over::Declared(at, back) => match problem.link(at, back) {
-            Some(link) => follow_some_related(problem, link, state, work, law, todo),
+            Some(link) => follow_some_related(problem, link, state, work, law, changed),
             None => true,
         },
     }
@@ -143,7 +155,7 @@ fn follow_each(
     state: &mut State,
     work: &mut Work,
     law: &Law,
-    todo: &mut u32,
+    changed: &mut Changed,
 ) -> bool {
     let mut group = law.group;
     for _ in 0..32u8 {
@@ -152,7 +164,7 @@ fn follow_each(
             Over::Same => make_same(state, x, law.step),
             Over::Other => make_other(state, x, law.step),
             Over::Declared(at, back) => match problem.link(at, back) {
-                Some(link) => make_related(problem, link, state, work, x, law.step, todo),
+                Some(link) => make_related(problem, link, state, work, x, law.step, changed),
                 None => true,
             },
         };
@@ -220,7 +232,7 @@ fn follow_some_related(
     state: &mut State,
     work: &mut Work,
     law: &Law,
-    todo: &mut u32,
+    changed: &mut Changed,
 ) -> bool {
     let mut group = law.group & !bit(law.step);
     if group & state.open != 0 {
@@ -237,6 +249,6 @@ fn follow_some_related(
     if state.is_open(law.step) {
         keep_step(state, work, law.step)
     } else {
-        keep_block(state, work, state.home(law.step), todo)
+        keep_block(state, work, state.home(law.step), changed)
     }
 }

@@ -1,9 +1,9 @@
 //! What a rule between two steps leaves to their blocks.
 
-use crate::bits::bit;
+use crate::bits::{bit, has_bit};
 use crate::matching::users_of;
-use crate::problem::{Link, Problem};
-use crate::rows::{clear, count, exceeds, is_empty, join, meet, user_at};
+use crate::problem::{Link, Problem, place_of};
+use crate::rows::{Rows, clear, count, join_wants, keep, user_at};
 use crate::state::State;
 use crate::work::Work;
 
@@ -40,8 +40,24 @@ pub(crate) fn keep_options(state: &mut State, s: u8, set: u32) -> bool {
     left != 0
 }
 
+/// The blocks that are to be looked at.
+#[derive(Clone, Copy)]
+pub(crate) struct Changed {
+    /// Those that changed since they were looked at.
+    pub(crate) blocks: u32,
+    /// The one that is looked at.
+    pub(crate) now: u32,
+}
+
+impl Changed {
+    // Whether a block may have changed since rules were followed from it.
+    fn has(&self, b: u8) -> bool {
+        has_bit(self.blocks | self.now, b)
+    }
+}
+
 /// The user of the first step is to be related to that of the second. Tells whether that can still be;
-/// blocks that lose users go to `todo`.
+/// blocks that lose users come to be among those that changed.
 pub(crate) fn make_related(
     problem: &Problem,
     link: Link<'_>,
@@ -49,37 +65,55 @@ pub(crate) fn make_related(
     work: &mut Work,
     x: u8,
     s: u8,
-    todo: &mut u32,
+    changed: &mut Changed,
 ) -> bool {
     match (state.is_open(x), state.is_open(s)) {
         (true, true) => true,
         (true, false) => {
-            reach_back(problem, link, state, work, s, x);
-            keep_step(state, work, x)
+            !reach_back(problem, link, state, work, s, x, changed) || keep_step(state, work, x)
         }
         (false, true) => {
-            reach_ahead(problem, link, state, work, x, s);
-            keep_step(state, work, s)
+            !reach_ahead(problem, link, state, work, x, s, changed) || keep_step(state, work, s)
         }
         (false, false) if state.home(x) == state.home(s) => {
-            keep_own(link, state, state.home(x), todo)
+            keep_own(link, state, state.home(x), changed)
         }
         (false, false) => {
-            reach_ahead(problem, link, state, work, x, s);
-            if !keep_block(state, work, state.home(s), todo) {
+            let ahead = reach_ahead(problem, link, state, work, x, s, changed);
+            if ahead && !keep_block(state, work, state.home(s), changed) {
                 return false;
             }
-            reach_back(problem, link, state, work, s, x);
-            keep_block(state, work, state.home(x), todo)
+            !reach_back(problem, link, state, work, s, x, changed)
+                || keep_block(state, work, state.home(x), changed)
         }
     }
 }
 
 // Into the spare row go those to whom some user of a step's block is related, of the users of another
-// step at least.
-fn reach_ahead(problem: &Problem, link: Link<'_>, state: &State, work: &mut Work, x: u8, to: u8) {
+// step at least. Tells whether that was done: where the block did not change, the other step has been
+// left those alone before.
+fn reach_ahead(
+    problem: &Problem,
+    link: Link<'_>,
+    state: &State,
+    work: &mut Work,
+    x: u8,
+    to: u8,
+    changed: &Changed,
+) -> bool {
+    let home = state.home(x);
+    if !changed.has(home) {
+        spend_on(problem, state.block(home), work);
+        return false;
+    }
     clear(work.spare.row_mut(0));
     add_ahead(problem, link, state, work, x, to);
+    true
+}
+
+// The work of a look at the rows of the users of a row.
+fn spend_on(problem: &Problem, from: &[u64], work: &mut Work) {
+    let _ = work.spend((count(from) as usize).saturating_mul(problem.width));
 }
 
 /// To the spare row come those to whom some user of a step's block is related, of the users of another
@@ -93,28 +127,48 @@ pub(crate) fn add_ahead(
     to: u8,
 ) {
     let from = state.block(state.home(x));
-    let _ = work.spend((count(from) as usize).saturating_mul(problem.width));
+    spend_on(problem, from, work);
+    let rows = link.rows(false);
     unite(
         work.spare.row_mut(0),
         from,
-        link,
-        false,
+        rows,
+        link.places,
         users_of(state, to),
     );
 }
 
 // Into the spare row go those who are related to some user of a step's block, of the users of another
-// step at least.
-fn reach_back(problem: &Problem, link: Link<'_>, state: &State, work: &mut Work, s: u8, to: u8) {
-    let from = state.block(state.home(s));
-    let _ = work.spend((count(from) as usize).saturating_mul(problem.width));
+// step at least. Tells whether that was done, as above.
+fn reach_back(
+    problem: &Problem,
+    link: Link<'_>,
+    state: &State,
+    work: &mut Work,
+    s: u8,
+    to: u8,
+    changed: &Changed,
+) -> bool {
+    let home = state.home(s);
+    let from = state.block(home);
+    spend_on(problem, from, work);
+    if !changed.has(home) {
+        return false;
+    }
     clear(work.spare.row_mut(0));
-    unite(work.spare.row_mut(0), from, link, true, users_of(state, to));
+    let rows = link.rows(true);
+    unite(
+        work.spare.row_mut(0),
+        from,
+        rows,
+        link.places,
+        users_of(state, to),
+    );
+    true
 }
 
-// Puts in those to whom some user of a row is related, or those who are related to one, until all who
-// are wanted are in.
-fn unite(into: &mut [u64], from: &[u64], link: Link<'_>, back: bool, wanted: &[u64]) {
+// Puts the rows of the users of a row in, until all who are wanted are in.
+fn unite(into: &mut [u64], from: &[u64], rows: &Rows, places: &[u16], wanted: &[u64]) {
     for (at, word) in from.iter().enumerate() {
         let mut left = *word;
         for _ in 0..64u8 {
@@ -123,12 +177,7 @@ fn unite(into: &mut [u64], from: &[u64], link: Link<'_>, back: bool, wanted: &[u
             }
             let user = user_at(at, left.trailing_zeros());
             left &= left.wrapping_sub(1);
-            if back {
-                join(into, link.back(user));
-            } else {
-                join(into, link.ahead(user));
-            }
-            if !exceeds(wanted, into) {
+            if !join_wants(into, rows.row(place_of(places, user)), wanted) {
                 return;
             }
         }
@@ -137,22 +186,23 @@ fn unite(into: &mut [u64], from: &[u64], link: Link<'_>, back: bool, wanted: &[u
 
 /// An open step keeps the users of the spare row. Tells whether one is left.
 pub(crate) fn keep_step(state: &mut State, work: &Work, s: u8) -> bool {
-    let _ = meet(state.step_mut(s), work.spare.row(0));
-    !is_empty(state.step(s))
+    !keep(state.step_mut(s), work.spare.row(0)).none
 }
 
 /// A block keeps the users of the spare row. Tells whether one is left.
-pub(crate) fn keep_block(state: &mut State, work: &Work, b: u8, todo: &mut u32) -> bool {
-    if meet(state.block_mut(b), work.spare.row(0)) {
-        *todo |= bit(b);
+pub(crate) fn keep_block(state: &mut State, work: &Work, b: u8, changed: &mut Changed) -> bool {
+    let kept = keep(state.block_mut(b), work.spare.row(0));
+    if kept.changed {
+        changed.blocks |= bit(b);
     }
-    !is_empty(state.block(b))
+    !kept.none
 }
 
 // A block keeps the users who are related to themselves. Tells whether one is left.
-fn keep_own(link: Link<'_>, state: &mut State, b: u8, todo: &mut u32) -> bool {
-    if meet(state.block_mut(b), link.own.row(0)) {
-        *todo |= bit(b);
+fn keep_own(link: Link<'_>, state: &mut State, b: u8, changed: &mut Changed) -> bool {
+    let kept = keep(state.block_mut(b), link.own.row(0));
+    if kept.changed {
+        changed.blocks |= bit(b);
     }
-    !is_empty(state.block(b))
+    !kept.none
 }

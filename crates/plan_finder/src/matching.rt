@@ -1,7 +1,7 @@
 //! Different users for steps and blocks.
 
 use crate::bits::{Cells, bit, pop};
-use crate::rows::{count, has_user, nth_user};
+use crate::rows::{has_many, has_user, nth_user};
 use crate::state::State;
 use constraint_forms::Plan;
 use wf_names::{STEP_LIMIT, UserId};
@@ -82,9 +82,10 @@ pub(crate) fn users_of(state: &State, seat: u8) -> &[u64] {
 // Whether each seat has as many users as there are seats, so that they can have different ones.
 fn are_wide(state: &State, seats: u32) -> bool {
     let mut left = seats;
+    let least = seats.count_ones();
     for _ in 0..32u8 {
         let Some(seat) = pop(&mut left) else { break };
-        if count(users_of(state, seat)) < seats.count_ones() {
+        if !has_many(users_of(state, seat), least) {
             return false;
         }
     }

@@ -1,13 +1,13 @@
 //! What is asked: the steps of a workflow, who may have each, and its rules over rows of bits.
-ghost use Rattle.std.specs.Prelude.{◌<◌, ◌≤◌, length};
-ghost use Rattle.wf_names.specs.declared.limits.TheConstants.{USER_LIMIT};
+ghost use Rattle.std.specs.Prelude.{◌<◌, length};
 
-use crate::bits::{bit, has_bit};
-use crate::rows::{Rows, add_user, has_user, put};
+use crate::bits::{bit, has_bit, pop};
+use crate::rows::{Rows, add_first, add_user, has_user, put, turn, user_at};
 use constraint_forms::{Assign, Rule, Rules, StepSet};
 use policy_book::Policy;
 use std::alloc::{AllocError, Global};
-use wf_names::{FlowId, RelId, STEP_LIMIT, StepId, UserId};
+use user_relations::UserPairs;
+use wf_names::{FlowId, RelId, STEP_LIMIT, StepId, UserId, UserSet};
 
 /// Over what a law is.
 #[derive(Clone, Copy, PartialEq, Eq)]
@@ -44,12 +44,21 @@ pub(crate) struct Law {
     pub(crate) step: u8,
     /// The group and the step.
     pub(crate) scope: u32,
+    /// Whether the law may ask something of a step before another one is assigned.
+    asks_alone: bool,
+}
+
+impl Law {
+    /// Whether the law asks nothing yet of one of some steps, all others of which are not assigned.
+    pub(crate) fn is_free(&self, open: u32) -> bool {
+        !self.asks_alone && self.scope & !open == 0
+    }
 }
 
 /// The rows of a relation as a law reads it.
 #[derive(Clone, Copy)]
 pub(crate) struct Link<'r> {
-    places: &'r [u16],
+    pub(crate) places: &'r [u16],
     ahead: &'r Rows,
     back: &'r Rows,
     pub(crate) own: &'r Rows,
@@ -64,6 +73,43 @@ impl<'r> Link<'r> {
     /// Those who are related to a user.
     pub(crate) fn back(&self, u: u16) -> &[u64] {
         self.back.row(place_of(self.places, u))
+    }
+
+    /// The rows of those to whom users are related, or of those who are related to them.
+    pub(crate) fn rows(&self, back: bool) -> &'r Rows {
+        if back { self.back } else { self.ahead }
+    }
+}
+
+// The pairs that a policy keeps for a relation: its own, or those of the relation whose complement
+// it is.
+#[derive(Clone, Copy)]
+struct Source<'p> {
+    pairs: Option<&'p UserPairs>,
+    turned: bool,
+}
+
+impl<'p> Source<'p> {
+    fn of(p: &'p Policy, rho: RelId) -> Source<'p> {
+        let relations = p.relations();
+        match relations.complement_of(rho) {
+            Some(of) => Source {
+                pairs: relations.listed(of),
+                turned: true,
+            },
+            None => Source {
+                pairs: relations.listed(rho),
+                turned: false,
+            },
+        }
+    }
+
+    fn row(&self, u: u16, back: bool) -> Option<&'p UserSet> {
+        match self.pairs {
+            Some(pairs) if back => pairs.row_ahead(UserId(u)),
+            Some(pairs) => pairs.row_after(UserId(u)),
+            None => None,
+        }
     }
 }
 
@@ -92,6 +138,12 @@ pub(crate) struct Problem {
     pub(crate) relations: Vec<Relation>,
     /// The users who are authorised for each step.
     pub(crate) allowed: Rows,
+    /// All users.
+    everyone: Rows,
+    /// The laws that name each step.
+    naming: [u64; STEP_LIMIT],
+    /// The laws over declared relations.
+    related: u64,
     /// Whether the rows of all who may have a step were read.
     full: bool,
 }
@@ -127,9 +179,14 @@ impl Problem {
             laws,
             relations,
             allowed: read_allowed(alloc, p, f, width)?,
+            everyone: Rows::new(alloc, 1, width)?,
+            naming: [0; STEP_LIMIT],
+            related: 0,
             full: false,
         };
+        add_first(problem.everyone.row_mut(0), users);
         problem.note_steps();
+        problem.note_laws();
         if reads_own(&problem) {
             problem.learn_all(p)?;
         }
@@ -147,17 +204,52 @@ impl Problem {
         }
     }
 
-    /// Reads the rows of a user.
-    pub(crate) fn learn(&mut self, p: &Policy, u: UserId) -> Result<(), AllocError> {
-        self.learn_over(p, u, u32::MAX)
+    // Notes for each step the laws that name it, and which laws are over declared relations.
+    fn note_laws(&mut self) {
+        for (k, law) in self.laws.as_slice().iter().enumerate() {
+            let mut scope = law.scope;
+            if is_declared(law.over) {
+                self.related |= 1u64 << (k & 63);
+            }
+            for _ in 0..32u8 {
+                let Some(s) = pop(&mut scope) else { break };
+                if (s as usize) < STEP_LIMIT {
+                    self.naming[s as usize] |= 1u64 << (k & 63);
+                }
+            }
+        }
     }
 
-    // Reads the rows of a user, of the relations with laws over some step of a set.
-    fn learn_over(&mut self, p: &Policy, u: UserId, steps: u32) -> Result<(), AllocError> {
-        let users = p.roster().users().len();
+    /// The laws that name a step.
+    pub(crate) fn laws_of(&self, s: u8) -> u64 {
+        match self.naming.get(s as usize) {
+            Some(laws) => *laws,
+            None => 0,
+        }
+    }
+
+    /// The laws that name some step of a set.
+    pub(crate) fn laws_of_some(&self, steps: u32) -> u64 {
+        let mut left = steps;
+        let mut laws = 0;
+        for _ in 0..32u8 {
+            let Some(s) = pop(&mut left) else { break };
+            laws |= self.laws_of(s);
+        }
+        laws
+    }
+
+    /// The laws over declared relations that name some step of a set.
+    pub(crate) fn related_laws(&self, steps: u32) -> u64 {
+        self.laws_of_some(steps) & self.related
+    }
+
+    /// Reads the rows of a user.
+    pub(crate) fn learn(&mut self, p: &Policy, u: UserId) -> Result<(), AllocError> {
         for relation in self.relations.iter_mut() {
-            if relation.steps & steps != 0 {
-                learn_row(p, relation, u.0, users)?;
+            if relation.steps != 0 && lacks(relation, u.0) {
+                let source = Source::of(p, relation.rho);
+                learn_row(&source, relation, self.everyone.row(0), u.0)?;
             }
         }
         Ok(())
@@ -187,28 +279,16 @@ impl Problem {
         if self.full {
             return Ok(());
         }
-        for u in 0..p.roster().users().len() {
-            let steps = self.steps_of(u);
-            self.learn_over(p, UserId(u), steps)?;
+        for relation in self.relations.iter_mut() {
+            learn_relation(p, relation, &self.allowed, self.everyone.row(0))?;
         }
         self.full = true;
         Ok(())
     }
-
-    // The steps for which a user is authorised.
-    fn steps_of(&self, u: u16) -> u32 {
-        let mut steps = 0;
-        for s in 0..self.steps {
-            if has_user(self.allowed.row(s as usize), u) {
-                steps |= bit(s);
-            }
-        }
-        steps
-    }
 }
 
-// The place of a user's rows.
-fn place_of(places: &[u16], u: u16) -> usize {
+/// The place of a user's rows.
+pub(crate) fn place_of(places: &[u16], u: u16) -> usize {
     match places.get(u as usize) {
         Some(place) => *place as usize,
         None => 0,
@@ -225,8 +305,8 @@ fn reads_own(problem: &Problem) -> bool {
     false
 }
 
-/// Whether a law is over a declared relation.
-pub(crate) fn is_declared(over: Over) -> bool {
+// Whether a law is over a declared relation.
+fn is_declared(over: Over) -> bool {
     match over {
         Over::Declared(..) => true,
         Over::Same | Over::Other => false,
@@ -303,6 +383,7 @@ fn counting_law(demand: Demand, group: u32) -> Law {
         group,
         step: (group.trailing_zeros() & 31) as u8,
         scope: group,
+        asks_alone: true,
     }
 }
 
@@ -313,6 +394,7 @@ fn make_law(demand: Demand, over: Over, group: u32, step: u8) -> Law {
         group,
         step,
         scope: group | bit(step),
+        asks_alone: has_bit(group, step),
     }
 }
 
@@ -370,24 +452,99 @@ fn read_relation(
     })
 }
 
-// Reads the rows of a user, where they were not read before.
-fn learn_row(p: &Policy, relation: &mut Relation, u: u16, users: u16) -> Result<(), AllocError>
-    requires { users ≤ USER_LIMIT }
-{
-    let at = u as usize;
-    if at >= relation.places.len() || relation.places[at] != 0 {
-        return Ok(());
+// Whether the rows of a user were not read yet.
+fn lacks(relation: &Relation, u: u16) -> bool {
+    match relation.places.get(u as usize) {
+        Some(place) => *place == 0,
+        None => false,
     }
+}
+
+// Reads the rows of those who may have some step of the laws over a relation.
+fn learn_relation(
+    p: &Policy,
+    relation: &mut Relation,
+    allowed: &Rows,
+    everyone: &[u64],
+) -> Result<(), AllocError> {
+    let source = Source::of(p, relation.rho);
+    let count = count_some(allowed, relation.steps, everyone.len());
+    relation.ahead.reserve(count)?;
+    relation.back.reserve(count)?;
+    for at in 0..everyone.len() {
+        let mut left = some_word(allowed, relation.steps, at);
+        for _ in 0..64u8 {
+            if left == 0 {
+                break;
+            }
+            let user = user_at(at, left.trailing_zeros());
+            left &= left.wrapping_sub(1);
+            if lacks(relation, user) {
+                learn_row(&source, relation, everyone, user)?;
+            }
+        }
+    }
+    Ok(())
+}
+
+// How many users may have some step of a set, in so many words.
+fn count_some(allowed: &Rows, steps: u32, width: usize) -> usize {
+    let mut users = 0usize;
+    for at in 0..width {
+        users = users.saturating_add(some_word(allowed, steps, at).count_ones() as usize);
+    }
+    users
+}
+
+// A word of the row of those who may have some step of a set.
+fn some_word(allowed: &Rows, steps: u32, at: usize) -> u64 {
+    let mut left = steps;
+    let mut some = 0;
+    for _ in 0..32u8 {
+        let Some(s) = pop(&mut left) else { break };
+        if let Some(word) = allowed.row(s as usize).get(at) {
+            some |= *word;
+        }
+    }
+    some
+}
+
+// Reads the rows of a user, which were not read before.
+fn learn_row(
+    source: &Source<'_>,
+    relation: &mut Relation,
+    everyone: &[u64],
+    u: u16,
+) -> Result<(), AllocError> {
     let place = relation.last.saturating_add(1);
-    let after = p.relations().after(relation.rho, UserId(u), users);
-    relation.ahead.put_at(place as usize, after.as_words())?;
-    let before = p.relations().ahead(relation.rho, UserId(u), users);
-    relation.back.put_at(place as usize, before.as_words())?;
-    if has_user(after.as_words(), u) {
+    let at = place as usize;
+    read_row(&mut relation.ahead, at, source, everyone, u, false)?;
+    read_row(&mut relation.back, at, source, everyone, u, true)?;
+    if has_user(relation.ahead.row(at), u) {
         add_user(relation.own.row_mut(0), u);
     }
     relation.last = place;
-    relation.places[at] = place;
+    if (u as usize) < relation.places.len() {
+        relation.places[u as usize] = place;
+    }
+    Ok(())
+}
+
+fn read_row(
+    rows: &mut Rows,
+    at: usize,
+    source: &Source<'_>,
+    everyone: &[u64],
+    u: u16,
+    back: bool,
+) -> Result<(), AllocError> {
+    match source.row(u, back) {
+        Some(row) => rows.put_at(at, row.as_words())?,
+        None => rows.clear_at(at)?,
+    }
+    if source.turned {
+        turn(rows.row_mut(at), everyone);
+    }
     Ok(())
 }
 

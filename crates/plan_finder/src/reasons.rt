@@ -1,7 +1,7 @@
 //! Rules that keep users from a step, found for all users at once.
 
 use crate::advice::restrict;
-use crate::bits::{Cells, bit, has_bit, pop};
+use crate::bits::{Cells, bit, pop, pop_law};
 use crate::problem::{Law, Problem};
 use crate::rows::{number_struck, put};
 use crate::work::Work;
@@ -17,6 +17,8 @@ pub(crate) const NO_RULE: u8 = 0xff;
 #[derive(Drop)]
 pub(crate) struct Reasons {
     rules: Vec<u8>,
+    /// A row without rules.
+    none: Vec<u8>,
     users: usize,
     depths: Cells,
 }
@@ -26,6 +28,7 @@ impl Reasons {
     pub(crate) fn new(alloc: Global) -> Reasons {
         Reasons {
             rules: Vec::new(alloc),
+            none: Vec::new(alloc),
             users: 0,
             depths: Cells::all(0),
         }
@@ -33,7 +36,11 @@ impl Reasons {
 
     /// Makes room for those of so many users.
     pub(crate) fn make_room(&mut self, alloc: Global, users: usize) -> Result<(), AllocError> {
-        self.rules = vec![in alloc; NO_RULE; users.saturating_mul(STEP_LIMIT)]?;
+        self.rules = Vec::with_capacity(alloc, users.saturating_mul(STEP_LIMIT))?;
+        self.none = Vec::with_capacity(alloc, users)?;
+        for _ in 0..users / 64 {
+            self.none.extend_from_slice(&[NO_RULE; 64])?;
+        }
         self.users = users;
         Ok(())
     }
@@ -46,6 +53,24 @@ impl Reasons {
         match self.rules.get(at) {
             Some(rule) => *rule,
             None => NO_RULE,
+        }
+    }
+
+    // No rule for anybody at a depth; its row comes to be where it is not there yet.
+    fn clear_row(&mut self, depth: u8) {
+        let from = (depth as usize).saturating_mul(self.users);
+        let to = from.saturating_add(self.users);
+        if from <= to && to <= self.rules.len() {
+            put_numbers(&mut self.rules[from..to], self.none.as_slice());
+            return;
+        }
+        for _ in 0..STEP_LIMIT {
+            // there is room for all rows
+            if self.rules.len() >= to
+                || self.rules.extend_from_slice(self.none.as_slice()).is_err()
+            {
+                break;
+            }
         }
     }
 
@@ -70,9 +95,7 @@ impl Reasons {
         s: u8,
     ) {
         self.depths.set(s, depth as u32);
-        for rule in self.row_mut(depth).iter_mut() {
-            *rule = NO_RULE;
-        }
+        self.clear_row(depth);
         let (rules, mut depths) = self.rules_by_depth(problem, a, s);
         put(work.spare.row_mut(0), problem.allowed.row(s as usize));
         for _ in 0..32u8 {
@@ -84,15 +107,23 @@ impl Reasons {
                 None => 0,
             };
             for _ in 0..RULE_LIMIT {
-                let Some(k) = pop_rule(&mut left) else { break };
+                let Some(k) = pop_law(&mut left) else { break };
                 self.number(problem, work, a, depth, s, k);
             }
         }
     }
 
     // Gives the number of a rule to the users whom it keeps from a step, and nothing kept so far.
-    fn number(&mut self, problem: &Problem, work: &mut Work, a: &Assign, depth: u8, s: u8, k: u8) {
-        let Some(law) = problem.laws.as_slice().get(k as usize) else {
+    fn number(
+        &mut self,
+        problem: &Problem,
+        work: &mut Work,
+        a: &Assign,
+        depth: u8,
+        s: u8,
+        k: usize,
+    ) {
+        let Some(law) = problem.laws.as_slice().get(k) else {
             return;
         };
         put(work.before.row_mut(0), work.spare.row(0));
@@ -101,7 +132,7 @@ impl Reasons {
             work.before.row(0),
             work.spare.row(0),
             self.row_mut(depth),
-            k,
+            (k & 63) as u8,
         );
     }
 
@@ -110,13 +141,16 @@ impl Reasons {
     fn rules_by_depth(&self, problem: &Problem, a: &Assign, s: u8) -> ([u64; STEP_LIMIT], u32) {
         let mut rules = [0u64; STEP_LIMIT];
         let mut depths = 0u32;
-        for (k, law) in problem.laws.as_slice().iter().enumerate() {
-            if has_bit(law.scope, s) {
-                let depth = self.depth_of(law, a, s);
-                if (depth as usize) < STEP_LIMIT {
-                    rules[depth as usize] |= 1u64 << (k & 63);
-                    depths |= bit(depth);
-                }
+        let mut left = problem.laws_of(s);
+        for _ in 0..RULE_LIMIT {
+            let Some(k) = pop_law(&mut left) else { break };
+            let Some(law) = problem.laws.as_slice().get(k) else {
+                break
+            };
+            let depth = self.depth_of(law, a, s);
+            if (depth as usize) < STEP_LIMIT {
+                rules[depth as usize] |= 1u64 << (k & 63);
+                depths |= bit(depth);
             }
         }
         (rules, depths)
@@ -137,12 +171,9 @@ impl Reasons {
     }
 }
 
-// Takes a number out of a set of rules.
-fn pop_rule(set: &mut u64) -> Option<u8> {
-    if *set == 0 {
-        return None;
+// Makes numbers the same as others, where there are as many.
+fn put_numbers(numbers: &mut [u8], others: &[u8]) {
+    if numbers.len() == others.len() {
+        numbers.copy_from_slice(others);
     }
-    let k = set.trailing_zeros();
-    *set &= set.wrapping_sub(1);
-    Some((k & 63) as u8)
 }

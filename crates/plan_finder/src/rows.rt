@@ -20,8 +20,8 @@ impl Rows {
 
     /// A row; an empty one where there is none.
     pub(crate) fn row(&self, at: usize) -> &[u64] {
-        let from = at.saturating_mul(self.width);
-        let to = from.saturating_add(self.width);
+        let from = at.wrapping_mul(self.width);
+        let to = from.wrapping_add(self.width);
         match self.words.get(from..to) {
             Some(row) => row,
             None => &[],
@@ -30,8 +30,8 @@ impl Rows {
 
     /// A row to be changed; an empty one where there is none.
     pub(crate) fn row_mut(&mut self, at: usize) -> &mut [u64] {
-        let from = at.saturating_mul(self.width);
-        let to = from.saturating_add(self.width);
+        let from = at.wrapping_mul(self.width);
+        let to = from.wrapping_add(self.width);
         if from <= to && to <= self.words.len() {
             &mut self.words[from..to]
         } else {
@@ -47,6 +47,23 @@ impl Rows {
             self.words.extend_from_slice(words)?;
         }
         Ok(())
+    }
+
+    /// Puts an empty row at a place, as `put_at` does.
+    pub(crate) fn clear_at(&mut self, at: usize) -> Result<(), AllocError> {
+        if self.row(at).len() > 0 {
+            clear(self.row_mut(at));
+            return Ok(());
+        }
+        for _ in 0..self.width {
+            self.words.push(0)?;
+        }
+        Ok(())
+    }
+
+    /// Makes room for so many rows more.
+    pub(crate) fn reserve(&mut self, count: usize) -> Result<(), AllocError> {
+        self.words.reserve(count.saturating_mul(self.width))
     }
 
     /// The first rows, one behind the other; none where there are not so many.
@@ -82,6 +99,33 @@ pub(crate) fn put(row: &mut [u64], other: &[u64]) {
     }
 }
 
+/// Makes many words the same as others, where there are as many.
+pub(crate) fn put_all(words: &mut [u64], others: &[u64]) {
+    if words.len() == others.len() {
+        words.copy_from_slice(others);
+    }
+}
+
+/// Makes a row those of another one who are not in it.
+pub(crate) fn turn(row: &mut [u64], everyone: &[u64]) {
+    for (word, all) in row.iter_mut().zip(everyone.iter()) {
+        *word = *all & !*word;
+    }
+}
+
+/// Puts so many of the first users in.
+pub(crate) fn add_first(row: &mut [u64], users: u16) {
+    let mut left = users;
+    for word in row.iter_mut() {
+        if left >= 64 {
+            *word = u64::MAX;
+        } else {
+            *word |= (1u64 << (left & 63)).wrapping_sub(1);
+        }
+        left = left.saturating_sub(64);
+    }
+}
+
 /// Keeps the users of another row alone, and tells whether somebody went.
 pub(crate) fn meet(row: &mut [u64], other: &[u64]) -> bool {
     let mut changed = false;
@@ -93,6 +137,41 @@ pub(crate) fn meet(row: &mut [u64], other: &[u64]) -> bool {
         }
     }
     changed
+}
+
+/// What became of a row.
+#[derive(Clone, Copy)]
+pub(crate) struct Kept {
+    /// Somebody went.
+    pub(crate) changed: bool,
+    /// Nobody is left.
+    pub(crate) none: bool,
+}
+
+/// Keeps the users of another row alone.
+pub(crate) fn keep(row: &mut [u64], other: &[u64]) -> Kept {
+    let mut gone = 0u64;
+    let mut stay = 0u64;
+    for (word, mask) in row.iter_mut().zip(other.iter()) {
+        let left = *word & *mask;
+        gone |= left ^ *word;
+        stay |= left;
+        *word = left;
+    }
+    Kept {
+        changed: gone != 0,
+        none: stay == 0,
+    }
+}
+
+/// Puts the users of another row in, and tells whether somebody of a third one is still not in.
+pub(crate) fn join_wants(row: &mut [u64], other: &[u64], wanted: &[u64]) -> bool {
+    let mut wants = 0u64;
+    for ((word, more), want) in row.iter_mut().zip(other.iter()).zip(wanted.iter()) {
+        *word |= *more;
+        wants |= *want & !*word;
+    }
+    wants != 0
 }
 
 /// Puts the users of another row in.
@@ -146,6 +225,18 @@ pub(crate) fn count(row: &[u64]) -> u32 {
         users = users.saturating_add(word.count_ones());
     }
     users
+}
+
+/// Whether a row has so many users at least.
+pub(crate) fn has_many(row: &[u64], least: u32) -> bool {
+    let mut users = 0u32;
+    for word in row.iter() {
+        if users >= least {
+            return true;
+        }
+        users = users.saturating_add(word.count_ones());
+    }
+    users >= least
 }
 
 /// How many users two rows have in common.

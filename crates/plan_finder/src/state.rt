@@ -1,9 +1,9 @@
 //! How far a search has come: the blocks of steps of one user, and what is still open.
 
-use crate::bits::{Cells, NEW, bit, has_bit};
+use crate::bits::{Cells, NEW, bit, has_bit, pop};
 use crate::problem::Problem;
 use crate::rows::{
-    Rows, add_user, clear, exceeds, has_one, has_user, is_empty, join, meets, put, strike,
+    Rows, add_user, clear, exceeds, has_one, has_user, is_empty, join, meets, put, put_all, strike,
 };
 use crate::work::Work;
 use std::alloc::{AllocError, Global};
@@ -44,7 +44,7 @@ impl State {
     /// Makes this state the same as another one with as many steps.
     pub(crate) fn become_same(&mut self, other: &State) {
         let count = (other.steps as usize).saturating_add(other.blocks as usize);
-        put(self.rows.front_mut(count), other.rows.front(count));
+        put_all(self.rows.front_mut(count), other.rows.front(count));
         self.open = other.open;
         self.blocks = other.blocks;
         self.members = other.members;
@@ -167,8 +167,10 @@ impl State {
     fn refresh_step(&mut self, s: u8, work: &Work) -> bool {
         let options = self.options.at(s);
         let mut left = 0;
-        for b in 0..self.blocks {
-            if has_bit(options, b) && meets(self.block(b), self.step(s)) {
+        let mut blocks = options & self.all_blocks();
+        for _ in 0..32u8 {
+            let Some(b) = pop(&mut blocks) else { break };
+            if meets(self.block(b), self.step(s)) {
                 left |= bit(b);
             }
         }

@@ -4,3 +4,4 @@ pub mod Sound
 pub mod RowBits
 pub mod RowSets
 pub mod Listing
+pub mod RowsInPlace

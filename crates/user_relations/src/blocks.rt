@@ -1,5 +1,5 @@
 //! Rows of bits in blocks. A block that copies share is copied once one of them changes it.
-ghost use Rattle.std.specs.Prelude.{◌≡◌, ◌≢◌, ◌<◌, ◌≤◌, ◌+◌, ◌%◌, ◌==◌, ◌&&◌, ◌||◌, not, nat_lt, ℕ, [], length, replicate, IfOk, OnOk, OnErr, MatchOption, IsTrue, false};
+ghost use Rattle.std.specs.Prelude.{◌≡◌, ◌≢◌, ◌<◌, ◌≤◌, ◌+◌, ◌/◌, ◌%◌, ◌==◌, ◌&&◌, ◌||◌, not, nat_lt, is_some, ℕ, [], length, replicate, IfOk, OnOk, OnErr, MatchOption, IsTrue, false};
 ghost use Rattle.std.specs.FinSet as set;
 ghost use Rattle.pair_set.specs.Pairs.{IsAscending};
 ghost use Rattle.wf_names.specs.declared.limits.TheConstants.{USER_LIMIT};
@@ -67,8 +67,10 @@ pub(crate) fn row(blocks: &[Shared<Block>], u: UserId) -> UserSet
     }
 }
 
-fn row_at(blocks: &[Shared<Block>], u: UserId) -> Option<&UserSet>
-    ensures { MatchOption result ((v : ℕ) → row_bit blocks.now u v ≡ false)
+/// The row of a user in place; None where there is none.
+pub(crate) fn row_at(blocks: &[Shared<Block>], u: UserId) -> Option<&UserSet>
+    ensures there { is_some result ≡ nat_lt (u / BLOCK_ROWS) (length blocks.now) }
+    ensures users { MatchOption result ((v : ℕ) → row_bit blocks.now u v ≡ false)
         (λ row. (v : ℕ) → has_user row.now v ≡ row_bit blocks.now u v) }
 {
     match blocks.get(u.0 as usize / BLOCK_ROWS) {

@@ -1,5 +1,5 @@
 //! The declared relations as they are kept, and what each call does to them.
-ghost use Rattle.std.specs.Prelude.{◌≡◌, ◌≢◌, ◌<◌, ◌≤◌, ◌+◌, ℕ, List, [], ◌∷◌, ◌++◌, length, IfOk, IfSome, OnOk, OnErr, MatchOption, IsTrue, ◌&&◌, not, nat_lt, true, slice_get, Some, None, position, nat_eq};
+ghost use Rattle.std.specs.Prelude.{◌≡◌, ◌≢◌, ◌<◌, ◌≤◌, ◌+◌, ℕ, List, [], ◌∷◌, ◌++◌, length, IfOk, IfSome, OnOk, OnErr, MatchOption, IsTrue, ◌&&◌, not, nat_lt, true, false, slice_get, Some, None, position, nat_eq};
 ghost use Rattle.std.specs.Cmp.Lexicographic.{pointwise};
 ghost use Rattle.std.specs.FinSet as set;
 ghost use Rattle.pair_set.specs.Pairs.{IsAscending};
@@ -81,6 +81,18 @@ fn is_in_list(declared: &[Relation], rho: RelId, u: UserId, v: UserId) -> bool
         None => false,
         Some(Kind::Listed(pairs)) => pairs.get().has(u, v),
         Some(Kind::Complement(_)) => false,
+    }
+}
+
+/// The pairs of a listed relation in place.
+pub(crate) fn listed(declared: &[Relation], rho: RelId) -> Option<&UserPairs>
+    ensures { MatchOption result (has_list (kind_of (shapes declared.now) rho) ≡ false)
+        (λ pairs. kind_of (shapes declared.now) rho ≡ Some (listed pairs.now)) }
+{
+    match kind_at(declared, rho) {
+        None => None,
+        Some(Kind::Listed(pairs)) => Some(pairs.get()),
+        Some(Kind::Complement(_)) => None,
     }
 }
 

@@ -2,7 +2,7 @@
 //! built-in `same` and `other`.
 #![tactic(auto)]
 
-ghost use Rattle.std.specs.Prelude.{◌≡◌, ◌≢◌, ◌<◌, ◌≤◌, ◌+◌, ◌↔◌, ℕ, List, [], ◌∷◌, ◌++◌, length, is_some, IfOk, IfSome, OnOk, OnErr, IsErrOf, true, false, ◌==◌, ◌&&◌, not, nat_lt, slice_get, Some};
+ghost use Rattle.std.specs.Prelude.{◌≡◌, ◌≢◌, ◌<◌, ◌≤◌, ◌+◌, ◌↔◌, ℕ, List, [], ◌∷◌, ◌++◌, length, is_some, IfOk, IfSome, OnOk, OnErr, MatchOption, IsErrOf, true, false, ◌==◌, ◌&&◌, not, nat_lt, slice_get, Some};
 ghost use Rattle.std.specs.FinSet as set;
 ghost use Rattle.pair_set.specs.Pairs.{AllPairs, IsAscending};
 ghost use Rattle.wf_names.specs.declared.limits.TheConstants.{PAIR_LIMIT, RELATION_LIMIT, USER_LIMIT};
@@ -193,6 +193,14 @@ impl Relations {
             1 => masks::all_but(users, u),
             _ => kinds::ahead(&self.declared, rho, u, users),
         }
+    }
+
+    /// The pairs of a listed relation in place; None where it is no listed relation.
+    pub fn listed(&self, rho: RelId) -> Option<&UserPairs>
+        ensures { MatchOption result (is_listed self.now rho ≡ false)
+            (λ pairs. kind_of self.now rho ≡ Some (listed pairs.now)) }
+    {
+        kinds::listed(&self.declared, rho)
     }
 
     /// Puts a pair into a listed relation.

@@ -1,5 +1,5 @@
 //! Sets of pairs of users, kept as rows of bits both ways.
-ghost use Rattle.std.specs.Prelude.{◌≡◌, ◌<◌, ◌≤◌, ◌↔◌, ◌&&◌, not, true, false, nat_lt, ℕ, IfOk, OnOk, OnErr, IsTrue};
+ghost use Rattle.std.specs.Prelude.{◌≡◌, ◌<◌, ◌≤◌, ◌↔◌, ◌&&◌, not, true, false, nat_lt, is_some, ℕ, IfOk, IfSome, OnOk, OnErr, IsTrue};
 ghost use Rattle.std.specs.FinSet as set;
 ghost use Rattle.pair_set.specs.Pairs.{IsAscending};
 ghost use Rattle.wf_names.specs.declared.limits.TheConstants.{USER_LIMIT};
@@ -120,6 +120,24 @@ impl UserPairs {
         ensures { (v : ℕ) → has_user result v ≡ (nat_lt v users && set.contains self.now (v, u)) }
     {
         masks::below(users, &blocks::row(&self.behind, u))
+    }
+
+    /// The users `v` of pairs `(u, v)` in place; None where u is no number below the limit.
+    pub fn row_after(&self, u: UserId) -> Option<&UserSet>
+        ensures there { is_some result ≡ nat_lt u USER_LIMIT }
+        ensures users { IfSome result (λ row. (v : ℕ) → v < USER_LIMIT
+            → has_user row.now v ≡ set.contains self.now (u, v)) }
+    {
+        blocks::row_at(&self.ahead, u)
+    }
+
+    /// The users `v` of pairs `(v, u)` in place; None where u is no number below the limit.
+    pub fn row_ahead(&self, u: UserId) -> Option<&UserSet>
+        ensures there { is_some result ≡ nat_lt u USER_LIMIT }
+        ensures users { IfSome result (λ row. (v : ℕ) → v < USER_LIMIT
+            → has_user row.now v ≡ set.contains self.now (v, u)) }
+    {
+        blocks::row_at(&self.behind, u)
     }
 
     /// The pairs in ascending order, each once.
