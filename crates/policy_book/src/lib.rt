@@ -3,6 +3,7 @@
 
 mod authority;
 mod candidates;
+mod duties;
 mod policy;
 mod related;
 mod workflow;
