@@ -1,5 +1,5 @@
 //! Who is authorised for what in one workflow: the users of each step, and the steps of each user.
-ghost use Rattle.std.specs.Prelude.{◌≡◌, ◌<◌, ◌≤◌, ℕ, ◌==◌, ◌&&◌, [], length, if◌then◌else◌, slice_index_or, slice_set, IfOk, OnOk, OnErr};
+ghost use Rattle.std.specs.Prelude.{◌≡◌, ◌<◌, ◌≤◌, ℕ, ◌==◌, ◌&&◌, [], length, true, if◌then◌else◌, slice_index_or, slice_set, IfOk, OnOk, OnErr};
 ghost use Rattle.std.specs.FinSet as set;
 ghost use Rattle.wf_names.specs.declared.limits.TheConstants.{STEP_LIMIT, USER_LIMIT};
 ghost use Rattle.wf_names.specs.UserSets.{has_user};
@@ -65,6 +65,7 @@ impl Duties {
     }
 
     /// Gives a step another row.
+    #[tactic(auto, using(crate::proofs::Rows::put_back))]
     pub(crate) fn set_row(&mut self, s: StepId, row: UserSet)
         requires { s < length self.old.rows }
         ensures { self.new ≡ record self.old { rows = slice_set self.old.rows s row } }
@@ -75,6 +76,7 @@ impl Duties {
     }
 
     /// Puts a user right in the rows of the steps that a role is permitted for.
+    #[tactic(auto, using(crate::proofs::Rows::gathered_again))]
     pub(crate) fn settle(&mut self, roster: &Roster, flow: &Flow, u: UserId, r: RoleId)
         requires { u < USER_LIMIT }
         ensures rows { IsSettled roster.now flow.now u r self.old.rows self.new.rows }
@@ -146,11 +148,17 @@ fn gathered(rows: &[UserSet], u: UserId) -> StepSet
 {
     let mut set = StepSet::empty();
     'steps: for s in 0..rows.len() {
-        if rows[s].has(u) {
-            set = set.with(StepId(s as u8));
-        }
+        set = with_if(&set, StepId(s as u8), rows[s].has(u));
     }
     set
+}
+
+// A set of steps, with one more where that is wanted.
+fn with_if(set: &StepSet, s: StepId, wanted: bool) -> StepSet
+    requires { s < STEP_LIMIT }
+    ensures { result ≡ (if wanted then slice_set set.now s true else set.now) }
+{
+    if wanted { set.with(s) } else { *set }
 }
 
 // Gathers the steps of one user again.
@@ -174,11 +182,27 @@ fn gather_changed(rows: &[UserSet], s: StepId, before: &UserSet, sets: &mut [Ste
     ensures gathered { AreGathered rows.now sets.new }
 {
     'users: for u in 0..sets.len() {
-        let user = UserId(u as u16);
-        if rows[s.0 as usize].has(user) != before.has(user) {
-            sets[u] = gathered(rows, user);
-        }
+        gather_if_changed(rows, s, before, UserId(u as u16), &mut sets[u]);
     }
+}
+
+#[tactic(auto, using(crate::proofs::Rows::same_gathered))]
+fn gather_if_changed(
+    rows: &[UserSet],
+    s: StepId,
+    before: &UserSet,
+    u: UserId,
+    set: &mut StepSet,
+)
+    requires few { length rows.now ≤ STEP_LIMIT }
+    requires step { s < length rows.now }
+    requires gathered { set.old ≡ steps_in (slice_set rows.now s before.now) u }
+    ensures { set.new ≡ steps_in rows.now u }
+{
+    if rows[s.0 as usize].has(u) == before.has(u) {
+        return;
+    }
+    *set = gathered(rows, u);
 }
 
 // Puts a user right in the rows of the steps that a role is permitted for.
@@ -188,11 +212,23 @@ fn settle_rows(roster: &Roster, flow: &Flow, u: UserId, r: RoleId, rows: &mut [U
     ensures { IsSettled roster.now flow.now u r rows.old rows.new }
 {
     'steps: for s in 0..rows.len() {
-        let step = StepId(s as u8);
-        if flow.permits(r, step) {
-            put_if(&mut rows[s], u, some_role(roster, flow, step, u));
-        }
+        settle_row(roster, flow, u, r, StepId(s as u8), &mut rows[s]);
     }
+}
+
+// Puts a user right in the row of a step, where a role is permitted for it.
+#[tactic(auto, using(crate::proofs::Rows::settled_row, crate::proofs::Rows::unsettled_row))]
+fn settle_row(roster: &Roster, flow: &Flow, u: UserId, r: RoleId, s: StepId, row: &mut UserSet)
+    requires { u < USER_LIMIT }
+    ensures { (v : ℕ) → has_user row.new v
+        ≡ (if v == u && set.contains flow.now.permits (r, s)
+        then may_do roster.now flow.now s v
+        else has_user row.old v) }
+{
+    if !flow.permits(r, s) {
+        return;
+    }
+    put_if(row, u, some_role(roster, flow, s, u));
 }
 
 // Puts a user in or takes the user out.
