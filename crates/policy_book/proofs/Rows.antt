@@ -5,7 +5,7 @@ use Rattle.std.specs.Ordering.{eq_by_cmp}
 use Rattle.std.proofs.lemmas.Map.Views.{tells_apart}
 use Rattle.std.proofs.lemmas.Bool.{cases_eq, cases_lt}
 use Rattle.std.proofs.lemmas.List.{get_or-set_same, get_or-set_other, get_or_append_left, get_or_push, get_or_past, get_or_default, length-set, get_or-replicate, length-replicate}
-use Rattle.basics.proofs.Booleans.{and-false, and_both, bool_cases, eq_back, eq_is, not_true}
+use Rattle.basics.proofs.Booleans.{and-false, and_both, bool_cases, differ, eq_back, eq_is, eq_other, not_true}
 use Rattle.pair_set.specs.Pairs.{Pairs, pair_cmp}
 use Rattle.pair_set.specs.PairLaws.{pair_cmp_total, pair_cmp-IsAntisymmetric}
 use Rattle.wf_names.specs.declared.limits.TheConstants.{STEP_LIMIT}
@@ -32,22 +32,19 @@ steps_same (suc n) f g same =
 steps_length : (n : ℕ) (f : ℕ → Bool) → length (steps_below n f) ≡ STEP_LIMIT
 unfolding no_steps
 steps_length zero f = length-replicate STEP_LIMIT false
-steps_length (suc n) f = at (f n)
+steps_length (suc n) f = at (f n) (steps_length n f)
   where
-    at : (b : Bool) → length (if b then slice_set (steps_below n f) n true else steps_below n f) ≡ STEP_LIMIT
-    at true = length-set (steps_below n f) n true ∙ steps_length n f
-    at false = steps_length n f
+    at : (b : Bool) → length (steps_below n f) ≡ STEP_LIMIT → length (if b then slice_set (steps_below n f) n true else steps_below n f) ≡ STEP_LIMIT
+    at true long = length-set (steps_below n f) n true ∙ long
+    at false long = long
 
 steps_beyond : (n t : ℕ) (f : ℕ → Bool) → n ≤ t → is_member (steps_below n f) t ≡ false
 steps_beyond zero t f past = none_member t
-steps_beyond (suc n) t f past = at (f n)
+steps_beyond (suc n) t f past = at (f n) (λ e. absurd (omega (arith, e, past))) (steps_beyond n t f (omega (arith, past)))
   where
-    apart : t ≢ n
-    apart e = absurd (omega (arith, e, past))
-
-    at : (b : Bool) → is_member (if b then slice_set (steps_below n f) n true else steps_below n f) t ≡ false
-    at true = get_or-set_other (steps_below n f) n t true false apart ∙ steps_beyond n t f (omega (arith, past))
-    at false = steps_beyond n t f (omega (arith, past))
+    at : (b : Bool) → t ≢ n → is_member (steps_below n f) t ≡ false → is_member (if b then slice_set (steps_below n f) n true else steps_below n f) t ≡ false
+    at true apart before = get_or-set_other (steps_below n f) n t true false apart ∙ before
+    at false apart before = before
 
 -- a step below n is a member where it passes
 pub steps_member : (n t : ℕ) (f : ℕ → Bool) → n ≤ STEP_LIMIT → t < n → is_member (steps_below n f) t ≡ f t
@@ -117,17 +114,24 @@ gathered_again before after u sets long same gathered v below =
           )
     ]
 
+-- rows in which a user was put right
+pub gathered_settled : (roster : RosterShape) (flow : FlowShape) (u r : ℕ) (before after : List (List ℕ)) (sets : List (List Bool)) → IsSettled roster flow u r before after → AreGathered before sets
+    → AreGathered after (slice_set sets u (steps_in after u))
+gathered_settled roster flow u r before after sets settled gathered =
+    gathered_again before after u sets settled.count
+    (λ s v below apart. settled.each s v below ∙ ap (λ b. if b && set.contains flow.permits (r, s) then may_do roster flow s v else row_has before s v) (eq_other v u apart)) gathered
+
 -- a user who is put right in a row where the role is permitted
 pub settled_row : (permitted : Bool) (may : ℕ → Bool) (u v : ℕ) (old : Bool) → permitted ≡ true → (if v == u then may u else old) ≡ (if v == u && permitted then may v else old)
-settled_row false may u v old yes = absurd (cc)
-settled_row true may u v old yes = elim (bool_cases (v == u)) [
+settled_row false may u v old h = absurd (cc)
+settled_row true may u v old h = elim (bool_cases (v == u)) [
   | inl same ↦ ap (λ b. if b then may u else old) same ∙ ap may (sym (eq_back v u same)) ∙ sym (ap (λ b. if b && true then may v else old) same)
   | inr other ↦ ap (λ b. if b then may u else old) other ∙ sym (ap (λ b. if b && true then may v else old) other)
 ]
 
 pub unsettled_row : (permitted : Bool) (may : ℕ → Bool) (u v : ℕ) (old : Bool) → permitted ≡ false → old ≡ (if v == u && permitted then may v else old)
-unsettled_row true may u v old no = absurd (cc)
-unsettled_row false may u v old no = sym (ap (λ b. if b then may v else old) (and-false (v == u)))
+unsettled_row true may u v old h = absurd (cc)
+unsettled_row false may u v old h = sym (ap (λ b. if b then may v else old) (and-false (v == u)))
 
 -- ---- who is authorised
 
@@ -167,11 +171,11 @@ members_matter : (u r : ℕ) (roster : RosterShape) (m : Pairs) → ((q : ℕ ×
 members_matter u r roster m others flow s v apart =
     any_below-same (length roster.roles) (λ k. set.contains m (v, k) && set.contains flow.permits (k, s)) (λ k. set.contains roster.members (v, k) && set.contains flow.permits (k, s)) (λ k.
       elim (bool_cases (set.contains flow.permits (k, s))) [
-        | inl yes ↦ ap (λ b. b && set.contains flow.permits (k, s)) (others (v, k) (λ e.
-          apart (ap (λ (p : ℕ × ℕ). p.0) e) (ap (λ (n : ℕ). set.contains flow.permits (n, s)) (sym (ap (λ (p : ℕ × ℕ). p.1) e)) ∙ yes)))
-        | inr no ↦
-            ap (λ b. set.contains m (v, k) && b) no ∙ and-false (set.contains m (v, k))
-            ∙ sym (ap (λ b. set.contains roster.members (v, k) && b) no ∙ and-false (set.contains roster.members (v, k)))
+        | inl given ↦ ap (λ b. b && set.contains flow.permits (k, s)) (others (v, k) (λ e.
+          apart (ap (λ (p : ℕ × ℕ). p.0) e) (ap (λ (n : ℕ). set.contains flow.permits (n, s)) (sym (ap (λ (p : ℕ × ℕ). p.1) e)) ∙ given)))
+        | inr free ↦
+            ap (λ b. set.contains m (v, k) && b) free ∙ and-false (set.contains m (v, k))
+            ∙ sym (ap (λ b. set.contains roster.members (v, k) && b) free ∙ and-false (set.contains roster.members (v, k)))
       ])
 
 pub enrolled_differs : (u r : ℕ) (roster : RosterShape) → DiffersAt u r roster (record roster { members = set.insert roster.members (u, r) })
@@ -210,10 +214,10 @@ duties_settled before after flow u r d e people differs old many settled =
         let place : s < length d.rows = omega (arith, below, settled.count) in
         settled.each s v place
         ∙ elim (bool_cases (v == u && set.contains flow.permits (r, s))) [
-          | inl yes ↦ ap (λ b. if b then may_do after flow s v else row_has d.rows s v) yes
-          | inr no ↦
-              ap (λ b. if b then may_do after flow s v else row_has d.rows s v) no ∙ old.each s v place
-              ∙ sym (differs flow s v (λ same permitted. let both : (v == u && set.contains flow.permits (r, s)) ≡ true = ap (λ b. b && set.contains flow.permits (r, s)) (eq_is v u same) ∙ permitted in cc))
+          | inl here ↦ ap (λ b. if b then may_do after flow s v else row_has d.rows s v) here
+          | inr other ↦
+              ap (λ b. if b then may_do after flow s v else row_has d.rows s v) other ∙ old.each s v place
+              ∙ sym (differs flow s v (λ same permitted. let both : (v == u && set.contains flow.permits (r, s)) ≡ true = ap (λ b. b && set.contains flow.permits (r, s)) (eq_is v u same) ∙ permitted in differ _ both other))
         ];
       users = omega (arith, as_many, many, old.users);
     }
@@ -319,3 +323,16 @@ duties_with_row roster flow permits s row d within old same new = record {
   ];
   users = old.users;
 }
+
+-- the same in a policy's workflows
+pub kept_with_permits : (roster : RosterShape) (flows : List WorkflowShape) (ds : List DutyShape) (f s : ℕ) (w : WorkflowShape) (d : DutyShape) (permits : Pairs) (row : List ℕ)
+    → f < length flows → s < length w.flow.steps → AreKept roster flows ds → w ≡ slice_index_or flows f w → d ≡ slice_index_or ds f d → PermitsAt s w.flow permits
+    → ((u : ℕ) → has_user row u ≡ may_do roster (record w.flow { permits = permits }) s u)
+    → AreKept roster (slice_set flows f (record w { flow = record w.flow { permits = permits } })) (slice_set ds f (record d { rows = slice_set d.rows s row }))
+kept_with_permits roster flows ds f s w d permits row within step old w_is d_is same new =
+    let place : f < length ds = omega (arith, within, old.count) in
+    let right : AreDuties roster w.flow d =
+      subst (λ (x : DutyShape). AreDuties roster w.flow x) (sym (d_is ∙ get_or_default ds f d no_duties place))
+      (subst (λ (x : WorkflowShape). AreDuties roster x.flow (duties_at ds f)) (sym (w_is ∙ get_or_default flows f w no_workflow within)) (old.each f within)) in
+    kept_with_flow roster flows ds f (record w { flow = record w.flow { permits = permits } }) (record d { rows = slice_set d.rows s row }) within old
+    (duties_with_row roster w.flow permits s row d (omega (arith, step, right.count)) right same new)

@@ -76,14 +76,12 @@ impl Duties {
     }
 
     /// Puts a user right in the rows of the steps that a role is permitted for.
-    #[tactic(auto, using(crate::proofs::Rows::gathered_again))]
     pub(crate) fn settle(&mut self, roster: &Roster, flow: &Flow, u: UserId, r: RoleId)
         requires { u < USER_LIMIT }
         ensures rows { IsSettled roster.now flow.now u r self.old.rows self.new.rows }
         ensures users { self.new.users ≡ self.old.users }
     {
-        settle_rows(roster, flow, u, r, &mut self.rows);
-        gather_user(&self.rows, u, &mut self.sets);
+        settle_user(roster, flow, u, r, &mut self.rows, &mut self.sets);
     }
 
     /// Keeps the set of one user more, where there is none for that number yet.
@@ -203,6 +201,26 @@ fn gather_if_changed(
         return;
     }
     *set = gathered(rows, u);
+}
+
+// Puts a user right in the rows of the steps that a role is permitted for, and in the sets.
+fn settle_user(
+    roster: &Roster,
+    flow: &Flow,
+    u: UserId,
+    r: RoleId,
+    rows: &mut [UserSet],
+    sets: &mut [StepSet],
+)
+    requires few { length rows.old ≤ STEP_LIMIT }
+    requires user { u < USER_LIMIT }
+    requires gathered { AreGathered rows.old sets.old }
+    ensures rows { IsSettled roster.now flow.now u r rows.old rows.new }
+    ensures count { length sets.new ≡ length sets.old }
+    ensures gathered { AreGathered rows.new sets.new }
+{
+    settle_rows(roster, flow, u, r, rows);
+    gather_user(rows, u, sets);
 }
 
 // Puts a user right in the rows of the steps that a role is permitted for.

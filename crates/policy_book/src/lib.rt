@@ -4,6 +4,7 @@
 mod authority;
 mod candidates;
 mod duties;
+mod kept;
 mod policy;
 mod related;
 mod workflow;
