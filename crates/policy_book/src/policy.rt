@@ -310,9 +310,9 @@ impl Policy {
         ensures unchanged { OnErr result (self.new ≡ self.old) }
     {
         let number = free_number(self.roster.users(), &name, USER_LIMIT)?;
-        if make_room(&mut self.duties, UserId(number)).is_err() {
+        let Ok(()) = make_room(&mut self.duties, UserId(number)) else {
             return Err(NameFault::NoMemory);
-        }
+        };
         match self.roster.add_user(name) {
             Ok(u) => Ok(u),
             Err(fault) => Err(fault),

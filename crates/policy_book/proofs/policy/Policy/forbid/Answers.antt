@@ -4,7 +4,7 @@ use Rattle.std.proofs.lemmas.List.{get_or_default}
 use Rattle.wf_names.specs.UserSets.{has_user}
 use Rattle.workflow_schema.specs.Flows.{FlowShape}
 use Rattle.policy_book.specs.Shapes.{PolicyShape, WorkflowShape}
-use Rattle.policy_book.specs.Policies.{no_workflow}
+use Rattle.policy_book.specs.Policies.{flow_at, no_workflow}
 use Rattle.policy_book.specs.Facts.{IsSoundWorkflow}
 use Rattle.policy_book.specs.Duties.{may_do}
 use Rattle.policy_book.proofs.Keeping.{sound_at, stored_with_flow, sound_forbidden}
@@ -28,7 +28,10 @@ invariant_of-self c =
     let opened = subst (λ (x : WorkflowShape). IsSoundWorkflow roles relations x) (sym c.workflow.view_is) before in
     let after = sound_forbidden roles relations c.args.r c.args.s w opened in
     let w_is : w ≡ slice_index_or flows f w = c.workflow.view_is ∙ c.index_mut-workflow.ensures.value ∙ get_or_default flows f c.index_mut-workflow.result.now w place in
-    let step : c.args.s < length w.flow.steps = ? in
+    let asked : c.args.s < length (slice_index_or flows f no_workflow).flow.steps =
+        subst (λ (p : PolicyShape). c.args.s < length (flow_at p f).flow.steps) (sym c.self.view_is)
+        (subst (λ (n : ℕ). c.args.s < length (flow_at c.args.self.now n).flow.steps) (sym c.f.view_is) c.requires.step) in
+    let step : c.args.s < length w.flow.steps = subst (λ (x : WorkflowShape). c.args.s < length x.flow.steps) (sym (w_is ∙ get_or_default flows f w no_workflow place)) asked in
     let row : (u : ℕ) → has_user c.holders_of_some-row.result u ≡ may_do roster (record w.flow { permits = set.remove w.flow.permits (c.args.r, c.args.s) }) c.args.s u =
         λ u. subst (λ (x : FlowShape). has_user c.holders_of_some-row.result u ≡ may_do roster x c.args.s u) c.forbid-changed.ensures.forbidden (c.holders_of_some-row.ensures.held u) in
     rw (c.forbid-changed.ensures.forbidden, c.set_row.ensures)
