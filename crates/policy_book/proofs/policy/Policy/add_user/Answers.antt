@@ -4,7 +4,7 @@ use Rattle.policy_book.proofs.Keeping.{stored_with_user}
 use Rattle.policy_book.proofs.Rows.{kept_grown, kept_with_user}
 use Rattle.policy_book.proofs.Book.{whole}
 use Rattle.policy_book.proofs.policy.Policy.add_user.Goals as goal
-use Rattle.policy_book.proofs.policy.Policy.add_user.Goals.{in-Ok, in-Err}
+use Rattle.policy_book.proofs.policy.Policy.add_user.Goals.{in-Ok-add_user, in-Err}
 
 pub invariant_of-self : goal.invariant_of-self
 invariant_of-self c =
@@ -34,8 +34,8 @@ invariant_of-self-2 c =
     subst (λ (ds : List DutyShape). IsBook c.add_user.new.self rs names flows admin ds)
     (sym (whole c.self.inside.duties.len new _ (c.make_room.ensures.grown.count ∙ c.deref_mut.ensures.len)))
     (elim c.match-add_user.branch [
-      | in-Ok w ↦
-          rw w.in-Ok.ensures.added
-          (record { stored = stored_with_user roster rs names flows admin stored c.args.name w.in-Ok.ensures.room; kept = kept_with_user roster c.args.name flows new kept room })
+      | in-Ok-add_user w ↦
+          rw w.in-Ok-add_user.ensures.added
+          (record { stored = stored_with_user roster rs names flows admin stored c.args.name w.in-Ok-add_user.ensures.room; kept = kept_with_user roster c.args.name flows new kept room })
       | in-Err w ↦ rw w.in-Err.ensures.unchanged (record { stored = stored; kept = kept })
     ])
