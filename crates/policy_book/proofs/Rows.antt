@@ -1,10 +1,10 @@
 -- What is kept of who is authorised, under each change of a policy.
-use Rattle.std.proofs.Common.{◌≡◌, ◌≢◌, ℕ, zero, suc, ◌+◌, ◌<◌, ◌≤◌, Bool, true, false, not, ◌&&◌, ◌||◌, ◌==◌, List, [], ◌∷◌, ◌++◌, length, if◌then◌else◌, slice_index_or, slice_set, ◌⊎◌, inl, inr, refl, sym, ap, subst, ◌∙◌, arith, length-append}
+use Rattle.std.proofs.Common.{◌≡◌, ◌≢◌, ℕ, zero, suc, ◌+◌, ◌<◌, ◌≤◌, Bool, true, false, not, ◌&&◌, ◌||◌, ◌==◌, List, [], ◌∷◌, ◌++◌, length, if◌then◌else◌, slice_index_or, slice_set, inl, inr, refl, sym, ap, subst, ◌∙◌, arith, length-append}
 use Rattle.std.specs.FinSet as set
 use Rattle.std.specs.Ordering.{eq_by_cmp}
 use Rattle.std.proofs.lemmas.Map.Views.{tells_apart}
-use Rattle.std.proofs.lemmas.Bool.{cases_eq, cases_lt}
-use Rattle.std.proofs.lemmas.List.{get_or-set_same, get_or-set_other, get_or_append_left, get_or_push, get_or_past, get_or_default, length-set, get_or-replicate, length-replicate}
+use Rattle.std.proofs.lemmas.Bool.{cases_eq}
+use Rattle.std.proofs.lemmas.List.{get_or-set_same, get_or-set_other, get_or_append_left, get_or_push, get_or_default, length-set, length-replicate}
 use Rattle.basics.proofs.Booleans.{and-false, and_both, bool_cases, differ, eq_back, eq_is, eq_other, not_true}
 use Rattle.pair_set.specs.Pairs.{Pairs, pair_cmp}
 use Rattle.pair_set.specs.PairLaws.{pair_cmp_total, pair_cmp-IsAntisymmetric}
@@ -88,13 +88,13 @@ put_back rows s row before sets within was gathered u below =
     let long : length (slice_set (slice_set rows s row) s before) ≡ length rows = length-set (slice_set rows s row) s before ∙ length-set rows s row in
     gathered u below
     ∙ sym (
-      steps_same (length (slice_set (slice_set rows s row) s before)) (λ t. row_has (slice_set (slice_set rows s row) s before) t u) (λ t. row_has rows t u) (λ t _. elim (cases_eq t s) [
-        | inl here ↦
-            row_put (slice_set rows s row) s t u before (omega (arith, within, length-set rows s row)) here
-            ∙ ap (λ (w : List ℕ). has_user w u) was ∙ ap (λ (n : ℕ). row_has rows n u) (sym here)
-        | inr apart ↦ row_left (slice_set rows s row) s t u before apart ∙ row_left rows s t u row apart
-      ])
-      ∙ ap (λ (n : ℕ). steps_below n (λ t. row_has rows t u)) long
+    steps_same (length (slice_set (slice_set rows s row) s before)) (λ t. row_has (slice_set (slice_set rows s row) s before) t u) (λ t. row_has rows t u) (λ t _. elim (cases_eq t s) [
+      | inl here ↦
+          row_put (slice_set rows s row) s t u before (omega (arith, within, length-set rows s row)) here
+          ∙ ap (λ (w : List ℕ). has_user w u) was ∙ ap (λ (n : ℕ). row_has rows n u) (sym here)
+      | inr apart ↦ row_left (slice_set rows s row) s t u before apart ∙ row_left rows s t u row apart
+    ])
+    ∙ ap (λ (n : ℕ). steps_below n (λ t. row_has rows t u)) long
     )
 
 -- rows that differ in one user, whose set is gathered again
@@ -109,8 +109,8 @@ gathered_again before after u sets long same gathered v below =
       | inr apart ↦
           get_or-set_other sets u v (steps_in after u) no_steps apart ∙ gathered v within
           ∙ sym (
-            steps_same (length after) (λ s. row_has after s v) (λ s. row_has before s v) (λ s h. same s v (omega (arith, h, long)) apart)
-            ∙ ap (λ (n : ℕ). steps_below n (λ s. row_has before s v)) long
+          steps_same (length after) (λ s. row_has after s v) (λ s. row_has before s v) (λ s h. same s v (omega (arith, h, long)) apart)
+          ∙ ap (λ (n : ℕ). steps_below n (λ s. row_has before s v)) long
           )
     ]
 
@@ -143,8 +143,8 @@ any_below-same (suc n) f g same = ap (λ b. b || f n) (any_below-same n f g same
 pub none_beyond : (roster : RosterShape) (flow : FlowShape) (s u : ℕ) → IsFlow flow → length flow.steps ≤ s → may_do roster flow s u ≡ false
 none_beyond roster flow s u kept past =
     not_true (may_do roster flow s u) (λ some.
-      any_below-some ⊥ (length roster.roles) (λ r. set.contains roster.members (u, r) && set.contains flow.permits (r, s))
-      (λ r both. let known = kept.permitted.each r s (and_both (set.contains roster.members (u, r)) (set.contains flow.permits (r, s)) both).1 in absurd (omega (arith, known.1, past))) some)
+    any_below-some ⊥ (length roster.roles) (λ r. set.contains roster.members (u, r) && set.contains flow.permits (r, s))
+    (λ r both. let known = kept.permitted.each r s (and_both (set.contains roster.members (u, r)) (set.contains flow.permits (r, s)) both).1 in absurd (omega (arith, known.1, past))) some)
 
 inserted_other : (m : Pairs) (k q : ℕ × ℕ) → q ≢ k → set.contains (set.insert m k) q ≡ set.contains m q
 inserted_other m k q apart =
@@ -170,13 +170,13 @@ DiffersAt u r before after =
 members_matter : (u r : ℕ) (roster : RosterShape) (m : Pairs) → ((q : ℕ × ℕ) → q ≢ (u, r) → set.contains m q ≡ set.contains roster.members q) → DiffersAt u r roster (record roster { members = m })
 members_matter u r roster m others flow s v apart =
     any_below-same (length roster.roles) (λ k. set.contains m (v, k) && set.contains flow.permits (k, s)) (λ k. set.contains roster.members (v, k) && set.contains flow.permits (k, s)) (λ k.
-      elim (bool_cases (set.contains flow.permits (k, s))) [
-        | inl given ↦ ap (λ b. b && set.contains flow.permits (k, s)) (others (v, k) (λ e.
+    elim (bool_cases (set.contains flow.permits (k, s))) [
+      | inl given ↦ ap (λ b. b && set.contains flow.permits (k, s)) (others (v, k) (λ e.
           apart (ap (λ (p : ℕ × ℕ). p.0) e) (ap (λ (n : ℕ). set.contains flow.permits (n, s)) (sym (ap (λ (p : ℕ × ℕ). p.1) e)) ∙ given)))
-        | inr free ↦
-            ap (λ b. set.contains m (v, k) && b) free ∙ and-false (set.contains m (v, k))
-            ∙ sym (ap (λ b. set.contains roster.members (v, k) && b) free ∙ and-false (set.contains roster.members (v, k)))
-      ])
+      | inr free ↦
+          ap (λ b. set.contains m (v, k) && b) free ∙ and-false (set.contains m (v, k))
+          ∙ sym (ap (λ b. set.contains roster.members (v, k) && b) free ∙ and-false (set.contains roster.members (v, k)))
+    ])
 
 pub enrolled_differs : (u r : ℕ) (roster : RosterShape) → DiffersAt u r roster (record roster { members = set.insert roster.members (u, r) })
 enrolled_differs u r roster = members_matter u r roster (set.insert roster.members (u, r)) (λ q apart. inserted_other roster.members (u, r) q apart)
@@ -211,14 +211,14 @@ duties_settled before after flow u r d e people differs old many settled =
     record {
       count = settled.count ∙ old.count;
       each = λ s v below.
-        let place : s < length d.rows = omega (arith, below, settled.count) in
-        settled.each s v place
-        ∙ elim (bool_cases (v == u && set.contains flow.permits (r, s))) [
-          | inl here ↦ ap (λ b. if b then may_do after flow s v else row_has d.rows s v) here
-          | inr other ↦
-              ap (λ b. if b then may_do after flow s v else row_has d.rows s v) other ∙ old.each s v place
-              ∙ sym (differs flow s v (λ same permitted. let both : (v == u && set.contains flow.permits (r, s)) ≡ true = ap (λ b. b && set.contains flow.permits (r, s)) (eq_is v u same) ∙ permitted in differ _ both other))
-        ];
+          let place : s < length d.rows = omega (arith, below, settled.count) in
+          settled.each s v place
+          ∙ elim (bool_cases (v == u && set.contains flow.permits (r, s))) [
+            | inl here ↦ ap (λ b. if b then may_do after flow s v else row_has d.rows s v) here
+            | inr other ↦
+                ap (λ b. if b then may_do after flow s v else row_has d.rows s v) other ∙ old.each s v place
+                ∙ sym (differs flow s v (λ same permitted. let both : (v == u && set.contains flow.permits (r, s)) ≡ true = ap (λ b. b && set.contains flow.permits (r, s)) (eq_is v u same) ∙ permitted in differ _ both other))
+          ];
       users = omega (arith, as_many, many, old.users);
     }
 
@@ -228,7 +228,7 @@ pub kept_settled : (before after : RosterShape) (flows : List WorkflowShape) (u 
 kept_settled before after flows u r ds es people differs old settled = record {
   count = settled.count ∙ old.count;
   each = λ f below.
-    duties_settled before after (slice_index_or flows f no_workflow).flow u r (duties_at ds f) (duties_at es f) people differs (old.each f below) (settled.users f) (settled.each f below);
+      duties_settled before after (slice_index_or flows f no_workflow).flow u r (duties_at ds f) (duties_at es f) people differs (old.each f below) (settled.users f) (settled.each f below);
 }
 
 -- with sets for more users
@@ -236,14 +236,14 @@ pub kept_grown : (roster : RosterShape) (flows : List WorkflowShape) (ds es : Li
 kept_grown roster flows ds es old grown = record {
   count = grown.count ∙ old.count;
   each = λ f below.
-    let kept = old.each f below in
-    let same : (duties_at es f).rows ≡ (duties_at ds f).rows = grown.rows f in
-    let long : length (duties_at es f).rows ≡ length (duties_at ds f).rows = ap (λ (rows : List (List ℕ)). length rows) same in
-    record {
-      count = long ∙ kept.count;
-      each = λ s u place. ap (λ (rows : List (List ℕ)). row_has rows s u) same ∙ kept.each s u (omega (arith, place, long));
-      users = omega (arith, kept.users, grown.users f);
-    };
+      let kept = old.each f below in
+      let same : (duties_at es f).rows ≡ (duties_at ds f).rows = grown.rows f in
+      let long : length (duties_at es f).rows ≡ length (duties_at ds f).rows = ap (λ (rows : List (List ℕ)). length rows) same in
+      record {
+        count = long ∙ kept.count;
+        each = λ s u place. ap (λ (rows : List (List ℕ)). row_has rows s u) same ∙ kept.each s u (omega (arith, place, long));
+        users = omega (arith, kept.users, grown.users f);
+      };
 }
 
 -- with one user more, where there is room for the user's sets
@@ -254,8 +254,8 @@ kept_with_user roster name flows ds old room =
     record {
       count = old.count;
       each = λ f below.
-        let kept = old.each f below in
-        record { count = kept.count; each = kept.each; users = omega (arith, longer, room f (omega (arith, below, old.count))) };
+          let kept = old.each f below in
+          record { count = kept.count; each = kept.each; users = omega (arith, longer, room f (omega (arith, below, old.count))) };
     }
 
 -- with another workflow at a number, for which nothing else is right
@@ -285,13 +285,13 @@ kept_with_same roster flows ds f w within old same =
     record {
       count = old.count ∙ sym long;
       each = λ g below.
-        let there : g < length flows = omega (arith, below, long) in
-        subst (λ (x : FlowShape). AreDuties roster x (duties_at ds g)) (sym (elim (cases_eq g f) [
-          | inl here ↦
-              ap (λ (n : ℕ). (slice_index_or (slice_set flows f w) n no_workflow).flow) here ∙ ap (λ (x : WorkflowShape). x.flow) (get_or-set_same flows f w no_workflow within) ∙ same
-              ∙ ap (λ (n : ℕ). (slice_index_or flows n no_workflow).flow) (sym here)
-          | inr apart ↦ ap (λ (x : WorkflowShape). x.flow) (get_or-set_other flows f g w no_workflow apart)
-        ])) (old.each g there);
+          let there : g < length flows = omega (arith, below, long) in
+          subst (λ (x : FlowShape). AreDuties roster x (duties_at ds g)) (sym (elim (cases_eq g f) [
+            | inl here ↦
+                ap (λ (n : ℕ). (slice_index_or (slice_set flows f w) n no_workflow).flow) here ∙ ap (λ (x : WorkflowShape). x.flow) (get_or-set_same flows f w no_workflow within) ∙ same
+                ∙ ap (λ (n : ℕ). (slice_index_or flows n no_workflow).flow) (sym here)
+            | inr apart ↦ ap (λ (x : WorkflowShape). x.flow) (get_or-set_other flows f g w no_workflow apart)
+          ])) (old.each g there);
     }
 
 -- with one workflow more
@@ -332,7 +332,7 @@ pub kept_with_permits : (roster : RosterShape) (flows : List WorkflowShape) (ds 
 kept_with_permits roster flows ds f s w d permits row within step old w_is d_is same new =
     let place : f < length ds = omega (arith, within, old.count) in
     let right : AreDuties roster w.flow d =
-      subst (λ (x : DutyShape). AreDuties roster w.flow x) (sym (d_is ∙ get_or_default ds f d no_duties place))
-      (subst (λ (x : WorkflowShape). AreDuties roster x.flow (duties_at ds f)) (sym (w_is ∙ get_or_default flows f w no_workflow within)) (old.each f within)) in
+    subst (λ (x : DutyShape). AreDuties roster w.flow x) (sym (d_is ∙ get_or_default ds f d no_duties place))
+    (subst (λ (x : WorkflowShape). AreDuties roster x.flow (duties_at ds f)) (sym (w_is ∙ get_or_default flows f w no_workflow within)) (old.each f within)) in
     kept_with_flow roster flows ds f (record w { flow = record w.flow { permits = permits } }) (record d { rows = slice_set d.rows s row }) within old
     (duties_with_row roster w.flow permits s row d (omega (arith, step, right.count)) right same new)

@@ -185,13 +185,7 @@ fn gather_changed(rows: &[UserSet], s: StepId, before: &UserSet, sets: &mut [Ste
 }
 
 #[tactic(auto, using(crate::proofs::Rows::same_gathered))]
-fn gather_if_changed(
-    rows: &[UserSet],
-    s: StepId,
-    before: &UserSet,
-    u: UserId,
-    set: &mut StepSet,
-)
+fn gather_if_changed(rows: &[UserSet], s: StepId, before: &UserSet, u: UserId, set: &mut StepSet)
     requires few { length rows.now ≤ STEP_LIMIT }
     requires step { s < length rows.now }
     requires gathered { set.old ≡ steps_in (slice_set rows.now s before.now) u }

@@ -1,4 +1,4 @@
-use Rattle.std.proofs.Common.{◌≡◌, ℕ, ◌<◌, List, length, ap, sym, subst, ◌∙◌, arith}
+use Rattle.std.proofs.Common.{ℕ, ◌<◌, List, length, ap, sym, subst, ◌∙◌, arith}
 use Rattle.policy_book.specs.Duties.{AreGrown, AreKept, DutyShape, IsBook, duties_at}
 use Rattle.policy_book.proofs.Keeping.{stored_with_user}
 use Rattle.policy_book.proofs.Rows.{kept_grown, kept_with_user}
@@ -30,7 +30,7 @@ invariant_of-self-2 c =
     let grown : AreGrown duties new = subst (λ (ds : List DutyShape). AreGrown ds new) c.deref_mut.ensures.value c.make_room.ensures.grown in
     let kept : AreKept roster flows new = kept_grown roster flows duties new c.self.invariant.kept grown in
     let room : (f : ℕ) → f < length new → length roster.users < (duties_at new f).users =
-        λ f below. omega (arith, c.in-Ok.ensures.room f (omega (arith, below, c.make_room.ensures.grown.count)), c.in_ok-number.ensures.place, ap length c.users.ensures.names) in
+    λ f below. omega (arith, c.in-Ok.ensures.room f (omega (arith, below, c.make_room.ensures.grown.count)), c.in_ok-number.ensures.place, ap length c.users.ensures.names) in
     subst (λ (ds : List DutyShape). IsBook c.add_user.new.self rs names flows admin ds)
     (sym (whole c.self.inside.duties.len new _ (c.make_room.ensures.grown.count ∙ c.deref_mut.ensures.len)))
     (elim c.match-add_user.branch [
