@@ -7,3 +7,4 @@ pub mod Refuting
 pub mod Lean
 pub mod Stored
 pub mod Candidates
+pub mod Duties

@@ -3,6 +3,8 @@
 
 mod authority;
 mod candidates;
+mod duties;
+mod kept;
 mod policy;
 mod related;
 mod workflow;

@@ -11,12 +11,16 @@ ghost use Rattle.policy_book.specs.Policies.{flow_at, is_authorised, problem_of,
 ghost use Rattle.policy_book.specs.Plans.{IsWellFormed};
 ghost use Rattle.policy_book.specs.Refuting.{is_unassigned};
 ghost use Rattle.policy_book.specs.Candidates.{is_candidate};
+ghost use Rattle.constraint_forms.specs.Assigned.{is_member};
+ghost use Rattle.policy_book.specs.Duties.{AreDuties, duties_of};
 ghost use Rattle.policy_book.specs.Facts.{AreOfUsers, AreSoundRules, IsSoundPolicy, PermitsRolesBelow};
 
-use crate::authority::{holders_of_some, some_role};
+use crate::authority::holders_of_some;
 use crate::candidates::keep_unbroken;
+use crate::duties::Duties;
+use crate::kept::{copied, make_room, settle_all};
 use crate::workflow::Workflow;
-use constraint_forms::{Assign, Rules};
+use constraint_forms::{Assign, Rules, StepSet};
 use rbac_state::{Roster, RosterFault};
 use std::alloc::{AllocError, Global};
 use std::marker::Model;
@@ -34,6 +38,8 @@ pub struct Policy {
     relations: Relations,
     names: NameTable,
     flows: Vec<Workflow>,
+    // Who is authorised for what in each workflow, as the roster and the permissions say.
+    duties: Vec<Duties>,
     admin: RoleId,
     alloc: Global,
 }
@@ -45,11 +51,12 @@ impl Model for Policy {
 
     ghost coded = { policy_code };
 
-    ghost use Rattle.policy_book.specs.Stored.{IsStored, shape_of};
+    ghost use Rattle.policy_book.specs.Stored.{shape_of};
+    ghost use Rattle.policy_book.specs.Duties.{IsBook};
 
     ghost view = { λ p. shape_of p.roster p.relations p.names p.flows.items p.admin };
 
-    ghost invariant = { λ p. IsStored p.roster p.relations p.names p.flows.items p.admin };
+    ghost invariant = { λ p. IsBook p.roster p.relations p.names p.flows.items p.admin p.duties.items };
 }
 
 impl Policy {
@@ -77,6 +84,7 @@ impl Policy {
             relations,
             names: NameTable::new(alloc, FLOW_LIMIT)?,
             flows: Vec::new(alloc),
+            duties: Vec::new(alloc),
             admin,
             alloc,
         })
@@ -102,12 +110,22 @@ impl Policy {
             × (length self.old.flows ≡ FLOW_LIMIT)) }
         ensures unchanged { OnErr result (self.new ≡ self.old) }
     {
-        let place = free_place(&self.names, &name)?;
+        let place = free_number(&self.names, &name, FLOW_LIMIT)?;
+        let Ok(kept) = Duties::new(self.alloc, &self.roster, &flow) else {
+            return Err(NameFault::NoMemory);
+        };
         let Ok(workflow) = Workflow::new(self.alloc, flow, rules) else {
             return Err(NameFault::NoMemory);
         };
-        put_flow(&mut self.names, &mut self.flows, name, workflow)?;
-        Ok(place)
+        put_flow(
+            &mut self.names,
+            &mut self.flows,
+            &mut self.duties,
+            name,
+            workflow,
+            kept,
+        )?;
+        Ok(FlowId(place as u8))
     }
 
     /// Whether a user is authorised for a step of a workflow: some role is held by the user and
@@ -118,7 +136,7 @@ impl Policy {
         requires user { u < length self.now.roster.users }
         ensures { result ≡ is_authorised self.now f s u }
     {
-        some_role(&self.roster, self.flow(f), s, u)
+        self.kept(f).row(s).has(u)
     }
 
     /// The users who are authorised for a step of a workflow. Takes no memory.
@@ -127,7 +145,45 @@ impl Policy {
         ensures authorised { (u : ℕ) → has_user result u ≡ is_authorised self.now f s u }
         ensures known { (u : ℕ) → has_user result u ≡ true → u < length self.now.roster.users }
     {
-        holders_of_some(&self.roster, self.flow(f), s)
+        if (s.0 as u16) < self.flow(f).steps().len() {
+            *self.authorised_row(f, s)
+        } else {
+            UserSet::empty()
+        }
+    }
+
+    /// The same where the workflow has the step, as the policy keeps them.
+    pub fn authorised_row(&self, f: FlowId, s: StepId) -> &UserSet
+        requires flow { f < length self.now.flows }
+        requires step { s < length (flow_at self.now f).flow.steps }
+        ensures authorised { (u : ℕ) → has_user result.now u ≡ is_authorised self.now f s u }
+        ensures known { (u : ℕ) → has_user result.now u ≡ true → u < length self.now.roster.users }
+    {
+        self.kept(f).row(s)
+    }
+
+    /// The steps of a workflow for which a user is authorised.
+    #[tactic(auto, using(crate::proofs::Rows::steps_same, crate::proofs::Rows::steps_member))]
+    pub fn duties(&self, f: FlowId, u: UserId) -> StepSet
+        requires flow { f < length self.now.flows }
+        requires user { u < length self.now.roster.users }
+        ensures steps { result ≡ duties_of (problem_of self.now f) u }
+        ensures each { (s : ℕ) → s < length (flow_at self.now f).flow.steps
+            → is_member result s ≡ is_authorised self.now f s u }
+    {
+        self.kept(f).steps(u)
+    }
+
+    // Who is authorised for what in a workflow.
+    fn kept(&self, f: FlowId) -> &Duties
+        requires { f < length self.now.flows }
+        ensures right { AreDuties self.now.roster (flow_at self.now f).flow result.now }
+        ensures known { (s u : ℕ) → is_authorised self.now f s u ≡ true
+            → u < length self.now.roster.users }
+    {
+        let users = self.roster.users().len();
+        prove!(users <= USER_LIMIT);
+        &self.duties[f.0 as usize]
     }
 
     /// The users who are authorised for a step that is not assigned, and to whom it can be given
@@ -227,11 +283,13 @@ impl Policy {
     {
         let (roster, relations) = copy_people(&self.roster, &self.relations)?;
         let (names, flows) = copy_flows(self.alloc, &self.names, &self.flows)?;
+        let duties = copied(self.alloc, &self.duties)?;
         Ok(Policy {
             roster,
             relations,
             names,
             flows,
+            duties,
             admin: self.admin,
             alloc: self.alloc,
         })
@@ -251,6 +309,10 @@ impl Policy {
             × (length self.old.roster.users ≡ USER_LIMIT)) }
         ensures unchanged { OnErr result (self.new ≡ self.old) }
     {
+        let number = free_number(self.roster.users(), &name, USER_LIMIT)?;
+        let Ok(()) = make_room(&mut self.duties, UserId(number)) else {
+            return Err(NameFault::NoMemory);
+        };
         match self.roster.add_user(name) {
             Ok(u) => Ok(u),
             Err(fault) => Err(fault),
@@ -270,7 +332,9 @@ impl Policy {
         ensures absent { ¬ IsErrOf result RosterFault.Absent }
         ensures unchanged { OnErr result (self.new ≡ self.old) }
     {
-        self.roster.enrol(u, r)
+        self.roster.enrol(u, r)?;
+        settle_all(&self.roster, &self.flows, u, r, &mut self.duties);
+        Ok(())
     }
 
     /// Takes a role away from a user.
@@ -287,7 +351,9 @@ impl Policy {
         ensures already { ¬ IsErrOf result RosterFault.Already }
         ensures unchanged { OnErr result (self.new ≡ self.old) }
     {
-        self.roster.dismiss(u, r)
+        self.roster.dismiss(u, r)?;
+        settle_all(&self.roster, &self.flows, u, r, &mut self.duties);
+        Ok(())
     }
 
     /// Puts a pair of users into a listed relation.
@@ -331,7 +397,11 @@ impl Policy {
         ensures unchanged { result ≡ false → self.new ≡ self.old }
     {
         let workflow = &mut self.flows[f.0 as usize];
-        workflow.flow.permit(r, s)
+        let changed = workflow.flow.permit(r, s);
+        let row = holders_of_some(&self.roster, &workflow.flow, s);
+        let kept = &mut self.duties[f.0 as usize];
+        kept.set_row(s, row);
+        changed
     }
 
     /// Forbids a step of a workflow to a role, and answers whether that changes anything.
@@ -345,7 +415,11 @@ impl Policy {
         ensures unchanged { result ≡ false → self.new ≡ self.old }
     {
         let workflow = &mut self.flows[f.0 as usize];
-        workflow.flow.forbid(r, s)
+        let changed = workflow.flow.forbid(r, s);
+        let row = holders_of_some(&self.roster, &workflow.flow, s);
+        let kept = &mut self.duties[f.0 as usize];
+        kept.set_row(s, row);
+        changed
     }
 
     /// Retires a workflow, which it stays.
@@ -358,50 +432,60 @@ impl Policy {
     }
 }
 
-// The number that a new workflow gets, where its name is new and there is room.
-fn free_place(names: &NameTable, name: &Name) -> Result<FlowId, NameFault>
-    requires { names.now.limit ≡ FLOW_LIMIT }
-    ensures place { IfOk result (λ f. f ≡ length names.now.names) }
+// The number that a new name gets in a table, where it is new and there is room.
+fn free_number(names: &NameTable, name: &Name, limit: u16) -> Result<u16, NameFault>
+    requires { names.now.limit ≡ limit }
+    ensures place { IfOk result (λ n. n ≡ length names.now.names) }
     ensures fresh { OnOk result (is_some (place_of names.now.names name.now) ≡ false) }
-    ensures room { OnOk result (length names.now.names < FLOW_LIMIT) }
+    ensures room { OnOk result (length names.now.names < limit) }
     ensures twice { IsErrOf result NameFault.Twice
         ↔ (is_some (place_of names.now.names name.now) ≡ true) }
     ensures full { IsErrOf result NameFault.Full
         ↔ ((is_some (place_of names.now.names name.now) ≡ false)
-        × (length names.now.names ≡ FLOW_LIMIT)) }
+        × (length names.now.names ≡ limit)) }
     ensures memory { ¬ IsErrOf result NameFault.NoMemory }
 {
     if names.find(name).is_some() {
         return Err(NameFault::Twice);
     }
     let count = names.len();
-    if count >= FLOW_LIMIT {
+    if count >= limit {
         return Err(NameFault::Full);
     }
-    Ok(FlowId(count as u8))
+    Ok(count)
 }
 
-// Adds a workflow with its name, where there is memory for both.
+// Adds a workflow with its name and what is kept of it, where there is memory for all.
 fn put_flow(
     names: &mut NameTable,
     flows: &mut Vec<Workflow>,
+    duties: &mut Vec<Duties>,
     name: Name,
     workflow: Workflow,
+    kept: Duties,
 ) -> Result<(), NameFault>
     ensures named { OnOk result (names.new
         ≡ record names.old { names = names.old.names ++ name ∷ [] }) }
     ensures added { OnOk result (flows.new.items ≡ flows.old.items ++ workflow ∷ []) }
+    ensures kept { OnOk result (duties.new.items ≡ duties.old.items ++ kept ∷ []) }
     ensures twice { IsErrOf result NameFault.Twice
         → is_some (place_of names.old.names name) ≡ true }
     ensures full { IsErrOf result NameFault.Full → length names.old.names ≡ names.old.limit }
     ensures unchanged { OnErr result ((names.new ≡ names.old)
-        × (flows.new.items ≡ flows.old.items)) }
+        × (flows.new.items ≡ flows.old.items)
+        × (duties.new.items ≡ duties.old.items)) }
 {
     if flows.reserve(1).is_err() {
         return Err(NameFault::NoMemory);
     }
+    if duties.reserve(1).is_err() {
+        return Err(NameFault::NoMemory);
+    }
     names.add(name)?;
-    match flows.push(workflow) {
+    let Ok(()) = flows.push(workflow) else {
+        unreachable!()
+    };
+    match duties.push(kept) {
         Ok(()) => Ok(()),
         Err(_) => unreachable!(),
     }

@@ -9,12 +9,12 @@ use Rattle.policy_book.proofs.policy.Policy.relate.Goals.{in-Ok, in-Err}
 pub relate-requires-clause-first : goal.relate-requires-clause-first
 relate-requires-clause-first c =
     let same = ap (λ (p : PolicyShape). length p.roster.users) c.self.view_is in
-    omega (arith, same, c.requires.first, c.self.invariant.sound.users)
+    omega (arith, same, c.requires.first, c.self.invariant.stored.sound.users)
 
 pub relate-requires-clause-second : goal.relate-requires-clause-second
 relate-requires-clause-second c =
     let same = ap (λ (p : PolicyShape). length p.roster.users) c.self.view_is in
-    omega (arith, same, c.requires.second, c.self.invariant.sound.users)
+    omega (arith, same, c.requires.second, c.self.invariant.stored.sound.users)
 
 pub invariant_of-self : goal.invariant_of-self
 invariant_of-self c =
@@ -22,9 +22,9 @@ invariant_of-self c =
     let first : c.args.u < length c.self.inside.roster.users = omega (arith, same, c.requires.first) in
     let second : c.args.v < length c.self.inside.roster.users = omega (arith, same, c.requires.second) in
     let rs = c.self.inside.relations in
-    let before = pairs_of_users (length c.self.inside.roster.users) rs c.args.rho c.self.invariant.sound.related in
+    let before = pairs_of_users (length c.self.inside.roster.users) rs c.args.rho c.self.invariant.stored.sound.related in
     let after = all_inserted (length c.self.inside.roster.users) (pairs_of rs c.args.rho) c.args.u c.args.v before first second in
     elim c.match-relate.branch [
-      | in-Ok w ↦ rw w.in-Ok.ensures.related (stored_with_pairs c.self.inside.roster rs c.self.inside.names c.self.inside.flows.items c.self.inside.admin c.self.invariant c.args.rho (set.insert (pairs_of rs c.args.rho) (c.args.u, c.args.v)) after)
+      | in-Ok w ↦ rw w.in-Ok.ensures.related (record { stored = stored_with_pairs c.self.inside.roster rs c.self.inside.names c.self.inside.flows.items c.self.inside.admin c.self.invariant.stored c.args.rho (set.insert (pairs_of rs c.args.rho) (c.args.u, c.args.v)) after; kept = c.self.invariant.kept })
       | in-Err w ↦ rw w.in-Err.ensures.unchanged c.self.invariant
     ]

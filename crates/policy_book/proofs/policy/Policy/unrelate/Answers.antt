@@ -10,9 +10,9 @@ pub invariant_of-self : goal.invariant_of-self
 invariant_of-self c =
     let same = ap (λ (p : PolicyShape). length p.roster.users) c.self.view_is in
     let rs = c.self.inside.relations in
-    let before = pairs_of_users (length c.self.inside.roster.users) rs c.args.rho c.self.invariant.sound.related in
+    let before = pairs_of_users (length c.self.inside.roster.users) rs c.args.rho c.self.invariant.stored.sound.related in
     let after = all_removed (length c.self.inside.roster.users) (pairs_of rs c.args.rho) c.args.u c.args.v before in
     elim c.match-unrelate.branch [
-      | in-Ok w ↦ rw w.in-Ok.ensures.unrelated (stored_with_pairs c.self.inside.roster rs c.self.inside.names c.self.inside.flows.items c.self.inside.admin c.self.invariant c.args.rho (set.remove (pairs_of rs c.args.rho) (c.args.u, c.args.v)) after)
+      | in-Ok w ↦ rw w.in-Ok.ensures.unrelated (record { stored = stored_with_pairs c.self.inside.roster rs c.self.inside.names c.self.inside.flows.items c.self.inside.admin c.self.invariant.stored c.args.rho (set.remove (pairs_of rs c.args.rho) (c.args.u, c.args.v)) after; kept = c.self.invariant.kept })
       | in-Err w ↦ rw w.in-Err.ensures.unchanged c.self.invariant
     ]
