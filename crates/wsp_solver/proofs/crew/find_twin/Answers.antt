@@ -1,4 +1,4 @@
-use Rattle.std.proofs.Common.{◌≡◌, ◌<◌, ◌≤◌, ℕ, false, [], sym, subst, arith}
+use Rattle.std.proofs.Common.{◌≡◌, ◌<◌, ◌≤◌, ℕ, false, [], sym, arith}
 use Rattle.policy_book.specs.Plans.{Problem}
 use Rattle.policy_book.specs.Policies.{problem_of}
 use Rattle.policy_book.specs.Twins.{are_twins}

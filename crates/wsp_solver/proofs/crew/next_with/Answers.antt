@@ -1,4 +1,4 @@
-use Rattle.std.proofs.Common.{◌≡◌, nat_eq, refl, sym, ap, ◌∙◌, arith}
+use Rattle.std.proofs.Common.{nat_eq, refl, sym, ap, ◌∙◌, arith}
 use Rattle.constraint_forms.specs.Flags.{word_of}
 use Rattle.wsp_solver.specs.Crews.{has_steps}
 use Rattle.wsp_solver.proofs.Nexts.{none_more}
