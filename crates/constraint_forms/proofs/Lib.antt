@@ -7,3 +7,5 @@ pub mod Leaving
 pub mod Counted
 pub mod Members
 pub mod Reading
+pub mod NextSteps
+pub mod Walking

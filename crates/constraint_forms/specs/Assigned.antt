@@ -1,5 +1,5 @@
 -- Sets of steps, assignments and plans, as lists with a place for each step.
-use Rattle.std.specs.Prelude.{ℕ, Bool, false, List, Option, None, slice_index, slice_index_or, replicate}
+use Rattle.std.specs.Prelude.{◌≡◌, ◌<◌, ◌≤◌, ℕ, Bool, true, false, List, Option, None, slice_index, slice_index_or, replicate}
 use Rattle.wf_names.specs.declared.limits.TheConstants.{STEP_LIMIT}
 
 -- the user that an assignment gives to a step
@@ -21,3 +21,10 @@ no_steps = replicate STEP_LIMIT false
 -- the assignment that gives no step to anybody
 unfoldable pub no_users : List (Option ℕ)
 no_users = replicate STEP_LIMIT None
+
+-- the least step of a set from a number on
+pub record IsNextStep (group : List Bool) (from s : ℕ) : Type 0 where
+  pub within : s < STEP_LIMIT
+  pub from_on : from ≤ s
+  pub member : is_member group s ≡ true
+  pub least : (t : ℕ) → from ≤ t → t < s → is_member group t ≡ false

@@ -14,41 +14,52 @@ pub(crate) fn count_users(a: &Assign, group: &StepSet) -> usize
     ensures users { result ≡ different (users_from 0 group.now (user_at a.now)) }
     ensures few { result ≤ STEP_LIMIT }
 {
-    let limit = group.limit();
     let mut count = 0;
-    'members: for x in 0..limit {
-        let member = StepId(x as u8);
-        if group.has(member) && is_last(a, group, x) {
+    let mut from = 0;
+    'members: while let Some(member) = group.next(from) {
+        if is_last(a, group, member) {
             count += 1;
         }
+        from = member.0 + 1;
     }
     count
 }
 
 // Whether a step has a user whom no later member has.
-fn is_last(a: &Assign, group: &StepSet, x: usize) -> bool
-    requires { x < STEP_LIMIT }
-    ensures { result ≡ counts_before (user_at a.now x)
-        (users_from (x + 1) (drop (x + 1) group.now) (user_at a.now)) }
+fn is_last(a: &Assign, group: &StepSet, s: StepId) -> bool
+    requires { s < STEP_LIMIT }
+    ensures { result ≡ counts_before (user_at a.now s)
+        (users_from (s + 1) (drop (s + 1) group.now) (user_at a.now)) }
 {
-    match a.at(StepId(x as u8)) {
-        Some(u) => !is_user_from(a, group, x + 1, u),
+    match a.at(s) {
+        Some(u) => !is_user_from(a, group, s.0 + 1, u),
         None => false,
     }
 }
 
 // Whether a member from a step on has a user.
-fn is_user_from(a: &Assign, group: &StepSet, from: usize, u: UserId) -> bool
-    ensures { result ≡ is_among (users_from from (drop from group.now) (user_at a.now)) u }
+fn is_user_from(a: &Assign, group: &StepSet, first: u8, u: UserId) -> bool
+    requires { first ≤ STEP_LIMIT }
+    ensures { result ≡ is_among (users_from first (drop first group.now) (user_at a.now)) u }
 {
-    let limit = group.limit();
-    'members: for x in from..limit {
-        let member = StepId(x as u8);
-        if group.has(member) && a.at(member) == Some(u) {
+    let mut from = first;
+    'members: while let Some(member) = group.next(from) {
+        if is_user(a.at(member), u) {
             return true;
         }
+        from = member.0 + 1;
     }
     false
+}
+
+// Whether a step's user is a certain one.
+fn is_user(user: Option<UserId>, u: UserId) -> bool
+    ensures { result ≡ is_among (user_onto user []) u }
+{
+    match user {
+        Some(v) => v == u,
+        None => false,
+    }
 }
 
 /// How many members are free.
@@ -56,13 +67,13 @@ pub(crate) fn count_free(a: &Assign, group: &StepSet) -> usize
     ensures free { result ≡ free_from 0 group.now (user_at a.now) }
     ensures few { result ≤ STEP_LIMIT }
 {
-    let limit = group.limit();
     let mut count = 0;
-    'members: for x in 0..limit {
-        let member = StepId(x as u8);
-        if group.has(member) && a.at(member).is_none() {
+    let mut from = 0;
+    'members: while let Some(member) = group.next(from) {
+        if a.at(member).is_none() {
             count += 1;
         }
+        from = member.0 + 1;
     }
     count
 }
@@ -72,13 +83,11 @@ pub(crate) fn users_of(a: &Assign, group: &StepSet) -> UserSet
     ensures { (u : ℕ) → u < USER_LIMIT
         → has_user result u ≡ is_among (users_from 0 group.now (user_at a.now)) u }
 {
-    let limit = group.limit();
     let mut users = UserSet::empty();
-    'members: for x in 0..limit {
-        let member = StepId(x as u8);
-        if group.has(member) {
-            put_in(&mut users, a.at(member));
-        }
+    let mut from = 0;
+    'members: while let Some(member) = group.next(from) {
+        put_in(&mut users, a.at(member));
+        from = member.0 + 1;
     }
     users
 }

@@ -96,12 +96,12 @@ fn any_unrelated<H: Holds>(
         (λ x. are_unrelated (turned back (H.related h.now)) rho
         (user_at a.now x) (user_at a.now step)) }
 {
-    let limit = group.limit();
-    'members: for x in 0..limit {
-        let member = StepId(x as u8);
-        if group.has(member) && is_unrelated(h, rho, back, a.at(member), a.at(step)) {
+    let mut from = 0;
+    'members: while let Some(member) = group.next(from) {
+        if is_unrelated(h, rho, back, a.at(member), a.at(step)) {
             return true;
         }
+        from = member.0 + 1;
     }
     false
 }
@@ -119,12 +119,12 @@ fn all_unrelated<H: Holds>(
         (λ x. are_unrelated (turned back (H.related h.now)) rho
         (user_at a.now x) (user_at a.now step)) }
 {
-    let limit = group.limit();
-    'members: for x in 0..limit {
-        let member = StepId(x as u8);
-        if group.has(member) && !is_unrelated(h, rho, back, a.at(member), a.at(step)) {
+    let mut from = 0;
+    'members: while let Some(member) = group.next(from) {
+        if !is_unrelated(h, rho, back, a.at(member), a.at(step)) {
             return false;
         }
+        from = member.0 + 1;
     }
     true
 }
@@ -142,12 +142,12 @@ fn any_related<H: Holds>(
     ensures { result ≡ any_from 0 group.now
         (λ x. turned back (H.related h.now) rho (planned plan.now x) v) }
 {
-    let limit = group.limit();
-    'members: for x in 0..limit {
-        let member = StepId(x as u8);
-        if group.has(member) && is_related(h, rho, back, plan.at(member), v) {
+    let mut from = 0;
+    'members: while let Some(member) = group.next(from) {
+        if is_related(h, rho, back, plan.at(member), v) {
             return true;
         }
+        from = member.0 + 1;
     }
     false
 }
@@ -165,12 +165,12 @@ fn all_related<H: Holds>(
     ensures { result ≡ all_from 0 group.now
         (λ x. turned back (H.related h.now) rho (planned plan.now x) v) }
 {
-    let limit = group.limit();
-    'members: for x in 0..limit {
-        let member = StepId(x as u8);
-        if group.has(member) && !is_related(h, rho, back, plan.at(member), v) {
+    let mut from = 0;
+    'members: while let Some(member) = group.next(from) {
+        if !is_related(h, rho, back, plan.at(member), v) {
             return false;
         }
+        from = member.0 + 1;
     }
     true
 }

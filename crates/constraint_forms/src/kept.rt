@@ -117,15 +117,13 @@ fn keep_related_to_member<R: RelatedRows>(
         (λ x. are_unrelated_with (turned back (R.related rows.now)) rho asked.now.given x step
         asked.now.s u))) }
 {
-    let limit = group.limit();
     let mut kept = UserSet::empty();
-    'members: for x in 0..limit {
-        let member = StepId(x as u8);
-        if group.has(member) {
-            let mut related = *set;
-            keep_related(rows, rho, back, asked, member, step, &mut related);
-            kept.join(&related);
-        }
+    let mut from = 0;
+    'members: while let Some(member) = group.next(from) {
+        let mut related = *set;
+        keep_related(rows, rho, back, asked, member, step, &mut related);
+        kept.join(&related);
+        from = member.0 + 1;
     }
     *set = kept;
 }
@@ -148,12 +146,10 @@ fn keep_related_to_all<R: RelatedRows>(
         (λ x. are_unrelated_with (turned back (R.related rows.now)) rho asked.now.given x step
         asked.now.s u))) }
 {
-    let limit = group.limit();
-    'members: for x in 0..limit {
-        let member = StepId(x as u8);
-        if group.has(member) {
-            keep_related(rows, rho, back, asked, member, step, set);
-        }
+    let mut from = 0;
+    'members: while let Some(member) = group.next(from) {
+        keep_related(rows, rho, back, asked, member, step, set);
+        from = member.0 + 1;
     }
 }
 

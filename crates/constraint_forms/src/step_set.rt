@@ -1,7 +1,7 @@
 //! Sets of steps, kept as the bits of one word.
-ghost use Rattle.std.specs.Prelude.{◌≡◌, ℕ, ◌<◌, false, true, length, slice_set};
+ghost use Rattle.std.specs.Prelude.{◌≡◌, ℕ, ◌<◌, ◌≤◌, ◌||◌, false, true, length, slice_set, MatchOption};
 ghost use Rattle.wf_names.specs.declared.limits.TheConstants.{STEP_LIMIT};
-ghost use Rattle.constraint_forms.specs.Assigned.{is_member, no_steps};
+ghost use Rattle.constraint_forms.specs.Assigned.{is_member, no_steps, IsNextStep};
 ghost use Rattle.constraint_forms.specs.Rules.{count_members};
 
 use std::marker::Model;
@@ -56,6 +56,34 @@ impl StepSet {
         ensures len { length self.now ≡ STEP_LIMIT }
     {
         (s.0 as usize) < STEP_LIMIT && self.bits >> s.0 & 1 == 1
+    }
+
+    /// The steps of this set and of another one.
+    pub fn union(&self, by: &StepSet) -> StepSet
+        ensures either { (s : ℕ) → is_member result s ≡ (is_member self.now s || is_member by.now s) }
+        ensures len { length result ≡ STEP_LIMIT }
+    {
+        StepSet {
+            bits: self.bits | by.bits,
+        }
+    }
+
+    /// The least step of the set whose number is not below `from`.
+    pub fn next(&self, from: u8) -> Option<StepId>
+        ensures next { MatchOption result ((s : ℕ) → from ≤ s → is_member self.now s ≡ false)
+            (IsNextStep self.now from) }
+        ensures len { length self.now ≡ STEP_LIMIT }
+    {
+        let bits = self.bits;
+        if from as usize >= STEP_LIMIT {
+            return None;
+        }
+        let rest = bits >> from;
+        if rest == 0 {
+            None
+        } else {
+            Some(StepId((from as u32 + rest.trailing_zeros()) as u8))
+        }
     }
 
     /// How many steps are in the set.

@@ -4,3 +4,4 @@ pub mod Pushes
 pub mod Searching
 pub mod Trimming
 pub mod TwinUsers
+mod Nexts

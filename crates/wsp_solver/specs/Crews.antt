@@ -3,6 +3,7 @@ use Rattle.std.specs.Prelude.{◌≡◌, ℕ, zero, suc, ◌<◌, ◌≤◌, ◌
 use Rattle.wf_names.specs.declared.limits.TheConstants.{STEP_LIMIT}
 use Rattle.constraint_forms.specs.declared.rule.Rule.{Rule}
 use Rattle.constraint_forms.specs.Assigned.{no_steps}
+use Rattle.constraint_forms.specs.Flags.{word_of}
 use Rattle.constraint_forms.specs.Rules.{all_read, any_read, reads}
 use Rattle.policy_book.specs.Plans.{Problem}
 use Rattle.policy_book.specs.Twins.{are_twins, is_alike_to}
@@ -26,6 +27,17 @@ AreDuties p duties = (u : ℕ) → u < p.users → duties_of duties u ≡ duties
 -- rows have the users who are authorised for each step
 abbrev pub AreAllowed : Problem → List (List ℕ) → Type 0
 AreAllowed p rows = (s : ℕ) → s < length rows → (u : ℕ) → has_user (slice_index_or rows s []) u ≡ p.authorised s u
+
+-- a user has certain steps in a table
+abbrev pub has_steps : List (List Bool) → List Bool → ℕ → Bool
+has_steps duties steps u = word_of (duties_of duties u) == word_of steps
+
+-- the first user from one on and below a number who has certain steps in a table
+pub record IsNextWith (duties : List (List Bool)) (steps : List Bool) (from end v : ℕ) : Type 0 where
+  pub within : v < end
+  pub from_on : from ≤ v
+  pub has : has_steps duties steps v ≡ true
+  pub least : (w : ℕ) → from ≤ w → w < v → has_steps duties steps w ≡ false
 
 -- a user is the first of those who are twins of another one where nothing is assigned
 pub record IsFirstTwin (p : Problem) (u first : ℕ) : Type 0 where

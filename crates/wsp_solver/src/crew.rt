@@ -1,10 +1,10 @@
 //! What a search knows of each user: the steps for which the user is authorised, and the first twin,
 //! so that users with one first twin are twins wherever neither has a step.
-ghost use Rattle.std.specs.Prelude.{◌≡◌, ◌<◌, ◌||◌, ◌==◌, ℕ, [], None, Some, length, replicate, slice_get, false, IfOk, IsTrue};
+ghost use Rattle.std.specs.Prelude.{◌≡◌, ◌<◌, ◌≤◌, ◌||◌, ◌==◌, ℕ, [], None, Some, length, replicate, slice_get, false, IfOk, IsTrue, MatchOption};
 ghost use Rattle.policy_book.specs.Policies.{problem_of};
 ghost use Rattle.constraint_forms.specs.Rules.{all_read, any_read, reads};
 ghost use Rattle.policy_book.specs.Twins.{agree, all_below, are_related_alike, are_twins, is_alike_to, is_rule_alike, treats_alike};
-ghost use Rattle.wsp_solver.specs.Crews.{AreAllowed, AreDuties, AreFirstTwins, IsCrewOf, IsFirstTwin, class_in, duties_below, duties_of, is_told_apart, reads_as, tells_apart};
+ghost use Rattle.wsp_solver.specs.Crews.{AreAllowed, AreDuties, AreFirstTwins, IsCrewOf, IsFirstTwin, IsNextWith, class_in, duties_below, duties_of, has_steps, is_told_apart, reads_as, tells_apart};
 ghost use Rattle.wsp_solver.specs.Searches.{AreNamed};
 
 use crate::leaf::steps_of_rule;
@@ -165,12 +165,30 @@ fn find_twin(p: &Policy, f: FlowId, finder: &mut Finder, duties: &[StepSet], u: 
     requires duties { AreDuties (problem_of p.now f) duties.now }
     ensures { IsFirstTwin (problem_of p.now f) u result }
 {
-    'earlier: for v in 0..u.0 {
-        if are_alike(p, f, finder, duties, UserId(v), u) {
-            return UserId(v);
+    let end = u.0;
+    let own = duties_at(duties, u);
+    let mut from = 0;
+    'earlier: while let Some(v) = next_with(duties, &own, from, end) {
+        if are_alike(p, f, finder, duties, v, u) {
+            return v;
         }
+        from = v.0 + 1;
     }
     u
+}
+
+// The first user from one on and below another number who has these steps in a table.
+fn next_with(duties: &[StepSet], steps: &StepSet, from: u16, end: u16) -> Option<UserId>
+    ensures { MatchOption result ((v : ℕ) → from ≤ v → v < end
+        → has_steps duties.now steps.now v ≡ false)
+        (IsNextWith duties.now steps.now from end) }
+{
+    'users: for v in from..end {
+        if duties_at(duties, UserId(v)) == *steps {
+            return Some(UserId(v));
+        }
+    }
+    None
 }
 
 /// The steps for which a user is authorised.

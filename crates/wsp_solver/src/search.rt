@@ -7,7 +7,7 @@ ghost use Rattle.policy_book.specs.Refuting.{is_unassigned};
 ghost use Rattle.wsp_solver.specs.Crews.{IsCrewOf};
 ghost use Rattle.wsp_solver.specs.Searches.{HasDecided, HasRoom, HasSolved, HasSearched, NoLeafRefutes, NoLeafRefutesWithout};
 
-use crate::crew::{Crew, duties_at, know_class};
+use crate::crew::{Crew, know_class};
 use crate::found::found;
 use crate::leaf::{Refutation, broken_rule, refuting_leaf};
 use crate::lean::trim_tree;
@@ -18,7 +18,7 @@ use plan_finder::Finder;
 use policy_book::{Assign, Plan, Policy, StepSet};
 use refutation_tree::{Branch, Branches, Kid, Tree};
 use std::alloc::{AllocError, Global};
-use wf_names::{FlowId, StepId, UserId};
+use wf_names::{FlowId, StepId};
 
 /// The most runs that are bounded.
 const RUNS: u8 = 64;
@@ -222,16 +222,15 @@ fn try_users(
     ensures searched { IfOk result (HasSearched (problem_of p.now f) a.now done.now bounded) }
     ensures crew { IsCrewOf (problem_of p.now f) crew.new }
 {
+    let row = p.authorised_users(f, s);
     let mut branches = Branches::new(alloc);
     let mut steps = StepSet::empty();
     let mut last = StepSet::empty();
     finder.find_reasons(a, depth, s);
     let before = finder.kept();
-    'users: for u in 0..p.roster().users().len() {
-        let user = UserId(u);
-        if !is_authorised_user(p, f, crew, s, user) {
-            continue;
-        }
+    let mut from = 0;
+    'users: while let Some(user) = row.next(from) {
+        from = user.0 as u32 + 1;
         know_class(p, f, crew, finder, user);
         if let Some(twin) = twin_among(p, f, a, crew, finder, &branches, user) {
             finder.keep();
@@ -303,14 +302,4 @@ fn try_user(
         Some(leaf) => Ok(Searched::Refuted(leaf)),
         None => decide(alloc, p, f, a, done, crew, finder, depth, bounded),
     }
-}
-
-// Whether a user is authorised for a step.
-fn is_authorised_user(p: &Policy, f: FlowId, crew: &Crew, s: StepId, u: UserId) -> bool
-    requires crew { IsCrewOf (problem_of p.now f) crew.now }
-    requires step { s < (problem_of p.now f).steps }
-    requires user { u < (problem_of p.now f).users }
-    ensures { result ≡ (problem_of p.now f).authorised s u }
-{
-    duties_at(&crew.duties, u).has(s)
 }

@@ -13,12 +13,7 @@ use wf_names::{FlowId, STEP_LIMIT, StepId};
 pub(crate) fn united(a: &StepSet, b: &StepSet) -> StepSet
     ensures { (t : ℕ) → is_member result t ≡ (is_member a.now t || is_member b.now t) }
 {
-    let mut both = *a;
-    'steps: for s in 0..b.limit() {
-        let step = StepId(s as u8);
-        both = with_if(&both, step, b.has(step));
-    }
-    both
+    a.union(b)
 }
 
 /// The same, where the first set has all steps of a third one. Many rules of one node name the same

@@ -1,7 +1,15 @@
-use Rattle.std.proofs.Common.{◌≡◌, ◌+◌, ◌≤◌, drop}
+use Rattle.std.proofs.Common.{◌≡◌, ◌+◌, ◌-◌, ◌≤◌, drop}
+use Rattle.wf_names.specs.declared.limits.TheConstants.{STEP_LIMIT}
 use Rattle.constraint_forms.specs.Assigned.{user_at}
 use Rattle.constraint_forms.specs.Rules.{free_from}
 use Rattle.constraint_forms.proofs.count.count_free.Given as goal
 
 abbrev pub invariant-members : goal.invariant-members
-invariant-members l = (l.count + free_from l.x (drop l.x l.group) (user_at l.a) ≡ free_from 0 l.group (user_at l.a)) × (l.count ≤ l.x)
+invariant-members l = record {
+  below : l.from ≤ STEP_LIMIT;
+  few : l.count ≤ l.from;
+  rest : l.count + free_from l.from (drop l.from l.group) (user_at l.a) ≡ free_from 0 l.group (user_at l.a);
+}
+
+abbrev pub decreases-members : goal.decreases-members
+decreases-members l = STEP_LIMIT - l.from

@@ -1,4 +1,5 @@
-use Rattle.std.proofs.Common.{◌≡◌, ℕ, ◌&&◌, not, drop}
+use Rattle.std.proofs.Common.{◌≡◌, ℕ, ◌-◌, ◌≤◌, ◌&&◌, not, drop}
+use Rattle.wf_names.specs.declared.limits.TheConstants.{STEP_LIMIT}
 use Rattle.wf_names.specs.UserSets.{has_user}
 use Rattle.constraint_forms.specs.Kept.{are_unrelated_with, IsBelow}
 use Rattle.constraint_forms.specs.Rules.{any_from, turned}
@@ -8,6 +9,10 @@ abbrev pub invariant-members : goal.invariant-members
 invariant-members g l =
     let p = λ (u x : ℕ). are_unrelated_with (turned l.back (g.R.Holds.related l.rows)) l.rho l.asked.given x l.step l.asked.s u in
     record {
+      within : l.from ≤ STEP_LIMIT;
       below : IsBelow l.asked.users l.set;
-      kept : (u : ℕ) → (has_user l.set u && not (any_from l.x (drop l.x l.group) (p u))) ≡ (has_user l.fn.set u && not (any_from 0 l.group (p u)));
+      kept : (u : ℕ) → (has_user l.set u && not (any_from l.from (drop l.from l.group) (p u))) ≡ (has_user l.fn.set u && not (any_from 0 l.group (p u)));
     }
+
+abbrev pub decreases-members : goal.decreases-members
+decreases-members g l = STEP_LIMIT - l.from

@@ -1,6 +1,7 @@
-use Rattle.std.proofs.Common.{◌≡◌, ◌<◌, ℕ, length, is_some, None, true, not, ◌+◌, ◌&&◌, nat_lt, List, [], Option, sym, ap, subst, ◌∙◌, arith}
+use Rattle.std.proofs.Common.{◌≡◌, ◌<◌, ℕ, is_some, None, true, not, ◌+◌, ◌&&◌, nat_lt, List, [], Option, sym, ap, subst, ◌∙◌, arith}
 use Rattle.std.proofs.lemmas.Bool.{and_from, ltb-true}
 use Rattle.constraint_forms.specs.Assigned.{is_member, user_at}
+use Rattle.refutation_tree.specs.Shapes.{joined, no_kids, tree_kid, twin_kid}
 use Rattle.refutation_tree.specs.Views.{shape_of}
 use Rattle.policy_book.specs.Plans.{Problem, AreAssigned, IsWithin, IsValidPlan}
 use Rattle.policy_book.specs.Policies.{problem_of}
@@ -13,18 +14,14 @@ use Rattle.certificate_check.specs.Walks.{AreUsersBelow}
 use Rattle.wsp_solver.specs.Searches.{AreOfUsersBelow, AreMentionedIn, HasSearched, NoLeafRefutesWithout, free_count}
 use Rattle.wsp_solver.proofs.Members.{mentioned_push, mentioned_push_twin}
 use Rattle.certificate_check.proofs.Dropped.{unmentioned_step_drops as drops}
-use Rattle.wsp_solver.proofs.Searching.{quiet_given, valid_full, valid_without, users_skip, users_end, count_less}
+use Rattle.wsp_solver.proofs.Searching.{quiet_given, valid_full, valid_without, count_less}
 use Rattle.wsp_solver.proofs.Pushes.{below_push, below_push_twin, refute_push, refute_push_twin, users_push, users_push_twin}
-use Rattle.wsp_solver.proofs.TwinUsers.{below_more}
+use Rattle.wsp_solver.proofs.Nexts.{below_to, users_all, users_skip_to}
 use Rattle.wsp_solver.proofs.search.+search.Goals as goal
 
 pub decide-returns-in-None-clause-searched : goal.decide-returns-in-None-clause-searched
 decide-returns-in-None-clause-searched t c =
     valid_full (problem_of c.args.p.now c.args.f) c.args.a.now c.args.done.now c.plan_of.result c.rules.ensures.well_formed c.requires.within c.requires.quiet c.plan_of.ensures
-
--- the number of users, as the loop has it
-users_known : (n : ℕ) (names users : List (List ℕ)) → n ≡ length names → names ≡ users → n ≡ length users
-users_known n names users count same = count ∙ ap length same
 
 -- a free step is a step, and has no user
 step_known : (p : Problem) (a : List (Option ℕ)) (s : ℕ) → is_unassigned p a s ≡ true → s < p.steps
@@ -33,31 +30,38 @@ step_known p a s free = ltb-true s p.steps (and_both (nat_lt s p.steps) (not (is
 step_open : (p : Problem) (a : List (Option ℕ)) (s : ℕ) → is_unassigned p a s ≡ true → user_at a s ≡ None
 step_open p a s free = not_some (user_at a s) (and_both (nat_lt s p.steps) (not (is_some (user_at a s))) free).1
 
-pub try_users-users-preserved-then-not-is_authorised_user :
-    goal.try_users-users-preserved-then-not-is_authorised_user
-try_users-users-preserved-then-not-is_authorised_user t c =
-    let p = problem_of c.args.p.now c.args.f in
-    let known = users_known _ _ _ c.len-u-end.ensures.count (c.users-2.ensures.names ∙ ap (λ r. r.users) c.roster.ensures.roster) in
-    (users_skip (p.authorised c.args.s) c.users.u p.users c.users.branches (omega (arith, known, c.users-test.true)) (sym c.if-not-is_authorised_user.ensures) c.users.invariant.0, c.users.invariant.1, c.users.invariant.2, below_more c.users.u c.users.branches c.users.invariant.3, c.users.invariant.4, c.users.invariant.5)
+pub try_users-know_class-requires-clause-user : goal.try_users-know_class-requires-clause-user
+try_users-know_class-requires-clause-user t c = c.authorised_users-row.ensures.known c.in-Some.user c.in-Some.ensures.member
+
+pub try_users-twin_among-requires-clause-user : goal.try_users-twin_among-requires-clause-user
+try_users-twin_among-requires-clause-user t c = c.authorised_users-row.ensures.known c.in-Some.user c.in-Some.ensures.member
+
+-- the branches so far are of users below the next one
+pub try_users-twin_among-requires-clause-users : goal.try_users-twin_among-requires-clause-users
+try_users-twin_among-requires-clause-users t c =
+    below_to c.users.from c.in-Some.user c.users.branches c.in-Some.ensures.from_on c.users.invariant.3
 
 pub try_users-try_user-requires : goal.try_users-try_user-requires
 try_users-try_user-requires t c =
     let p = problem_of c.args.p.now c.args.f in
     let a = c.args.a.now in
     let s = c.args.s in
-    let known = users_known _ _ _ c.len-u-end.ensures.count (c.users-2.ensures.names ∙ ap (λ r. r.users) c.roster.ensures.roster) in
-    let less = count_less a s c.users.u p.steps (omega (arith, c.requires.room, c.with-given.ensures.len)) (step_open p a s c.requires.free) (step_known p a s c.requires.free) in
+    let u = c.in-Some.user in
+    let next = c.in-Some.ensures in
+    let within : u < p.users = c.authorised_users-row.ensures.known u next.member in
+    let may : p.authorised s u ≡ true = sym (c.authorised_users-row.ensures.authorised u) ∙ next.member in
+    let less = count_less a s u p.steps (omega (arith, c.requires.room, c.with-given.ensures.len)) (step_open p a s c.requires.free) (step_known p a s c.requires.free) in
     let same = ap (λ x. free_count x p.steps) c.with-given.ensures.given in (
       omega (arith, c.decreases, less, same),
       (
         c.requires.flow,
         (
-          subst (IsWithin p) (sym c.with-given.ensures.given) (within_given p a s c.users.u c.requires.within c.requires.free (omega (arith, known, c.users-test.true))),
+          subst (IsWithin p) (sym c.with-given.ensures.given) (within_given p a s u c.requires.within c.requires.free within),
           (
-            subst (AreAssigned c.args.done.now) (sym c.with-given.ensures.given) (assigned_given a c.args.done.now s c.users.u c.requires.assigned (step_open p a s c.requires.free)),
+            subst (AreAssigned c.args.done.now) (sym c.with-given.ensures.given) (assigned_given a c.args.done.now s u c.requires.assigned (step_open p a s c.requires.free)),
             (
               c.know_class.ensures,
-              subst (λ x. NoLeafRefutesWithout p x c.args.done.now s) (sym c.with-given.ensures.given) (quiet_given p a c.args.done.now s c.users.u (omega (arith, c.requires.room, c.with-given.ensures.len)) (sym c.if-not-is_authorised_user.ensures) c.requires.quiet),
+              subst (λ x. NoLeafRefutesWithout p x c.args.done.now s) (sym c.with-given.ensures.given) (quiet_given p a c.args.done.now s u (omega (arith, c.requires.room, c.with-given.ensures.len)) may c.requires.quiet),
             ),
           ),
         ),
@@ -69,7 +73,7 @@ try_users-returns-in-Plan-clause-searched t c =
     let p = problem_of c.args.p.now c.args.f in
     let done = c.args.done.now in
     let found = subst (HasSearched p c.with-given.result done c.args.bounded) c.in-Plan.is c.in_ok-plan.ensures.searched in
-    valid_without p c.args.a.now done c.in-Plan.plan c.args.s c.users.u (step_open p c.args.a.now c.args.s c.requires.free)
+    valid_without p c.args.a.now done c.in-Plan.plan c.args.s c.in-Some.user (step_open p c.args.a.now c.args.s c.requires.free)
     (subst (λ x. IsValidPlan p x done c.in-Plan.plan) c.with-given.ensures.given found)
 
 pub try_users-returns-in-Stopped-clause-searched : goal.try_users-returns-in-Stopped-clause-searched
@@ -85,26 +89,34 @@ try_users-returns-then-not-has-clause-searched t c =
     let found = subst (HasSearched p c.with-given.result done c.args.bounded) c.in-Refuted.is c.in_ok-plan.ensures.searched in
     let here = subst (λ x. refutes p x done (shape_of kid.tree) ≡ true) c.with-given.ensures.given found.refutes in
     let quiet = found.steps s ∙ sym c.if-not-has.ensures.flag in record {
-      refutes = drops p a done s c.users.u (shape_of kid.tree) (omega (arith, c.requires.room, c.with-given.ensures.len)) (step_open p a s c.requires.free) quiet here;
+      refutes = drops p a done s c.in-Some.user (shape_of kid.tree) (omega (arith, c.requires.room, c.with-given.ensures.len)) (step_open p a s c.requires.free) quiet here;
       steps = found.steps;
     }
 
-pub try_users-users-preserved-in-Some : goal.try_users-users-preserved-in-Some
-try_users-users-preserved-in-Some t c =
+pub try_users-users-preserved-in-Some-twin_among : goal.try_users-users-preserved-in-Some-twin_among
+try_users-users-preserved-in-Some-twin_among t c =
     let p = problem_of c.args.p.now c.args.f in
     let a = c.args.a.now in
     let s = c.args.s in
-    let u = c.users.u in
-    let twin = c.in-Some.twin in
+    let u = c.in-Some.user in
+    let next = c.in-Some.ensures in
+    let within : u < p.users = c.authorised_users-row.ensures.known u next.member in
+    let may : p.authorised s u ≡ true = sym (c.authorised_users-row.ensures.authorised u) ∙ next.member in
+    let twin = c.in-Some-twin_among.twin in
     let front = c.users.branches in
-    let known = users_known _ _ _ c.len-u-end.ensures.count (c.users-2.ensures.names ∙ ap (λ r. r.users) c.roster.ensures.roster) in
-    let pushed = c.in_ok-push.ensures.ok in (
-      subst (AreOfUsersBelow (p.authorised s) (u + 1) p.users) (sym pushed) (users_push_twin (p.authorised s) u twin p.users front (omega (arith, known, c.users-test.true)) (sym c.if-not-is_authorised_user.ensures) c.users.invariant.0),
-      subst (λ k. all_refute p a c.args.done.now s [] k ≡ true) (sym pushed) (refute_push_twin p a c.args.done.now s u twin front [] c.users.invariant.1 c.in-Some.ensures.0 c.in-Some.ensures.1),
+    let n = c.user.inside.0 in
+    let same : n ≡ u = c.user.view_is in
+    let pushed = c.in_ok-push.ensures.ok in
+    let so_far = users_skip_to (p.authorised s) c.users.from u p.users front next.from_on (omega (arith, within)) (λ v on lt. sym (c.authorised_users-row.ensures.authorised v) ∙ next.least v on lt) c.users.invariant.0 in (
+      subst (AreOfUsersBelow (p.authorised s) (n + 1) p.users) (sym pushed)
+          (subst (λ k. AreOfUsersBelow (p.authorised s) (k + 1) p.users (joined front (twin_kid u twin no_kids))) (sym same)
+          (users_push_twin (p.authorised s) u twin p.users front within may so_far)),
+      subst (λ k. all_refute p a c.args.done.now s [] k ≡ true) (sym pushed) (refute_push_twin p a c.args.done.now s u twin front [] c.users.invariant.1 c.in-Some-twin_among.ensures.0 c.in-Some-twin_among.ensures.1),
       subst (λ k. AreMentionedIn p.rules k c.users.steps) (sym pushed) (mentioned_push_twin p.rules front u twin c.users.steps c.users.invariant.2),
-      subst (AreUsersBelow (u + 1)) (sym pushed) (below_push_twin (u + 1) u twin front (omega arith) (below_more u front c.users.invariant.3)),
+      subst (AreUsersBelow (n + 1)) (sym pushed) (below_push_twin (n + 1) u twin front (omega (arith, same)) (below_to c.users.from (n + 1) front (omega (arith, next.from_on, same)) c.users.invariant.3)),
       c.know_class.ensures,
       c.users.invariant.5,
+      omega (arith, within, same),
     )
 
 pub try_users-users-preserved : goal.try_users-users-preserved
@@ -113,29 +125,36 @@ try_users-users-preserved t c =
     let done = c.args.done.now in
     let a = c.args.a.now in
     let s = c.args.s in
-    let u = c.users.u in
+    let u = c.in-Some.user in
+    let next = c.in-Some.ensures in
+    let within : u < p.users = c.authorised_users-row.ensures.known u next.member in
+    let may : p.authorised s u ≡ true = sym (c.authorised_users-row.ensures.authorised u) ∙ next.member in
     let front = c.users.branches in
     let kid = c.in-Refuted.kid in
     let tree = shape_of kid.tree in
-    let known = users_known _ _ _ c.len-u-end.ensures.count (c.users-2.ensures.names ∙ ap (λ r. r.users) c.roster.ensures.roster) in
+    let n = c.user.inside.0 in
+    let same : n ≡ u = c.user.view_is in
     let found = subst (HasSearched p c.with-given.result done c.args.bounded) c.in-Refuted.is c.in_ok-plan.ensures.searched in
     let here = subst (λ x. refutes p x done tree ≡ true) c.with-given.ensures.given found.refutes in
     let said = mentioned_push p.rules front u tree c.users.steps kid.steps c.joined-steps.result c.users.invariant.2 found.steps c.joined-steps.ensures in
-    let pushed = c.in_ok-push-in-Refuted.ensures.ok in (
-      subst (AreOfUsersBelow (p.authorised s) (u + 1) p.users) (sym pushed) (users_push (p.authorised s) u p.users front tree (omega (arith, known, c.users-test.true)) (sym c.if-not-is_authorised_user.ensures) c.users.invariant.0),
+    let pushed = c.in_ok-push-in-Refuted.ensures.ok in
+    let so_far = users_skip_to (p.authorised s) c.users.from u p.users front next.from_on (omega (arith, within)) (λ v on lt. sym (c.authorised_users-row.ensures.authorised v) ∙ next.least v on lt) c.users.invariant.0 in (
+      subst (AreOfUsersBelow (p.authorised s) (n + 1) p.users) (sym pushed)
+          (subst (λ k. AreOfUsersBelow (p.authorised s) (k + 1) p.users (joined front (tree_kid u tree no_kids))) (sym same)
+          (users_push (p.authorised s) u p.users front tree within may so_far)),
       subst (λ k. all_refute p a done s [] k ≡ true) (sym pushed) (refute_push p a done s u tree front [] c.users.invariant.1 here),
       subst (λ k. AreMentionedIn p.rules k c.joined-steps.result) (sym pushed) said,
-      subst (AreUsersBelow (u + 1)) (sym pushed) (below_push (u + 1) u tree front (omega arith) (below_more u front c.users.invariant.3)),
+      subst (AreUsersBelow (n + 1)) (sym pushed) (below_push (n + 1) u tree front (omega (arith, same)) (below_to c.users.from (n + 1) front (omega (arith, next.from_on, same)) c.users.invariant.3)),
       c.try_user.ensures.crew,
       λ x h. c.joined-steps.ensures x ∙ or_right (is_member c.users.steps x) (is_member kid.steps x) h,
+      omega (arith, within, same),
     )
 
 pub try_users-returns-clause-searched : goal.try_users-returns-clause-searched
 try_users-returns-clause-searched t c =
     let p = problem_of c.args.p.now c.args.f in
     let front = c.users.branches in
-    let known = users_known _ _ _ c.len-u-end.ensures.count (c.users-2.ensures.names ∙ ap (λ r. r.users) c.roster.ensures.roster) in
-    let users = users_end (p.authorised c.args.s) c.users.u p.users front (omega (arith, known, c.users-test.false)) c.users.invariant.0 in record {
+    let users = users_all (p.authorised c.args.s) c.users.from p.users front c.users.invariant.6 (λ v on below. sym (c.authorised_users-row.ensures.authorised v) ∙ c.in_default.ensures v on) c.users.invariant.0 in record {
       refutes =
           and_from (is_unassigned p c.args.a.now c.args.s) (have_users (authorised_users p c.args.s) front && all_refute p c.args.a.now c.args.done.now c.args.s [] front) c.requires.free
           (and_from (have_users (authorised_users p c.args.s) front) (all_refute p c.args.a.now c.args.done.now c.args.s [] front) users c.users.invariant.1);

@@ -1,4 +1,4 @@
-use Rattle.std.proofs.Common.{◌≡◌, ◌+◌, ◌*◌, ℕ, [], true}
+use Rattle.std.proofs.Common.{◌≡◌, ◌≤◌, ◌+◌, ◌-◌, ◌*◌, ℕ, [], true}
 use Rattle.constraint_forms.specs.Assigned.{is_member}
 use Rattle.policy_book.specs.Policies.{problem_of}
 use Rattle.policy_book.specs.Refuting.{all_refute}
@@ -18,9 +18,13 @@ decreases-try_user l = 3 * free_count l.a.now (problem_of l.p.now l.f).steps + 2
 
 abbrev pub invariant-try_users-users : goal.invariant-try_users-users
 invariant-try_users-users l =
-    AreOfUsersBelow ((problem_of l.p l.f).authorised l.s) l.u (problem_of l.p l.f).users l.branches ×
+    AreOfUsersBelow ((problem_of l.p l.f).authorised l.s) l.from (problem_of l.p l.f).users l.branches ×
     (all_refute (problem_of l.p l.f) l.a l.done l.s [] l.branches ≡ true) ×
     AreMentionedIn (problem_of l.p l.f).rules l.branches l.steps ×
-    AreUsersBelow l.u l.branches ×
+    AreUsersBelow l.from l.branches ×
     IsCrewOf (problem_of l.p l.f) l.crew ×
-    ((t : ℕ) → is_member l.last t ≡ true → is_member l.steps t ≡ true)
+    ((t : ℕ) → is_member l.last t ≡ true → is_member l.steps t ≡ true) ×
+    (l.from ≤ (problem_of l.p l.f).users)
+
+abbrev pub decreases-try_users-users : goal.decreases-try_users-users
+decreases-try_users-users l = (problem_of l.p l.f).users - l.from

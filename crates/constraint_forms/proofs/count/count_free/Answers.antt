@@ -1,0 +1,27 @@
+use Rattle.std.proofs.Common.{◌≡◌, ◌+◌, cond, is_none, sym, ap, ◌∙◌, arith}
+use Rattle.constraint_forms.specs.Assigned.{user_at}
+use Rattle.constraint_forms.proofs.Walking.{at_most_one, free_end, free_go, none_of}
+use Rattle.constraint_forms.proofs.count.count_free.Goals as goal
+use Rattle.constraint_forms.proofs.count.count_free.Goals.{then-is_none, else-is_none}
+
+pub members-preserved : goal.members-preserved
+members-preserved c =
+    let count = c.members.count in
+    let here = c.is_none.result in
+    let next = c.in-Some.ensures.next in
+    let more : c.if-is_none.count ≡ count + cond here 1 0 = elim c.if-is_none.branch [
+      | then-is_none w ↦ w.count-is ∙ ap (λ b. count + cond b 1 0) (sym w.if-is_none.true)
+      | else-is_none w ↦ w.count-is ∙ sym (ap (λ b. count + cond b 1 0) w.if-is_none.false ∙ omega arith)
+    ] in
+    record {
+      below = omega (arith, next.within, c.member.view_is);
+      few = omega (arith, more, at_most_one here, c.members.invariant.few, next.from_on, c.member.view_is);
+      rest =
+          free_go (user_at c.args.a.now) c.args.group.now c.members.from c.in-Some.member _ count _ _ here c.next.ensures.len next
+          c.member.view_is (none_of c.at.result here c.is_none.ensures ∙ ap is_none c.at.ensures.user) more c.members.invariant.rest;
+    }
+
+pub returns-clause-free : goal.returns-clause-free
+returns-clause-free c =
+    let none = (free_end (user_at c.args.a.now) c.args.group.now c.members.from c.next.ensures.len c.members.invariant.below c.in_default.ensures.next) in
+    omega (arith, none, c.members.invariant.rest)
