@@ -1,5 +1,6 @@
 -- Edits of a policy by its administrators.
-use Rattle.std.specs.Prelude.{ℕ, zero, suc, ◌==◌, ◌&&◌, nat_lt, not, Bool, true, false, ◌∷◌, [], ◌++◌, List, length, Option, None, Some, is_some, Result, Ok, Err}
+use Rattle.std.specs.Prelude.{ℕ, zero, suc, ◌==◌, ◌&&◌, nat_lt, not, Bool, true, false, ◌∷◌, []}
+use Rattle.std.specs.Prelude.{◌++◌, List, length, Option, None, Some, is_some, Result, Ok, Err}
 use Rattle.std.specs.FinSet as set
 use Rattle.first_fault.specs.Reading.{◌>>=◌, check, or_fault}
 use Rattle.wf_names.specs.Table.{place_of}
@@ -11,14 +12,16 @@ use Rattle.user_relations.specs.Faults.{relate_fault, unrelate_fault}
 use Rattle.user_relations.specs.declared.RelationFault.{RelationFault}
 use Rattle.user_relations.specs.declared.RelationFault.TheVariants as relations
 use Rattle.policy_book.specs.Shapes.{PolicyShape}
-use Rattle.policy_book.specs.Policies.{any_below, flow_at, with_flow, with_pairs, with_permits, with_roster}
+use Rattle.policy_book.specs.Policies.{any_below, flow_at, with_flow, with_pairs, with_permits}
+use Rattle.policy_book.specs.Policies.{with_roster}
 use Rattle.wf_talk.specs.declared.edit.Edit.{Edit}
 use Rattle.wf_talk.specs.declared.edit.Edit.TheVariants as edit
 use Rattle.wf_talk.specs.declared.edit.Missing.TheVariants.{Flow, Step, Relation, User, Role}
 use Rattle.admin_edits.specs.declared.amendment.Amendment.{Amendment}
 use Rattle.admin_edits.specs.declared.amendment.Amendment.TheVariants as amend
 use Rattle.admin_edits.specs.declared.fault.EditCause.{EditCause}
-use Rattle.admin_edits.specs.declared.fault.EditCause.TheVariants.{NotAdmin, Unknown, Fixed, Already, Absent, Full, LastAdmin}
+use Rattle.admin_edits.specs.declared.fault.EditCause.TheVariants.{NotAdmin, Unknown, Fixed}
+use Rattle.admin_edits.specs.declared.fault.EditCause.TheVariants.{Already, Absent, Full, LastAdmin}
 use Rattle.admin_edits.specs.declared.fault.EditFault.{EditFault}
 use Rattle.admin_edits.specs.declared.fault.EditFault.TheVariants as fault
 
@@ -81,7 +84,8 @@ has_other roster r u = any_below (length roster.users) (λ v. not (v == u) && ha
 abbrev pub is_last_admin : PolicyShape → ℕ → Bool
 is_last_admin p u = has_role p.roster u p.admin && not (has_other p.roster p.admin u)
 
--- why a pair is not put into a relation or taken out of it, as a cause against an edit; want of memory is none
+-- why a pair is not put into a relation or taken out of it, as a cause against an edit; want of
+-- memory is none
 abbrev pub pair_fault : Option RelationFault → Option EditCause
 pair_fault None = None
 pair_fault (Some relations.Fixed) = Some Fixed
@@ -140,7 +144,7 @@ fault_of (Err cause) = Some (fault_as cause)
 abbrev pub edit_cause : PolicyShape → List ℕ → Edit → Option EditFault
 edit_cause p by e = fault_of (amendment_of p by e)
 
--- the memberships without those of a user in the first so many roles
+-- the memberships without those of a user in the first n roles
 abbrev pub without_roles : ℕ → ℕ → Pairs → Pairs
 without_roles zero u members = members
 without_roles (suc n) u members = set.remove (without_roles n u members) (u, n)

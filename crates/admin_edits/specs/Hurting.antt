@@ -1,5 +1,6 @@
 -- Which changes of a policy may make a valid plan invalid.
-use Rattle.std.specs.Prelude.{◌≡◌, ◌==◌, ◌&&◌, ◌||◌, not, ℕ, Bool, false, List, length, Option, None, Some}
+use Rattle.std.specs.Prelude.{◌≡◌, ◌==◌, ◌&&◌, ◌||◌, not, ℕ, Bool, false, List, length, Option}
+use Rattle.std.specs.Prelude.{None, Some}
 use Rattle.std.specs.List.{list_any}
 use Rattle.rbac_state.specs.Rosters.{has_role}
 use Rattle.user_relations.specs.Relations.{RelationShape, complement_of}
@@ -27,9 +28,9 @@ is_number n (Some m) = m == n
 abbrev pub is_over : List RelationShape → ℕ → Rule → Bool
 is_over relations rho rule = any_read rule (λ own. (own == rho) || is_number rho (complement_of relations own))
 
--- a change may make a plan of a workflow invalid: a role is taken away from a user to whom the plan gives a step that is
--- not finished; such a step is forbidden to a role of its user; or pairs of a relation change that, or whose complement,
--- a rule of the workflow reads
+-- a change may make a plan of a workflow invalid: a role is taken away from a user to whom the plan
+-- gives a step that is not finished; such a step is forbidden to a role of its user; or pairs of a
+-- relation change that, or whose complement, a rule of the workflow reads
 abbrev pub may_hurt : PolicyShape → Amendment → ℕ → List Bool → List ℕ → Bool
 may_hurt p (amend.AddUser name) f finished plan = false
 may_hurt p (amend.Leave u) f finished plan = gives_open finished plan u

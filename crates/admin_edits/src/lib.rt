@@ -13,4 +13,4 @@ pub use amendment::Amendment;
 pub use cause::{amendment_of, edit_cause};
 pub use edited::{amended, apply};
 pub use fault::{EditCause, EditFault};
-pub use hurting::{is_over, may_hurt};
+pub use hurting::is_over;

@@ -1,5 +1,5 @@
 -- What is found legal is the text of a legal history that fills the jobs.
-use Rattle.std.proofs.Common.{◌≡◌, ℕ, ◌+◌, List, [], ◌∷◌, length, Option, None, Some, ◌++◌, ◌≤◌, ◌⊎◌, inl, inr, append_assoc, append-nil, refl, sym, subst, arith}
+use Rattle.std.proofs.Common.{◌≡◌, ℕ, ◌+◌, List, [], ◌∷◌, length, Option, None, Some, ◌++◌, ◌≤◌, ◌⊎◌, inl, inr, refl, subst, arith}
 use Rattle.std.specs.Prelude.{◌↔◌, IfSome}
 use Rattle.std.proofs.lemmas.List.{length-append}
 use Rattle.wf_names.specs.declared.limits.TheConstants.{LANE_LIMIT, TRANSCRIPT_LINE_LIMIT}

@@ -1,12 +1,10 @@
 -- What was loaded, and what is found with it.
-use Rattle.std.proofs.Common.{◌≡◌, ℕ, ◌<◌, ◌≤◌, List, [], ◌∷◌, length, Result, Ok, Err, refl, subst, arith}
+use Rattle.std.proofs.Common.{◌≡◌, ℕ, ◌≤◌, List, [], length, Result, Ok, Err, refl, subst, arith}
 use Rattle.std.specs.Prelude.{◌↔◌, IfOk, IfErr, IfSome, IsErrAnd}
 use Rattle.std.proofs.lemmas.Bool.{le-ltb, lt-ltb}
-use Rattle.wf_names.specs.declared.limits.TheConstants.{LANE_LIMIT, POLICY_FILE_LIMIT, REQUESTS_FILE_LIMIT}
+use Rattle.wf_names.specs.declared.limits.TheConstants.{POLICY_FILE_LIMIT, REQUESTS_FILE_LIMIT}
 use Rattle.wf_outside.specs.Outside.{Filed, told, missing, untold}
 use Rattle.policy_book.specs.Shapes.{PolicyShape}
-use Rattle.wf_talk.specs.declared.job.Job.{Job}
-use Rattle.line_cutter.specs.Laws.{AreInOrder}
 use Rattle.line_cutter.specs.declared.whole.Batch.{Batch}
 use Rattle.line_reader.specs.Lines.{lines_of}
 use Rattle.transcript_audit.specs.Audits.{AuditShape, IsTranscript, audit_of}

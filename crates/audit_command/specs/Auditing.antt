@@ -64,7 +64,8 @@ text_of Legal = codes "legal\n"
 text_of (Fault n kind) = fault_line n kind
 text_of (TooLong n) = []
 
--- behind so many lines the audit has seen, of the next one and behind it, at most a piece more than a line may have
+-- behind n lines the audit has seen, of the next one and behind it, at most a piece more than a
+-- line may have
 pub record HasSeenLong (n : ℕ) (bytes rest : List ℕ) : Type 0 where
   pub front : List ℕ
   pub long : List ℕ
@@ -72,15 +73,17 @@ pub record HasSeenLong (n : ℕ) (bytes rest : List ℕ) : Type 0 where
   pub lines : length (lines_of front) ≡ n
   pub few : length long + length rest ≤ TRANSCRIPT_LINE_LIMIT + PIECE
 
--- how far the input was read: to its end where no line has a fault or is too long; else past the line that has the fault by
--- less than a piece, and of the one that is too long by at most a piece more than a line may have
+-- how far the input was read: to its end where no line has a fault or is too long; else past the
+-- line that has the fault by less than a piece, and of the one that is too long by at most a piece
+-- more than a line may have
 abbrev pub IsFar : Finding → List ℕ → List ℕ → Option (List ℕ) → Type 0
 IsFar Legal bytes rest after = (rest ≡ []) × IsAtEnd after
 IsFar (Fault n kind) bytes rest after =
     ((kind ≡ Missing) × ((rest ≡ []) × IsAtEnd after)) ⊎ ((length (lines_of bytes) ≡ n + 1) × (length rest < PIECE))
 IsFar (TooLong n) bytes rest after = (length (lines_of bytes) ≡ n + 1) × HasSeenLong n bytes rest
 
--- what was found in the input that a source gave: in the bytes that were looked at, and in all of the input where it tells
+-- what was found in the input that a source gave: in the bytes that were looked at, and in all of
+-- the input where it tells
 pub record HasFound (a : AuditShape) (f : Finding) (before after : Option (List ℕ)) : Type 0 where
   pub bytes : List ℕ
   pub rest : List ℕ

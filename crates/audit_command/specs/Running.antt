@@ -1,4 +1,5 @@
--- The command `audit`: the transcript in the input is audited for a policy file and a requests file.
+-- The command `audit`: the transcript in the input is audited for a policy file and a requests
+-- file.
 use Rattle.std.specs.Prelude.{◌≡◌, ◌↔◌, ◌<◌, ℕ, List, [], length, Option, IfSome, MatchBool, nat_lt, true}
 use Rattle.wf_names.specs.declared.limits.TheConstants.{REQUESTS_FILE_LIMIT}
 use Rattle.wf_outside.specs.Outside.{Filed, told, missing, untold, HasTaken}
@@ -26,14 +27,14 @@ pub record Input : Type 0 where
   pub before : Option (List ℕ)
   pub after : Option (List ℕ)
 
--- the audit of a session that this policy and these requests begin; where a limit is met in the requests, the lines before
--- it count
+-- the audit of a session that this policy and these requests begin; where a limit is met in the
+-- requests, the lines before it count
 abbrev pub audit_for : PolicyShape → AuditOf → List ℕ → AuditShape
 audit_for p o requests =
     audit_of p o.rounds (jobs_of_input requests true o.lanes).jobs (jobs_of_input requests true o.lanes).ends
 
--- the input is audited so; where no line is too long it is legal exactly where it is the text of a legal history that fills
--- the jobs
+-- the input is audited so; where no line is too long it is legal exactly where it is the text of a
+-- legal history that fills the jobs
 pub record Audits (a : AuditShape) (i : Input) (ending : RunFault) (text : List ℕ) : Type 0 where
   pub finding : Finding
   pub legal : IfSome i.before (λ input. AreShort (lines_of input) →
@@ -48,7 +49,8 @@ AuditsRequests p o i requests ending text =
     MatchBool (nat_lt REQUESTS_FILE_LIMIT (length requests)) (Refuses FileTooLong ending text)
     (Audits (audit_for p o requests) i ending text)
 
--- by what is told of the file; where it is missing nothing is answered, and one of which nothing is told has some content
+-- by what is told of the file; where it is missing nothing is answered, and one of which nothing is
+-- told has some content
 abbrev pub AuditsFile : PolicyShape → AuditOf → Input → Filed → RunFault → List ℕ → Type 0
 AuditsFile p o i untold ending text = (requests : List ℕ) × AuditsRequests p o i requests ending text
 AuditsFile p o i missing ending text = ⊥

@@ -13,8 +13,8 @@ use Rattle.audit_command.specs.declared.finding.Finding.{Finding}
 use Rattle.audit_command.specs.declared.finding.Finding.TheVariants.{Legal, Fault, TooLong}
 use Rattle.audit_command.specs.Auditing.{IsAudited, HasFound, ending_of, text_of}
 
--- of an input that had `before` left and has `after` left, the lines in some bytes are the texts of entries that come next,
--- and what else was taken is pending
+-- of an input that had `before` left and has `after` left, the lines in some bytes are the texts of
+-- entries that come next, and what else was taken is pending
 pub record HasAudited (first a : AuditShape) (before after : Option (List ℕ)) (pending : List ℕ) : Type 0 where
   pub bytes : List ℕ
   pub taken : HasTaken before after (bytes ++ pending)

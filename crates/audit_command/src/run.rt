@@ -21,9 +21,9 @@ use wf_board::Decider;
 use wf_commands::load_policy;
 use wf_outside::{Shelf, Sink, Source, put_and_flush};
 
-/// Audits the transcript in the input: whether a session with the policy in one file and the
-/// requests in another, served on so many lanes and with so many lost rounds before a request is
-/// answered again, can have written it. Writes what is found.
+/// Audits the transcript in the input: whether a session with the files `policy` and `requests`,
+/// served on `lanes` lanes, a request answered again after `rounds` lost rounds, can have written
+/// it. Writes what is found.
 pub fn run_audit<V: Decider, F: Shelf, S: Source, K: Sink>(
     alloc: Global,
     decider: &V,

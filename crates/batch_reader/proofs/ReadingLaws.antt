@@ -252,26 +252,6 @@ pub closed_none : (before after : Option (List ℕ)) (h : Handed) (r : ReaderSha
     → PausesBy before after h r paused → none ≡ [] → IsReadUp before after (handed_more h none)
 closed_none before after h r none paused read e = up_none before after h r none e (read_by before after h r paused read)
 
--- closing changes nothing where memory was refused
-closed_same : (c d : Cut) (paused result : Paused) → ClosesAs c d paused result → result ≡ NoMemory → d ≡ c
-closed_same c d Batch result closes e = closes.1
-closed_same c d NoMemory result closes e = closes.1
-closed_same c d End result closes e = elim closes [ inl done ↦ cc | inr none ↦ none.1 ]
-closed_same c d Failed result closes e = elim closes [ inl done ↦ cc | inr none ↦ none.1 ]
-closed_same c d (Stopped stop) result closes e = elim closes [ inl done ↦ cc | inr none ↦ none.1 ]
-
--- and what was read is kept then
-pub closed_kept : (before after : Option (List ℕ)) (h : Handed) (r t : ReaderShape) (paused result : Paused)
-    → PausesBy before after h r paused → ClosesAs r.cut t.cut paused result → result ≡ NoMemory → t.pending ≡ r.pending → HasRead before after h t
-closed_kept before after h r t paused result read closes e pending =
-    let on = read_by before after h r paused read in
-    record {
-      bytes = on.bytes;
-      taken = subst (λ (p : List ℕ). HasTaken before after (on.bytes ++ p)) (sym pending) on.taken;
-      cut = ap (after_handing h.jobs h.batch_ends) (closed_same r.cut t.cut paused result closes e) ∙ on.cut;
-      closed = on.closed;
-    }
-
 -- only a batch that had ended closes so
 pub closed_batch : (c d : Cut) (paused result : Paused) → ClosesAs c d paused result → result ≡ Batch → (paused ≡ Batch) × (d ≡ c)
 closed_batch c d Batch result closes e = (refl, closes.1)
@@ -279,13 +259,6 @@ closed_batch c d NoMemory result closes e = cc
 closed_batch c d End result closes e = elim closes [ inl done ↦ cc | inr none ↦ cc ]
 closed_batch c d Failed result closes e = elim closes [ inl done ↦ cc | inr none ↦ cc ]
 closed_batch c d (Stopped stop) result closes e = elim closes [ inl done ↦ cc | inr none ↦ cc ]
-
-pub batch_going : (r : ReaderShape) (left : Option (List ℕ)) (paused : Paused) → PausesAs r left paused → paused ≡ Batch → r.cut.stop ≡ None
-batch_going r left Batch pauses e = pauses.0
-batch_going r left NoMemory pauses e = cc
-batch_going r left End pauses e = cc
-batch_going r left Failed pauses e = cc
-batch_going r left (Stopped stop) pauses e = cc
 
 -- closing counts no fault
 pub closed_counts : (c d : Cut) (paused result : Paused) (before after : ℕ) → ClosesAs c d paused result → CountsAs paused before after → CountsAs result before after

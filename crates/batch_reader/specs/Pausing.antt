@@ -1,14 +1,18 @@
 -- Inside: how reading goes on, step by step.
-use Rattle.std.specs.Prelude.{◌≡◌, ℕ, ◌+◌, ◌-◌, ◌*◌, ◌<◌, Bool, true, false, List, [], ◌∷◌, ◌++◌, length, Option, None, Some}
+use Rattle.std.specs.Prelude.{◌≡◌, ℕ, ◌+◌, ◌-◌, ◌*◌, ◌<◌, Bool, true, false, List, [], ◌∷◌, ◌++◌}
+use Rattle.std.specs.Prelude.{length, Option, None, Some}
 use Rattle.std.proofs.Common.{◌⊎◌}
 use Rattle.wf_outside.specs.Outside.{HasTaken, IsAtEnd}
 use Rattle.line_cutter.specs.Jobs.{Cut, cut_all, flush, end_batch, last_or}
 use Rattle.line_cutter.specs.Cutter.{after_handing, IsEnded}
 use Rattle.batch_reader.specs.declared.reader.Paused.{Paused}
-use Rattle.batch_reader.specs.declared.reader.Paused.TheVariants.{Batch, End, Failed, Stopped, NoMemory}
-use Rattle.batch_reader.specs.Reading.{ReaderShape, Handed, HasRead, IsReady, CountsAs, left_to_read}
+use Rattle.batch_reader.specs.declared.reader.Paused.TheVariants.{Batch, End, Failed, Stopped}
+use Rattle.batch_reader.specs.declared.reader.Paused.TheVariants.{NoMemory}
+use Rattle.batch_reader.specs.Reading.{ReaderShape, Handed, HasRead, IsReady, CountsAs}
+use Rattle.batch_reader.specs.Reading.{left_to_read}
 
--- some bytes were cut, and before the last of them no batch had ended and the cutting had not stopped
+-- some bytes were cut, and before the last of them no batch had ended and the cutting had not
+-- stopped
 pub record HasCut (before after : Option (List ℕ)) (h : Handed) (r : ReaderShape) : Type 0 where
   pub front : List ℕ
   pub last : ℕ

@@ -1,14 +1,18 @@
--- Reading an input batch by batch: what was taken of it, how far it is cut, and where reading pauses.
-use Rattle.std.specs.Prelude.{◌≡◌, ℕ, ◌-◌, ◌<◌, ◌≤◌, Bool, true, false, List, [], ◌∷◌, ◌++◌, length, Option, None, Some}
+-- Reading an input batch by batch: what was taken of it, how far it is cut, and where reading
+-- pauses.
+use Rattle.std.specs.Prelude.{◌≡◌, ℕ, ◌-◌, ◌<◌, ◌≤◌, Bool, true, false, List, [], ◌∷◌, ◌++◌, length}
+use Rattle.std.specs.Prelude.{Option, None, Some}
 use Rattle.wf_outside.specs.Outside.{Rose, HasTaken, IsAtEnd}
 use Rattle.wf_talk.specs.declared.job.Job.{Job}
 use Rattle.line_cutter.specs.declared.stop.Stop.{Stop}
 use Rattle.line_cutter.specs.Jobs.{Cut, cut_all, jobs_from, last_or, UpToAnEnd}
 use Rattle.line_cutter.specs.Cutter.{after_handing, ends_after, place, last_place}
 use Rattle.batch_reader.specs.declared.reader.Paused.{Paused}
-use Rattle.batch_reader.specs.declared.reader.Paused.TheVariants.{Batch, End, Failed, Stopped, NoMemory}
+use Rattle.batch_reader.specs.declared.reader.Paused.TheVariants.{Batch, End, Failed, Stopped}
+use Rattle.batch_reader.specs.declared.reader.Paused.TheVariants.{NoMemory}
 
--- a reader: the cutting, the bytes that were taken and are not cut yet, and how many are taken at once at most
+-- a reader: the cutting, the bytes that were taken and are not cut yet, and how many are taken at
+-- once at most
 pub record ReaderShape : Type 0 where
   pub cut : Cut
   pub pending : List ℕ
@@ -25,16 +29,16 @@ abbrev pub handed_more : Handed → List Job → Handed
 handed_more h more =
     record { first = h.first; jobs = h.jobs ++ more; batch_ends = ends_after h.batch_ends (length h.jobs) more }
 
--- of what a source gave that had `before` left and has `after` left, all is cut but what is pending, and the rest is
--- not handed over yet
+-- of what a source gave that had `before` left and has `after` left, all is cut but what is
+-- pending, and the rest is not handed over yet
 pub record HasRead (before after : Option (List ℕ)) (h : Handed) (r : ReaderShape) : Type 0 where
   pub bytes : List ℕ
   pub taken : HasTaken before after (bytes ++ r.pending)
   pub cut : after_handing h.jobs h.batch_ends r.cut ≡ cut_all h.first bytes
   pub closed : last_or 0 h.batch_ends ≡ length h.jobs
 
--- all is handed over up to the end of a batch, which the last byte that was cut has ended; less than one piece was
--- taken ahead
+-- all is handed over up to the end of a batch, which the last byte that was cut has ended; less
+-- than one piece was taken ahead
 pub record HasPaused (before after : Option (List ℕ)) (room : ℕ) (h : Handed) : Type 0 where
   pub front : List ℕ
   pub last : ℕ
@@ -45,7 +49,8 @@ pub record HasPaused (before after : Option (List ℕ)) (room : ℕ) (h : Handed
   pub before_last : length (cut_all h.first front).ends < length h.batch_ends
   pub ahead : length rest < room
 
--- all that the source gave is handed over, to its end where the input has ended, and no limit was met
+-- all that the source gave is handed over, to its end where the input has ended, and no limit was
+-- met
 pub record HasReadAll (before after : Option (List ℕ)) (ended : Bool) (h : Handed) : Type 0 where
   pub bytes : List ℕ
   pub taken : HasTaken before after bytes
@@ -54,8 +59,8 @@ pub record HasReadAll (before after : Option (List ℕ)) (ended : Bool) (h : Han
   pub ends : h.batch_ends ≡ (jobs_from h.first bytes ended).ends
   pub going : (jobs_from h.first bytes ended).stop ≡ None
 
--- all is handed over up to where the cutting stopped, which it did at the last byte that was cut; less than one piece
--- was taken past that
+-- all is handed over up to where the cutting stopped, which it did at the last byte that was cut;
+-- less than one piece was taken past that
 pub record HasStopped (before after : Option (List ℕ)) (room : ℕ) (stop : Stop) (h : Handed) : Type 0 where
   pub front : List ℕ
   pub last : ℕ
@@ -75,7 +80,7 @@ pub record IsReadUp (before after : Option (List ℕ)) (h : Handed) : Type 0 whe
   pub at_end : ended ≡ true → IsAtEnd after
   pub up : UpToAnEnd h.jobs h.batch_ends (jobs_from h.first bytes ended)
 
--- what was read where reading paused so, at most so many bytes at once
+-- what was read where reading paused so, at most `room` bytes at once
 abbrev pub ReadsTo : Option (List ℕ) → Option (List ℕ) → ℕ → Handed → Paused → Type 0
 ReadsTo before after room h Batch = HasPaused before after room h
 ReadsTo before after room h End = HasReadAll before after true h
@@ -88,8 +93,8 @@ pub record IsReady (r : ReaderShape) : Type 0 where
   pub going : r.cut.stop ≡ None
   pub handed : r.cut.ends ≡ []
 
--- the count of faults of the source rose where reading paused at one; it stays where reading paused otherwise, but may
--- have risen where memory was refused
+-- the count of faults of the source rose where reading paused at one; it stays where reading paused
+-- otherwise, but may have risen where memory was refused
 abbrev pub CountsAs : Paused → ℕ → ℕ → Type 0
 CountsAs Batch before after = after ≡ before
 CountsAs End before after = after ≡ before

@@ -1,11 +1,15 @@
 //! Reading an input up to the end of each batch, and no further than the piece in which it ends.
-ghost use Rattle.std.specs.Prelude.{◌≡◌, ◌≢◌, ◌≤◌, ◌<◌, ◌+◌, ◌-◌, ◌*◌, ℕ, List, [], length, take, Option, None, Some, true, false, IfOk, OnOk, OnErr, Ok, MatchResult};
+ghost use Rattle.std.specs.Prelude.{◌≡◌, ◌≢◌, ◌≤◌, ◌<◌, ◌+◌, ◌-◌, ◌*◌, ℕ, List, [], length, take};
+ghost use Rattle.std.specs.Prelude.{Option, None, Some, true, false, IfOk, OnOk, OnErr, Ok};
+ghost use Rattle.std.specs.Prelude.{MatchResult};
 ghost use Rattle.wf_outside.specs.Outside.{Rose, HasTaken, IsAtEnd};
 ghost use Rattle.wf_names.specs.declared.limits.TheConstants.{SESSION_LINE_LIMIT};
 ghost use Rattle.line_cutter.specs.Jobs.{start_at};
 ghost use Rattle.line_cutter.specs.Cutter.{IsEnded};
-ghost use Rattle.batch_reader.specs.Reading.{ReaderShape, Handed, handed_more, HasRead, IsReadUp, ReadsTo, IsReady, CountsAs, left_to_read};
-ghost use Rattle.batch_reader.specs.Pausing.{HasCut, PausesBy, AdvancesTo, PausesAs, StepsAs, ClosesAs, FinishesAs, CountsStep};
+ghost use Rattle.batch_reader.specs.Reading.{ReaderShape, Handed, handed_more, HasRead, IsReadUp};
+ghost use Rattle.batch_reader.specs.Reading.{ReadsTo, IsReady, CountsAs, left_to_read};
+ghost use Rattle.batch_reader.specs.Pausing.{HasCut, PausesBy, AdvancesTo, PausesAs, StepsAs};
+ghost use Rattle.batch_reader.specs.Pausing.{ClosesAs, FinishesAs, CountsStep};
 
 use line_cutter::{Cutter, Stop};
 use std::alloc::{AllocError, Global};
@@ -61,7 +65,7 @@ impl Model for Reader {
 }
 
 impl Reader {
-    /// A reader before the first byte, that counts lines from a number on, and takes at most so many
+    /// A reader before the first byte, that counts lines from `number` on, and takes at most `room`
     /// bytes at once.
     pub fn new(alloc: Global, lanes: u8, number: u32, room: usize) -> Result<Reader, AllocError>
         requires room { 0 < room }
@@ -155,7 +159,8 @@ impl Reader {
             Err(_) => Some(Paused::Failed),
         }
     }
-    // Cuts some of what is left of the piece; reading pauses where that ends a batch or stops the cutting.
+    // Cuts some of what is left of the piece; reading pauses where that ends a batch or stops the
+    // cutting.
     fn cut_on(&mut self) -> Option<Paused>
         requires ready { IsReady self.old }
         requires some { 0 < length self.old.pending }

@@ -31,7 +31,7 @@ pub record HasFollowed (first a : AuditShape) (text : List ℕ) (place : Place) 
   pub same : a ≡ record first { entries = a.entries }
   pub short : AreShort front
 
--- an audit that began so has taken the first so many lines
+-- an audit that began so has taken the first n lines
 pub record HasStopped (first b : AuditShape) (text : List ℕ) (n : ℕ) : Type 0 where
   pub front : List (List ℕ)
   pub rest : List (List ℕ)

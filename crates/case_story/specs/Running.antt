@@ -26,7 +26,8 @@ pub record Gives (files : List ℕ → Filed) (n : Names) (lanes rounds : ℕ) (
   pub on_lanes : s.lanes ≡ lanes
   pub with_rounds : s.rounds ≡ rounds
 
--- a run ends since a file cannot be loaded, and writes nothing; or the files give a session, and it is told of it
+-- a run ends since a file cannot be loaded, and writes nothing; or the files give a session, and it
+-- is told of it
 abbrev pub TellsRun : (List ℕ → Filed) → Names → ℕ → ℕ → (Session → RunFault → List ℕ → Type 0) → Option (List ℕ) → Option (List ℕ) → RunFault → Type 0
 TellsRun files n lanes rounds Told before after fault =
     (IsLoadEnding fault × (GivesSession files n (Err fault) × (after ≡ before)))

@@ -35,7 +35,8 @@ pub record IsServed (s : Session) : Type 0 where
   pub lanes : s.lanes ≤ LANE_LIMIT
   pub short : length s.transcript ≤ TRANSCRIPT_FILE_LIMIT
 
--- the first so many lines of the transcript are those of these entries, a legal history that answers a part of the jobs
+-- the first n lines of the transcript are those of these entries, a legal history that answers a
+-- part of the jobs
 pub record AreFirst (s : Session) (n : ℕ) (entries : List Entry) : Type 0 where
   pub front : List (List ℕ)
   pub rest : List (List ℕ)

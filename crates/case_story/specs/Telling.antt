@@ -26,8 +26,9 @@ first_line mark v end = mark ++ verdict_words v ++ end
 abbrev pub BeginsWith : List ℕ → Verdict → List ℕ → List ℕ → Type 0
 BeginsWith mark v end text = (rest : List ℕ) × (text ≡ first_line mark v end ++ rest)
 
--- what is told by a verdict: where the transcript is legal the run ends well, if what is asked for is there, and is refused
--- else; where a line is wrong, that is found; one that is too long ends the run
+-- what is told by a verdict: where the transcript is legal the run ends well, if what is asked for
+-- is there, and is refused else; where a line is wrong, that is found; one that is too long ends
+-- the run
 abbrev pub TellsBy : List ℕ → Verdict → List ℕ → Bool → RunFault → List ℕ → Type 0
 TellsBy mark (Legal n) end true fault text = (fault ≡ Nothing) × BeginsWith mark (Legal n) end text
 TellsBy mark (Legal n) end false fault text = Refuses (BadInput input.Length) fault text
@@ -42,7 +43,7 @@ Finds s v = HasVerdict (audit_in s) (lines_of s.transcript) v
 abbrev pub TellsLog : Session → RunFault → List ℕ → Type 0
 TellsLog s fault text = (v : Verdict) × (Finds s v × TellsBy [] v (codes "\n") true fault text)
 
--- `entry`: one entry, if so many lines are right
+-- `entry`: one entry, if more lines are right than stand before it
 abbrev pub TellsEntry : ℕ → Session → RunFault → List ℕ → Type 0
 TellsEntry at s fault text = (v : Verdict) × (Finds s v × TellsBy [] v (codes "\n") (nat_lt at (right_lines v)) fault text)
 
@@ -67,12 +68,14 @@ retired_lines p (suc f) = retired_lines p f ++ retired_line p f
 abbrev pub has_retired : PolicyShape → Bool
 has_retired p = any_below (length p.flows) (λ f. (flow_at p f).retired)
 
--- a text is the document that a policy is written as, and reads as the policy where it can be printed
+-- a text is the document that a policy is written as, and reads as the policy where it can be
+-- printed
 pub record WritesPolicy (p : PolicyShape) (text : List ℕ) : Type 0 where
   pub document : document_in text ≡ Ok (document_of p)
   pub reads_back : IsPrintable p → policy_of_file text ≡ Ok p
 
--- behind the first line, and the lines that say what it cannot hold, the policy after the first n entries is written
+-- behind the first line, and the lines that say what it cannot hold, the policy after the first n
+-- entries is written
 pub record WritesNow (n : ℕ) (s : Session) (v : Verdict) (fault : RunFault) (text : List ℕ) : Type 0 where
   pub entries : List Entry
   pub first : AreFirst s n entries
@@ -97,7 +100,8 @@ abbrev pub lines_to : Option ℕ → Verdict → ℕ
 lines_to None v = right_lines v
 lines_to (Some at) v = at + 1
 
--- `now`: the policy after an entry, or after all; where it is not there, or a line is too long, as for every command
+-- `now`: the policy after an entry, or after all; where it is not there, or a line is too long, as
+-- for every command
 abbrev pub TellsNow : Option ℕ → Session → RunFault → List ℕ → Type 0
 TellsNow at s fault text = (v : Verdict) × (Finds s v ×
     MatchBool (is_told at v) (WritesNow (lines_to at v) s v fault text) (TellsBy (codes "# ") v (codes "\n") false fault text))

@@ -25,8 +25,9 @@ abbrev pub AreShort : List (List ℕ) → Type 0
 AreShort [] = Unit {0}
 AreShort (line ∷ lines) = (line_length line ≤ TRANSCRIPT_LINE_LIMIT) × AreShort lines
 
--- behind some entries the lines that are left end the audit so: none is left and each job has its entry; the first of them
--- has a fault, or none is left and an entry is missing; or the first of them is too long
+-- behind some entries the lines that are left end the audit so: none is left and each job has its
+-- entry; the first of them has a fault, or none is left and an entry is missing; or the first of
+-- them is too long
 abbrev pub EndsWith : AuditShape → List (List ℕ) → Verdict → Type 0
 EndsWith a [] (Legal n) = length a.entries ≡ length a.jobs
 EndsWith a [] (Fault n kind) = (kind ≡ Missing) × (length a.entries < length a.jobs)
@@ -35,7 +36,8 @@ EndsWith a (line ∷ more) (Legal n) = ⊥
 EndsWith a (line ∷ more) (Fault n kind) = (line_length line ≤ TRANSCRIPT_LINE_LIMIT) × HasFault a line kind
 EndsWith a (line ∷ more) (TooLong n) = TRANSCRIPT_LINE_LIMIT < line_length line
 
--- the first lines, as many as are right, are the texts of entries that come next, and the others end the audit so
+-- the first lines, as many as are right, are the texts of entries that come next, and the others
+-- end the audit so
 pub record IsVerdict (a : AuditShape) (lines : List (List ℕ)) (v : Verdict) : Type 0 where
   pub front : List (List ℕ)
   pub rest : List (List ℕ)
@@ -46,8 +48,8 @@ pub record IsVerdict (a : AuditShape) (lines : List (List ℕ)) (v : Verdict) : 
   pub next : AreNext a front entries
   pub ends : EndsWith (record a { entries = a.entries ++ entries }) rest v
 
--- what the audit of these lines finds; where none is too long nothing is wrong exactly where they are those of a legal
--- history that fills the jobs
+-- what the audit of these lines finds; where none is too long nothing is wrong exactly where they
+-- are those of a legal history that fills the jobs
 pub record HasVerdict (a : AuditShape) (lines : List (List ℕ)) (v : Verdict) : Type 0 where
   pub found : IsVerdict a lines v
   pub exact : AreShort lines → (is_wrong v ≡ false) ↔ IsTranscript a.opening a.rounds a.jobs a.batch_ends lines

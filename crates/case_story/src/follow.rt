@@ -49,7 +49,7 @@ pub(crate) fn follow_rest<W: Watches>(
     }
 }
 
-/// Follows the lines until so many are taken, or none is left, or one has a fault, which is told.
+/// Follows the lines until `most` are taken, or none is left, or one has a fault, which is told.
 pub(crate) fn follow_to<W: Watches>(
     alloc: Global,
     auditor: &mut Auditor,

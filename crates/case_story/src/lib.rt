@@ -1,5 +1,5 @@
-//! What a transcript tells in words: the files of a session are loaded, the transcript is audited, and
-//! as far as it is right it is told.
+//! What a transcript tells in words: the files of a session are loaded, the transcript is audited,
+//! and as far as it is right it is told.
 #![tactic(auto)]
 
 mod answer;

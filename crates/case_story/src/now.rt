@@ -70,7 +70,7 @@ fn is_among(at: Option<u32>, n: u32) -> bool
     }
 }
 
-// Audits all, and prints the policy after the first so many entries, or after all that are right.
+// Audits all, and prints the policy after the first `most` entries, or after all that are right.
 fn audit_now(alloc: Global, s: &Session, most: u32) -> Result<After, AllocError>
     requires served { IsServed s.now }
     ensures finds { IfOk result (λ r. Finds s.now r.verdict) }

@@ -30,8 +30,8 @@ pub enum What {
     Page(CaseId),
 }
 
-/// Tells of the transcript in one file, of a session with the policy in another and the requests in
-/// a third, served on so many lanes and with so many lost rounds before a request is answered again.
+/// Tells of the file `transcript`, of a session with the files `policy` and `requests`, served on
+/// `lanes` lanes, a request answered again after `rounds` lost rounds.
 pub fn run_told<F: Shelf, K: Sink>(
     alloc: Global,
     what: What,

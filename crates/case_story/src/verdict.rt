@@ -8,7 +8,7 @@ use transcript_audit::AuditKind;
 /// What an audit finds in a transcript.
 #[derive(Clone, Copy)]
 pub enum Verdict {
-    /// It is the transcript of a legal session, with so many entries.
+    /// It is the transcript of a legal session, with this number of entries.
     Legal(u32),
     /// The line with this number is the first that has a fault, and which one.
     Fault(u32, AuditKind),

@@ -70,7 +70,7 @@ next_state p c d = do
   x ← or_fault (state_in p d) (NoUser c.said)
   Ok (with_state c x)
 
--- the case that an input is for a workflow with so many steps, or the first fault: the input is no
+-- the case that an input is for a workflow with these steps, or the first fault: the input is no
 -- array of such items, there is not one for each step, or one names no user
 unfoldable pub case_of_array : PolicyShape → ℕ → List ℕ → Result Case InputFault
 case_of_array p steps input = do
@@ -84,13 +84,13 @@ abbrev pub case_of_input : PolicyShape → ℕ → List ℕ → Result Case Inpu
 case_of_input p steps [] = Ok no_case
 case_of_input p steps (b ∷ bs) = case_of_array p steps (b ∷ bs)
 
--- a state has a user among the first so many, if any
+-- a state has a user among the first n, if any
 abbrev pub IsOfUsers : ℕ → StepState → Type 0
 IsOfUsers n Free = Unit {0}
 IsOfUsers n (Held u) = u < n
 IsOfUsers n (Finished u) = u < n
 
--- so far: users among the first so many have steps that were said, finished steps among them
+-- so far: users of the policy have steps that were said, finished steps among them
 pub record IsCaseSoFar (users : ℕ) (c : Case) : Type 0 where
   pub within : (s u : ℕ) → user_at c.assigned s ≡ Some u → (s < c.said) × (u < users)
   pub all_assigned : AreAssigned c.finished c.assigned

@@ -65,7 +65,7 @@ GivesEncoder p f c (Err TooLarge) = LITERAL_LIMIT < literals (clauses_for p f c)
 GivesEncoder p f c (Err NoMemory) = Unit {0}
 GivesEncoder p f c (Err fault) = ⊥
 
--- a text is read as a model of so many variables, or has its first word that is none, or memory
+-- a text is read as a model of these variables, or has its first word that is none, or memory
 -- failed
 abbrev pub GivesModel : ℕ → List ℕ → Result (List Bool) RunFault → Type 0
 GivesModel variables text (Ok m) = model_of_text variables text ≡ Ok m

@@ -43,7 +43,7 @@ pub(crate) fn answer_case(
     answer_model(alloc, p, f, c, &m)
 }
 
-// The model of so many variables in a text.
+// The model that a text says, of `variables` variables.
 fn model_in(alloc: Global, text: &[u8], variables: u32) -> Result<Model, RunFault>
     requires { length text.now ≤ MODEL_FILE_LIMIT }
     ensures model { GivesModel variables text.now result }

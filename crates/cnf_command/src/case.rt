@@ -61,7 +61,7 @@ fn first_case() -> Case
     }
 }
 
-// The case that an array is for a workflow with so many steps.
+// The case that an array is for a workflow with `steps` steps.
 #[tactic(auto, using(wf_commands::proofs::Values::length_listed), unfolding(crate::specs::Cases::case_of_array))]
 fn read_array(alloc: Global, p: &Policy, steps: u8, input: &[u8]) -> Result<Case, InputError>
     requires { steps ≤ STEP_LIMIT }

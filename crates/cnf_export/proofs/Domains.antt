@@ -1,24 +1,15 @@
 -- Sets of users, one behind the other.
-use Rattle.std.proofs.Common.{◌≡◌, ◌∙◌, refl, sym, ◌<◌, ◌≤◌, ◌%◌, ℕ, zero, suc, List, [], ◌∷◌, ◌++◌, length, Bool, true, ◌&&◌, Option, nat_eq, nat_lt, ap, inl, inr, arith}
+use Rattle.std.proofs.Common.{◌≡◌, ◌∙◌, refl, sym, ◌≤◌, ◌%◌, ℕ, zero, suc, List, [], ◌∷◌, length, Bool, ◌&&◌, Option, nat_eq, nat_lt, ap, inl, inr, arith}
 use Rattle.std.proofs.lemmas.Nat.Bits.{bit_at-zero}
 use Rattle.std.proofs.lemmas.Bool.{cases_lt}
-use Rattle.basics.proofs.Booleans.{differ, lt_no, lt_yes}
+use Rattle.basics.proofs.Booleans.{lt_no, lt_yes}
 use Rattle.std.specs.Prelude.{slice_index_or}
 use Rattle.wf_names.specs.UserSets.{has_user}
 use Rattle.user_relations.specs.Relations.{is_related}
 use Rattle.constraint_forms.specs.Assigned.{user_at}
 use Rattle.policy_book.specs.Plans.{Problem}
 use Rattle.cnf_export.specs.Encodings.{encoding_of, may_be}
-use Rattle.cnf_export.specs.Terms.{AreDomains, AreKnown, TermsShape, encoding_in}
-
-pub none_known : (n : ℕ) → AreKnown n []
-none_known n s u one = absurd (differ (has_user [] u) one (ap (λ x. nat_eq x 1) (bit_at-zero (u % 64))))
-
-pub one_more_known : (n : ℕ) (domains : List (List ℕ)) (users : List ℕ) → AreKnown n domains → ((u : ℕ) → has_user users u ≡ true → u < n) → AreKnown n (domains ++ users ∷ [])
-one_more_known n [] users known new zero u one = new u one
-one_more_known n [] users known new (suc s) u one = none_known n s u one
-one_more_known n (d ∷ domains) users known new zero u one = known zero u one
-one_more_known n (d ∷ domains) users known new (suc s) u one = one_more_known n domains users (λ t w h. known (suc t) w h) new s u one
+use Rattle.cnf_export.specs.Terms.{AreDomains, TermsShape, encoding_in}
 
 past : (xs : List (List ℕ)) (s : ℕ) → length xs ≤ s → slice_index_or xs s [] ≡ []
 past [] s long = refl

@@ -12,4 +12,3 @@ pub mod Products
 pub mod Filled
 pub mod Sums
 pub mod Said
-pub mod Variables

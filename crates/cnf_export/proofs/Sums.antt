@@ -1,9 +1,8 @@
 -- A count of clauses and literals, clause by clause.
-use Rattle.std.proofs.Common.{◌≡◌, refl, sym, ap, ◌∙◌, ℕ, ◌+◌, ◌-◌, ◌<◌, ◌≤◌, Bool, true, false, List, [], ◌∷◌, ◌++◌, length, arith, append_assoc}
+use Rattle.std.proofs.Common.{◌≡◌, sym, ap, ◌∙◌, ℕ, ◌+◌, ◌-◌, ◌<◌, ◌≤◌, Bool, true, false, List, [], ◌∷◌, ◌++◌, length, arith, append_assoc}
 use Rattle.std.specs.Prelude.{ℤ, Result, Ok, Err, IsErrOf}
 use Rattle.std.specs.Result.{IsErrAnd}
 use Rattle.cnf_export.specs.declared.fault.CnfFault.{CnfFault}
-use Rattle.std.proofs.lemmas.List.{append-nil}
 use Rattle.std.proofs.lemmas.Bool.{false≢true}
 use Rattle.cnf_export.specs.Encodings.{literals}
 use Rattle.cnf_export.specs.Positions.{HasGiven}
@@ -14,9 +13,6 @@ use Rattle.cnf_export.proofs.Filled.{empties-append, few_clauses, literals-appen
 length-append : (xs ys : List (List ℤ)) → length (xs ++ ys) ≡ length xs + length ys
 length-append [] ys = omega arith
 length-append (x ∷ xs) ys = let rest = length-append xs ys in omega (arith, rest)
-
-pub none_counted : (all : List (List ℤ)) → IsCounted all all 0 0
-none_counted all = record { given = []; all_are = refl; clauses_are = refl; size_is = refl; few = omega arith }
 
 pub one_counted : (all left rest : List (List ℤ)) (c : List ℤ) (clauses size n after more : ℕ) → IsCounted all left clauses size → left ≡ c ∷ rest → n ≡ length c → n ≤ LITERAL_LIMIT - size → after ≡ clauses + 1 → more ≡ size + n → IsCounted all rest after more
 one_counted all left rest c clauses size n after more is first len room one sum =
@@ -32,16 +28,6 @@ one_counted all left rest c clauses size n after more is first len room one sum 
       size_is = omega (arith, literals_are, larger, len, sum);
       few = omega (arith, limit, room, sum);
     }
-
-pub all_counted : (all left : List (List ℤ)) (clauses size : ℕ) → IsCounted all left clauses size → left ≡ [] → clauses ≡ length all
-all_counted all left clauses size is none = is.clauses_are ∙ ap length (sym (is.all_are ∙ ap (λ cs. is.given ++ cs) none ∙ append-nil is.given))
-
-pub all_few : (all left : List (List ℤ)) (clauses size : ℕ) → IsCounted all left clauses size → left ≡ [] → literals all ≤ LITERAL_LIMIT
-all_few all left clauses size is none =
-    let same = ap literals (is.all_are ∙ ap (λ cs. is.given ++ cs) none ∙ append-nil is.given) in
-    let size_is = is.size_is in
-    let few = is.few in
-    omega (arith, same, size_is, few)
 
 pub too_large : (all left rest : List (List ℤ)) (c : List ℤ) (clauses size n : ℕ) → IsCounted all left clauses size → left ≡ c ∷ rest → n ≡ length c → LITERAL_LIMIT - size < n → LITERAL_LIMIT < literals all
 too_large all left rest c clauses size n is first len over =

@@ -1,5 +1,7 @@
 -- The clauses that say what a valid plan is.
-use Rattle.std.specs.Prelude.{ℕ, zero, suc, ◌+◌, ◌*◌, ◌-◌, ◌/◌, ◌%◌, ℤ, Bool, true, false, not, cond, ◌&&◌, ◌||◌, ◌==◌, nat_lt, List, [], ◌∷◌, ◌++◌, length, map, Option, None, Some, if◌then◌else◌}
+use Rattle.std.specs.Prelude.{ℕ, zero, suc, ◌+◌, ◌*◌, ◌-◌, ◌/◌, ◌%◌, ℤ, Bool, true, false, not}
+use Rattle.std.specs.Prelude.{cond, ◌&&◌, ◌||◌, ◌==◌, nat_lt, List, [], ◌∷◌, ◌++◌, length, map}
+use Rattle.std.specs.Prelude.{Option, None, Some, if◌then◌else◌}
 use Rattle.std.specs.List.{flat_map}
 use Rattle.constraint_forms.specs.declared.rule.Rule.{Rule}
 use Rattle.constraint_forms.specs.declared.rule.Rule.TheVariants as rule
@@ -9,7 +11,8 @@ use Rattle.policy_book.specs.Plans.{Problem}
 use Rattle.policy_book.specs.Refuting.{passing}
 use Rattle.cnf_export.specs.Clauses.{yes_to, no_to}
 use Rattle.cnf_export.specs.declared.group.Group.{Group}
-use Rattle.cnf_export.specs.declared.group.Group.TheVariants.{Outside, Someone, Once, Pair, SomeOf, Taking, Counting, Ending}
+use Rattle.cnf_export.specs.declared.group.Group.TheVariants.{Outside, Someone, Once, Pair, SomeOf}
+use Rattle.cnf_export.specs.declared.group.Group.TheVariants.{Taking, Counting, Ending}
 
 -- what the clauses are made of: how many users and steps there are, whom a step may have, and who
 -- is related to whom
@@ -41,7 +44,7 @@ has e s u = s * e.users + u
 abbrev pub has_by : Encoding → ℕ → ℕ → ℕ
 has_by e s u = e.steps * e.users + (s * e.users + u)
 
--- the variables of a rule that counts stand behind so many blocks of one variable for each user:
+-- the variables of a rule that counts stand behind `block` blocks of one variable for each user:
 -- the variable that says that a user has some step of the rule
 abbrev pub takes : Encoding → ℕ → ℕ → ℕ
 takes e block u = block * e.users + u
@@ -190,7 +193,7 @@ blocks (rule.AllTo rho s group) = 0
 blocks (rule.AtMost limit group) = 1 + height true limit
 blocks (rule.AtLeast limit group) = 1 + height false limit
 
--- the groups of rules whose variables begin behind so many blocks
+-- the groups of rules whose variables begin behind `block` blocks
 abbrev pub rules_groups : ℕ → List Rule → List Group
 rules_groups block [] = []
 rules_groups block (r ∷ rs) = rule_groups block r ++ rules_groups (block + blocks r) rs

@@ -1,5 +1,6 @@
 -- What models of the clauses and valid plans have to do with one another.
-use Rattle.std.specs.Prelude.{◌≡◌, ℕ, zero, suc, ◌+◌, ◌<◌, ◌==◌, nat_le, nat_lt, Bool, true, false, List, [], ◌∷◌, Option, Some, map, slice_get, if◌then◌else◌}
+use Rattle.std.specs.Prelude.{◌≡◌, ℕ, zero, suc, ◌+◌, ◌<◌, ◌==◌, nat_le, nat_lt, Bool, true, false}
+use Rattle.std.specs.Prelude.{List, [], ◌∷◌, Option, Some, map, slice_get, if◌then◌else◌}
 use Rattle.wf_names.specs.UserSets.{count_below}
 use Rattle.constraint_forms.specs.declared.rule.Rule.{Rule}
 use Rattle.constraint_forms.specs.declared.rule.Rule.TheVariants as rule
@@ -8,7 +9,8 @@ use Rattle.constraint_forms.specs.Rules.{is_among, users_from}
 use Rattle.policy_book.specs.Facts.{HasMembers}
 use Rattle.policy_book.specs.Plans.{Problem, AreAssigned, IsValidPlan, IsWellFormed, IsWithin}
 use Rattle.cnf_export.specs.Clauses.{IsModelOf}
-use Rattle.cnf_export.specs.Encodings.{Encoding, blocks, clauses_of, counts, encoding_of, has, has_by, height, numbers, step_blocks, takes}
+use Rattle.cnf_export.specs.Encodings.{Encoding, blocks, clauses_of, counts, encoding_of, has}
+use Rattle.cnf_export.specs.Encodings.{has_by, height, numbers, step_blocks, takes}
 
 -- the last number below n that passes, or 0
 abbrev pub last_below : ℕ → (ℕ → Bool) → ℕ

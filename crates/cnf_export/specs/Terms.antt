@@ -1,5 +1,6 @@
 -- Inside: what the clauses are made of, as it is kept.
-use Rattle.std.specs.Prelude.{◌≡◌, ℕ, ◌<◌, ◌≤◌, Bool, true, false, List, [], Option, length, slice_index_or, refl}
+use Rattle.std.specs.Prelude.{◌≡◌, ℕ, ◌<◌, ◌≤◌, Bool, true, false, List, [], Option, length}
+use Rattle.std.specs.Prelude.{slice_index_or, refl}
 use Rattle.std.specs.Coded.{Coded, code_by, coded×, coded_list, coded_ℕ}
 use Rattle.wf_names.specs.declared.limits.TheConstants.{USER_LIMIT, STEP_LIMIT}
 use Rattle.wf_names.specs.UserSets.{has_user}
@@ -29,7 +30,7 @@ encoding_in t = record {
 abbrev pub AreKnown : ℕ → List (List ℕ) → Type 0
 AreKnown users domains = (s u : ℕ) → has_user (slice_index_or domains s []) u ≡ true → u < users
 
--- the sets of the first so many steps have the users whom the steps may have
+-- the sets of the first steps have the users whom the steps may have
 pub record AreDomains (p : Problem) (assigned : List (Option ℕ)) (finished : List Bool) (steps : ℕ)
     (domains : List (List ℕ)) : Type 0 where
   pub whole : length domains ≡ steps

@@ -1,8 +1,10 @@
 //! The items and clauses of rules that count.
-ghost use Rattle.std.specs.Prelude.{◌≡◌, ◌≤◌, ◌<◌, ◌+◌, ◌*◌, ◌^◌, ◌-◌, ◌==◌, ℕ, suc, [], ◌∷◌, ◌++◌, map, cond, List, OnOk};
+ghost use Rattle.std.specs.Prelude.{◌≡◌, ◌≤◌, ◌<◌, ◌+◌, ◌*◌, ◌^◌, ◌-◌, ◌==◌, ℕ, suc, [], ◌∷◌, ◌++◌};
+ghost use Rattle.std.specs.Prelude.{map, cond, List, OnOk};
 ghost use Rattle.std.specs.List.{flat_map};
 ghost use Rattle.cnf_export.specs.Clauses.{yes_to, no_to};
-ghost use Rattle.cnf_export.specs.Encodings.{counting_clause, counts, ending_clause, has, height, members, numbers, rows, takes, taking_clause};
+ghost use Rattle.cnf_export.specs.Encodings.{counting_clause, counts, ending_clause, has, height};
+ghost use Rattle.cnf_export.specs.Encodings.{members, numbers, rows, takes, taking_clause};
 ghost use Rattle.cnf_export.specs.Terms.{encoding_in};
 
 use crate::Literals;

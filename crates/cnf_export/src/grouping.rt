@@ -1,8 +1,10 @@
 //! The groups of clauses of a workflow.
-ghost use Rattle.std.specs.Prelude.{◌≡◌, ◌≤◌, ◌<◌, ◌+◌, ◌*◌, ◌++◌, [], ◌∷◌, length, map, true, OnOk, IfOk};
+ghost use Rattle.std.specs.Prelude.{◌≡◌, ◌≤◌, ◌<◌, ◌+◌, ◌*◌, ◌++◌, [], ◌∷◌, length, map, true};
+ghost use Rattle.std.specs.Prelude.{OnOk, IfOk};
 ghost use Rattle.std.specs.List.{flat_map};
 ghost use Rattle.wf_names.specs.declared.limits.TheConstants.{RULE_LIMIT, STEP_LIMIT};
-ghost use Rattle.cnf_export.specs.Encodings.{blocks, count_groups, groups, members, numbers, rule_groups, rules_blocks, step_blocks, step_groups};
+ghost use Rattle.cnf_export.specs.Encodings.{blocks, count_groups, groups, members, numbers};
+ghost use Rattle.cnf_export.specs.Encodings.{rule_groups, rules_blocks, step_blocks, step_groups};
 ghost use Rattle.cnf_export.specs.Terms.{pair_group_at};
 
 use crate::counting::height;
@@ -11,7 +13,7 @@ use constraint_forms::{Rule, Rules, StepSet};
 use std::alloc::{AllocError, Global};
 use wf_names::{RULE_LIMIT, RelId, STEP_LIMIT, StepId};
 
-/// The groups of a workflow with so many steps and these rules.
+/// The groups of a workflow with `steps` steps and these rules.
 pub(crate) fn groups_of(alloc: Global, steps: u8, rules: &Rules) -> Result<Vec<Group>, AllocError>
     requires steps { steps ≤ STEP_LIMIT }
     requires rules { length rules.now ≤ RULE_LIMIT }

@@ -1,5 +1,6 @@
 //! How far an encoder has come.
-ghost use Rattle.std.specs.Prelude.{◌≡◌, ◌≤◌, ◌<◌, ◌^◌, suc, List, length, false, true, Bool, OnOk, OnErr, IfOk};
+ghost use Rattle.std.specs.Prelude.{◌≡◌, ◌≤◌, ◌<◌, ◌^◌, suc, List, length, false, true, Bool, OnOk};
+ghost use Rattle.std.specs.Prelude.{OnErr, IfOk};
 ghost use Rattle.cnf_export.specs.Positions.{clause_at, left_at, IsReady, HasGiven};
 ghost use Rattle.cnf_export.specs.Terms.{encoding_in};
 ghost use Rattle.std.specs.List.{flat_map};

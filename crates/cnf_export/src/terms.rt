@@ -1,12 +1,15 @@
 //! What the clauses are made of.
-ghost use Rattle.std.specs.Prelude.{◌≡◌, ◌≤◌, ◌<◌, ◌+◌, ◌*◌, ◌^◌, ◌&&◌, not, ℕ, true, length, OnOk, slice_index_or, nat_lt, [], ◌∷◌, ◌++◌, map};
+ghost use Rattle.std.specs.Prelude.{◌≡◌, ◌≤◌, ◌<◌, ◌+◌, ◌*◌, ◌^◌, ◌&&◌, not, ℕ, true, length, OnOk};
+ghost use Rattle.std.specs.Prelude.{slice_index_or, nat_lt, [], ◌∷◌, ◌++◌, map};
 ghost use Rattle.std.specs.List.{flat_map};
 ghost use Rattle.cnf_export.specs.Clauses.{yes_to, no_to};
 ghost use Rattle.wf_names.specs.declared.limits.TheConstants.{STEP_LIMIT, USER_LIMIT};
 ghost use Rattle.wf_names.specs.UserSets.{has_user};
 ghost use Rattle.policy_book.specs.Refuting.{passing};
 ghost use Rattle.constraint_forms.specs.Rules.{turned};
-ghost use Rattle.cnf_export.specs.Encodings.{clause, counts, has, has_by, height, items, members, once_clause, once_items, parts, some_clause, takes, users_who};
+ghost use Rattle.cnf_export.specs.Encodings.{clause, counts, has, has_by, height, items, members};
+ghost use Rattle.cnf_export.specs.Encodings.{once_clause, once_items, parts, some_clause, takes};
+ghost use Rattle.cnf_export.specs.Encodings.{users_who};
 ghost use Rattle.cnf_export.specs.Terms.{TermsShape, AreTerms, encoding_in};
 ghost use Rattle.cnf_export.specs.declared.group.Group.TheVariants as groups;
 
@@ -57,7 +60,7 @@ impl Model for Terms {
 }
 
 impl Terms {
-    /// Of so many users and steps, with the users whom each step may have.
+    /// For `users` users and `steps` steps, with the users whom each step may have.
     pub(crate) fn new(users: u16, steps: u8, domains: Vec<UserSet>, relations: Relations) -> Terms
         requires { AreTerms (record {
           users = users;
@@ -96,7 +99,7 @@ impl Terms {
         self.steps as u32 * self.users as u32 + self.has(s, u)
     }
 
-    /// The first variable of a block; or how many variables so many blocks have.
+    /// The first variable of a block, which is how many variables the blocks before it have.
     #[tactic(auto, using(crate::proofs::Products::block_small))]
     pub(crate) fn block(&self, block: u16) -> u32
         ensures value { result ≡ block * self.now.users }

@@ -16,7 +16,7 @@ abbrev pub header_line : ℕ → ℕ → List ℕ
 header_line variables clauses =
     codes "p cnf " ++ (decimal variables ++ (codes " " ++ (decimal clauses ++ codes "\n")))
 
--- the text of clauses over so many variables
+-- the text of clauses over these variables
 abbrev pub dimacs_text : ℕ → List (List ℤ) → List ℕ
 dimacs_text variables clauses =
     header_line variables (length clauses) ++ flat_map clause_line clauses

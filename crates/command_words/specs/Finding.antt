@@ -29,7 +29,8 @@ pub record PassesIn (app : App) (rows : List Row) : Type 0 where
   pub are : (rules ≡ app.top.rules) ⊎ (rules ≡ (built app).top.rules)
   pub pass : All (RowPasses rules) rows
 
--- the text that is read under a name, where there is one, writes a number from the least to the most
+-- the text that is read under a name, where there is one, writes a number from the least to the
+-- most
 abbrev pub WritesWithin : ℕ → ℕ → Text → List Row → Type 0
 WritesWithin least most name rows = (text : Text) → one_of name rows ≡ Some text
     → IsNumeral 10 (without_leading_plus text)

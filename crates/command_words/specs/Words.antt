@@ -1,5 +1,5 @@
--- The words of the program's command line. Each command has a form, and the definitions of `clap` say
--- for a form which words are at fault, and what is found at others: `new_rule`, `new_app` and
+-- The words of the program's command line. Each command has a form, and the definitions of `clap`
+-- say for a form which words are at fault, and what is found at others: `new_rule`, `new_app` and
 -- `with_rule` are what its builders make, `fault_of` lists what is wrong with words, and `first_of`
 -- and `one_of` are the texts that its getters read.
 use Rattle.std.specs.Prelude.{ℕ, pos, ◌<◌, ◌≤◌, ◌^◌, ◌-◌, Bool, true, false, ◌&&◌, List, [], ◌∷◌, fold, Option, None, Some, option_map, option_and_then, codes, nat_eq, nat_lt, if◌then◌else◌}

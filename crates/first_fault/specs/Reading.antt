@@ -22,12 +22,14 @@ abbrev pub each : {S D F : Type 0} → (S → D → Result S F) → S → List D
 each read so_far [] = Ok so_far
 each read so_far (d ∷ ds) = read so_far d >>= (λ next. each read next ds)
 
--- what a reading gives where code ended with an error: its fault, or anything where the error is no fault
+-- what a reading gives where code ended with an error: its fault, or anything where the error is no
+-- fault
 abbrev pub Fails : {Y F : Type 0} → Option F → Result Y F → Type 0
 Fails None reading = Unit {0}
 Fails (Some fault) reading = reading ≡ Err fault
 
--- code returned what a reading gives, seen by view; an error that is no fault, as want of memory is, says nothing
+-- code returned what a reading gives, seen by view; an error that is no fault, as want of memory
+-- is, says nothing
 abbrev pub Gives : {X Y E F : Type 0} → (E → Option F) → (X → Y) → Result X E → Result Y F → Type 0
 Gives fault_of view (Ok x) reading = reading ≡ Ok (view x)
 Gives fault_of view (Err e) reading = Fails (fault_of e) reading

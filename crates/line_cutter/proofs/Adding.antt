@@ -16,7 +16,7 @@ use Rattle.wf_talk.specs.declared.request.Bad.{Bad}
 use Rattle.wf_talk.specs.declared.request.Bad.TheVariants.{Syntax, Object, Do, Lane, Key, Extra}
 use Rattle.wire_json.specs.declared.request.Asked.{Asked}
 use Rattle.wire_json.specs.Values.{value_of}
-use Rattle.wire_json.specs.Requests.{Row, Reading, rows, edits, row_of, by, user, name_at, the_name, text_at, lane_at, has_form, has_only, request_by, asked_by, change_by, what_if_by, what_if_in, reading_of, request_in, asked, asked_of}
+use Rattle.wire_json.specs.Requests.{Row, Reading, rows, edits, row_of, by, user, the_name, text_at, lane_at, has_form, has_only, request_by, asked_by, change_by, what_if_by, what_if_in, reading_of, request_in, asked, asked_of}
 use Rattle.line_cutter.specs.Laws.{AddsNamed, IsNamedEdit}
 
 -- ---- rows

@@ -8,7 +8,7 @@ use Rattle.wf_names.specs.declared.limits.TheConstants.{LINE_LIMIT, SESSION_LINE
 use Rattle.wf_talk.specs.declared.job.Job.{Job}
 use Rattle.line_cutter.specs.declared.stop.Stop.{Stop}
 use Rattle.line_cutter.specs.Jobs.{Cut, without_cr, job_of, end_batch, end_full_batch, next_line, with_job, end_line, step, cut_all, flush, last_or, UpToAnEnd}
-use Rattle.line_cutter.specs.Cutter.{IsSound, IsEnded, Cuts, emptied, after_handing, ends_after, place, last_place}
+use Rattle.line_cutter.specs.Cutter.{IsSound, IsEnded, Cuts, emptied, after_handing, ends_after, place}
 
 -- ---- soundness
 
@@ -45,9 +45,6 @@ ends_of_line c = grind (arith, common_steps)
 pub further : (c : Cut) (b : ℕ) → IsSound c → (step c b).stop ≡ None → place c < place (step c b)
 unfolding step
 further c b h going = grind (arith, common_steps, h.short, ends_of_line, length-append)
-
-pub place_within : (c : Cut) → IsSound c → place c ≤ last_place
-place_within c h = omega (arith, h.lines, h.short)
 
 -- ---- ends of batches
 

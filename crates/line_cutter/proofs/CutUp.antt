@@ -23,10 +23,6 @@ cut_none lanes jobs batch_ends c none no_ends e sound = rw (none, no_ends, e) (r
   handed = refl;
 })
 
-pub cut_start : (lanes : ℕ) (jobs : List Job) (batch_ends : List ℕ) (c : Cut) → jobs ≡ [] → batch_ends ≡ [] → c ≡ start lanes → IsSound c
-    → (n : ℕ) × HasCutUp n jobs batch_ends c []
-cut_start lanes jobs batch_ends c none no_ends e sound = (lanes, cut_none lanes jobs batch_ends c none no_ends e sound)
-
 -- some more is cut
 pub cut_further : (lanes : ℕ) (seen more : List ℕ) (jobs : List Job) (batch_ends : List ℕ) (c d : Cut) → HasCutUp lanes jobs batch_ends c seen → Cuts c d more
     → after_handing jobs batch_ends d ≡ cut_all (start lanes) (seen ++ more)

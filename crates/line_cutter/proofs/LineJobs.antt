@@ -1,15 +1,14 @@
 -- The jobs of an input are those of its lines.
-use Rattle.std.proofs.Common.{◌⊎◌, inl, inr, nat_eq, None, Some, refl, sym, ap, subst, ◌∙◌, arith}
+use Rattle.std.proofs.Common.{◌⊎◌, inl, inr, None, Some, refl, sym, ap, subst, ◌∙◌, arith}
 use Rattle.std.specs.Prelude.{◌≡◌, ℕ, suc, ◌+◌, ◌==◌, ◌<◌, ◌≤◌, nat_lt, Bool, true, false, not, ◌&&◌, List, [], ◌∷◌, ◌++◌, length, take, is_some, if◌then◌else◌}
 use Rattle.std.proofs.lemmas.Grind.{common_steps}
 use Rattle.std.proofs.lemmas.List.{append_assoc, append-nil, length-append}
 use Rattle.std.proofs.Math.Seq.{take-append_seam}
 use Rattle.wf_names.specs.declared.limits.TheConstants.{LINE_LIMIT, SESSION_LINE_LIMIT}
-use Rattle.wf_talk.specs.declared.job.Job.{Job}
 use Rattle.line_reader.specs.Lines.{before_lines, has_end, line_length, lines_of}
 use Rattle.line_cutter.specs.declared.stop.Stop.{Stop}
 use Rattle.line_cutter.specs.declared.stop.Stop.TheVariants.{LineTooLong, TooManyLines}
-use Rattle.line_cutter.specs.Jobs.{Cut, start_at, without_cr, job_of, end_batch, end_full_batch, end_line, step, cut_all, flush, jobs_from}
+use Rattle.line_cutter.specs.Jobs.{Cut, start_at, without_cr, end_batch, end_full_batch, end_line, step, cut_all, flush, jobs_from}
 use Rattle.line_cutter.proofs.CutLaws.{stopped}
 use Rattle.line_cutter.proofs.Batches.{HasRuns, batches_are, runs_all, runs_start}
 use Rattle.line_cutter.specs.Lines.{AreJobsOfLines, AreWithin, IsWithinLimits, JobsAreOfLines, MeetsLimit, StopsAt, job_at, jobs_of_lines, text_of}

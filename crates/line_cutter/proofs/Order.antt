@@ -1,14 +1,13 @@
 -- The jobs of every input are in order.
 use Rattle.std.proofs.Common.{◌⊎◌, inl, inr, nat_eq, None, refl, sym, subst, ◌∙◌, arith}
-use Rattle.std.specs.Prelude.{◌≡◌, ℕ, ◌+◌, ◌==◌, ◌<◌, ◌≤◌, nat_lt, nat_le, Bool, true, false, List, [], ◌∷◌, ◌++◌, length, map, is_some, if◌then◌else◌}
+use Rattle.std.specs.Prelude.{◌≡◌, ℕ, ◌+◌, ◌==◌, ◌<◌, ◌≤◌, nat_lt, nat_le, Bool, true, false, List, [], ◌∷◌, ◌++◌, length, is_some, if◌then◌else◌}
 use Rattle.std.proofs.lemmas.Grind.{common_steps}
 use Rattle.std.proofs.lemmas.List.{append-nil, length-append}
 use Rattle.wf_names.specs.declared.limits.TheConstants.{LINE_LIMIT, SESSION_LINE_LIMIT, BATCH_LINE_LIMIT}
 use Rattle.wf_talk.specs.declared.job.Job.{Job}
 use Rattle.wf_talk.specs.Jobs.{AreOfLanes}
 use Rattle.wire_json.proofs.RequestLaws.{lane_below}
-use Rattle.line_cutter.specs.Jobs.{Cut, start, start_at, without_cr, job_of, end_batch, end_full_batch, next_line, with_job, end_line, step, cut_all, flush, jobs_from, jobs_of_input, last_or, next_input}
-use Rattle.line_cutter.specs.Cutter.{after_handing}
+use Rattle.line_cutter.specs.Jobs.{Cut, start, without_cr, job_of, end_batch, end_full_batch, next_line, with_job, end_line, step, cut_all, flush, jobs_from, last_or, next_input}
 use Rattle.line_cutter.proofs.CutLaws.{finished_stop}
 use Rattle.line_cutter.specs.Laws.{AreLinesBelow, AscendFrom, LeadTo, AreInOrder, GoesOn, InputsGoOn, JobsAreInOrder}
 
@@ -296,10 +295,6 @@ keeps_one lanes c k = record {
   begins = k.begins;
   batch = let h = k.batch in omega arith;
 }
-
-ends_kept : (c : Cut) → ((end_batch c).lanes ≡ c.lanes) × ((end_batch c).number ≡ c.number) × ((end_batch c).line ≡ c.line) × ((end_batch c).jobs ≡ c.jobs)
-unfolding end_batch
-ends_kept c = grind (arith, common_steps)
 
 next_empty : (c : Cut) → c.stop ≡ None → length c.line ≡ 0 → next_input (end_batch (flush true c)) ≡ record (end_batch c) { line = [] }
 unfolding flush end_batch

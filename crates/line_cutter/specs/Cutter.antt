@@ -1,6 +1,8 @@
 -- The cutter: it keeps of a cutting what is not handed over yet, and cuts on from there.
-use Rattle.std.specs.Prelude.{◌≡◌, ℕ, ◌+◌, ◌*◌, ◌<◌, ◌≤◌, nat_lt, if◌then◌else◌, List, [], ◌∷◌, ◌++◌, length, map, None}
-use Rattle.wf_names.specs.declared.limits.TheConstants.{LINE_LIMIT, SESSION_LINE_LIMIT, BATCH_LINE_LIMIT}
+use Rattle.std.specs.Prelude.{◌≡◌, ℕ, ◌+◌, ◌*◌, ◌<◌, ◌≤◌, nat_lt, if◌then◌else◌, List, [], ◌∷◌}
+use Rattle.std.specs.Prelude.{◌++◌, length, map, None}
+use Rattle.wf_names.specs.declared.limits.TheConstants.{LINE_LIMIT, SESSION_LINE_LIMIT}
+use Rattle.wf_names.specs.declared.limits.TheConstants.{BATCH_LINE_LIMIT}
 use Rattle.wf_talk.specs.declared.job.Job.{Job}
 use Rattle.line_cutter.specs.Jobs.{Cut, last_or, cut_all}
 
@@ -16,7 +18,7 @@ pub record IsSound (c : Cut) : Type 0 where
 abbrev pub emptied : Cut → Cut
 emptied c = record c { jobs = []; from = 0; ends = [] }
 
--- the ends of batches with the end of one more, if it has a job; so many jobs stand before it
+-- the ends of batches with the end of one more, if it has a job; `before` jobs stand before it
 abbrev pub ends_after : List ℕ → ℕ → List Job → List ℕ
 ends_after batch_ends before jobs =
     if nat_lt 0 (length jobs) then batch_ends ++ (before + length jobs) ∷ [] else batch_ends

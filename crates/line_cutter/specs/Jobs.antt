@@ -1,13 +1,16 @@
 -- The jobs of the input: the bytes are cut into lines, lines into jobs and batches.
-use Rattle.std.specs.Prelude.{◌≡◌, ℕ, ◌+◌, ◌-◌, ◌==◌, nat_lt, nat_le, Bool, List, [], ◌∷◌, ◌++◌, length, take, slice_index_or, Option, None, Some, is_some, if◌then◌else◌}
-use Rattle.wf_names.specs.declared.limits.TheConstants.{LINE_LIMIT, SESSION_LINE_LIMIT, BATCH_LINE_LIMIT}
+use Rattle.std.specs.Prelude.{◌≡◌, ℕ, ◌+◌, ◌-◌, ◌==◌, nat_lt, nat_le, Bool, List, [], ◌∷◌, ◌++◌}
+use Rattle.std.specs.Prelude.{length, take, slice_index_or, Option, None, Some, is_some}
+use Rattle.std.specs.Prelude.{if◌then◌else◌}
+use Rattle.wf_names.specs.declared.limits.TheConstants.{LINE_LIMIT, SESSION_LINE_LIMIT}
+use Rattle.wf_names.specs.declared.limits.TheConstants.{BATCH_LINE_LIMIT}
 use Rattle.wf_talk.specs.declared.job.Job.{Job}
 use Rattle.wire_json.specs.Requests.{asked_of}
 use Rattle.line_cutter.specs.declared.stop.Stop.{Stop}
 use Rattle.line_cutter.specs.declared.stop.Stop.TheVariants.{LineTooLong, TooManyLines}
 
--- how far an input is cut: the open line with its number, all jobs with how many stand before the open batch, the ends
--- of the batches that have a job, and where the cutting stopped, if it has
+-- how far an input is cut: the open line with its number, all jobs with how many stand before the
+-- open batch, the ends of the batches that have a job, and where the cutting stopped, if it has
 pub record Cut : Type 0 where
   pub lanes : ℕ
   pub line : List ℕ
@@ -29,7 +32,7 @@ start lanes = start_at lanes 0
 unfoldable pub without_cr : List ℕ → List ℕ
 without_cr line = if slice_index_or line (length line - 1) 0 == 13 then take (length line - 1) line else line
 
--- the job of a line with its number: what it asks, of which of so many lanes
+-- the job of a line with its number: what it asks, and of which of the lanes
 abbrev pub job_of : ℕ → ℕ → List ℕ → Job
 job_of lanes number line = record { lane = (asked_of lanes line).lane; line = number; ask = (asked_of lanes line).ask }
 
@@ -56,8 +59,8 @@ end_line c =
     if length (without_cr c.line) == 0 then end_batch (next_line c) else
     end_full_batch (with_job c (job_of c.lanes c.number (without_cr c.line)))
 
--- the next byte: any byte stops the cutting past the greatest number of lines, and past a line's greatest length
--- any byte but LF
+-- the next byte: any byte stops the cutting past the greatest number of lines, and past a line's
+-- greatest length any byte but LF
 unfoldable pub step : Cut → ℕ → Cut
 step c b =
     if is_some c.stop then c else
@@ -81,7 +84,8 @@ flush ended c =
     record c { jobs = c.jobs ++ job_of c.lanes c.number c.line ∷ [] })
     else c
 
--- the jobs of bytes that were read, with the ends of their batches and where the cutting stopped, behind what was cut before
+-- the jobs of bytes that were read, with the ends of their batches and where the cutting stopped,
+-- behind what was cut before
 unfoldable pub jobs_from : Cut → List ℕ → Bool → Cut
 jobs_from c bytes ended = end_batch (flush ended (cut_all c bytes))
 
@@ -89,7 +93,8 @@ jobs_from c bytes ended = end_batch (flush ended (cut_all c bytes))
 abbrev pub jobs_of_input : List ℕ → Bool → ℕ → Cut
 jobs_of_input bytes ended lanes = jobs_from (start lanes) bytes ended
 
--- where the cutting goes on with another input: its lines are counted on from those of the one that has ended
+-- where the cutting goes on with another input: its lines are counted on from those of the one that
+-- has ended
 abbrev pub next_input : Cut → Cut
 next_input c = record c { line = []; number = c.number + (if length c.line == 0 then 0 else 1) }
 

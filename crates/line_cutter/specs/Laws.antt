@@ -1,5 +1,6 @@
 -- What the jobs of every input meet.
-use Rattle.std.specs.Prelude.{◌≡◌, ℕ, ◌+◌, ◌<◌, ◌≤◌, Bool, true, List, [], ◌∷◌, length, None, IsTrue}
+use Rattle.std.specs.Prelude.{◌≡◌, ℕ, ◌+◌, ◌<◌, ◌≤◌, Bool, true, List, [], ◌∷◌, length, None}
+use Rattle.std.specs.Prelude.{IsTrue}
 use Rattle.wf_names.specs.declared.limits.TheConstants.{SESSION_LINE_LIMIT, BATCH_LINE_LIMIT}
 use Rattle.wf_names.specs.Names.{is_name}
 use Rattle.wf_talk.specs.declared.edit.Edit.{Edit}
@@ -22,7 +23,8 @@ abbrev pub AreLinesBelow : ℕ → List Job → Type 0
 AreLinesBelow limit [] = Unit {0}
 AreLinesBelow limit (job ∷ jobs) = (job.line < limit) × AreLinesBelow limit jobs
 
--- the ends of batches lead from a count of jobs to a total: each batch has a job, and at most so many as it may have lines
+-- the ends of batches lead from a count of jobs to a total: each batch has a job, and no more of
+-- them than it may have lines
 abbrev pub LeadTo : ℕ → List ℕ → ℕ → Type 0
 LeadTo before [] total = before ≡ total
 LeadTo before (end ∷ ends) total = (before < end) × (end ≤ before + BATCH_LINE_LIMIT) × LeadTo end ends total
@@ -40,8 +42,9 @@ abbrev pub JobsAreInOrder : ℕ → Type 0
 JobsAreInOrder lanes =
     (bytes : List ℕ) (ended : Bool) → AreInOrder lanes (jobs_of_input bytes ended lanes).jobs (jobs_of_input bytes ended lanes).ends
 
--- an input goes on behind what was cut: a cutting that begins at the next line's number goes on from there, where all jobs
--- are handed over; they reach to the last end of a batch; and whatever is read, all jobs are in order
+-- an input goes on behind what was cut: a cutting that begins at the next line's number goes on
+-- from there, where all jobs are handed over; they reach to the last end of a batch; and whatever
+-- is read, all jobs are in order
 pub record GoesOn (lanes : ℕ) (c : Cut) : Type 0 where
   pub begins : after_handing c.jobs c.ends (start_at lanes (next_input c).number) ≡ next_input c
   pub closed : last_or 0 c.ends ≡ length c.jobs

@@ -1,6 +1,8 @@
 //! Cutting the input into lines, jobs and batches, in whatever pieces it comes.
-ghost use Rattle.std.specs.Prelude.{◌≡◌, ◌≢◌, ◌≤◌, ◌<◌, ◌+◌, ℕ, [], ◌∷◌, ◌++◌, length, take, slice_index, None, Some, IfOk, OnOk, OnErr, MatchBool, true};
-ghost use Rattle.wf_names.specs.declared.limits.TheConstants.{LINE_LIMIT, SESSION_LINE_LIMIT, BATCH_LINE_LIMIT};
+ghost use Rattle.std.specs.Prelude.{◌≡◌, ◌≢◌, ◌≤◌, ◌<◌, ◌+◌, ℕ, [], ◌∷◌, ◌++◌, length, take};
+ghost use Rattle.std.specs.Prelude.{slice_index, None, Some, IfOk, OnOk, OnErr, MatchBool, true};
+ghost use Rattle.wf_names.specs.declared.limits.TheConstants.{LINE_LIMIT, SESSION_LINE_LIMIT};
+ghost use Rattle.wf_names.specs.declared.limits.TheConstants.{BATCH_LINE_LIMIT};
 ghost use Rattle.line_cutter.specs.declared.stop.Stop.{Stop};
 ghost use Rattle.line_cutter.specs.Jobs as jobs;
 ghost use Rattle.line_cutter.specs.Cutter.{IsSound, IsEnded, Cuts, emptied, place, last_place};
@@ -71,7 +73,7 @@ impl Cutter {
         self.stop
     }
 
-    /// The number of the first line of an input behind this one, where this one ends here.
+    /// The number of the first line of an input that follows what was cut, where that ends here.
     pub fn next_number(&self) -> u32
         requires { IsSound self.now }
         ensures { result ≡ (jobs.next_input self.now).number }
@@ -120,8 +122,8 @@ impl Cutter {
         Ok(run)
     }
 
-    /// Ends the input, or what was read of it: where it has ended, what follows the last line end is a
-    /// line too, unless it is empty. The open batch ends.
+    /// Ends the input, or what was read of it: where it has ended, what follows the last line end
+    /// is a line too, unless it is empty. The open batch ends.
     #[tactic(auto, using(crate::proofs::CutLaws::sound_finish, crate::proofs::CutLaws::ended_finish))]
     pub fn finish(&mut self, ended: bool) -> Result<(), AllocError>
         requires handed { self.old.ends ≡ [] }
@@ -169,7 +171,7 @@ impl Cutter {
         run.min(LINE_LIMIT - self.line.len())
     }
 
-    // Whether so many bytes of a piece are a whole line, with its end behind them.
+    // Whether the first `run` bytes of a piece are a whole line, with its end behind them.
     fn has_line(&self, piece: &[u8], run: usize) -> bool
         ensures empty { result ≡ true → self.now.line ≡ [] }
         ensures within { result ≡ true → run < length piece.now }

@@ -1,5 +1,6 @@
 //! The jobs of a text that is there as a whole.
-ghost use Rattle.std.specs.Prelude.{◌≡◌, ◌<◌, ◌≤◌, ◌+◌, ℕ, List, true, [], ◌++◌, length, take, None, IfOk, OnOk};
+ghost use Rattle.std.specs.Prelude.{◌≡◌, ◌<◌, ◌≤◌, ◌+◌, ℕ, List, true, [], ◌++◌, length, take};
+ghost use Rattle.std.specs.Prelude.{None, IfOk, OnOk};
 ghost use Rattle.wf_names.specs.declared.limits.TheConstants.{SESSION_LINE_LIMIT};
 ghost use Rattle.line_cutter.specs.Jobs.{jobs_of_input, next_input};
 ghost use Rattle.line_cutter.specs.Cutter.{ends_after};
@@ -27,8 +28,8 @@ pub struct CutText {
     pub lines: u32,
 }
 
-/// The jobs of a whole text, with the ends of their batches. Where the text meets a limit, the lines
-/// before it count alone.
+/// The jobs of a whole text, with the ends of their batches. Where the text meets a limit, the
+/// lines before it count alone.
 pub fn jobs_of(alloc: Global, bytes: &[u8], lanes: u8) -> Result<Batch, AllocError>
     ensures jobs { IfOk result (λ batch. batch.jobs ≡ (jobs_of_input bytes.now true lanes).jobs) }
     ensures ends { IfOk result (λ batch. batch.ends ≡ (jobs_of_input bytes.now true lanes).ends) }

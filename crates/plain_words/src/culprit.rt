@@ -1,5 +1,5 @@
-//! The rule that a fault of a workflow is in, for which the reader is asked again with fewer rules: it
-//! reads the rules in order, so the fault goes with the rule that has it.
+//! The rule that a fault of a workflow is in, for which the reader is asked again with fewer rules:
+//! it reads the rules in order, so the fault goes with the rule that has it.
 
 use policy_reader::{PolicyFault, PolicyPart, ReadFault, read};
 use std::alloc::{AllocError, Global};
@@ -7,7 +7,8 @@ use toml::Table;
 use toml::ser::Error;
 use wf_names::RULE_LIMIT;
 
-/// The number of the rule that has this fault of a workflow, counted from 1; 0 where no rule has it.
+/// The number of the rule that has this fault of a workflow, counted from 1; 0 where no rule has
+/// it.
 pub(crate) fn faulty_rule(
     alloc: Global,
     text: &str,
@@ -23,8 +24,8 @@ pub(crate) fn faulty_rule(
     }
 }
 
-// Takes out rules from the last one on, until the fault is gone; of a list that is far too long none is
-// told.
+// Takes out rules from the last one on, until the fault is gone; of a list that is far too long
+// none is told.
 fn last_rule(
     alloc: Global,
     table: &mut Table,

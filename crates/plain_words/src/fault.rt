@@ -12,8 +12,8 @@ use std::alloc::{AllocError, Global};
 use toml::Table;
 use wf_names::Name;
 
-/// What is wrong with a policy file of this name, by the fault that its reader found: the place, the
-/// kind, the words, and the line. The place is where the fault seems to be, by what it names.
+/// What is wrong with a policy file of this name, by the fault that its reader found: the place,
+/// the kind, the words, and the line. The place is where the fault seems to be, by what it names.
 pub fn fault_text(
     alloc: Global,
     file: &str,

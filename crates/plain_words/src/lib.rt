@@ -1,5 +1,5 @@
-//! What a policy says, and what is wrong with it, in plain words. Nothing here decides anything: the
-//! words tell what was decided.
+//! What a policy says, and what is wrong with it, in plain words. Nothing here decides anything:
+//! the words tell what was decided.
 #![tactic(auto)]
 
 mod advice;

@@ -70,7 +70,7 @@ pub fn group_text(
     Ok(text)
 }
 
-/// The names of some steps.
+/// The names of the steps `some`.
 pub fn steps_text(
     alloc: Global,
     p: &Policy,
@@ -130,7 +130,7 @@ fn push_name(text: &mut String, names: &NameTable, n: u16) -> Result<(), AllocEr
     text.push_str(text_of(&name_of(names, n)))
 }
 
-/// Adds what stands before the item at a place of so many.
+/// Adds what stands before the item at `place`, of `count` items.
 pub fn push_gap(text: &mut String, place: u32, count: u32, last: &str) -> Result<(), AllocError> {
     if place == 0 {
         return Ok(());

@@ -10,8 +10,8 @@ pub(crate) struct Mark {
     pub end: usize,
     /// The number of the key that it belongs to, counted from 1; 0 at the top.
     pub under: usize,
-    /// The number of the item that it is in, of the outermost list around it or of headers in double
-    /// brackets, counted from 1; 0 in none.
+    /// The number of the item that it is in, of the outermost list around it or of headers in
+    /// double brackets, counted from 1; 0 in none.
     pub item: usize,
     pub is_key: bool,
 }

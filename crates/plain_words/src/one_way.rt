@@ -30,7 +30,7 @@ pub(crate) fn push_one_way(
     }
 }
 
-// Whether some relation is the complement of this one.
+// Whether some relation is the complement of `rho`.
 fn has_complement(p: &Policy, rho: RelId) -> bool {
     for sigma in 2..(p.relations().count() as u16 + 2).min(256) {
         if p.relations().complement_of(RelId(sigma as u8)) == Some(rho) {

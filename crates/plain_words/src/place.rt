@@ -1,5 +1,5 @@
-//! Where a fault of a policy file stands. The place is looked up for a fault that was found already;
-//! where several items could be meant, the first of them is taken.
+//! Where a fault of a policy file stands. The place is looked up for a fault that was found
+//! already; where several items could be meant, the first of them is taken.
 ghost use Rattle.std.specs.Prelude.{◌<◌, length};
 
 use crate::amiss::shape_place;
@@ -15,8 +15,8 @@ pub(crate) struct Span {
     pub end: usize,
 }
 
-// The keys under which a fault lies: that of its table, that of its item there, and the number of its
-// rule in a workflow, counted from 1; 0 where it is in none.
+// The keys under which a fault lies: that of its table, that of its item there, and the number of
+// its rule in a workflow, counted from 1; 0 where it is in none.
 #[derive(Clone, Copy)]
 pub(crate) struct Keys<'a> {
     pub table: &'a str,
@@ -164,8 +164,8 @@ pub(crate) fn span_of(mark: Mark) -> Span {
     }
 }
 
-// How many of the keys a mark is under, or is: 3 where it belongs to the rule, 2 to the item, 1 to the
-// table.
+// How many of the keys a mark is under, or is: 3 where it belongs to the rule, 2 to the item, 1 to
+// the table.
 fn depth_under(text: &[u8], marks: &[Mark], mark: Mark, keys: Keys<'_>) -> u8 {
     let mut path = [None; 3];
     let mut now = mark;
@@ -268,7 +268,8 @@ fn named_mark(
     None
 }
 
-// Under the keys, where an item of this name, or a pair whose first it is, stands again in its list.
+// Under the keys, where an item of this name, or a pair whose first it is, stands again in its
+// list.
 fn second_place(text: &[u8], marks: &[Mark], keys: Keys<'_>, name: Option<Name>) -> Option<Span> {
     let name = name?;
     for i in 0..marks.len() {

@@ -81,8 +81,8 @@ fn line_at(text: &str, at: usize) -> &str {
     }
 }
 
-// Adds the characters of a line from one on, as many as are shown; a blank for one that is no letter,
-// digit or sign.
+// Adds the characters of a line from one on, as many as are shown; a blank for one that is no
+// letter, digit or sign.
 fn push_part(out: &mut String, line: &str, from: usize) -> Result<(), AllocError> {
     let mut place = 0usize;
     let until = from.saturating_add(AROUND).saturating_add(AROUND);

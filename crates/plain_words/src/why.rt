@@ -81,7 +81,7 @@ fn push_few(
     }
 }
 
-// The users who may do one of some steps.
+// The users who may do one of the steps.
 fn takers(p: &Policy, f: FlowId, steps: &[StepId]) -> UserSet
     requires { f < length p.now.flows }
 {

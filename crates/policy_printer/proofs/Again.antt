@@ -14,7 +14,6 @@ use Rattle.policy_printer.proofs.RulesAgain.{HaveForms}
 use Rattle.policy_reader.specs.declared.format.Format.TheVariants.{First, Second}
 use Rattle.policy_reader.specs.Forms.{is_first_form}
 use Rattle.constraint_forms.specs.declared.rule.Rule.{Rule}
-use Rattle.std.specs.List.{list_any}
 use Rattle.policy_book.proofs.Counting.{any_below-at}
 use Rattle.basics.proofs.Booleans.{bool_cases, differ, not_false, not_true, or_false}
 

@@ -1,5 +1,6 @@
 -- The TOML document that a policy is written as.
-use Rattle.std.specs.Prelude.{codes, ℕ, zero, suc, ◌+◌, pos, Bool, not, List, [], ◌∷◌, ◌++◌, length, map, Option, None, Some, if◌then◌else◌, slice_index_or}
+use Rattle.std.specs.Prelude.{codes, ℕ, zero, suc, ◌+◌, pos, Bool, not, List, [], ◌∷◌, ◌++◌, length}
+use Rattle.std.specs.Prelude.{map, Option, None, Some, if◌then◌else◌, slice_index_or}
 use Rattle.std.specs.List.{list_any}
 use Rattle.std.specs.Ordering.{nat_cmp, match_ordering}
 use Rattle.std.specs.Cmp.Lexicographic.{slice_cmp}
@@ -28,7 +29,7 @@ abbrev pub with_member : List ℕ → Data → Members → Members
 with_member k d no_members = member k d no_members
 with_member k d (member l e ms) = match_ordering (slice_cmp nat_cmp k l) (member k d (member l e ms)) (member l d ms) (member l e (with_member k d ms))
 
--- the table of some entries
+-- the table of the entries
 abbrev pub table_of : List (List ℕ × Data) → Members
 table_of [] = no_members
 table_of (e ∷ es) = with_member e.0 e.1 (table_of es)

@@ -1,5 +1,6 @@
 //! Writes a policy as TOML.
-ghost use Rattle.std.specs.Prelude.{◌≡◌, ◌<◌, ◌≤◌, ◌+◌, List, ℕ, Ok, IfOk, OnOk, codes, length, string_bytes};
+ghost use Rattle.std.specs.Prelude.{◌≡◌, ◌<◌, ◌≤◌, ◌+◌, List, ℕ, Ok, IfOk, OnOk, codes, length};
+ghost use Rattle.std.specs.Prelude.{string_bytes};
 ghost use Rattle.toml.specs.Data.{no_members, string};
 ghost use Rattle.user_relations.specs.Relations.{known_names};
 ghost use Rattle.user_relations.specs.Soundness.{AreSound};

@@ -1,5 +1,6 @@
 //! Writes the workflows.
-ghost use Rattle.std.specs.Prelude.{◌≡◌, ◌<◌, ◌≤◌, ◌+◌, ◌++◌, ◌∷◌, [], ℕ, length, map, true, IfOk, OnOk, codes};
+ghost use Rattle.std.specs.Prelude.{◌≡◌, ◌<◌, ◌≤◌, ◌+◌, ◌++◌, ◌∷◌, [], ℕ, length, map, true, IfOk};
+ghost use Rattle.std.specs.Prelude.{OnOk, codes};
 ghost use Rattle.std.specs.FinSet as set;
 ghost use Rattle.policy_book.specs.Facts.{AreSoundRules, IsSoundRule};
 ghost use Rattle.policy_book.specs.Policies.{flow_at};

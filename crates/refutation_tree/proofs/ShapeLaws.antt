@@ -1,5 +1,5 @@
 -- Branches as the list that they are kept in, and as pure data.
-use Rattle.std.proofs.Common.{◌≡◌, refl, sym, ap, ◌∙◌, ℕ, zero, suc, ◌+◌, ◌<◌, List, [], ◌∷◌, ◌++◌, length, drop, get_or, min, arith}
+use Rattle.std.proofs.Common.{◌≡◌, refl, sym, ap, ◌∙◌, ℕ, zero, suc, ◌+◌, ◌<◌, List, [], ◌∷◌, ◌++◌, length, drop, get_or, arith}
 use Rattle.std.proofs.lemmas.List.{drop_more}
 use Rattle.refutation_tree.specs.Shapes.{Kids, no_kids, tree_kid, twin_kid, joined, kid_count, kids_from, nodes_of_kids}
 use Rattle.refutation_tree.specs.Views.{branch_onto, kid_onto, kids_of_items}
@@ -55,7 +55,3 @@ kid_onto-nodes (Twin v) u rest = omega arith
 
 pub nodes-drop : (bs : List Branch) (i : ℕ) (b : Branch) → i < length bs → b ≡ get_or bs i b → nodes_of_kids (kids_of_items (drop i bs)) ≡ nodes_of_kids (branch_onto b no_kids) + nodes_of_kids (kids_of_items (drop (i + 1) bs))
 nodes-drop bs i b below is = ap nodes_of_kids (kids_of_items-drop bs i b below is) ∙ kid_onto-nodes b.kid b.user (kids_of_items (drop (i + 1) bs))
-
--- a sum may be capped at any of its parts
-pub capped-sum : (most count here rest : ℕ) → min (min (count + min here most) most + rest) most ≡ min (count + (here + rest)) most
-capped-sum most count here rest = omega arith

@@ -1,6 +1,7 @@
 //! Trees whose leaves name what is broken and whose nodes try each user of a step.
 ghost use Rattle.std.specs.Prelude.{◌≡◌, ◌≤◌, ◌+◌, IfOk, OnOk, OnErr, MatchOption};
-ghost use Rattle.refutation_tree.specs.Shapes.{no_kids, capped, joined, kid_count, kids_from, nodes_of, nodes_of_kids};
+ghost use Rattle.refutation_tree.specs.Shapes.{no_kids, capped, joined, kid_count, kids_from};
+ghost use Rattle.refutation_tree.specs.Shapes.{nodes_of, nodes_of_kids};
 ghost use Rattle.refutation_tree.specs.Views.{branch_onto, kids_of_items, shape_of};
 
 use std::alloc::{AllocError, Global};
@@ -33,7 +34,7 @@ pub struct Branch {
 pub enum Kid {
     /// A tree over the assignment with the step given to the user.
     Tree(Tree),
-    /// The user can be exchanged with this one, whose branch stands earlier and has a tree.
+    /// The user can be exchanged with the one named, whose branch stands earlier and has a tree.
     Twin(UserId),
 }
 

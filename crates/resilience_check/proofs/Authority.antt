@@ -1,19 +1,19 @@
 -- What is valid with some users and what without them.
-use Rattle.std.proofs.Common.{◌≡◌, refl, sym, ap, ◌∙◌, subst, ℕ, zero, suc, ◌+◌, ◌<◌, ◌≤◌, Bool, true, false, not, ◌&&◌, ◌||◌, List, [], ◌∷◌, length}
-use Rattle.std.proofs.Common.{◌⊎◌, inl, inr, arith}
+use Rattle.std.proofs.Common.{◌≡◌, refl, sym, ap, ◌∙◌, subst, ℕ, zero, suc, ◌<◌, Bool, true, false, not, ◌&&◌, ◌||◌, List, [], ◌∷◌, length}
+use Rattle.std.proofs.Common.{inl, inr}
 use Rattle.std.proofs.lemmas.Bool.{false≢true}
 use Rattle.std.proofs.lemmas.List.Elements.{All-head, All-tail}
 use Rattle.std.specs.FinSet as set
-use Rattle.pair_set.specs.Pairs.{Pairs, pair_cmp}
-use Rattle.pair_set.specs.PairLaws.{pair_cmp_total, pair_cmp-IsAntisymmetric}
-use Rattle.basics.proofs.Booleans.{and_both, bool_cases, differ, not_true, not_yes, or_cases}
+use Rattle.pair_set.specs.Pairs.{Pairs}
+use Rattle.pair_set.specs.PairLaws.{pair_cmp-IsAntisymmetric}
+use Rattle.basics.proofs.Booleans.{differ, not_true, not_yes, or_cases}
 use Rattle.constraint_forms.specs.Assigned.{is_member, planned, no_steps, no_users}
 use Rattle.policy_book.specs.Shapes.{PolicyShape}
 use Rattle.policy_book.specs.Policies.{any_below, flow_at, is_authorised, problem_of}
-use Rattle.policy_book.specs.Plans.{IsValidPlan, Problem}
-use Rattle.policy_book.specs.Twins.{all_below, is_one_of}
+use Rattle.policy_book.specs.Plans.{IsValidPlan}
+use Rattle.policy_book.specs.Twins.{is_one_of}
 use Rattle.certificate_check.proofs.Below.{all_pass, each_passes}
-use Rattle.resilience_check.specs.Absences.{CanDoWithout, members_without, policy_without, problem_without}
+use Rattle.resilience_check.specs.Absences.{CanDoWithout, policy_without, problem_without}
 use Rattle.resilience_check.specs.Families.{AreValidPlans, is_whole, leaves_some}
 
 -- what is kept of a set

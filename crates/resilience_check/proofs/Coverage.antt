@@ -1,10 +1,10 @@
 -- A family with a whole plan for each ascending list covers every absence.
-use Rattle.std.proofs.Common.{◌≡◌, ◌≢◌, refl, sym, ap, ◌∙◌, subst, ℕ, zero, suc, ◌+◌, ◌<◌, ◌≤◌, Bool, true, false, not, ◌&&◌, ◌||◌, ◌==◌, List, []}
+use Rattle.std.proofs.Common.{◌≡◌, ◌≢◌, refl, sym, ap, ◌∙◌, subst, ℕ, zero, suc, ◌+◌, ◌<◌, ◌≤◌, Bool, true, false, ◌||◌, ◌==◌, List, []}
 use Rattle.std.proofs.Common.{◌∷◌, length, cond, eqb, ◌⊎◌, inl, inr, arith}
 use Rattle.std.proofs.lemmas.Bool.{false≢true, eqb-true}
 use Rattle.std.proofs.lemmas.Bool.Decides.{eqb_tells}
 use Rattle.std.proofs.lemmas.List.Elements.{All-head, All-tail}
-use Rattle.basics.proofs.Booleans.{bool_cases, eq_same, or_cases, or_left, or_right}
+use Rattle.basics.proofs.Booleans.{or_cases, or_left, or_right}
 use Rattle.constraint_forms.specs.Assigned.{planned, no_steps, no_users}
 use Rattle.policy_book.specs.Plans.{IsValidPlan, Problem}
 use Rattle.policy_book.specs.Refuting.{passing}

@@ -1,9 +1,8 @@
 -- Families that grow by a valid plan, and what was tried.
-use Rattle.std.proofs.Common.{◌≡◌, refl, sym, ap, ◌∙◌, subst, ℕ, ◌+◌, ◌<◌, ◌≤◌, Bool, true, false, ◌&&◌, ◌==◌, nat_lt, List, [], ◌∷◌, ◌++◌, length}
+use Rattle.std.proofs.Common.{◌≡◌, refl, sym, ap, ◌∙◌, subst, ℕ, ◌+◌, ◌<◌, ◌≤◌, true, false, ◌&&◌, ◌==◌, nat_lt, List, [], ◌∷◌, ◌++◌, length}
 use Rattle.std.proofs.Common.{Option, None, Some, append_assoc, take, arith, inl, inr}
 use Rattle.std.specs.Option.{is_none}
 use Rattle.std.proofs.lemmas.Bool.{false≢true}
-use Rattle.std.proofs.lemmas.List.{append-nil}
 use Rattle.std.proofs.lemmas.List.Elements.{All-push}
 use Rattle.basics.proofs.Booleans.{and_both, differ, eq_back, lt_back, or_cases, or_left, or_right}
 use Rattle.constraint_forms.specs.Assigned.{is_member, no_steps, no_users}
@@ -17,7 +16,7 @@ use Rattle.certificate_check.proofs.Refuted.{refutes_soundly}
 use Rattle.resilience_check.specs.Absences.{AreAscending, IsLeastAbsence, comes_before, is_less, problem_without}
 use Rattle.resilience_check.specs.Families.{AreValidPlans, is_whole, leaves_some}
 use Rattle.resilience_check.specs.Lists.{Withstands}
-use Rattle.resilience_check.specs.Searches.{FoundWith, Grows, HasFound, HasFoundWith, HasGrown, HasNone, HasTried, HasTriedOne, IsRefuted}
+use Rattle.resilience_check.specs.Searches.{FoundWith, Grows, HasFound, HasFoundWith, HasGrown, HasNone, HasTried, IsRefuted}
 use Rattle.resilience_check.proofs.Authority.{can_do_by, valid_is_whole, valid_with}
 use Rattle.resilience_check.proofs.Coverage.{ascends_from}
 use Rattle.resilience_check.proofs.Leaving.{leaves_alike, leaves_append}
@@ -115,30 +114,6 @@ found_behind p f absent now final u left before after (Some tree) tried cut kept
         (tried.1.least other ascending count less);
   },
 )
-
--- a list of no more users than were absent was tried
-pub found_one : (p : PolicyShape) (f : ℕ) (absent : List ℕ) (k : ℕ) (before after : List (List ℕ)) (found : Option Tree)
-    → HasTriedOne p f before absent after found → HasTried p f before absent k 0 after absent found
-found_one p f absent k before after None tried = (tried.0, record { same = refl; each = each })
-  where
-    each : (other : List ℕ) → AreAscending k (length p.roster.users) other → length other ≡ 0 → leaves_some after (absent ++ other) ≡ true
-    each [] ascending count = subst (λ us. leaves_some after us ≡ true) (sym (append-nil absent)) tried.1
-    each (v ∷ other) ascending count = absurd (omega (arith, count))
-found_one p f absent k before after (Some tree) tried = (
-  tried.0,
-  record {
-    more = [];
-    is = sym (append-nil absent);
-    ascending = tt;
-    count = refl;
-    refuted = tried.1;
-    least = λ other ascending count less. absurd (false≢true (sym (never other) ∙ less));
-  },
-)
-  where
-    never : (other : List ℕ) → is_less other [] ≡ false
-    never [] = refl
-    never (v ∷ other) = refl
 
 taken : (xs ys : List ℕ) → take (length xs) (xs ++ ys) ≡ xs
 taken [] ys = refl

@@ -7,7 +7,7 @@ use Rattle.constraint_forms.specs.Assigned.{planned}
 use Rattle.policy_book.specs.Twins.{all_below, is_one_of}
 use Rattle.certificate_check.proofs.Below.{all_pass, each_passes}
 use Rattle.resilience_check.specs.Families.{is_whole, leaves_some}
-use Rattle.resilience_check.specs.Lists.{AreFrom, CanBreak, IsWholeIn, Withstands}
+use Rattle.resilience_check.specs.Lists.{CanBreak, IsWholeIn, Withstands}
 use Rattle.resilience_check.proofs.Ones.{either_of_three, one_append, one_beside, one_here, removed, length-removed, stays_one, was_one}
 
 -- the first that fails before others do, where not all pass

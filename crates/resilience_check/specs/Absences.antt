@@ -9,7 +9,7 @@ use Rattle.policy_book.specs.Policies.{problem_of, with_roster}
 use Rattle.policy_book.specs.Plans.{Problem, IsCompletable}
 use Rattle.policy_book.specs.Twins.{is_one_of}
 
--- memberships without those of some users
+-- memberships without those of absent users
 abbrev pub members_without : List ℕ → Pairs → Pairs
 members_without absent members = set.retain members (λ q. not (is_one_of absent q.0))
 
@@ -26,7 +26,7 @@ problem_without p f absent = problem_of (policy_without p absent) f
 abbrev pub CanDoWithout : PolicyShape → ℕ → List ℕ → Type 0
 CanDoWithout p f absent = IsCompletable (problem_without p f absent) no_users no_steps
 
--- users among the first so many
+-- users among the first n
 abbrev pub AreUsers : ℕ → List ℕ → Type 0
 AreUsers n absent = (u : ℕ) → is_one_of absent u ≡ true → u < n
 

@@ -13,11 +13,11 @@ use Rattle.resilience_check.specs.Absences.{IsLeastAbsence, IsResilient, problem
 use Rattle.resilience_check.specs.declared.search.AbsenceAnswer.{AbsenceAnswer}
 use Rattle.resilience_check.specs.declared.search.AbsenceAnswer.TheVariants.{Holds, Breaks}
 
--- a plan has none of some users
+-- a plan has none of the absent users
 abbrev pub is_whole : List ℕ → List ℕ → Bool
 is_whole absent plan = all_below (length plan) (λ s. not (is_one_of absent (planned plan s)))
 
--- some plan of a family has none of some users
+-- some plan of a family has none of the absent users
 abbrev pub leaves_some : List (List ℕ) → List ℕ → Bool
 leaves_some [] absent = false
 leaves_some (plan ∷ plans) absent = is_whole absent plan || leaves_some plans absent

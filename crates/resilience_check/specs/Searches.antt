@@ -24,15 +24,15 @@ abbrev pub IsRefuted : PolicyShape → ℕ → List ℕ → Tree → Type 0
 IsRefuted p f absent tree =
     IsTrue (refutes (problem_without p f absent) no_users no_steps (shape_of tree))
 
--- the family has a whole plan for each absence of so many more users, numbered from k on
+-- the family has a whole plan for each absence of `left` more users, numbered from k on
 pub record HasNone (n : ℕ) (absent : List ℕ) (k left : ℕ) (plans : List (List ℕ))
     (now : List ℕ) : Type 0 where
   pub same : now ≡ absent
   pub each : (other : List ℕ) → AreAscending k n other → length other ≡ left
       → leaves_some plans (absent ++ other) ≡ true
 
--- so many more users, numbered from k on, were found who leave no valid plan; the family has a
--- whole plan for each lesser list of as many
+-- `left` more users, numbered from k on, were found who leave no valid plan; the family has a whole
+-- plan for each lesser list of as many
 pub record HasFound (p : PolicyShape) (f : ℕ) (absent : List ℕ) (k left : ℕ)
     (plans : List (List ℕ)) (now : List ℕ) (tree : Tree) : Type 0 where
   pub more : List ℕ
@@ -53,13 +53,13 @@ pub record HasGrown (p : PolicyShape) (f : ℕ) (before after : List (List ℕ))
   pub valid : AreValidPlans (problem_of p f) after
   pub grows : Grows before after
 
--- absences of so many more users, numbered from k on, were tried
+-- absences of `left` more users, numbered from k on, were tried
 abbrev pub HasTried : PolicyShape → ℕ → List (List ℕ) → List ℕ → ℕ → ℕ → List (List ℕ) → List ℕ
     → Option Tree → Type 0
 HasTried p f before absent k left after now found =
     HasGrown p f before after × Found p f absent k left after now found
 
--- the family has a whole plan for each absence of u and so many more users behind u
+-- the family has a whole plan for each absence of u and `left` more users behind u
 pub record HasNoneWith (n : ℕ) (absent : List ℕ) (u left : ℕ) (plans : List (List ℕ))
     (now : List ℕ) : Type 0 where
   pub same : now ≡ absent

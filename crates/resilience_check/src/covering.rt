@@ -11,7 +11,7 @@ use crate::away::{Away, is_away};
 use policy_book::Plan;
 use wf_names::StepId;
 
-/// Whether every set of at most so many users leaves some plan with no user of that set. Takes no
+/// Whether every set of at most `t` users leaves some plan with no user of that set. Takes no
 /// memory.
 pub fn covers(plans: &Plans, t: u8) -> bool
     ensures { IsTrue result ↔ CoversAbsences plans.now t }
@@ -19,7 +19,7 @@ pub fn covers(plans: &Plans, t: u8) -> bool
     !can_break(plans.as_slice(), &Away::Those(&[]), 0, t)
 }
 
-/// Whether at most so many users, numbered from `from` on, leave with those away no plan whole.
+/// Whether at most `left` users, numbered from `from` on, leave with those away no plan whole.
 #[cycle(breaking)]
 pub(crate) fn can_break(plans: &[Plan], away: &Away<'_>, from: u16, left: u8) -> bool
     ensures yes { result ≡ true → CanBreak plans.now (users_away away.now) from left }
@@ -31,7 +31,7 @@ pub(crate) fn can_break(plans: &[Plan], away: &Away<'_>, from: u16, left: u8) ->
     }
 }
 
-// Whether some user of a plan is such that, with them away too, so many more can break the family.
+// Whether some user of a plan is such that, with them away too, `left` more can break the family.
 #[cycle(breaking)]
 fn can_break_one(plans: &[Plan], away: &Away<'_>, plan: &Plan, from: u16, left: u8) -> bool
     ensures yes { result ≡ true → CanBreak plans.now (users_away away.now) from (left + 1) }

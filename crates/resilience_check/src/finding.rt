@@ -16,7 +16,7 @@ use std::alloc::{AllocError, Global};
 use wf_names::{FlowId, UserId};
 use wsp_solver::{Outcome, solve};
 
-/// The first absence of so many more users, numbered from `from` on, that leaves with those who are
+/// The first absence of `left` more users, numbered from `from` on, that leaves with those who are
 /// absent already no valid plan; they are put behind these, and a tree refutes what is left. Where
 /// there is none, the family comes to have a plan for each such absence.
 #[cycle(finding)]

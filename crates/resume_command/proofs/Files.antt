@@ -1,5 +1,5 @@
 -- How a run stops at its files, or goes on.
-use Rattle.std.proofs.Common.{◌≡◌, ℕ, ◌<◌, ◌≤◌, true, List, length, Option, None, Some, Result, Ok, Err, inl, inr, refl, sym, ap, subst, ◌∙◌, arith}
+use Rattle.std.proofs.Common.{◌≡◌, ℕ, true, List, Option, None, Some, Ok, Err, inl, inr, sym, subst, ◌∙◌}
 use Rattle.wf_names.specs.declared.limits.TheConstants.{REQUESTS_FILE_LIMIT}
 use Rattle.wf_outside.specs.Outside.{Filed, told, missing, untold}
 use Rattle.policy_book.specs.Shapes.{PolicyShape}
@@ -10,15 +10,11 @@ use Rattle.line_cutter.specs.Jobs.{Cut, jobs_of_input}
 use Rattle.line_reader.specs.Lines.{lines_of}
 use Rattle.run_record.specs.declared.fault.RunFault.{RunFault}
 use Rattle.run_record.specs.declared.fault.RunFault.TheVariants.{Load, LineTooLong}
-use Rattle.run_record.specs.Fault.{How, unasked, answered, misfiled, refused, unloaded, unread, unwritten, lacking, how_of, CountsLoads, LoadsSo}
-use Rattle.wf_commands.specs.Load.{EndsLoading, GivesBytes, GivesPolicy}
-use Rattle.transcript_audit.specs.declared.fault.AuditFault.{AuditFault}
-use Rattle.transcript_audit.specs.declared.fault.AuditFault.TheVariants as audit
+use Rattle.run_record.specs.Fault.{refused, how_of, CountsLoads, LoadsSo}
+use Rattle.wf_commands.specs.Load.{GivesBytes, GivesPolicy}
 use Rattle.transcript_resume.specs.Resumed.{first_long, whole_lines}
 use Rattle.resume_command.specs.declared.start.TheConstants.{TRANSCRIPT_FILE_LIMIT}
 use Rattle.resume_command.specs.Loading.{GivesCut, IsCutOf, Names, OverBoth, OverFiled, OverFiles, OverLong, OverPolicy, OverRequests, OverStop, OverText, OverTranscript, OverTranscriptFile, ending_at}
-use Rattle.resume_command.specs.Begun.{EndsBeginning, EndsLoaded, fault_by}
-use Rattle.resume_command.specs.Refusing.{refused_by}
 
 -- ---- the policy file
 
@@ -45,12 +41,6 @@ pub text_there : (limit : ℕ) (Stops : RunFault → Type 0) (Goes : List ℕ �
 text_there limit Stops Goes untold bytes gives goes = (gives.0, inr (gives.1.0, subst Goes gives.1.1 goes))
 text_there limit Stops Goes missing bytes gives goes = cc
 text_there limit Stops Goes (told file) bytes gives goes = inr (gives.0, subst Goes gives.1 goes)
-
--- a text that was loaded is within its limit
-pub text_within : (limit : ℕ) (filed : Filed) (bytes : List ℕ) → GivesBytes limit filed (Ok bytes) → length bytes ≤ limit
-text_within limit untold bytes gives = let short = gives.1.0 in let same = ap length gives.1.1 in omega (arith, short, same)
-text_within limit missing bytes gives = cc
-text_within limit (told file) bytes gives = let short = gives.0 in let same = ap length gives.1 in omega (arith, short, same)
 
 -- ---- the requests
 
@@ -95,40 +85,6 @@ pub loads_refused : (fault : RunFault) (count after : ℕ) → how_of fault ≡ 
 loads_refused fault count after how same = subst (λ h. LoadsSo h count after) (sym how) same
 
 -- ---- counts of faults
-
-pub loads_none : (how : How) (count : ℕ) → EndsLoaded how → LoadsSo how count count
-loads_none unasked count ending = refl
-loads_none answered count ending = refl
-loads_none misfiled count ending = refl
-loads_none refused count ending = refl
-loads_none unloaded count ending = absurd ending
-loads_none unread count ending = refl
-loads_none unwritten count ending = refl
-loads_none lacking count ending = refl
-
-pub loaded_quietly : (how : How) → EndsLoaded how → EndsBeginning how
-loaded_quietly unasked ending = absurd ending
-loaded_quietly answered ending = tt
-loaded_quietly misfiled ending = tt
-loaded_quietly refused ending = tt
-loaded_quietly unloaded ending = tt
-loaded_quietly unread ending = absurd ending
-loaded_quietly unwritten ending = absurd ending
-loaded_quietly lacking ending = tt
-
-pub loading_quietly : (how : How) → EndsLoading how → EndsBeginning how
-loading_quietly unasked ending = absurd ending
-loading_quietly answered ending = tt
-loading_quietly misfiled ending = tt
-loading_quietly refused ending = tt
-loading_quietly unloaded ending = tt
-loading_quietly unread ending = absurd ending
-loading_quietly unwritten ending = absurd ending
-loading_quietly lacking ending = tt
-
-pub refused_loaded : (e : AuditFault) → EndsLoaded (how_of (fault_by (Err (refused_by e))))
-refused_loaded (audit.At n kind) = tt
-refused_loaded audit.NoMemory = tt
 
 -- ---- other ways of stopping and going on
 

@@ -7,7 +7,7 @@ use Rattle.std.proofs.lemmas.List.{length-take-le, take-append-drop, take-take, 
 use Rattle.basics.proofs.Booleans.{bool_cases}
 use Rattle.wf_talk.specs.declared.entry.Entry.{Entry}
 use Rattle.wf_talk.specs.declared.job.Job.{Job}
-use Rattle.wf_board.specs.Histories.{BatchRests, EachAfter, FillsJobs, RestsFrom, batch_end, batch_jobs, batch_start, job_of_entry, lane_jobs}
+use Rattle.wf_board.specs.Histories.{EachAfter, FillsJobs, RestsFrom, batch_end, batch_jobs, batch_start, job_of_entry, lane_jobs}
 use Rattle.wf_desk.specs.BatchLaws.{EndAt}
 use Rattle.wf_desk.specs.Desks.{AreOfLanes, DeskShape}
 use Rattle.wf_desk.specs.Parts.{FillsPart}

@@ -29,8 +29,8 @@ abbrev pub ends_to : ℕ → List ℕ → ℕ
 ends_to place [] = 0
 ends_to place (end ∷ ends) = if nat_le end place then suc (ends_to place ends) else 0
 
--- entries stop in a batch, of which those from a place on are: the jobs of the batches before it are answered, and with its
--- own they are all these
+-- entries stop in a batch, of which those from a place on are: the jobs of the batches before it
+-- are answered, and with its own they are all these
 pub record StandsAt (entries : List Entry) (start : ℕ) (batch jobs : List Job) (batch_ends : List ℕ) : Type 0 where
   pub earlier_jobs : List Job
   pub earlier_ends : List ℕ
@@ -40,8 +40,8 @@ pub record StandsAt (entries : List Entry) (start : ℕ) (batch jobs : List Job)
   pub all_jobs : jobs ≡ earlier_jobs ++ batch
   pub all_ends : batch_ends ≡ ends_after earlier_ends (length earlier_jobs) batch
 
--- a desk goes on behind the entries of a transcript: these alone are at it, and the batch in which they stop; the jobs up to
--- its end are told; and the input is read on behind the requests
+-- a desk goes on behind the entries of a transcript: these alone are at it, and the batch in which
+-- they stop; the jobs up to its end are told; and the input is read on behind the requests
 pub record HasBegun (s : Session) (cut : Cut) (transcript : List ℕ) (b : Beginning) : Type 0 where
   pub policy : IsSoundPolicy s.policy
   pub order : AreInOrder s.lanes s.jobs s.batch_ends
@@ -62,8 +62,8 @@ pub record HasBegun (s : Session) (cut : Cut) (transcript : List ℕ) (b : Begin
   pub goes_on : GoesOn s.lanes cut
   pub reader : b.reader ≡ record { cut = start_at s.lanes (next_input cut).number; pending = []; room = PIECE }
 
--- what becomes of a transcript of which no line is too long: a session goes on behind its entries, or it has a first line
--- that is none of such a session, or there is no memory
+-- what becomes of a transcript of which no line is too long: a session goes on behind its entries,
+-- or it has a first line that is none of such a session, or there is no memory
 abbrev pub BeginsBy : Session → Cut → List ℕ → Result Beginning Refusal → Type 0
 BeginsBy s cut transcript (Ok b) = HasBegun s cut transcript b
 BeginsBy s cut transcript (Err (Line n kind)) = IsRefused s transcript n kind

@@ -1,4 +1,5 @@
--- The files that a session goes on from, in the order in which they are loaded: at each of them a run stops, or goes on.
+-- The files that a session goes on from, in the order in which they are loaded: at each of them a
+-- run stops, or goes on.
 use Rattle.std.specs.Prelude.{◌≡◌, ℕ, ◌<◌, ◌≤◌, true, List, length, Option, None, Some, Result, Ok, Err}
 use Rattle.std.proofs.Common.{◌⊎◌}
 use Rattle.wf_names.specs.declared.limits.TheConstants.{REQUESTS_FILE_LIMIT}
@@ -22,19 +23,21 @@ pub record Names : Type 0 where
   pub requests : List ℕ
   pub transcript : List ℕ
 
--- by what is told of a file: a run stops where it is missing; one of which nothing is told has some content
+-- by what is told of a file: a run stops where it is missing; one of which nothing is told has some
+-- content
 abbrev pub OverFiled : (RunFault → Type 0) → (List ℕ → Type 0) → Filed → Type 0
 OverFiled Stops Over untold = (file : List ℕ) × Over file
 OverFiled Stops Over missing = Stops Load
 OverFiled Stops Over (told file) = Over file
 
--- a policy file is too long, or has a fault, or cannot be loaded, or there is no memory, and a run stops so; or it goes on
--- with the policy
+-- a policy file is too long, or has a fault, or cannot be loaded, or there is no memory, and a run
+-- stops so; or it goes on with the policy
 abbrev pub OverPolicy : (RunFault → Type 0) → (PolicyShape → Type 0) → List ℕ → Type 0
 OverPolicy Stops Goes file =
     ((fault : RunFault) × (PolicyOf file (Err fault) × Stops fault)) ⊎ ((p : PolicyShape) × (PolicyOf file (Ok p) × (IsFilePolicy p × Goes p)))
 
--- a file is longer than its limit, or cannot be loaded, or there is no memory, and a run stops so; or it goes on with the text
+-- a file is longer than its limit, or cannot be loaded, or there is no memory, and a run stops so;
+-- or it goes on with the text
 abbrev pub OverText : ℕ → (RunFault → Type 0) → (List ℕ → Type 0) → List ℕ → Type 0
 OverText limit Stops Goes file =
     ((fault : RunFault) × (BytesOf limit file (Err fault) × Stops fault)) ⊎ ((length file ≤ limit) × Goes file)

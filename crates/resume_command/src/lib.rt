@@ -1,5 +1,5 @@
-//! Beginning a session behind the entries of an earlier one: its files are loaded, and its transcript is
-//! audited and taken up.
+//! Beginning a session behind the entries of an earlier one: its files are loaded, and its
+//! transcript is audited and taken up.
 #![tactic(auto)]
 
 mod load;

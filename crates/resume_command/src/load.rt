@@ -13,8 +13,8 @@ use wf_commands::load_file;
 use wf_names::REQUESTS_FILE_LIMIT;
 use wf_outside::Shelf;
 
-/// The jobs of a requests file, with the ends of their batches, where a limit is met, and which line
-/// comes next behind the file.
+/// The jobs of a requests file, with the ends of their batches, where a limit is met, and which
+/// line comes next behind the file.
 pub(crate) fn load_requests<F: Shelf>(
     alloc: Global,
     shelf: &mut F,

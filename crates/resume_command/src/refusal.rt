@@ -13,8 +13,8 @@ use transcript_audit::{AuditFault, AuditKind};
 pub enum Refusal {
     /// The run ends so, and nothing is written.
     Ends(RunFault),
-    /// The line of the transcript with this number, counted from 0, is the first that is none of such
-    /// a session, and what is wrong with it.
+    /// The line of the transcript with this number, counted from 0, is the first that is none of
+    /// such a session, and what is wrong with it.
     Line(u32, AuditKind),
 }
 

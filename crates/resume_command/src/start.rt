@@ -44,8 +44,8 @@ pub struct Beginning {
     pub reader: Reader,
 }
 
-/// Loads the policy, the requests and the transcript of an earlier session, each once those before it
-/// are found to be within their limits, and takes the session up.
+/// Loads the policy, the requests and the transcript of an earlier session, each once those before
+/// it are found to be within their limits, and takes the session up.
 pub fn begin<V: Decider, F: Shelf>(
     alloc: Global,
     decider: &V,

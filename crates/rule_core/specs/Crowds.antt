@@ -36,7 +36,7 @@ abbrev pub is_parted_from : Problem → ℕ → List ℕ → Bool
 is_parted_from p s [] = true
 is_parted_from p s (t ∷ ts) = are_parted p s t && is_parted_from p s ts
 
--- each two of some steps are parted
+-- each two of the steps are parted
 abbrev pub all_parted : Problem → List ℕ → Bool
 all_parted p [] = true
 all_parted p (s ∷ ss) = is_parted_from p s ss && all_parted p ss
@@ -46,7 +46,7 @@ abbrev pub is_open_to : Problem → ℕ → ℕ → Option ℕ → Bool
 is_open_to p s u None = p.authorised s u
 is_open_to p s u (Some v) = v == u
 
--- a user has or may get one of some steps
+-- a user has or may get one of the steps
 abbrev pub may_take_one : Problem → List (Option ℕ) → List ℕ → ℕ → Bool
 may_take_one p assigned [] u = false
 may_take_one p assigned (s ∷ ss) u = is_open_to p s u (user_at assigned s) || may_take_one p assigned ss u

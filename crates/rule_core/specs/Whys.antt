@@ -6,7 +6,8 @@ use Rattle.rule_core.specs.Crowds.{IsCrowd}
 use Rattle.rule_core.specs.declared.search.Why.{Why}
 use Rattle.rule_core.specs.declared.search.Why.TheVariants.{Plan, Crowd, Clash}
 
--- a plan is valid; where a crowd or rules that cannot be met together are told, there is no valid plan
+-- a plan is valid; where a crowd or rules that cannot be met together are told, there is no valid
+-- plan
 abbrev pub IsWhy : Problem → List (Option ℕ) → List Bool → Why → Type 0
 IsWhy p assigned finished (Plan plan) = IsValidPlan p assigned finished plan
 IsWhy p assigned finished (Crowd steps) = IsCrowd p assigned steps × (¬ IsCompletable p assigned finished)

@@ -26,7 +26,7 @@ pub(crate) fn is_crowd(p: &Policy, f: FlowId, a: &Assign, steps: &StepList) -> b
     all_parted(p, f, steps) && takers(p, f, a, steps) < steps.len()
 }
 
-// Whether each two of some steps want different users.
+// Whether each two of the steps want different users.
 fn all_parted(p: &Policy, f: FlowId, steps: &StepList) -> bool
     requires flow { f < length p.now.flows }
     ensures { result ≡ all_parted (problem_of p.now f) steps.now }
@@ -115,7 +115,7 @@ fn is_strict(p: &Policy, rho: RelId) -> bool
     true
 }
 
-// How many users have or may get one of some steps.
+// How many users have or may get one of the steps.
 fn takers(p: &Policy, f: FlowId, a: &Assign, steps: &StepList) -> usize
     requires flow { f < length p.now.flows }
     requires known { (s : ℕ) → is_one_of steps.now s ≡ true → s < (problem_of p.now f).steps }

@@ -106,7 +106,7 @@ fn scarce_steps(table: &Table, count: u8) -> u32
     bits
 }
 
-// Whether the steps of some bits are parted, and those who have or may get them are fewer.
+// Whether the steps whose bits are set are parted, and those who have or may get them are fewer.
 fn is_crowded(table: &Table, count: u8, bits: u32) -> bool
     requires { count ≤ STEP_LIMIT }
 {

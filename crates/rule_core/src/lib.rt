@@ -1,5 +1,5 @@
-//! Why a workflow has no valid plan: the rules that cannot be met together, none of which can be left
-//! out, or steps that want more different users than there are for them.
+//! Why a workflow has no valid plan: the rules that cannot be met together, none of which can be
+//! left out, or steps that want more different users than there are for them.
 #![tactic(auto)]
 
 mod crowd;

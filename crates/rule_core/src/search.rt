@@ -21,7 +21,8 @@ use wsp_solver::{Outcome, solve};
 pub enum Why {
     /// It can, by this valid plan.
     Plan(Plan),
-    /// It cannot: each two of these steps want different users, and fewer users have or may get them.
+    /// It cannot: each two of these steps want different users, and fewer users have or may get
+    /// them.
     Crowd(StepList),
     /// It cannot: these rules cannot be met together, though they can without any one of them.
     Clash(RuleList),

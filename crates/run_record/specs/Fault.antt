@@ -1,5 +1,5 @@
--- How a run ends: the status of each ending, how and when a run comes to it, and when counts of faults
--- rise. What else is told of endings is told by `how_of` and `when_of` alone.
+-- How a run ends: the status of each ending, how and when a run comes to it, and when counts of
+-- faults rise. What else is told of endings is told by `how_of` and `when_of` alone.
 use Rattle.std.specs.Prelude.{◌≡◌, ℕ, ◌≤◌, Bool, true, false, Result, Ok, Err}
 use Rattle.wf_outside.specs.Outside.{Rose}
 use Rattle.policy_reader.specs.declared.fault.ReadFault.{ReadFault}
@@ -35,8 +35,8 @@ pub data How : Type 0 where
   unwritten : How
   lacking : How
 
--- the words are no command; the command was done; a file is at fault; what is asked or the input is;
--- loading, reading or writing failed; or there was no memory
+-- the words are no command; the command was done; a file is at fault; what is asked or the input
+-- is; loading, reading or writing failed; or there was no memory
 abbrev pub how_of : RunFault → How
 how_of Nothing = answered
 how_of Found = answered
@@ -125,11 +125,12 @@ CountsLoads fault before after = LoadsSo (how_of fault) before after
 abbrev pub CountsWrites : RunFault → ℕ → ℕ → Type 0
 CountsWrites fault before after = WritesSo (how_of fault) before after
 
--- a failed read ends the run so, unless writing or memory fail while what was read before it is answered;
--- with every other ending none failed
+-- a failed read ends the run so, unless writing or memory fail while what was read before it is
+-- answered; with every other ending none failed
 abbrev pub CountsReads : RunFault → ℕ → ℕ → Type 0
 CountsReads fault before after = ReadsSo (how_of fault) before after
 
--- a failed read ends the run so; with every other ending none failed: where all is read before it is answered
+-- a failed read ends the run so; with every other ending none failed: where all is read before it
+-- is answered
 abbrev pub CountsReadsAlone : RunFault → ℕ → ℕ → Type 0
 CountsReadsAlone fault before after = ReadsSoAlone (how_of fault) before after

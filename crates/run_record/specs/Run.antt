@@ -51,8 +51,8 @@ pub record IsUntouched (r : Run) : Type 0 where
   pub unwritten : r.after.output ≡ r.before.output
   pub untold : r.told ≡ nothing_told
 
--- what every run keeps: one that ends before its input touches nothing, and each fault of the outside
--- is counted
+-- what every run keeps: one that ends before its input touches nothing, and each fault of the
+-- outside is counted
 pub record IsOrderly (r : Run) : Type 0 where
   pub early : is_before_input r.fault ≡ true → IsUntouched r
   pub loads : CountsLoads r.fault r.load_faults r.load_faults_after

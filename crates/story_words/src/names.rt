@@ -86,12 +86,12 @@ pub(crate) fn push_users(
     push_others(alloc, out, shown, count, last)
 }
 
-/// How many of so many are told.
+/// How many of `count` are told.
 pub(crate) fn shown_of(count: u32) -> u32 {
     if count > MOST_NAMED { NAMED } else { count }
 }
 
-/// Adds how many others there are, where not all of so many are shown.
+/// Adds how many others there are, where not all of `count` are shown.
 pub(crate) fn push_others(
     alloc: Global,
     out: &mut String,
@@ -124,7 +124,7 @@ pub(crate) fn roles_of(
     Ok(roles)
 }
 
-/// Adds the names of some roles.
+/// Adds the names of the roles.
 pub(crate) fn push_roles(out: &mut String, p: &Policy, roles: &[RoleId]) -> Result<(), AllocError> {
     let count = roles.len().min(256) as u32;
     let mut place = 0u32;

@@ -20,13 +20,13 @@ pub(crate) enum Deed<'a> {
     End,
 }
 
-/// The last of some entries, so many as are looked at for one line.
+/// The last of the entries, as many as are looked at for one line.
 pub(crate) fn recent(entries: &[Entry]) -> &[Entry] {
     let from = entries.len().saturating_sub(LOOKED_BACK);
     &entries[from..]
 }
 
-// The place of the last of some entries that did this to a case.
+// The place of the last of the entries that did `deed` to a case.
 fn last_with(entries: &[Entry], case: CaseId, deed: Deed<'_>) -> Option<usize> {
     for i in (0..entries.len()).rev() {
         if has_done(&entries[i], case, deed) {

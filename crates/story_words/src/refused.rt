@@ -22,8 +22,8 @@ pub(crate) enum Telling {
     InLines,
 }
 
-/// Adds lines that tell why nobody could finish a case after what was denied, if that is why it was.
-/// The policy and the cases are those after the entry.
+/// Adds lines that tell why nobody could finish a case after what was denied, if that is why it
+/// was. The policy and the cases are those after the entry.
 pub fn push_reasons(
     alloc: Global,
     out: &mut String,

@@ -68,7 +68,7 @@ fn push_step_line(
     out.push_str("\n")
 }
 
-// The length of the longest of some names.
+// The length of the longest of the names.
 fn widest(names: &NameTable) -> usize {
     let mut width = 0usize;
     for n in 0..names.len() {

@@ -11,8 +11,8 @@ use refutation_tree::{Branch, Kid, Tree};
 use std::alloc::{AllocError, Global};
 use wf_names::{FlowId, RULE_LIMIT, StepId, USER_LIMIT, UserId, UserSet};
 
-/// Adds the lines of a tree that shows why nobody can finish a case in which steps are given so, each
-/// behind this indent.
+/// Adds the lines of a tree that shows why nobody can finish a case in which steps are given so,
+/// each behind this indent.
 pub fn push_tree(
     alloc: Global,
     out: &mut String,
@@ -144,7 +144,7 @@ fn push_leaves(
     Ok(())
 }
 
-// Adds that each of some users breaks a rule at once, and how the first does.
+// Adds that each of the users breaks a rule at once, and how the first does.
 fn push_leaf(
     alloc: Global,
     out: &mut String,
@@ -168,7 +168,7 @@ fn push_leaf(
     }
 }
 
-// The users of some branches: of all, or of those that break a rule at once.
+// The users of the branches: of all, or of those that break `rule` at once.
 fn users_of(branches: &[Branch], rule: Option<u8>) -> UserSet {
     let mut users = UserSet::empty();
     for branch in branches {

@@ -97,7 +97,7 @@ fn push_clash(
     })
 }
 
-// Adds a line for each of some rules.
+// Adds a line for each of the rules.
 fn push_rule_lines(
     alloc: Global,
     out: &mut String,

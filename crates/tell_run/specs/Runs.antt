@@ -41,7 +41,8 @@ RunsAsked (asked.Told what s) r = IsCounted r × TellsRun r.files
     (record { policy = s.policy.now; requests = s.requests.now; transcript = s.transcript.now })
     s.lanes s.rounds (Tells what) r.before.output r.after.output r.fault
 
--- the words ask for something that can be told; or for help, which is written; or they are none, or there is no memory, and nothing is
+-- the words ask for something that can be told; or for help, which is written; or they are none, or
+-- there is no memory, and nothing is
 abbrev pub RunsAlone : Run → Type 0
 RunsAlone r =
     ((a : Asked) × (CanTell a × RunsAsked a r))

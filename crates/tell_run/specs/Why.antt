@@ -14,12 +14,14 @@ use Rattle.wf_commands.specs.Once.{Refuses}
 abbrev pub CanBeDone : PolicyShape → ℕ → Type 0
 CanBeDone p f = IsCompletable (problem_of p f) no_users no_steps
 
--- the first of these ends the run exactly where the workflow can be done, the second where it cannot
+-- the first of these ends the run exactly where the workflow can be done, the second where it
+-- cannot
 pub record AnswersWhy (p : PolicyShape) (f : ℕ) (fault : RunFault) : Type 0 where
   pub plan : (fault ≡ Nothing) ↔ CanBeDone p f
   pub none : (fault ≡ Found) ↔ (CanBeDone p f → ⊥)
 
--- it is told of the workflow that is named; where there is none, that is the answer. The words are not said
+-- it is told of the workflow that is named; where there is none, that is the answer. The words are
+-- not said
 abbrev pub TellsWhy : PolicyShape → List ℕ → RunFault → List ℕ → Type 0
 TellsWhy p word fault text =
     MatchOption (number_named p.flow_names word) (Refuses (BadInput NoFlow) fault text)

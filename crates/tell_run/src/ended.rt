@@ -15,8 +15,8 @@ pub struct Ended {
     pub usage: String,
 }
 
-/// Tells standard error why a run failed, and gives the status. The status tells even where standard
-/// error is closed.
+/// Tells standard error why a run failed, and gives the status. The status tells even where
+/// standard error is closed.
 pub fn end<W: Write>(errors: &mut W, ended: &Ended) -> ExitCode
     ensures { exit_status result ≡ status_of ended.now.fault }
 {

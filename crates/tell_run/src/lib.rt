@@ -1,5 +1,5 @@
-//! The program that tells in words what a policy says: its commands, over whatever shelf, source and
-//! sink it is given.
+//! The program that tells in words what a policy says: its commands, over whatever shelf, source
+//! and sink it is given.
 #![tactic(auto)]
 
 mod ended;

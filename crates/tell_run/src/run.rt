@@ -17,8 +17,8 @@ use std::alloc::Global;
 use wf_commands::answer_once;
 use wf_outside::{Shelf, Sink, Source, put_and_flush};
 
-/// Runs the command that the words are, which are those after the program's name. It starts no thread
-/// and waits for nothing.
+/// Runs the command that the words are, which are those after the program's name. It starts no
+/// thread and waits for nothing.
 pub fn run_alone<F: Shelf, S: Source, K: Sink>(
     alloc: Global,
     words: &[String],

@@ -1,20 +1,19 @@
 -- The lines of a text are taken one after the other.
-use Rattle.std.proofs.Common.{◌≡◌, ℕ, ◌+◌, ◌-◌, ◌<◌, ◌≤◌, List, [], ◌∷◌, ◌++◌, length, take, drop, Option, None, Result, Ok, Err, append_assoc, append-nil, inl, inr, refl, sym, ap, subst, ◌∙◌, arith}
+use Rattle.std.proofs.Common.{◌≡◌, ℕ, ◌+◌, ◌-◌, ◌<◌, ◌≤◌, List, [], ◌∷◌, ◌++◌, length, take, drop, None, Result, Ok, Err, inl, inr, sym, ap, subst, ◌∙◌, arith}
 use Rattle.std.specs.Prelude.{IfErr, IsErrAnd}
-use Rattle.std.proofs.lemmas.List.{drop-drop, drop_all, length-drop, take_all}
-use Rattle.wf_names.specs.declared.limits.TheConstants.{LANE_LIMIT}
+use Rattle.std.proofs.lemmas.List.{length-drop, take_all}
 use Rattle.wf_talk.specs.declared.entry.Entry.{Entry}
 use Rattle.line_reader.specs.Lines.{behind_line, first_line, lines_of}
 use Rattle.line_reader.proofs.FirstLines.{lines_first}
 use Rattle.transcript_audit.specs.declared.fault.AuditFault.{AuditFault}
 use Rattle.transcript_audit.specs.declared.fault.AuditFault.TheVariants.{At, NoMemory}
 use Rattle.transcript_audit.specs.declared.fault.AuditKind.{AuditKind}
-use Rattle.transcript_audit.specs.Audits.{AuditShape, AreNext, HasFault, IsNextLine, IsTranscriptPart, audit_of, with_entry}
+use Rattle.transcript_audit.specs.Audits.{AuditShape, AreNext, HasFault, audit_of}
 use Rattle.transcript_audit.proofs.Exact.{next_pushed}
 use Rattle.transcript_audit.specs.Laws.{AreOfSession, FaultsExclude, NextIsOne, PartIsExact}
 use Rattle.transcript_audit.specs.Outcomes.{HasTakenLine, IsFirstFault}
 use Rattle.transcript_resume.specs.Auditing.{FailsIn, HasTakenAll, HasTakenFirst}
-use Rattle.transcript_resume.specs.Resumed.{FailsAt, IsRefused, IsTakenUp, RefusesBy, Session, whole_lines}
+use Rattle.transcript_resume.specs.Resumed.{FailsAt, IsTakenUp, RefusesBy, Session, whole_lines}
 
 -- ---- one line
 
@@ -39,67 +38,14 @@ failed_first a b text n NoMemory some line going taken = tt
 
 -- ---- all lines
 
-pub took_none : (a : AuditShape) → HasTakenAll a a []
-took_none a = record { entries = []; next = tt; after = sym (ap (λ es. record a { entries = es }) (append-nil a.entries)) }
-
-took_more : (a b c : AuditShape) (text rest : List ℕ) → HasTakenFirst a b text rest → HasTakenAll b c (lines_of rest) → HasTakenAll a c (lines_of text)
-took_more a b c text rest first all =
-    let e = first.entry in
-    record {
-      entries = e ∷ all.entries;
-      next = subst (λ ls. AreNext a ls (e ∷ all.entries)) (sym first.lines) (first.next, subst (λ x. AreNext x (lines_of rest) all.entries) first.after all.next);
-      after = all.after ∙ ap (λ (x : AuditShape). record x { entries = x.entries ++ all.entries }) first.after
-          ∙ ap (λ es. record a { entries = es }) (append_assoc a.entries (e ∷ []) all.entries);
-    }
-
-failed_more : (a b : AuditShape) (text rest : List ℕ) (n : ℕ) (kind : AuditKind) → HasTakenFirst a b text rest → FailsAt b (lines_of rest) n kind → FailsAt a (lines_of text) n kind
-failed_more a b text rest n kind first fails =
-    subst (λ ls. FailsAt a ls n kind) (sym first.lines)
-    (inr (first.entry, (first.next, subst (λ x. FailsAt x (lines_of rest) n kind) first.after fails)))
-
 -- what is left of a text behind a place, as a slice
 pub left_at : (text : List ℕ) (at : ℕ) → take (length text - at) (drop at text) ≡ drop at text
 left_at text at = take_all (length text - at) (drop at text) (omega (arith, length-drop at text))
-
-pub left_some : (text : List ℕ) (at : ℕ) → at < length text → 0 < length (take (length text - at) (drop at text))
-left_some text at within =
-    let same = ap length (left_at text at) in
-    omega (arith, within, same, length-drop at text)
 
 pub left_within : (text : List ℕ) (at n : ℕ) → at ≤ length text → n ≤ length (take (length text - at) (drop at text)) → at + n ≤ length text
 left_within text at n begun within =
     let same = ap length (left_at text at) in
     omega (arith, begun, within, same, length-drop at text)
-
-first_behind : (a b : AuditShape) (text : List ℕ) (at n : ℕ) → HasTakenFirst a b (take (length text - at) (drop at text)) (drop n (take (length text - at) (drop at text))) →
-    HasTakenFirst a b (drop at text) (drop (at + n) text)
-first_behind a b text at n first =
-    subst (λ xs. HasTakenFirst a b (drop at text) xs) (drop-drop n at text)
-    (subst (λ xs. HasTakenFirst a b xs (drop n xs)) (left_at text at) first)
-
--- one line more
-pub takes_on : (first a b c : AuditShape) (text : List ℕ) (at n : ℕ) → HasTakenFirst a b (take (length text - at) (drop at text)) (drop n (take (length text - at) (drop at text))) →
-    (HasTakenAll a c (lines_of (drop at text)) → HasTakenAll first c (lines_of text)) → HasTakenAll b c (lines_of (drop (at + n) text)) → HasTakenAll first c (lines_of text)
-takes_on first a b c text at n one goes all = goes (took_more a b c (drop at text) (drop (at + n) text) (first_behind a b text at n one) all)
-
-pub fails_on : (first a b : AuditShape) (text : List ℕ) (at n m : ℕ) (kind : AuditKind) → HasTakenFirst a b (take (length text - at) (drop at text)) (drop n (take (length text - at) (drop at text))) →
-    (FailsAt a (lines_of (drop at text)) m kind → FailsAt first (lines_of text) m kind) → FailsAt b (lines_of (drop (at + n) text)) m kind → FailsAt first (lines_of text) m kind
-fails_on first a b text at n m kind one goes fails = goes (failed_more a b (drop at text) (drop (at + n) text) m kind (first_behind a b text at n one) fails)
-
-pub still_going : (a b : AuditShape) (text rest : List ℕ) → HasTakenFirst a b text rest → a.fault ≡ None → b.fault ≡ None
-still_going a b text rest first going = ap (λ (x : AuditShape). x.fault) first.after ∙ going
-
--- a line that is not taken
-pub fails_here : (first a : AuditShape) (text : List ℕ) (at : ℕ) (fault : AuditFault) →
-    ((n : ℕ) (kind : AuditKind) → FailsAt a (lines_of (drop at text)) n kind → FailsAt first (lines_of text) n kind) →
-    FailsIn a (lines_of (take (length text - at) (drop at text))) fault → FailsIn first (lines_of text) fault
-fails_here first a text at (At n kind) goes fails = goes n kind (subst (λ xs. FailsAt a (lines_of xs) n kind) (left_at text at) fails)
-fails_here first a text at NoMemory goes fails = tt
-
--- no line is left
-pub all_taken : (first a : AuditShape) (text : List ℕ) (at : ℕ) → length text ≤ at → (HasTakenAll a a (lines_of (drop at text)) → HasTakenAll first a (lines_of text)) →
-    HasTakenAll first a (lines_of text)
-all_taken first a text at past goes = goes (subst (λ xs. HasTakenAll a a (lines_of xs)) (sym (drop_all at text past)) (took_none a))
 
 -- ---- what was taken, and what was not
 
@@ -124,16 +70,6 @@ none_next law one s done (line ∷ lines) es (e ∷ rest) n kind session so_far 
       none_next law one s (done ++ line ∷ []) lines (es ++ e ∷ []) rest n kind session (next_pushed a done es line e so_far next.0) next.1
       (subst (λ x. FailsAt (record a { entries = es ++ x ∷ [] }) lines n kind) same goes.1.1)
 ]
-
--- an audit keeps its beginning
-pub kept_opening : (a b : AuditShape) (lines : List (List ℕ)) → HasTakenAll a b lines → b.opening ≡ a.opening
-kept_opening a b lines all = ap (λ (x : AuditShape). x.opening) all.after
-
-pub kept_jobs : (a b : AuditShape) (lines : List (List ℕ)) → HasTakenAll a b lines → b.jobs ≡ a.jobs
-kept_jobs a b lines all = ap (λ (x : AuditShape). x.jobs) all.after
-
-pub kept_ends : (a b : AuditShape) (lines : List (List ℕ)) → HasTakenAll a b lines → b.batch_ends ≡ a.batch_ends
-kept_ends a b lines all = ap (λ (x : AuditShape). x.batch_ends) all.after
 
 refused_by : FaultsExclude → NextIsOne → PartIsExact → (s : Session) (transcript : List ℕ) (fault : AuditFault) → AreOfSession s.policy s.rounds s.jobs s.batch_ends →
     FailsIn (audit_of s.policy s.rounds s.jobs s.batch_ends) (lines_of (whole_lines transcript)) fault → RefusesBy s transcript fault

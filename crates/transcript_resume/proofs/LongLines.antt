@@ -1,7 +1,7 @@
 -- The first line that is too long.
-use Rattle.std.proofs.Common.{◌≡◌, ℕ, zero, suc, ◌+◌, ◌-◌, ◌==◌, ◌<◌, ◌≤◌, nat_lt, Bool, true, false, List, [], ◌∷◌, length, take, drop, Option, None, Some, refl, sym, ap, subst, ◌∙◌, arith}
+use Rattle.std.proofs.Common.{◌≡◌, ℕ, suc, ◌+◌, ◌-◌, ◌==◌, ◌<◌, ◌≤◌, nat_lt, Bool, true, false, List, [], ◌∷◌, length, take, drop, Option, None, Some, refl, sym, ap, subst, ◌∙◌, arith}
 use Rattle.std.proofs.lemmas.Bool.{le-ltb, lt-ltb}
-use Rattle.std.proofs.lemmas.List.{drop-drop, drop_all, length-drop}
+use Rattle.std.proofs.lemmas.List.{drop-drop, length-drop}
 use Rattle.wf_names.specs.declared.limits.TheConstants.{TRANSCRIPT_LINE_LIMIT}
 use Rattle.memchr.specs.Find.{IsFirstByte, is_byte}
 use Rattle.line_reader.specs.Lines.{behind_line, first_line, has_end, line_length, lines_of}
@@ -47,10 +47,6 @@ pub long_behind : (n : ℕ) (bytes : List ℕ) → 0 < length bytes → line_len
 long_behind n bytes some short =
     let here : nat_lt TRANSCRIPT_LINE_LIMIT (line_length (first_line bytes)) ≡ false = le-ltb TRANSCRIPT_LINE_LIMIT (line_length (first_line bytes)) (let same = alone bytes in omega (arith, same, short)) in
     rw (lines_first bytes some) (rw here refl)
-
--- none is left
-pub long_none : (n at : ℕ) (bytes : List ℕ) → length bytes ≤ at → first_long n (lines_of (drop at bytes)) ≡ None
-long_none n at bytes past = ap (λ xs. first_long n (lines_of xs)) (drop_all at bytes past)
 
 -- the same of what is left of a text behind a place, as a slice
 pub long_at : (n at : ℕ) (text : List ℕ) (found : Option ℕ) → at < length text → TRANSCRIPT_LINE_LIMIT < line_length (take (length text - at) (drop at text))

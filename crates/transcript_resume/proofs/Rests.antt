@@ -12,7 +12,7 @@ use Rattle.wf_desk.specs.Desks.{AnswersPart, AreOfLanes, served_jobs}
 use Rattle.wf_desk.proofs.DocketLaws.{first_of_lanes}
 use Rattle.wf_desk.specs.Parts.{FillsPart, lane_answered}
 use Rattle.transcript_audit.specs.Keeping.{IsBatchOf, end_of}
-use Rattle.transcript_audit.proofs.Batches.{batch_there, end_is, end_read, ends_within, last_start, read_behind, slice_part, start_before_end, start_is}
+use Rattle.transcript_audit.proofs.Batches.{batch_there, end_is, end_read, ends_within, last_start, read_behind, start_before_end, start_is}
 use Rattle.transcript_resume.specs.Places.{end_at, jobs_between, start_at}
 
 -- there is a batch in which a place stands, or it stands behind the last
@@ -161,9 +161,3 @@ pub lanes_between : (lanes from end : ℕ) (jobs : List Job) → AreOfLanes lane
 lanes_between lanes from end jobs of_lanes = rest_of_lanes lanes from (take end jobs) (first_of_lanes lanes end jobs of_lanes)
 
 -- ---- the bounds, end after end
-
-pub past_end : (from place end : ℕ) (ends : List ℕ) → end ≤ place → start_at from place (end ∷ ends) ≡ start_at end place ends
-past_end from place end ends past = grind (arith, common_steps)
-
-pub past_stop : (place end : ℕ) (ends : List ℕ) → end ≤ place → end_at place (end ∷ ends) ≡ end_at place ends
-past_stop place end ends past = grind (arith, common_steps)

@@ -13,7 +13,8 @@ pub record HasTakenAll (a b : AuditShape) (lines : List (List ℕ)) : Type 0 whe
   pub next : AreNext a lines entries
   pub after : b ≡ record a { entries = a.entries ++ entries }
 
--- the first line of a text is the text of an entry that comes next, and the entry is taken; this is the rest of the text
+-- the first line of a text is the text of an entry that comes next, and the entry is taken; this is
+-- the rest of the text
 pub record HasTakenFirst (a b : AuditShape) (text rest : List ℕ) : Type 0 where
   pub line : List ℕ
   pub lines : lines_of text ≡ line ∷ lines_of rest

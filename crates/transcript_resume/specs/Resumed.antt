@@ -1,5 +1,7 @@
--- Going on from a transcript: its whole lines, the entries that they tell, and the first line that tells none.
-use Rattle.std.specs.Prelude.{◌≡◌, ℕ, ◌+◌, nat_lt, List, [], ◌∷◌, length, Option, None, Some, Result, Ok, Err, if◌then◌else◌}
+-- Going on from a transcript: its whole lines, the entries that they tell, and the first line that
+-- tells none.
+use Rattle.std.specs.Prelude.{◌≡◌, ℕ, ◌+◌, nat_lt, List, [], ◌∷◌, length, Option, None, Some}
+use Rattle.std.specs.Prelude.{Result, Ok, Err, if◌then◌else◌}
 use Rattle.std.proofs.Common.{◌⊎◌}
 use Rattle.wf_names.specs.declared.limits.TheConstants.{TRANSCRIPT_LINE_LIMIT}
 use Rattle.policy_book.specs.Shapes.{PolicyShape}
@@ -10,11 +12,12 @@ use Rattle.wf_desk.specs.Desks.{DeskShape}
 use Rattle.transcript_audit.specs.declared.fault.AuditFault.{AuditFault}
 use Rattle.transcript_audit.specs.declared.fault.AuditFault.TheVariants.{At, NoMemory}
 use Rattle.transcript_audit.specs.declared.fault.AuditKind.{AuditKind}
-use Rattle.transcript_audit.specs.Audits.{AuditShape, AreNext, HasFault, IsNextLine, IsTranscriptPart, audit_of, with_entry}
+use Rattle.transcript_audit.specs.Audits.{AuditShape, AreNext, HasFault, IsNextLine}
+use Rattle.transcript_audit.specs.Audits.{IsTranscriptPart, audit_of, with_entry}
 use Rattle.transcript_resume.specs.Places.{end_at, jobs_between, start_at}
 
--- a session: the policy at its beginning, how many lanes there are, after how many lost rounds a request is answered again,
--- and the jobs of its requests with the ends of their batches
+-- a session: the policy at its beginning, how many lanes there are, after how many lost rounds a
+-- request is answered again, and the jobs of its requests with the ends of their batches
 pub record Session : Type 0 where
   pub policy : PolicyShape
   pub lanes : ℕ
@@ -32,11 +35,13 @@ abbrev pub first_long : ℕ → List (List ℕ) → Option ℕ
 first_long n [] = None
 first_long n (line ∷ lines) = if nat_lt TRANSCRIPT_LINE_LIMIT (line_length line) then Some n else first_long (n + 1) lines
 
--- the whole lines of a transcript are those of these entries, and these are a legal history that answers a part of the jobs
+-- the whole lines of a transcript are those of these entries, and these are a legal history that
+-- answers a part of the jobs
 abbrev pub IsTakenUp : Session → List ℕ → List Entry → Type 0
 IsTakenUp s transcript entries = IsTranscriptPart s.policy s.rounds s.jobs s.batch_ends (lines_of (whole_lines transcript)) entries
 
--- the first of these lines that is not the text of an entry that comes next has this number and this fault
+-- the first of these lines that is not the text of an entry that comes next has this number and
+-- this fault
 abbrev pub FailsAt : AuditShape → List (List ℕ) → ℕ → AuditKind → Type 0
 FailsAt a [] n kind = ⊥
 FailsAt a (line ∷ lines) n kind =
@@ -52,7 +57,8 @@ abbrev pub RefusesBy : Session → List ℕ → AuditFault → Type 0
 RefusesBy s transcript (At n kind) = IsRefused s transcript n kind
 RefusesBy s transcript NoMemory = Unit {0}
 
--- a desk goes on behind these entries: it has the jobs of the batch in which they stop, up to its end
+-- a desk goes on behind these entries: it has the jobs of the batch in which they stop, up to its
+-- end
 pub record GoesOnAt (s : Session) (es : List Entry) (stop : ℕ) (d : DeskShape) : Type 0 where
   pub opening : d.opening ≡ s.policy
   pub lanes : d.lanes ≡ s.lanes

@@ -1,5 +1,5 @@
-//! Where a session goes on from: the whole lines of its transcript, the desk after their entries, and
-//! the jobs that have none.
+//! Where a session goes on from: the whole lines of its transcript, the desk after their entries,
+//! and the jobs that have none.
 #![tactic(auto)]
 
 mod lines;

@@ -24,7 +24,8 @@ use wf_talk::Journal;
 /// A session that goes on.
 #[derive(Drop)]
 pub struct Resumed {
-    /// The desk behind the entries of the transcript, with the jobs of the batch in which they stop.
+    /// The desk behind the entries of the transcript, with the jobs of the batch in which they
+    /// stop.
     pub desk: Desk,
     /// All jobs of the requests, with the ends of their batches.
     pub batch: Batch,

@@ -29,8 +29,9 @@ AreBatchesByTurns batch_ends entries =
 
 -- a session of the trial of a seed: its entries are a legal history that holds each of the trial's
 -- jobs once, batch after batch, and in each batch by turns, one of each lane after the other; none
--- is answered again, and only an opening, a claim, an edit or a view over the open cases with want of
--- memory; each entry decides exactly what was asked, and leaves every open case one that can be completed
+-- is answered again, and only an opening, a claim, an edit or a view over the open cases with want
+-- of memory; each entry decides exactly what was asked, and leaves every open case one that can be
+-- completed
 pub record IsServedTrial (seed : ℕ) (told : Told) : Type 0 where
   pub jobs : told.jobs ≡ trial_jobs seed CASES
   pub ends : told.batch_ends ≡ trial_ends CASES
@@ -42,7 +43,7 @@ pub record IsServedTrial (seed : ℕ) (told : Told) : Type 0 where
   pub exact : AreExact (trial_policy seed) told.entries
   pub kept : (n : ℕ) → KeepsCompletable (state_after (opening_state (trial_policy seed)) (take n told.entries))
 
--- the line for a seed, so many jobs and such counts of replies
+-- the line for a seed, a number of jobs and counts of replies
 abbrev pub summary_line : ℕ → ℕ → Counts → List ℕ
 summary_line seed lines c =
     codes "trial " ++ decimal seed ++ codes " lines " ++ decimal lines

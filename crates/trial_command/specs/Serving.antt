@@ -34,7 +34,7 @@ pub record HasServedBatch (before after : DeskShape) (batch : List Job) : Type 0
   pub once : AreAnsweredOnce more
   pub done : IsDone after
 
--- the jobs of some batches were served, from the first on
+-- the jobs of the batches were served, from the first on
 pub record HasServedAll (before after : DeskShape) (jobs : List Job) (batch_ends : List ℕ) : Type 0 where
   pub same : IsSameSession before after
   pub done : IsDone after

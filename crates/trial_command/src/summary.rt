@@ -16,7 +16,7 @@ pub(crate) fn summary_of(alloc: Global, seed: u64, served: &Served) -> Result<St
     summary_line(alloc, seed, served.jobs.len() as u64, &counts)
 }
 
-/// The line for a seed, so many jobs and such counts of replies.
+/// The line for a seed, `lines` jobs and these counts of replies.
 pub(crate) fn summary_line(
     alloc: Global,
     seed: u64,

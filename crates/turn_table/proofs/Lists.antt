@@ -43,21 +43,6 @@ module _ {A : Type 0} where
   pub longest : (now xs ys : List A) → StartsWith now xs → StartsWith now ys → StartsWith now (longer xs ys) × StartsWith (longer xs ys) xs × StartsWith (longer xs ys) ys × StartsWith now (shorter xs ys)
   longest now xs ys a c = ends now xs ys a c (nat_lt (length xs) (length ys)) refl
 
-  sizes : (xs ys : List A) (b : Bool) → nat_lt (length xs) (length ys) ≡ b → length (if b then xs else ys) ≤ length (if b then ys else xs)
-  sizes xs ys true is = grind (arith, nat_tests)
-  sizes xs ys false is = grind (arith, nat_tests)
-
-  pub shorter-le-longer : (xs ys : List A) → length (shorter xs ys) ≤ length (longer xs ys)
-  shorter-le-longer xs ys = sizes xs ys (nat_lt (length xs) (length ys)) refl
-
-  both : (xs ys : List A) (b : Bool) → StartsWith (if b then ys else xs) (if b then xs else ys) → StartsWith (if b then ys else xs) xs × StartsWith (if b then ys else xs) ys
-  both xs ys true h = (h, begins_self ys)
-  both xs ys false h = (begins_self xs, h)
-
-  -- where the longer begins with the shorter, it begins with both
-  pub longer_begins : (xs ys : List A) → StartsWith (longer xs ys) (shorter xs ys) → StartsWith (longer xs ys) xs × StartsWith (longer xs ys) ys
-  longer_begins xs ys h = both xs ys (nat_lt (length xs) (length ys)) h
-
 module _ {I : Type 0} where
   pub pairs-append : (n : ℕ) (xs ys : List (ℕ × I)) → pairs_under n (xs ++ ys) ≡ pairs_under n xs ++ pairs_under n ys
   pairs-append n xs ys = filter-append (λ p. p.0 == n) xs ys

@@ -49,10 +49,6 @@ some_of (Some n) h = (n, refl)
 pub at_some : (P : ℕ → Type 0) (o : Option ℕ) (n : ℕ) → o ≡ Some n → IfSome o P → P n
 at_some P o n e h = subst (λ x. IfSome x P) e h
 
-pub if_some : (P : ℕ → Type 0) (o : Option ℕ) → ((n : ℕ) → o ≡ Some n → P n) → IfSome o P
-if_some P None h = tt
-if_some P (Some n) h = h n refl
-
 -- only a lane with a number has the value out
 pub inside : (out : Bool) (o : Option ℕ) → (out ≡ true → IsSome o) → o ≡ None → out ≡ false
 inside false o h e = refl

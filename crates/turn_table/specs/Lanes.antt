@@ -1,5 +1,6 @@
 -- What contracts see of a lane.
-use Rattle.std.specs.Prelude.{◌≡◌, ℕ, Bool, true, false, List, [], ◌∷◌, ◌++◌, Option, Some, None, IsSome}
+use Rattle.std.specs.Prelude.{◌≡◌, ℕ, Bool, true, false, List, [], ◌∷◌, ◌++◌, Option, Some, None}
+use Rattle.std.specs.Prelude.{IsSome}
 pub use Rattle.atomic_table.specs.Seated.{TableId}
 use Rattle.turn_table.specs.Lists.{longer, brought}
 use Rattle.turn_table.specs.declared.view.View.{View}

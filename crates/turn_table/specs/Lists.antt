@@ -1,5 +1,6 @@
 -- Lists of pairs of a lane's number and an item, and the beginnings of such lists.
-use Rattle.std.specs.Prelude.{◌≡◌, ◌⊎◌, ℕ, ◌==◌, List, [], ◌∷◌, ◌++◌, length, Option, Some, None, nat_lt, if◌then◌else◌}
+use Rattle.std.specs.Prelude.{◌≡◌, ◌⊎◌, ℕ, ◌==◌, List, [], ◌∷◌, ◌++◌, length, Option, Some, None}
+use Rattle.std.specs.Prelude.{nat_lt, if◌then◌else◌}
 use Rattle.std.specs.List.{filter}
 
 -- xs begins with ys
@@ -30,7 +31,8 @@ longer xs ys = if nat_lt (length xs) (length ys) then ys else xs
 abbrev pub shorter : {A : Type 0} → List A → List A → List A
 shorter xs ys = if nat_lt (length xs) (length ys) then xs else ys
 
--- the numbers that a lane brings where it is joined: its own, if it has one, and those that were joined into it
+-- the numbers that a lane brings where it is joined: its own, if it has one, and those that were
+-- joined into it
 abbrev pub brought : Option ℕ → List ℕ → List ℕ
 brought None joined = joined
 brought (Some n) joined = n ∷ joined

@@ -7,8 +7,8 @@ use crate::view::View;
 use atomic_table::Seat;
 use std::marker::Model;
 
-/// What one lane knows of a table, and whether it has the value out. A thread carries it from turn to turn.
-/// One that is dropped is never joined, so its table cannot be closed.
+/// What one lane knows of a table, and whether it has the value out. A thread carries it from turn
+/// to turn. One that is dropped is never joined, so its table cannot be closed.
 pub struct Lane<D: Tabled> {
     pub(crate) seat: Seat<Option<D>, View<D::Ground, D::Item>>,
     pub(crate) out: bool,

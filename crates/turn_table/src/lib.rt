@@ -1,10 +1,11 @@
 //! A lock by which lanes take turns at one value, in which each lane knows a history.
 //!
-//! The value has a list of pairs of a lane's number and an item. What a lane has seen of that list is a beginning of
-//! what it finds when it next takes the value, and only the lane itself appends pairs of its number.
+//! The value has a list of pairs of a lane's number and an item. What a lane has seen of that list
+//! is a beginning of what it finds when it next takes the value, and only the lane itself appends
+//! pairs of its number.
 //!
-//! Nothing is said of progress or fairness, or of the order of turns of lanes that never met: `take` meets its contract
-//! if it returns.
+//! Nothing is said of progress or fairness, or of the order of turns of lanes that never met:
+//! `take` meets its contract if it returns.
 #![tactic(auto)]
 
 mod lane;

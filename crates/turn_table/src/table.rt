@@ -1,5 +1,6 @@
 //! The table, and the calls by which lanes take turns.
-ghost use Rattle.std.specs.Prelude.{◌≡◌, ◌⊎◌, ℕ, ◌+◌, ◌<◌, ◌≤◌, true, false, ◌++◌, length, drop, [], ◌∷◌, IsSome, IfSome, IfOk, IfErr};
+ghost use Rattle.std.specs.Prelude.{◌≡◌, ◌⊎◌, ℕ, ◌+◌, ◌<◌, ◌≤◌, true, false, ◌++◌, length, drop};
+ghost use Rattle.std.specs.Prelude.{[], ◌∷◌, IsSome, IfSome, IfOk, IfErr};
 ghost use Rattle.std.specs.List.{Contains};
 ghost use Rattle.turn_table.specs.Lists.{StartsWith, Quiet, OwnPast, GrowsByOne};
 ghost use Rattle.turn_table.specs.Lanes.{first_lane, next_lane, joined_lane};
@@ -15,7 +16,8 @@ use std::snapshot::Snapshot;
 use std::sync::Wait;
 use std::{hint, thread};
 
-// What word 0 is: the lock is free, it is held, or it is held and the list that the turn gives back is noted.
+// What word 0 is: the lock is free, it is held, or it is held and the list that the turn gives back
+// is noted.
 const FREE: u64 = 0;
 
 const HELD: u64 = 1;
@@ -25,7 +27,7 @@ const NOTED: u64 = 2;
 // How often a lane tries to take the lock before it lets other threads go on.
 const SPINS: u32 = 100;
 
-// What a lane does between two tries, of which so many were made since it last let others go on.
+// What a lane does between two tries, where it made `tries` since it last let others go on.
 fn pause(tries: u32) -> u32 {
     if tries < SPINS {
         hint::spin_loop();
@@ -88,7 +90,8 @@ fn value_of<D>(mut slots: Vec<Option<D>>) -> D
 }
 
 impl<D: Tabled> TurnTable<D> {
-    /// A table for `lanes` lanes beside the first one, 1 to 8, and its first lane, which has no number and takes no turns.
+    /// A table for `lanes` lanes beside the first one, 1 to 8, and its first lane, which has no
+    /// number and takes no turns.
     pub fn new(alloc: Global, value: D, lanes: u8) -> Result<(TurnTable<D>, Lane<D>), Refused<D>>
         requires { (1 ≤ lanes) × (lanes ≤ 8) }
         ensures first { IfOk result (λ t. t.1
@@ -108,7 +111,8 @@ impl<D: Tabled> TurnTable<D> {
         }
     }
 
-    /// A lane of the table, with the next number. Only the first lane makes lanes, and no more than the table may have.
+    /// A lane of the table, with the next number. Only the first lane makes lanes, and no more than
+    /// the table may have.
     pub fn lane(&self, parent: &mut Lane<D>) -> Lane<D>
         requires table { parent.old.table ≡ self.now }
         requires first { parent.old.number ≡ None }
@@ -142,7 +146,8 @@ impl<D: Tabled> TurnTable<D> {
         unreachable!()
     }
 
-    /// Gives the value back, with at most one item of the lane's after those that it had, and ends the turn.
+    /// Gives the value back, with at most one item of the lane's after those that it had, and ends
+    /// the turn.
     pub fn give(&self, lane: &mut Lane<D>, value: D)
         requires table { lane.old.table ≡ self.now }
         requires out { lane.old.out ≡ true }
@@ -184,7 +189,8 @@ impl<D: Tabled> TurnTable<D> {
         shared.load::<Compare>(&mut into.seat, 0);
     }
 
-    /// The value, once every lane is joined into the first one. Its list is what the first lane has seen.
+    /// The value, once every lane is joined into the first one. Its list is what the first lane has
+    /// seen.
     pub fn close(self, first: Lane<D>) -> D
         requires table { first.table ≡ self }
         requires first { first.number ≡ None }

@@ -51,11 +51,6 @@ other_named limit (told file) Failed fault other loads = λ long. let short : le
 other_named limit (told file) load.NoMemory fault other loads = λ long. let short : length file ≤ limit = loads in absurd (omega arith)
 other_named limit (told file) TooLong fault other loads = absurd (other refl)
 
-pub loaded_named : (limit : ℕ) (f : Filed) (bytes : List ℕ) (fault : RunFault) → GivesBytes limit f (Ok bytes) → EndsTooLong limit f fault
-loaded_named limit untold bytes fault gives = tt
-loaded_named limit missing bytes fault gives = tt
-loaded_named limit (told file) bytes fault gives = λ long. let short : length file ≤ limit = gives.0 in absurd (omega arith)
-
 pub policy_named : (f : Filed) (p : PolicyShape) (fault : RunFault) → GivesPolicy f (Ok p) → EndsTooLong POLICY_FILE_LIMIT f fault
 policy_named untold p fault gives = tt
 policy_named missing p fault gives = tt

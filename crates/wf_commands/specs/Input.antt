@@ -1,5 +1,6 @@
 -- The input of `plan`: one JSON array of the users' names in the order of the steps.
-use Rattle.std.specs.Prelude.{◌≡◌, ℕ, ◌<◌, ◌==◌, Bool, List, [], ◌∷◌, ◌++◌, length, Option, None, Some, if◌then◌else◌, is_some, option_and_then, Result, Ok}
+use Rattle.std.specs.Prelude.{◌≡◌, ℕ, ◌<◌, ◌==◌, Bool, List, [], ◌∷◌, ◌++◌, length, Option, None}
+use Rattle.std.specs.Prelude.{Some, if◌then◌else◌, is_some, option_and_then, Result, Ok}
 use Rattle.std.specs.List.{list_all}
 use Rattle.serde_json.specs.Data.{Data, Items, no_items, item}
 use Rattle.serde_json.specs.Find.{as_str, as_array}
@@ -33,7 +34,7 @@ next_user p so_far d = do
   u ← or_fault (option_and_then (number_named p.roster.users) (as_str d)) (NoUser (length so_far))
   Ok (so_far ++ u ∷ [])
 
--- the plan that an input is for a workflow with so many steps, or the first fault: the input is no
+-- the plan that an input is for a workflow with these steps, or the first fault: the input is no
 -- array of texts, there is not one text for each step, or a text names no user
 unfoldable pub plan_of_input : PolicyShape → ℕ → List ℕ → Result (List ℕ) InputFault
 plan_of_input p steps input = do
@@ -42,11 +43,11 @@ plan_of_input p steps input = do
   _ ← check (length (listed_items items) == steps) Length
   each (next_user p) [] (listed_items items)
 
--- each user of a plan is among the first so many
+-- each user of a plan is among the first n
 abbrev pub AreAmong : ℕ → List ℕ → Type 0
 AreAmong n users = (s : ℕ) → s < length users → planned users s < n
 
--- a plan has one more user, among the first so many
+-- a plan has one more user, among the first n
 pub record HasOneMore (n : ℕ) (before after : List ℕ) : Type 0 where
   pub user : ℕ
   pub known : user < n

@@ -5,10 +5,12 @@ use Rattle.wf_names.specs.declared.limits.TheConstants.{POLICY_FILE_LIMIT}
 use Rattle.policy_book.specs.Shapes.{PolicyShape}
 use Rattle.policy_reader.specs.Files.{policy_of_file}
 use Rattle.run_record.specs.declared.fault.RunFault.{RunFault}
-use Rattle.run_record.specs.declared.fault.RunFault.TheVariants.{Policy, Load, NoMemory, FileTooLong}
+use Rattle.run_record.specs.declared.fault.RunFault.TheVariants.{Policy, Load, NoMemory}
+use Rattle.run_record.specs.declared.fault.RunFault.TheVariants.{FileTooLong}
 use Rattle.run_record.specs.Fault.{How, misfiled, unloaded, lacking, how_of}
 
--- a file gives its bytes, or is longer than the limit; one that is not may fail to load, or lack memory
+-- a file gives its bytes, or is longer than the limit; one that is not may fail to load, or lack
+-- memory
 abbrev pub BytesOf : ℕ → List ℕ → Result (List ℕ) RunFault → Type 0
 BytesOf limit file (Ok bytes) = (length file ≤ limit) × (bytes ≡ file)
 BytesOf limit file (Err FileTooLong) = limit < length file
@@ -29,8 +31,8 @@ EndsTooLong limit untold fault = Unit {0}
 EndsTooLong limit missing fault = Unit {0}
 EndsTooLong limit (told file) fault = limit < length file → fault ≡ FileTooLong
 
--- a file gives its policy, or is too long, or has its first fault; one that is not too long may fail
--- to load, or lack memory
+-- a file gives its policy, or is too long, or has its first fault; one that is not too long may
+-- fail to load, or lack memory
 abbrev pub PolicyOf : List ℕ → Result PolicyShape RunFault → Type 0
 PolicyOf file (Ok p) = (length file ≤ POLICY_FILE_LIMIT) × (policy_of_file file ≡ Ok p)
 PolicyOf file (Err FileTooLong) = POLICY_FILE_LIMIT < length file

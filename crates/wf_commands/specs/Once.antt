@@ -1,11 +1,14 @@
 -- The commands that answer once: each loads a policy, and writes one text.
-use Rattle.std.specs.Prelude.{◌≡◌, ℕ, ◌+◌, ◌≤◌, List, [], length, Option, None, Some, MatchResult, MatchBool, nat_lt}
-use Rattle.wf_outside.specs.Outside.{with_bytes, HasPart, HasTaken, HasTakenAtMost, HasTakenCount, IsAtEnd}
+use Rattle.std.specs.Prelude.{◌≡◌, ℕ, ◌+◌, ◌≤◌, List, [], length, Option, None, Some, MatchResult}
+use Rattle.std.specs.Prelude.{MatchBool, nat_lt}
+use Rattle.wf_outside.specs.Outside.{with_bytes, HasPart, HasTaken, HasTakenAtMost, HasTakenCount}
+use Rattle.wf_outside.specs.Outside.{IsAtEnd}
 use Rattle.wf_names.specs.declared.limits.TheConstants.{POLICY_FILE_LIMIT}
 use Rattle.policy_book.specs.Shapes.{PolicyShape}
 use Rattle.policy_reader.specs.Files.{policy_of_file}
 use Rattle.run_record.specs.declared.fault.RunFault.{RunFault}
-use Rattle.run_record.specs.declared.fault.RunFault.TheVariants.{Nothing, Found, Policy, FileTooLong}
+use Rattle.run_record.specs.declared.fault.RunFault.TheVariants.{Nothing, Found, Policy}
+use Rattle.run_record.specs.declared.fault.RunFault.TheVariants.{FileTooLong}
 use Rattle.run_record.specs.Fault.{How, answered, unloaded, unread, unwritten, lacking, how_of}
 use Rattle.run_record.specs.Fault.{When, early, midway, overlong, late, when_of, CountsReadsAlone}
 use Rattle.run_record.specs.Report.{nothing_told}
@@ -87,8 +90,8 @@ abbrev pub ReadsInput : Option ℕ → RunFault → Option (List ℕ) → Option
 ReadsInput None fault before after = after ≡ before
 ReadsInput (Some limit) fault before after = ReadsUpTo limit (when_of fault) before after
 
--- the run of a command that reads so much of the input, and answers once about the policy in a file,
--- by what is told of the input
+-- the run of a command that reads so much of the input, and answers once about the policy in a
+-- file, by what is told of the input
 pub record RunsOnce (limit : Option ℕ) (policy : List ℕ)
     (Answers : Option (List ℕ) → PolicyShape → RunFault → List ℕ → Type 0) (r : Run)
     : Type 0 where

@@ -1,5 +1,7 @@
 -- The command `plan`: the plan in the input is judged.
-use Rattle.std.specs.Prelude.{◌≡◌, ℕ, List, [], ◌++◌, length, Option, Some, Err, IfSome, MatchOption, MatchResult, MatchBool, nat_lt, codes, decimal, slice_index_or}
+use Rattle.std.specs.Prelude.{◌≡◌, ℕ, List, [], ◌++◌, length, Option, Some, Err, IfSome}
+use Rattle.std.specs.Prelude.{MatchOption, MatchResult, MatchBool, nat_lt, codes, decimal}
+use Rattle.std.specs.Prelude.{slice_index_or}
 use Rattle.wf_names.specs.declared.limits.TheConstants.{LINE_LIMIT}
 use Rattle.constraint_forms.specs.Assigned.{no_users, no_steps}
 use Rattle.policy_book.specs.Shapes.{PolicyShape}
@@ -9,7 +11,8 @@ use Rattle.certificate_check.specs.declared.plan.PlanFault.{PlanFault}
 use Rattle.certificate_check.specs.declared.plan.PlanFault.TheVariants.{Moved, Role, Rule}
 use Rattle.certificate_check.specs.Faults.{plan_verdict}
 use Rattle.run_record.specs.declared.fault.RunFault.{RunFault}
-use Rattle.run_record.specs.declared.fault.RunFault.TheVariants.{Nothing, Found, LineTooLong, BadInput}
+use Rattle.run_record.specs.declared.fault.RunFault.TheVariants.{Nothing, Found, LineTooLong}
+use Rattle.run_record.specs.declared.fault.RunFault.TheVariants.{BadInput}
 use Rattle.run_record.specs.declared.fault.InputFault.TheVariants.{NoFlow}
 use Rattle.run_record.specs.Run.{Run}
 use Rattle.wf_commands.specs.Input.{plan_of_input, number_named}

@@ -15,8 +15,8 @@ use Rattle.run_record.specs.Run.{Run}
 use Rattle.wf_commands.specs.Input.{number_named}
 use Rattle.wf_commands.specs.Once.{Refuses, RunsOnce}
 
--- valid plans are told that cover every absence of at most t users; or the least absence that leaves
--- no valid plan, with a tree that refutes what is left of the workflow
+-- valid plans are told that cover every absence of at most t users; or the least absence that
+-- leaves no valid plan, with a tree that refutes what is left of the workflow
 abbrev pub TellsAbsences : PolicyShape → ℕ → ℕ → RunFault → List ℕ → Type 0
 TellsAbsences p f t Nothing text =
     (plans : List (List ℕ)) × AreValidPlans (problem_of p f) plans × CoversAbsences plans t
@@ -27,7 +27,8 @@ TellsAbsences p f t Found text =
     × (text ≡ absence_line p f absent tree)
 TellsAbsences p f t fault text = ⊥
 
--- the first of these ends the run exactly where the workflow is resilient, the second where it is not
+-- the first of these ends the run exactly where the workflow is resilient, the second where it is
+-- not
 pub record ChecksAbsences (p : PolicyShape) (f t : ℕ) (fault : RunFault) (text : List ℕ)
     : Type 0 where
   pub tells : TellsAbsences p f t fault text
@@ -40,7 +41,7 @@ ChecksFlow p word t fault text =
     MatchOption (number_named p.flow_names word) (Refuses (BadInput NoFlow) fault text)
     (λ f. ChecksAbsences p f t fault text)
 
--- a run of `resilience` with a policy file, the name of a workflow and a number of users; it reads no
--- input
+-- a run of `resilience` with a policy file, the name of a workflow and a number of users; it reads
+-- no input
 abbrev pub ChecksResilience : List ℕ → List ℕ → ℕ → Run → Type 0
 ChecksResilience policy flow t r = RunsOnce None policy (λ told p. ChecksFlow p flow t) r

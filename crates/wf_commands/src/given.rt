@@ -30,7 +30,7 @@ pub fn find_flow(p: &Policy, flow: &str) -> Result<FlowId, RunFault>
     }
 }
 
-/// All of the input, which is one line of at most so many bytes.
+/// All of the input, which is one line of at most `limit` bytes.
 pub fn take_input<S: Source>(
     alloc: Global,
     source: &mut S,

@@ -1,5 +1,6 @@
 //! The input as JSON, the users whom it names, and the input of `plan` read as a plan.
-ghost use Rattle.std.specs.Prelude.{◌≡◌, ◌<◌, ◌≤◌, ◌^◌, ◌==◌, ℕ, List, [], ◌∷◌, ◌++◌, length, option_and_then, IfErr, IfOk, IfSome, OnOk};
+ghost use Rattle.std.specs.Prelude.{◌≡◌, ◌<◌, ◌≤◌, ◌^◌, ◌==◌, ℕ, List, [], ◌∷◌, ◌++◌, length};
+ghost use Rattle.std.specs.Prelude.{option_and_then, IfErr, IfOk, IfSome, OnOk};
 ghost use Rattle.std.specs.List.{list_all};
 ghost use Rattle.serde_json.specs.View.{view, items_view};
 ghost use Rattle.serde_json.specs.Find.{as_str};
@@ -8,7 +9,9 @@ ghost use Rattle.wf_names.specs.declared.limits.TheConstants.{STEP_LIMIT};
 ghost use Rattle.policy_book.specs.Policies.{flow_at};
 ghost use Rattle.wire_json.specs.Values.{value_of};
 ghost use Rattle.run_record.specs.declared.fault.InputFault.TheVariants.{Syntax};
-ghost use Rattle.wf_commands.specs.Input.{plan_of_input, number_named, next_user, is_text, listed_items, input_fault, AreAmong, HasOneMore, IsOfInput};
+ghost use Rattle.wf_commands.specs.Input.{plan_of_input, number_named, next_user, is_text};
+ghost use Rattle.wf_commands.specs.Input.{listed_items, input_fault, AreAmong, HasOneMore};
+ghost use Rattle.wf_commands.specs.Input.{IsOfInput};
 
 use policy_book::{Plan, Policy};
 use run_record::InputFault;

@@ -1,5 +1,6 @@
 //! The command `plan`: it judges the plan in the input.
-ghost use Rattle.std.specs.Prelude.{◌≡◌, ◌<◌, ℕ, [], length, slice_index_or, string_bytes, Some, IfOk, IfErr};
+ghost use Rattle.std.specs.Prelude.{◌≡◌, ◌<◌, ℕ, [], length, slice_index_or, string_bytes, Some};
+ghost use Rattle.std.specs.Prelude.{IfOk, IfErr};
 ghost use Rattle.wf_names.specs.declared.limits.TheConstants.{LINE_LIMIT};
 ghost use Rattle.constraint_forms.specs.Assigned.{planned};
 ghost use Rattle.policy_book.specs.Policies.{flow_at};

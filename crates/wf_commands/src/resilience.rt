@@ -13,7 +13,7 @@ use wf_names::FlowId;
 use wf_outside::Source;
 use wire_json::{write_absence, write_family};
 
-/// `resilience`: can this workflow be done whichever users are absent, so many at most?
+/// `resilience`: can a workflow be done whichever users are absent, `absences` at most?
 #[derive(Clone, Copy)]
 pub struct ResilienceCommand<'a> {
     pub flow: &'a str,
@@ -36,7 +36,7 @@ impl Answers for ResilienceCommand<'_> {
     }
 }
 
-// Whether a workflow can be done whichever at most so many users are absent.
+// Whether a workflow can be done whichever at most `t` users are absent.
 fn check_absences(alloc: Global, p: &Policy, f: FlowId, t: u8) -> Result<Answer, AllocError>
     requires { f < length p.now.flows }
     ensures { IfOk result (λ answer.

@@ -2,7 +2,7 @@
 use Rattle.std.proofs.Common.{◌≡◌, ℕ, ◌+◌, ◌-◌, ◌<◌, ◌≤◌, List, [], ◌++◌, length, take, drop, Option, None, Some, IfSome, Ok, Err, refl, sym, ◌∙◌, ap, subst, arith, append_assoc}
 use Rattle.std.proofs.lemmas.Grind.{common_steps}
 use Rattle.std.proofs.lemmas.List.{take-append-drop, append-nil, take-append-le, length-append, length-take, take_rest}
-use Rattle.std.proofs.Math.Seq.{take-append-add, take-length, take-add, take-append_seam, drop-append_seam}
+use Rattle.std.proofs.Math.Seq.{take-append-add, take-length, take-add}
 use Rattle.wf_outside.specs.declared.loaded.LoadFault.TheVariants.{TooLong}
 use Rattle.wf_outside.specs.Outside.{with_bytes, bytes_before, HasTaken, IsAtEnd, HasTakenAtMost, HasPart, ReadsAll}
 
@@ -22,36 +22,6 @@ more_before bytes more (Some left) = ap Some (sym (append_assoc bytes more left)
 pub more_taken : (before middle after : Option (List ℕ)) (bytes more : List ℕ)
     → HasTaken before middle bytes → HasTaken middle after more → HasTaken before after (bytes ++ more)
 more_taken before middle after bytes more first second = first ∙ ap (bytes_before bytes) second ∙ more_before bytes more after
-
--- with nothing left behind them, bytes are the whole
-all_at_end : (left : Option (List ℕ)) (bytes : List ℕ) → IsAtEnd left → IfSome (bytes_before bytes left) (λ all. bytes ≡ all)
-unfolding bytes_before
-all_at_end None bytes ended = tt
-all_at_end (Some left) bytes ended = rw ended (sym (append-nil bytes))
-
--- the front is no longer than the whole
-front_within : (left : Option (List ℕ)) (bytes : List ℕ) → IfSome (bytes_before bytes left) (λ all. length bytes ≤ length all)
-unfolding bytes_before
-front_within None bytes = tt
-front_within (Some left) bytes = omega (arith, length-append bytes left)
-
--- what was taken up to the end is all that was left
-pub taken_to_end : (before after : Option (List ℕ)) (bytes : List ℕ)
-    → HasTaken before after bytes → IsAtEnd after → IfSome before (λ all. bytes ≡ all)
-taken_to_end before after bytes taken ended = subst (λ (left : Option (List ℕ)). IfSome left (λ all. bytes ≡ all)) (sym taken) (all_at_end after bytes ended)
-
--- what was taken is the front of all that was left
-pub taken_is_front : (content bytes : List ℕ) (after : Option (List ℕ))
-    → HasTaken (Some content) after bytes → (bytes ≡ take (length bytes) content) × (after ≡ Some (drop (length bytes) content))
-unfolding bytes_before
-taken_is_front content bytes None taken = cc
-taken_is_front content bytes (Some left) taken =
-    let whole : content ≡ bytes ++ left = cc in
-    rw whole (sym (take-append_seam bytes left), ap Some (sym (drop-append_seam bytes left)))
-
--- no more than all that was left is taken
-pub taken_within : (before after : Option (List ℕ)) (bytes : List ℕ) → HasTaken before after bytes → IfSome before (λ all. length bytes ≤ length all)
-taken_within before after bytes taken = subst (λ (left : Option (List ℕ)). IfSome left (λ all. length bytes ≤ length all)) (sym taken) (front_within after bytes)
 
 -- nothing is put where nothing changed
 pub nothing_put : (held : Option (List ℕ)) → with_bytes held [] ≡ held

@@ -1,5 +1,7 @@
 -- The source, the sink and the shelf in memory: what they hold, and what each call does.
-use Rattle.std.specs.Prelude.{◌≡◌, ℕ, ◌+◌, ◌-◌, ◌^◌, min, Bool, ◌&&◌, ◌||◌, ◌==◌, nat_eq, nat_lt, if◌then◌else◌, List, [], ◌∷◌, length, MatchBool, Result, Ok, Err, true, false}
+use Rattle.std.specs.Prelude.{◌≡◌, ℕ, ◌+◌, ◌-◌, ◌^◌, min, Bool, ◌&&◌, ◌||◌, ◌==◌, nat_eq, nat_lt}
+use Rattle.std.specs.Prelude.{if◌then◌else◌, List, [], ◌∷◌, length, MatchBool, Result, Ok, Err}
+use Rattle.std.specs.Prelude.{true, false}
 use Rattle.wf_outside.specs.declared.loaded.LoadFault.{LoadFault}
 use Rattle.wf_outside.specs.declared.loaded.LoadFault.TheVariants.{Failed, TooLong, NoMemory}
 use Rattle.wf_outside.specs.Outside.{Filed, told, missing, untold}
@@ -34,14 +36,15 @@ pub record MemSourceShape : Type 0 where
   pub most : ℕ
   pub counts : CountsShape
 
--- a sink in memory: the bytes that it holds, how many it has room for, and how many one call takes at most
+-- a sink in memory: the bytes that it holds, how many it has room for, and how many one call takes
+-- at most
 pub record MemSinkShape : Type 0 where
   pub bytes : List ℕ
   pub room : ℕ
   pub most : ℕ
   pub counts : CountsShape
 
--- how many of so many bytes the sink takes at once
+-- how many of `count` bytes the sink takes at once
 abbrev pub piece_len : MemSinkShape → ℕ → ℕ
 piece_len s count = min s.most (min count (s.room - length s.bytes))
 
@@ -78,8 +81,8 @@ AnswersWith failing content (Err Failed) = failing ≡ true
 AnswersWith failing content (Err TooLong) = ⊥
 AnswersWith failing content (Err NoMemory) = failing ≡ false
 
--- what a shelf with these counts may answer: a fault for a name that it lacks, else that the file is too long, else by
--- the list of failing calls
+-- what a shelf with these counts may answer: a fault for a name that it lacks, else that the file
+-- is too long, else by the list of failing calls
 abbrev pub LoadsFrom : CountsShape → Filed → ℕ → Result (List ℕ) LoadFault → Type 0
 LoadsFrom c missing limit result = result ≡ Err Failed
 LoadsFrom c (told content) limit result =

@@ -1,5 +1,7 @@
--- What sources, sinks and shelves tell of their content, what a call moved, and what became of a count of faults.
-use Rattle.std.specs.Prelude.{◌≡◌, ℕ, ◌+◌, ◌^◌, ◌<◌, ◌≤◌, List, [], ◌++◌, length, take, Option, None, Some, IfSome, Result, Ok, Err}
+-- What sources, sinks and shelves tell of their content, what a call moved, and what became of a
+-- count of faults.
+use Rattle.std.specs.Prelude.{◌≡◌, ℕ, ◌+◌, ◌^◌, ◌<◌, ◌≤◌, List, [], ◌++◌, length, take, Option}
+use Rattle.std.specs.Prelude.{None, Some, IfSome, Result, Ok, Err}
 use Rattle.wf_outside.specs.declared.loaded.LoadFault.{LoadFault}
 use Rattle.wf_outside.specs.declared.loaded.LoadFault.TheVariants.{Failed, TooLong, NoMemory}
 
@@ -56,21 +58,24 @@ pub record HasPart (before after : Option (List ℕ)) (bytes : List ℕ) : Type 
   pub within : count ≤ length bytes
   pub held : after ≡ with_bytes before (take count bytes)
 
--- what reading all of this content may answer under a limit: all of it, or that it is longer, or a fault before that
+-- what reading all of this content may answer under a limit: all of it, or that it is longer, or a
+-- fault before that
 abbrev pub ReadsAll : List ℕ → ℕ → Result (List ℕ) LoadFault → Type 0
 ReadsAll content limit (Ok bytes) = (bytes ≡ content) × (length content ≤ limit)
 ReadsAll content limit (Err TooLong) = limit < length content
 ReadsAll content limit (Err Failed) = Unit {0}
 ReadsAll content limit (Err NoMemory) = Unit {0}
 
--- what loading a file with this content may answer: that it is too long exactly where it is, else all of it or a fault
+-- what loading a file with this content may answer: that it is too long exactly where it is, else
+-- all of it or a fault
 abbrev pub LoadsFile : List ℕ → ℕ → Result (List ℕ) LoadFault → Type 0
 LoadsFile content limit (Ok bytes) = (bytes ≡ content) × (length content ≤ limit)
 LoadsFile content limit (Err TooLong) = limit < length content
 LoadsFile content limit (Err Failed) = length content ≤ limit
 LoadsFile content limit (Err NoMemory) = length content ≤ limit
 
--- what loading may answer under a limit, by what the shelf tells of the name: a file that is missing is a fault
+-- what loading may answer under a limit, by what the shelf tells of the name: a file that is
+-- missing is a fault
 abbrev pub LoadsAs : Filed → ℕ → Result (List ℕ) LoadFault → Type 0
 LoadsAs (told content) limit result = LoadsFile content limit result
 LoadsAs missing limit result = result ≡ Err Failed

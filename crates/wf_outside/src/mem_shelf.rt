@@ -1,4 +1,5 @@
-ghost use Rattle.std.specs.Prelude.{◌≡◌, ◌≤◌, ◌<◌, ◌++◌, ◌↔◌, ℕ, List, map, length, IfOk, MatchOption};
+ghost use Rattle.std.specs.Prelude.{◌≡◌, ◌≤◌, ◌<◌, ◌++◌, ◌↔◌, ℕ, List, map, length, IfOk};
+ghost use Rattle.std.specs.Prelude.{MatchOption};
 ghost use Rattle.wf_outside.specs.Memory.{file_of, LoadsFrom, counts_after};
 ghost use Rattle.wf_outside.specs.Files.{file_view};
 ghost use Rattle.wf_outside.specs.Outside.{LoadsAs, told, missing};
@@ -33,8 +34,9 @@ impl Model for MemShelf {
 }
 
 impl MemShelf {
-    /// Of two files of one name the first is found. The calls with the numbers in `failing`, from 0, fail,
-    /// unless the file is longer than the limit; so does each call for a name that no file has.
+    /// Of two files of one name the first is found. The calls with the numbers in `failing`, from
+    /// 0, fail, unless the file is longer than the limit; so does each call for a name that no file
+    /// has.
     pub fn new(files: Vec<MemFile>, failing: Vec<u64>) -> Self
         ensures { result ≡ record {
           files = map file_view files.items;

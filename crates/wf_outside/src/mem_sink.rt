@@ -1,4 +1,5 @@
-ghost use Rattle.std.specs.Prelude.{◌≡◌, ◌≤◌, ◌<◌, ◌++◌, ◌↔◌, ℕ, List, [], length, take, Some, IsTrue, IsErr, IsOk, IfOk, OnErr};
+ghost use Rattle.std.specs.Prelude.{◌≡◌, ◌≤◌, ◌<◌, ◌++◌, ◌↔◌, ℕ, List, [], length, take, Some};
+ghost use Rattle.std.specs.Prelude.{IsTrue, IsErr, IsOk, IfOk, OnErr};
 ghost use Rattle.wf_outside.specs.Memory.{after_call, after_fault, piece_len, is_refusing};
 ghost use Rattle.wf_outside.specs.Outside.{with_bytes};
 
@@ -7,7 +8,8 @@ use crate::{Failed, Sink};
 use std::alloc::{AllocError, Global};
 use std::marker::Model;
 
-/// A sink in memory with room for so many bytes, of which one call takes at most a greatest length, and chosen calls fail.
+/// A sink in memory with room for `room` bytes, of which one call takes at most `most`, and chosen
+/// calls fail.
 #[derive(Drop)]
 pub struct MemSink {
     bytes: Vec<u8>,
@@ -28,8 +30,8 @@ impl Model for MemSink {
 }
 
 impl MemSink {
-    /// It holds nothing yet. The calls with the numbers in `failing`, from 0, fail; so does each call
-    /// that can take none of the bytes it is given, as every one does where `most` is 0.
+    /// It holds nothing yet. The calls with the numbers in `failing`, from 0, fail; so does each
+    /// call that can take none of the bytes it is given, as every one does where `most` is 0.
     pub fn new(
         alloc: Global,
         room: usize,
@@ -79,7 +81,8 @@ impl Sink for MemSink {
 
     #[tactic(auto, unfolding(crate::specs::Outside::with_bytes))]
     fn put(&mut self, bytes: &[u8]) -> Result<usize, Failed>
-        // The call fails exactly where its number says so or none can be taken, and then nothing else happens.
+        // The call fails exactly where its number says so or none can be taken, and then nothing
+        // else happens.
         ensures fails { IsErr result ↔ IsTrue (is_refusing self.old (length bytes.now)) }
         ensures failed { OnErr result (self.new
             ≡ record self.old { counts = after_fault self.old.counts }) }

@@ -1,4 +1,5 @@
-ghost use Rattle.std.specs.Prelude.{◌≡◌, ◌≤◌, ◌<◌, ◌++◌, ◌↔◌, ℕ, List, length, take, drop, min, Some, IsTrue, IsErr, IfOk, OnErr};
+ghost use Rattle.std.specs.Prelude.{◌≡◌, ◌≤◌, ◌<◌, ◌++◌, ◌↔◌, ℕ, List, length, take, drop, min};
+ghost use Rattle.std.specs.Prelude.{Some, IsTrue, IsErr, IfOk, OnErr};
 ghost use Rattle.wf_outside.specs.Memory.{is_failing, after_call, after_fault};
 ghost use Rattle.wf_outside.specs.Outside.{Rose, HasTaken, IsAtEnd};
 
@@ -6,7 +7,8 @@ use crate::counts::Counts;
 use crate::{Failed, Source};
 use std::marker::Model;
 
-/// A source of bytes in memory, of which one call gives at most a greatest length, and chosen calls fail.
+/// A source of bytes in memory, of which one call gives at most a greatest length, and chosen calls
+/// fail.
 #[derive(Drop)]
 pub struct MemSource {
     bytes: Vec<u8>,
@@ -27,7 +29,8 @@ impl Model for MemSource {
 }
 
 impl MemSource {
-    /// All of `bytes` are to come, at most `most` at a time; the calls with the numbers in `failing`, from 0, fail.
+    /// All of `bytes` are to come, at most `most` at a time; the calls with the numbers in
+    /// `failing`, from 0, fail.
     pub fn new(bytes: Vec<u8>, most: usize, failing: Vec<u64>) -> Self
         requires { 0 < most }
         ensures { result ≡ record {

@@ -1,5 +1,7 @@
-ghost use Rattle.std.specs.Prelude.{◌≡◌, ◌≤◌, ◌<◌, ◌+◌, ◌++◌, ℕ, List, length, take, Option, IfOk, IfSome, OnOk, OnErr, IsErrOf};
-ghost use Rattle.wf_outside.specs.Outside.{Rose, StaysUnlessFailed, HasTaken, IsAtEnd, HasTakenCount, HasTakenAtMost, ReadsAll};
+ghost use Rattle.std.specs.Prelude.{◌≡◌, ◌≤◌, ◌<◌, ◌+◌, ◌++◌, ℕ, List, length, take, Option, IfOk};
+ghost use Rattle.std.specs.Prelude.{IfSome, OnOk, OnErr, IsErrOf};
+ghost use Rattle.wf_outside.specs.Outside.{Rose, StaysUnlessFailed, HasTaken, IsAtEnd};
+ghost use Rattle.wf_outside.specs.Outside.{HasTakenCount, HasTakenAtMost, ReadsAll};
 ghost use Rattle.wf_outside.specs.declared.loaded.LoadFault.TheVariants.{Failed as ReadFailed};
 
 use crate::{LoadFault, Loaded};
@@ -25,7 +27,8 @@ pub trait Source {
     /// How often a call has failed.
     ghost faults: { Self → ℕ };
 
-    /// Puts bytes at the front of `buf` and answers how many; 0 into a buffer that is not empty is the end.
+    /// Puts bytes at the front of `buf` and answers how many; 0 into a buffer that is not empty is
+    /// the end.
     fn take(&mut self, buf: &mut [u8]) -> Result<usize, Failed>
         ensures within { IfOk result (λ n. n ≤ length buf.old) }
         ensures taken { IfOk result (λ n. HasTaken (left self.old) (left self.new)

@@ -86,7 +86,8 @@ fn count_sessions(rt: &impl Print, alloc: Global, sessions: &Table) -> anyhow::R
     Ok(legal)
 }
 
-// Whether a row's command ends as the row says, and the fault of its policy file is told as it says.
+// Whether a row's command ends as the row says, and the fault of its policy file is told as it
+// says.
 fn holds(alloc: Global, rows: &Table, row: &Value) -> Result<bool, AllocError> {
     let mut shelf = shelf_of(alloc, rows, row)?;
     if row.get("tell").is_some() {

@@ -35,9 +35,10 @@ pub fn of_outside<'a>(row: &'a Value, key: &str) -> Option<&'a Value> {
 /// input, and what must come of it. The row's own policy stands under the name `here`: the texts
 /// that `after` names, and then its own. Its files `requests`, `transcript` and `model` stand under
 /// these names. Pieces stand behind the text that they are more of. `told` is what the program that
-/// tells in words says of the policy file; a row with `tell` in place of `words` is for that program.
+/// tells in words says of the policy file; a row with `tell` in place of `words` is for that
+/// program.
 ///
-/// A piece is so many copies, `times`, of a `text` with `bytes` behind it. Each `@` of the text
+/// A piece is `times` copies of a `text` with `bytes` behind it. Each `@` of the text
 /// stands for the number of the copy, from 0, with zeros in front where the piece has a `width`.
 /// The `outside` says how many bytes the source gives and the sink takes at once, `piece` and
 /// `most`, how many the sink takes in all, `room`, and the numbers, from 0, of the calls that fail:

@@ -11,8 +11,8 @@ use wf_server::run_alone;
 /// Whether each request of a session is answered, and its transcript is legal. A session has the
 /// words that serve it, `serve`, and those that audit its transcript, `audit`, over a policy file
 /// and requests, which stand under the names `policy` and `requests`, with the pieces of
-/// `more_policy` behind the policy, and the number of its `entries`. A transcript that it has itself
-/// stands under the name `transcript`, for what is told of it.
+/// `more_policy` behind the policy, and the number of its `entries`. A transcript that it has
+/// itself stands under the name `transcript`, for what is told of it.
 pub fn is_legal(alloc: Global, session: &Value) -> Result<bool, AllocError> {
     let mut transcript = sink_of(alloc, session)?;
     Ok(is_served(alloc, session, &mut transcript)? && is_found_legal(alloc, session, &transcript)?)

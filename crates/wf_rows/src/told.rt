@@ -27,8 +27,8 @@ pub fn is_told(alloc: Global, row: &Value, shelf: &mut MemShelf) -> Result<bool,
     tells(alloc, &words, shelf, status, output)
 }
 
-/// Whether the fault of a row's policy file, where it has one, is told with a place and its kind, and
-/// in the words that the row has for it, `told`.
+/// Whether the fault of a row's policy file, where it has one, is told with a place and its kind,
+/// and in the words that the row has for it, `told`.
 pub fn is_fault_told(alloc: Global, row: &Value, shelf: &mut MemShelf) -> Result<bool, AllocError> {
     let Some(kind) = kind_of(text(row.get("fault"))) else {
         return Ok(true);

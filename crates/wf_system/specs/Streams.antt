@@ -14,8 +14,8 @@ reader_left remaining s = remaining s.reader
 abbrev pub writer_held : {W : Type 0} → (W → Option (List ℕ)) → StdoutSink W → Option (List ℕ)
 writer_held contents s = contents s.writer
 
--- what is answered is what some reader gave, cut at a limit, where it tells: all of it, or that there is more; where
--- nothing could be opened or read, that this failed
+-- what is answered is what some reader gave, cut at a limit, where it tells: all of it, or that
+-- there is more; where nothing could be opened or read, that this failed
 abbrev pub HandsOn : {R : Type 0} → (R → Option (List ℕ)) → ℕ → Result (List ℕ) LoadFault → Type 0
 HandsOn remaining limit (Err Failed) = Unit {0}
 HandsOn {R} remaining limit result = (reader : R) × IfSome (remaining reader) (λ content. ReadsAll content limit result)

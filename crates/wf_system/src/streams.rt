@@ -85,7 +85,8 @@ impl<W: Write + Drop> Sink for StdoutSink<W> {
 
     #[tactic(auto, unfolding(wf_outside::specs::Outside::with_bytes))]
     fn put(&mut self, bytes: &[u8]) -> Result<usize, Failed>
-        // The bytes that count as taken are those that the writer took; after a fault there are none.
+        // The bytes that count as taken are those that the writer took; after a fault there are
+        // none.
         ensures takes { WriteAppends (writer_held W.contents self.old)
             (writer_held W.contents self.new) result bytes.now }
 

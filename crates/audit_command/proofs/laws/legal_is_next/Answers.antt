@@ -1,4 +1,4 @@
-use Rattle.std.proofs.Common.{◌≡◌, ℕ, ◌+◌, List, [], ◌∷◌, length, inl, inr, arith}
+use Rattle.std.proofs.Common.{◌≡◌, ℕ, ◌+◌, List, [], ◌∷◌, length, inr, arith}
 use Rattle.std.proofs.lemmas.List.{length-append}
 use Rattle.wf_talk.specs.declared.entry.Entry.{Entry}
 use Rattle.transcript_audit.specs.Audits.{AuditShape, AreNext, audit_of, with_entry}

@@ -1,6 +1,5 @@
-use Rattle.std.proofs.Common.{◌≡◌, ◌<◌, ◌-◌, ◌+◌, ◌∙◌, ◌++◌, ◌∷◌, [], ℕ, List, length, true, not, refl, sym, ap, subst, arith, Option}
+use Rattle.std.proofs.Common.{◌≡◌, ◌<◌, ◌-◌, ◌+◌, ◌∙◌, ℕ, List, length, true, not, refl, sym, ap, subst, arith, Option}
 use Rattle.refutation_tree.specs.declared.tree.Tree.{Tree}
-use Rattle.policy_book.specs.Twins.{is_one_of}
 use Rattle.resilience_check.specs.Absences.{AreUsers}
 use Rattle.resilience_check.specs.Lists.{Withstands}
 use Rattle.resilience_check.specs.Searches.{HasFoundWith, HasTried, HasTriedWith}

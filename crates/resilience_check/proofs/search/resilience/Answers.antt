@@ -1,9 +1,7 @@
-use Rattle.std.proofs.Common.{◌≡◌, ◌+◌, ◌<◌, ◌≤◌, ℕ, List, [], length, true, refl, sym, subst, arith, Option, Some}
+use Rattle.std.proofs.Common.{ℕ, List, length, true, refl, subst, arith, Option}
 use Rattle.std.proofs.lemmas.Bool.{false≢true}
 use Rattle.policy_book.specs.Policies.{problem_of}
 use Rattle.refutation_tree.specs.declared.tree.Tree.{Tree}
-use Rattle.resilience_check.specs.Absences.{AreAscending, IsLeastAbsence}
-use Rattle.resilience_check.specs.Families.{CoversAbsences, leaves_some}
 use Rattle.resilience_check.specs.Searches.{HasFound, HasTried}
 use Rattle.resilience_check.proofs.Authority.{can_do_by}
 use Rattle.resilience_check.proofs.Coverage.{ascends_below, covers_by}

@@ -1,4 +1,4 @@
-use Rattle.std.proofs.Common.{◌≡◌, ◌+◌, ◌≤◌, drop, length}
+use Rattle.std.proofs.Common.{◌≡◌, ◌+◌, drop}
 use Rattle.resume_command.specs.Begun.{ends_to}
 use Rattle.resume_command.proofs.start.count_ends.Given as goal
 

@@ -1,5 +1,4 @@
 use Rattle.std.proofs.Common.{arith, ◌∙◌}
-use Rattle.std.proofs.lemmas.Grind.{common_steps}
 use Rattle.transcript_resume.proofs.LinesTaken.{left_within}
 use Rattle.transcript_resume.proofs.LongLines.{long_at, long_on}
 use Rattle.transcript_resume.proofs.lines.first_long_of.Goals as goal

@@ -1,8 +1,5 @@
-use Rattle.std.proofs.Common.{◌≡◌, ℕ, ◌≤◌, List, length, sym, ap, subst, ◌∙◌, arith}
-use Rattle.wf_names.specs.declared.limits.TheConstants.{BATCH_LINE_LIMIT}
-use Rattle.wf_talk.specs.declared.job.Job.{Job}
-use Rattle.wf_desk.specs.Desks.{AnswersPart}
-use Rattle.transcript_resume.specs.Places.{end_at, jobs_between, start_at}
+use Rattle.std.proofs.Common.{◌≡◌, length, ap, ◌∙◌}
+use Rattle.transcript_resume.specs.Places.{jobs_between}
 use Rattle.transcript_resume.proofs.Rests.{answers_part, bounds_order, bounds_within, short_between}
 use Rattle.transcript_resume.proofs.unserved.rest.Goals as goal
 

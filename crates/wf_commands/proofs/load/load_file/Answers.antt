@@ -1,5 +1,4 @@
-use Rattle.std.proofs.Common.{refl}
-use Rattle.wf_commands.proofs.Loading.{failed_given, lacking_given, loaded_named, other_named, too_long_given, too_long_named}
+use Rattle.wf_commands.proofs.Loading.{failed_given, lacking_given, other_named, too_long_given, too_long_named}
 use Rattle.wf_commands.proofs.load.load_file.Goals as goal
 
 pub returns-in-Err-TooLong-clause-bytes : goal.returns-in-Err-TooLong-clause-bytes
