@@ -1,6 +1,7 @@
 //! The decider on one thread.
-ghost use Rattle.std.specs.Prelude.{◌≡◌, ◌<◌, length, MatchResult};
+ghost use Rattle.std.specs.Prelude.{◌≡◌, ◌<◌, length, IfSome, MatchResult, Ok};
 ghost use Rattle.constraint_forms.specs.Assigned.{no_steps, no_users};
+ghost use Rattle.policy_book.specs.Plans.{IsValidPlan};
 ghost use Rattle.policy_book.specs.Policies.{problem_of};
 ghost use Rattle.case_record.specs.Cases.{finished_of};
 ghost use Rattle.denial_reasons.specs.Causes.{assigned_with};
@@ -8,10 +9,11 @@ ghost use Rattle.wf_board.specs.Boards.{book_of};
 ghost use Rattle.wf_board.specs.Deeds.{DecidesDeed};
 ghost use Rattle.wf_board.specs.Found.{AreFound, IsAllowed, IsFound};
 ghost use Rattle.wf_board.specs.Kept.{ArePlanned};
+ghost use Rattle.wf_board.specs.Verdicts.{IsPlanFor};
 ghost use Rattle.case_views.specs.Deciding.{verdict_without, DecidesFor, DecidesWhatIf, DecidesWork, IsVerdictOf};
 
 use crate::edit_decider::edit_verdict;
-use crate::found::{Unfound, outcome_fresh, outcome_with};
+use crate::found::{Unfound, outcome_fresh, outcome_with, plan_fresh, plan_with};
 use crate::stranded::stranded_by;
 use crate::work_lists::work_of;
 use admin_edits::Amendment;
@@ -41,6 +43,60 @@ impl Decider for PlainDecider {
 
     fn decide_deed(&self, alloc: Global, p: &Policy, cases: &Cases, deed: &Deed) -> Verdict {
         verdict_on(alloc, p, cases, deed)
+    }
+
+    fn decide_near(&self, p: &Policy, cases: &Cases, deed: &Deed) -> Option<Plan> {
+        near_plan(p, cases, deed)
+    }
+}
+
+/// A plan for a claim or an opening, where one that is known, or one near it, is valid.
+pub(crate) fn near_plan(p: &Policy, cases: &Cases, deed: &Deed) -> Option<Plan>
+    requires kept { ArePlanned p.now cases.now.rows }
+    requires found { IsFound p.now cases.now.rows deed.now }
+    ensures { IfSome result (IsPlanFor (book_of p.now cases.now) (Ok deed.now)) }
+{
+    match deed {
+        Deed::Open { flow } => near_opening(p, *flow, cases.recent_plan(*flow)),
+        Deed::Claim {
+            number,
+            case,
+            step,
+            user,
+        } => near_claim(p, cases, *number, case, *step, *user),
+        _ => None,
+    }
+}
+
+// A plan for a claim, by the plan that is kept for its case.
+fn near_claim(
+    p: &Policy,
+    cases: &Cases,
+    number: CaseId,
+    case: &Case,
+    step: StepId,
+    user: UserId,
+) -> Option<Plan>
+    requires kept { ArePlanned p.now cases.now.rows }
+    requires found { AreFound p.now cases.now.rows number case.now step user }
+    ensures { IfSome result (IsValidPlan (problem_of p.now case.now.flow)
+        (assigned_with case.now step user)
+        (finished_of case.now)) }
+{
+    let Some(kept) = cases.plan(number) else {
+        unreachable!()
+    };
+    plan_with(p, case, &kept, step, user)
+}
+
+// A plan for an opening, by a plan with which a case of the workflow was opened before.
+fn near_opening(p: &Policy, f: FlowId, recent: Option<Plan>) -> Option<Plan>
+    requires { f < length p.now.flows }
+    ensures { IfSome result (IsValidPlan (problem_of p.now f) no_users no_steps) }
+{
+    match recent {
+        Some(kept) => plan_fresh(p, f, &kept),
+        None => None,
     }
 }
 

@@ -1,8 +1,8 @@
 //! Whether an assignment can be completed, as a plan that is known and then a search tells.
-ghost use Rattle.std.specs.Prelude.{◌≡◌, ◌<◌, length, IfOk};
+ghost use Rattle.std.specs.Prelude.{◌≡◌, ◌<◌, length, IfOk, IfSome};
 ghost use Rattle.constraint_forms.specs.Assigned.{no_steps, no_users};
 ghost use Rattle.policy_book.specs.Policies.{problem_of};
-ghost use Rattle.policy_book.specs.Plans.{AreAssigned, IsWithin};
+ghost use Rattle.policy_book.specs.Plans.{AreAssigned, IsValidPlan, IsWithin};
 ghost use Rattle.wf_names.specs.declared.limits.TheConstants.{STEP_LIMIT};
 ghost use Rattle.case_record.specs.Cases.{assigned_of, finished_of};
 ghost use Rattle.denial_reasons.specs.Causes.{assigned_with};
@@ -37,8 +37,8 @@ impl From<AllocError> for Unfound {
     }
 }
 
-/// A plan for a case with one of its steps given to a user: the one that is kept for it, where it
-/// gives the user the step.
+/// A plan for a case with one of its steps given to a user: one that `plan_with` finds, and else
+/// what a search finds.
 pub(crate) fn outcome_with(
     alloc: Global,
     p: &Policy,
@@ -55,11 +55,46 @@ pub(crate) fn outcome_with(
         (assigned_with case.now step user)
         (finished_of case.now)) }
 {
+    match plan_with(p, case, kept, step, user) {
+        Some(plan) => Ok(Outcome::Plan(plan)),
+        None => {
+            let assigned = assigned_with(case, step, user);
+            solve_for_entry(alloc, p, case.flow(), &assigned, &case.finished())
+        }
+    }
+}
+
+/// A plan for a case with one of its steps given to a user, with no search: the one that is kept
+/// for it, where it gives the user the step, or one near that.
+pub(crate) fn plan_with(
+    p: &Policy,
+    case: &Case,
+    kept: &Plan,
+    step: StepId,
+    user: UserId,
+) -> Option<Plan>
+    requires known { IsOfPolicy p.now case.now }
+    requires valid { IsPlanOf p.now case.now kept.now }
+    requires step { step < length case.now.states }
+    requires user { user < length p.now.roster.users }
+    ensures { IfSome result (IsValidPlan (problem_of p.now case.now.flow)
+        (assigned_with case.now step user)
+        (finished_of case.now)) }
+{
     if kept.at(step) == user {
-        return Ok(Outcome::Plan(*kept));
+        return Some(*kept);
     }
     let assigned = assigned_with(case, step, user);
-    outcome_near(alloc, p, case.flow(), &assigned, &case.finished(), kept)
+    plan_near(p, case.flow(), &assigned, &case.finished(), kept)
+}
+
+/// A plan for a fresh case of a workflow near another, if one is valid.
+pub(crate) fn plan_fresh(p: &Policy, f: FlowId, kept: &Plan) -> Option<Plan>
+    requires { f < length p.now.flows }
+    ensures { IfSome result (IsValidPlan (problem_of p.now f) no_users no_steps) }
+{
+    let (assigned, done) = (Assign::empty(), StepSet::empty());
+    plan_near(p, f, &assigned, &done, kept)
 }
 
 // What is assigned in a case, with one of its steps given to a user.

@@ -12,13 +12,14 @@ ghost use Rattle.wf_board.specs.Views.{AreStranded, IsWorkOf};
 ghost use Rattle.case_views.specs.Deciding.{DecidesChange, DecidesWhatIf, DecidesWork, IsLeft};
 ghost use Rattle.case_views.specs.Listing.{IsLeftAt, list_of, open_in};
 
-use crate::decider::{no_verdict, verdict_on, verdict_without, what_if_view, work_view};
+use crate::decider::{near_plan, no_verdict, verdict_on, verdict_without, what_if_view, work_view};
 use crate::edit_decider::{Left, add_part, edition_of};
 use crate::found::Unfound;
 use crate::spread_parts::{left_parts, stranded_parts, work_parts};
 use crate::stranded::add_number;
 use admin_edits::{Amendment, amended};
 use basics::List;
+use constraint_forms::Plan;
 use grant_table::{Cases, Row};
 use policy_book::Policy;
 use std::alloc::{AllocError, Global};
@@ -61,6 +62,10 @@ impl<R: Threads + Sync> Decider for SpreadDecider<'_, R> {
 
     fn decide_deed(&self, alloc: Global, p: &Policy, cases: &Cases, deed: &Deed) -> Verdict {
         spread_verdict(self.rt, alloc, p, cases, deed)
+    }
+
+    fn decide_near(&self, p: &Policy, cases: &Cases, deed: &Deed) -> Option<Plan> {
+        near_plan(p, cases, deed)
     }
 }
 

@@ -72,6 +72,10 @@ impl TwoHolds {
 }
 
 impl Gate for TwoHolds {
+    fn watches(&self) -> bool {
+        true
+    }
+
     fn solving(&self, _lane: u8, line: u32) {
         self.note(line);
         for k in 0..2 {

@@ -1,6 +1,7 @@
 //! What no clause shows: that a trial is served while there is memory.
 ghost use Rattle.std.specs.Prelude.{◌≡◌};
 
+use constraint_forms::Plan;
 use grant_table::Cases;
 use policy_book::Policy;
 use run_record::Report;
@@ -31,6 +32,10 @@ impl Decider for Idle {
             | Deed::WhatIf { .. } => Verdict::NoMemory,
             _ => Verdict::Nothing,
         }
+    }
+
+    fn decide_near(&self, _p: &Policy, _cases: &Cases, _deed: &Deed) -> Option<Plan> {
+        None
     }
 }
 

@@ -1,5 +1,5 @@
 //! The board: a policy and its cases.
-ghost use Rattle.std.specs.Prelude.{◌≡◌, ◌≢◌, ◌<◌, ◌≤◌, ◌+◌, ◌↔◌, map, false, true, IfOk, IfSome, IsErrOf, OnErr, OnOk, Some};
+ghost use Rattle.std.specs.Prelude.{◌≡◌, ◌≢◌, ◌<◌, ◌≤◌, ◌+◌, ◌↔◌, map, false, true, IfOk, IfSome, IsErrOf, Ok, OnErr, OnOk, Some};
 ghost use Rattle.std.specs.Arc.{arc_value};
 ghost use Rattle.wf_board.specs.Admission.{HasAdmittedStep};
 ghost use Rattle.wf_board.specs.Admitting.{HasVerdict, MayLackMemoryFor};
@@ -13,15 +13,16 @@ ghost use Rattle.wf_board.specs.States.{opening_state};
 ghost use Rattle.wf_board.specs.Steps.{room_taken, state_after_step, IsStep};
 ghost use Rattle.wf_board.specs.Taking.{keeps_policy, KeepsAll};
 ghost use Rattle.wf_board.specs.Trees.{shows_large};
-ghost use Rattle.wf_board.specs.Verdicts.{has_shown_large, HasAnswered, HasUsed, IsCertified, IsDecided, IsEditionFor, IsRight, MayLackMemory, room_used, snap_of, snap_rows};
+ghost use Rattle.wf_board.specs.Verdicts.{has_shown_large, HasAnswered, HasUsed, IsCertified, IsDecided, IsEditionFor, IsPlanFor, IsRight, MayLackMemory, room_used, snap_of, snap_rows};
 
 use crate::admit::admit;
 use crate::certified::accepts;
 use crate::decision::needs_verdict;
 use crate::harmless::unbroken;
-use crate::taking::{answer, step, take};
+use crate::taking::{answer, step, take, take_plan};
 use crate::{AdmitFault, Answered, Decider, Deed, Edition, Snap, Stepped, Verdict};
 use admin_edits::Amendment;
+use constraint_forms::Plan;
 use grant_table::Cases;
 use policy_book::Policy;
 use std::alloc::{AllocError, Global};
@@ -438,6 +439,31 @@ impl Board {
                 take(policy, &mut self.cases, ask, deed, other)
             }
         }
+    }
+
+    /// A plan for a deed that is left to decide, where a decider has one at hand.
+    pub fn near_plan<V: Decider>(&self, decider: &V, deed: &Deed) -> Option<Plan>
+        requires ready { V.ready decider.now }
+        requires found { IsFound self.now.policy self.now.cases.rows deed.now }
+        ensures { IfSome result (IsPlanFor (state_on self.now).book (Ok deed.now)) }
+    {
+        let policy: &Policy = &self.policy;
+        decider.decide_near(policy, &self.cases, deed)
+    }
+
+    /// Answers a request of which the deed is left to decide, by a plan for the deed.
+    pub fn take_plan(&mut self, ask: &Ask, deed: Deed, plan: Plan) -> Reply
+        requires undecided { IsUndecided self.old.policy self.old.cases ask.now deed }
+        requires plan { IsPlanFor (state_on self.old).book (Ok deed) plan }
+        ensures decided { IsDecided self.old ask.now (Verdict.Plan plan) result }
+        ensures plans { KeepsPlans self.old self.new ask.now (Verdict.Plan plan) result }
+        ensures next { state_on self.new ≡ state_after_step (state_on self.old) ask.now result }
+        ensures lacking { result ≡ Reply.NoMemory → self.new ≡ self.old }
+        ensures room { self.old.cases.spare ≤ self.new.cases.spare + 1 }
+        ensures spare { self.old.cases.spare ≤ self.new.cases.spare + room_taken result }
+    {
+        let policy: &Policy = &self.policy;
+        take_plan(policy, &mut self.cases, ask, deed, plan)
     }
 
     /// Takes a changed policy under which the plans stay.

@@ -1,11 +1,13 @@
 //! Who finds verdicts.
+ghost use Rattle.std.specs.Prelude.{IfSome, Ok};
 ghost use Rattle.wf_board.specs.Boards.{book_of, book_on};
 ghost use Rattle.wf_board.specs.Deeds.{DecidesDeed};
 ghost use Rattle.wf_board.specs.Found.{IsFound};
 ghost use Rattle.wf_board.specs.Kept.{ArePlanned};
-ghost use Rattle.wf_board.specs.Verdicts.{Decides};
+ghost use Rattle.wf_board.specs.Verdicts.{Decides, IsPlanFor};
 
 use crate::{Deed, Snap, Verdict};
+use constraint_forms::Plan;
 use grant_table::Cases;
 use policy_book::Policy;
 use std::alloc::Global;
@@ -27,4 +29,11 @@ pub trait Decider {
         requires kept { ArePlanned p.now cases.now.rows }
         requires found { IsFound p.now cases.now.rows deed.now }
         ensures { DecidesDeed (book_of p.now cases.now) deed.now result };
+
+    /// A plan for such a deed, where one is at hand: found with no search.
+    fn decide_near(&self, p: &Policy, cases: &Cases, deed: &Deed) -> Option<Plan>
+        requires ready { ready self.now }
+        requires kept { ArePlanned p.now cases.now.rows }
+        requires found { IsFound p.now cases.now.rows deed.now }
+        ensures { IfSome result (IsPlanFor (book_of p.now cases.now) (Ok deed.now)) };
 }

@@ -155,6 +155,29 @@ fn take_by(p: &Policy, cases: &mut Cases, ask: &Ask, deed: Deed, verdict: Verdic
     }
 }
 
+/// Answers a request on whose deed there is a plan.
+pub(crate) fn take_plan(
+    p: &Policy,
+    cases: &mut Cases,
+    ask: &Ask,
+    deed: Deed,
+    plan: Plan,
+) -> Reply
+    requires kept { IsKept p.now cases.old }
+    requires undecided { IsUndecided p.now cases.old ask.now deed }
+    requires plan { IsPlanFor (book_of p.now cases.old) (Ok deed) plan }
+    ensures taken { HasTakenStep p.now cases.old cases.new
+        (decision_of (book_of p.now cases.old) ask.now) result }
+    ensures made { IsMadeOf (verdicts.Plan plan) result }
+    ensures small { shows_large result ≡ false }
+    ensures memory { result ≡ replies.NoMemory
+        → (is_opening (decision_of (book_of p.now cases.old) ask.now) ≡ true) × (cases.old.spare ≡ 0) }
+    ensures unchanged { result ≡ replies.NoMemory → cases.new ≡ cases.old }
+{
+    let _ = ask;
+    plan_for(p, cases, deed, plan)
+}
+
 /// Answers by a plan that shows that a case can be completed.
 fn by_plan(p: &Policy, cases: &mut Cases, ask: &Ask, plan: Plan) -> Reply
     requires kept { IsKept p.now cases.old }

@@ -1,5 +1,5 @@
 -- What becomes of a job: decided inside the turn, or with the verdict of a task that was found outside it.
-use Rattle.std.specs.Prelude.{◌≡◌, ℕ, ◌+◌, ◌==◌, ◌&&◌, ◌||◌, nat_le, not, Bool, true, false, length, drop, max, slice_set, Option, None, Some, Result, Ok, Err}
+use Rattle.std.specs.Prelude.{◌≡◌, ℕ, ◌+◌, ◌==◌, ◌&&◌, ◌||◌, nat_le, not, Bool, true, false, List, length, drop, max, slice_set, Option, None, Some, Result, Ok, Err}
 use Rattle.std.specs.declared.alloc.AllocError.{AllocError}
 use Rattle.std.proofs.Common.{◌⊎◌}
 use Rattle.wf_talk.specs.declared.job.Job.{Job}
@@ -124,10 +124,20 @@ asks_search b (Some job) = needs_search (decision_of b job.ask)
 abbrev pub next_asks_search : DeskShape → ℕ → Bool
 next_asks_search d lane = asks_search (state_on d.board).book (next_job d lane)
 
--- a lane's next job was taken up, if it has one: what needs no search was decided inside the turn, and nothing else; of
--- what has to be searched this is the task, or there was no memory for one, and nothing has changed
-abbrev pub HasTakenUp : DeskShape → DeskShape → ℕ → Result Taken AllocError → Type 0
-HasTakenUp before after lane (Ok (taken.Task t)) = (next_asks_search before lane ≡ true) × (IsTask before lane t × (after ≡ before))
-HasTakenUp before after lane (Ok taken.Served) = (next_asks_search before lane ≡ false) × HasServed before after lane true
-HasTakenUp before after lane (Ok taken.Ended) = HasServed before after lane false
-HasTakenUp before after lane (Err e) = (next_asks_search before lane ≡ true) × (after ≡ before)
+-- a lane's next job was decided inside the turn by a plan
+abbrev pub HasPlanned : DeskShape → DeskShape → ℕ → Type 0
+HasPlanned before after lane =
+    (job : Job) × ((next_job before lane ≡ Some job)
+    × ((plan : List ℕ) × HasAdded before after job (length before.entries) (IsDecided before.board job.ask (verdict.Plan plan))))
+
+-- a lane's next job was taken up, if it has one: what needs no search was decided inside the turn; of what has to be
+-- searched this is the task, or there was no memory for one, and nothing has changed; where plans at hand may decide, it
+-- was decided inside the turn by a plan, and by nothing else
+abbrev pub HasTakenUp : (near : Bool) → DeskShape → DeskShape → ℕ → Result Taken AllocError → Type 0
+HasTakenUp near before after lane (Ok (taken.Task t)) =
+    (next_asks_search before lane ≡ true) × (IsTask before lane t × (after ≡ before))
+HasTakenUp near before after lane (Ok taken.Served) = (next_asks_search before lane ≡ false) × HasServed before after lane true
+HasTakenUp near before after lane (Ok taken.Planned) =
+    (near ≡ true) × ((next_asks_search before lane ≡ true) × HasPlanned before after lane)
+HasTakenUp near before after lane (Ok taken.Ended) = HasServed before after lane false
+HasTakenUp near before after lane (Err e) = (next_asks_search before lane ≡ true) × (after ≡ before)

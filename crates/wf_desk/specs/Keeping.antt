@@ -1,12 +1,13 @@
 -- Inside: what a desk keeps beside what is said of it.
-use Rattle.std.specs.Prelude.{◌≡◌, ℕ, ◌+◌, ◌<◌, ◌≤◌, ◌&&◌, nat_le, not, Bool, true, false, List, length, take, drop, max, slice_get, slice_index_or, IfSome, Option, None, Some, Ok}
+use Rattle.std.specs.Prelude.{◌≡◌, ℕ, ◌+◌, ◌<◌, ◌≤◌, ◌&&◌, nat_le, not, Bool, true, false, List, length, take, drop, max, slice_get, slice_index_or, IfSome, Option, None, Some}
 use Rattle.wf_names.specs.declared.limits.TheConstants.{LANE_LIMIT}
 use Rattle.wf_talk.specs.declared.job.Job.{Job}
 use Rattle.wf_talk.specs.declared.request.Ask.{Ask}
 use Rattle.wf_board.specs.Counting.{counted, lane_end}
 use Rattle.wf_board.specs.Histories.{lane_jobs}
 use Rattle.wf_board.specs.Boards.{state_on}
-use Rattle.wf_board.specs.Decisions.{decision_of, is_view, needs_plan, needs_verdict}
+use Rattle.wf_board.specs.Decisions.{decision_of, is_view, needs_verdict}
+use Rattle.wf_board.specs.Deeds.{IsUndecided}
 use Rattle.wf_board.specs.Verdicts.{IsDecided}
 use Rattle.wf_board.specs.declared.deed.Deed.{Deed}
 use Rattle.wf_board.specs.declared.verdict.Verdict.TheVariants as verdict
@@ -62,7 +63,7 @@ HasLookedAt before after job None =
     × (needs_verdict (decision_of (state_on before.board).book job.ask) ≡ false)
 HasLookedAt before after job (Some d) =
     (after ≡ before) × ((needs_verdict (decision_of (state_on before.board).book job.ask) ≡ true)
-    × ((decision_of (state_on before.board).book job.ask ≡ Ok d) × (needs_plan d ≡ true)))
+    × IsUndecided before.board.policy before.board.cases job.ask d)
 
 -- what became of a task without a verdict
 abbrev pub HasCommittedNone : DeskShape → DeskShape → Task → Outcome → Type 0

@@ -1,10 +1,11 @@
 //! The desk, with its calls.
-ghost use Rattle.std.specs.Prelude.{◌≡◌, ◌≤◌, ◌<◌, ◌+◌, ◌↔◌, ◌≢◌, nat_le, true, false, [], length, replicate, OnErr, OnOk, IfOk, None, Some, Option, Ok};
+ghost use Rattle.std.specs.Prelude.{◌≡◌, ◌≤◌, ◌<◌, ◌+◌, ◌↔◌, ◌≢◌, nat_le, Bool, true, false, [], length, replicate, OnErr, OnOk, IfOk, IfSome, None, Some, Option, Ok};
 ghost use Rattle.wf_names.specs.declared.limits.TheConstants.{BATCH_LINE_LIMIT, LANE_LIMIT, ROUND_LIMIT};
 ghost use Rattle.wf_board.specs.Boards.{book_on, state_on};
 ghost use Rattle.wf_board.specs.States.{opening_state};
-ghost use Rattle.wf_board.specs.Decisions.{decision_of, needs_plan};
-ghost use Rattle.wf_board.specs.Verdicts.{Decides, IsDecided, IsRight};
+ghost use Rattle.wf_board.specs.Deeds.{IsUndecided};
+ghost use Rattle.wf_board.specs.Found.{IsFound};
+ghost use Rattle.wf_board.specs.Verdicts.{Decides, IsDecided, IsPlanFor, IsRight};
 ghost use Rattle.std.specs.Arc.{arc_value};
 ghost use Rattle.wf_board.specs.Histories.{IsLegal, state_after};
 ghost use Rattle.wf_desk.specs.Desks.{AnswersPart, AreOfLanes, HasAdded, HasRoomFor, IsDone, IsSoundDesk, desk_with, left_of, next_job, no_loss, with_batch, with_batch_from, with_room};
@@ -14,6 +15,7 @@ ghost use Rattle.wf_desk.specs.Keeping.{HasCommittedNone, HasLookedAt, HasMissed
 use crate::docket::{count_of_lane, first_places, go_on, job_at, places_after};
 use crate::journal::{add_entry, any_counts, any_of_lane, entries_from, last_counting};
 use crate::{Loss, Outcome, Taken, Task};
+use constraint_forms::Plan;
 use policy_book::Policy;
 use std::alloc::{AllocError, Global};
 use std::marker::Model;
@@ -253,28 +255,69 @@ impl Desk {
         true
     }
 
-    /// Takes up a lane's next job, in a turn. Where nothing has to be searched it is decided at once.
-    /// Else there is its task, or no memory for one, and nothing changes.
+    /// Takes up a lane's next job, in a turn. Where nothing has to be searched it is decided at once,
+    /// and with `near` also where a plan is at hand. Else there is its task, or no memory for one,
+    /// and nothing changes.
     pub fn take_up<V: Decider>(
         &mut self,
         alloc: Global,
         decider: &V,
+        near: bool,
         lane: u8,
     ) -> Result<Taken, AllocError>
         requires ready { V.ready decider.now }
         requires lane { lane < self.old.lanes }
-        ensures { HasTakenUp self.old self.new lane result }
+        ensures { HasTakenUp near self.old self.new lane result }
     {
         let Some(job) = self.next_job(lane) else {
             return Ok(Taken::Ended);
         };
         match self.look_at(alloc, &job) {
             None => Ok(Taken::Served),
-            Some(deed) => self.take_up_deed(alloc, decider, lane, &job, &deed),
+            Some(deed) => self.take_up_left(alloc, decider, near, &job, deed),
         }
     }
 
     // Takes up a job of which the deed is left to decide.
+    fn take_up_left<V: Decider>(
+        &mut self,
+        alloc: Global,
+        decider: &V,
+        near: bool,
+        job: &Job,
+        deed: Deed,
+    ) -> Result<Taken, AllocError>
+        requires ready { V.ready decider.now }
+        requires lane { job.now.lane < self.old.lanes }
+        requires next { next_job self.old job.now.lane ≡ Some job.now }
+        requires undecided { IsUndecided self.old.board.policy self.old.board.cases
+            job.now.ask deed }
+        ensures { HasTakenUp near self.old self.new job.now.lane result }
+    {
+        match self.plan_at_hand(decider, near, &deed) {
+            Some(plan) => {
+                self.serve_plan(job, deed, plan);
+                Ok(Taken::Planned)
+            }
+            None => self.take_up_deed(alloc, decider, job.lane, job, &deed),
+        }
+    }
+
+    // A plan for a deed that is left to decide, where plans at hand may decide and there is one.
+    fn plan_at_hand<V: Decider>(&self, decider: &V, near: bool, deed: &Deed) -> Option<Plan>
+        requires ready { V.ready decider.now }
+        requires found { IsFound self.now.board.policy self.now.board.cases.rows deed.now }
+        ensures plan { IfSome result (IsPlanFor (state_on self.now.board).book (Ok deed.now)) }
+        ensures near { IfSome result (λ plan. near ≡ true) }
+    {
+        if near {
+            self.board.near_plan(decider, deed)
+        } else {
+            None
+        }
+    }
+
+    // Takes up a job of which the deed is left to decide, with no plan at hand.
     fn take_up_deed<V: Decider>(
         &mut self,
         alloc: Global,
@@ -286,9 +329,9 @@ impl Desk {
         requires ready { V.ready decider.now }
         requires lane { lane < self.old.lanes }
         requires next { next_job self.old lane ≡ Some job.now }
-        requires decided { decision_of (state_on self.old.board).book job.now.ask ≡ Ok deed.now }
-        requires needs { needs_plan deed.now ≡ true }
-        ensures { HasTakenUp self.old self.new lane result }
+        requires undecided { IsUndecided self.old.board.policy self.old.board.cases
+            job.now.ask deed.now }
+        ensures { (near : Bool) → HasTakenUp near self.old self.new lane result }
     {
         if !is_harmless_deed(deed) {
             return Ok(Taken::Task(self.task_of(alloc, lane, job)?));
@@ -524,6 +567,22 @@ impl Desk {
         go_on(&mut self.places, self.jobs.as_slice(), job.lane);
         self.losses[job.lane as usize] = no_loss();
         at
+    }
+
+    // Decides a lane's next job by a plan, and adds its entry.
+    fn serve_plan(&mut self, job: &Job, deed: Deed, plan: Plan)
+        requires lane { job.now.lane < self.old.lanes }
+        requires next { next_job self.old job.now.lane ≡ Some job.now }
+        requires undecided { IsUndecided self.old.board.policy self.old.board.cases
+            job.now.ask deed }
+        requires plan { IsPlanFor (state_on self.old.board).book (Ok deed) plan }
+        ensures { HasAdded self.old self.new job.now (length self.old.entries)
+            (IsDecided self.old.board job.now.ask (Verdict.Plan plan)) }
+    {
+        let reply = self.board.take_plan(&job.ask, deed, plan);
+        add_entry(&mut self.journal, job, reply);
+        go_on(&mut self.places, self.jobs.as_slice(), job.lane);
+        self.losses[job.lane as usize] = no_loss();
     }
 
     // Answers a lane's next job again, after its last round.

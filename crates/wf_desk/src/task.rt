@@ -25,6 +25,8 @@ pub enum Taken {
     Task(Task),
     /// It needed no search, and was decided inside the turn.
     Served,
+    /// A plan that was at hand decided it inside the turn.
+    Planned,
     /// The lane has no job left.
     Ended,
 }

@@ -1,3 +1,4 @@
+pub mod Ahead
 pub mod OneOrder
 pub mod TurnLaws
 pub mod TurnOrder

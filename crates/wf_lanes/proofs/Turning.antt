@@ -17,13 +17,14 @@ use Rattle.wf_desk.specs.declared.outcome.Outcome.TheVariants as outcome
 use Rattle.wf_desk.specs.declared.tabled.Fixed.{Fixed}
 use Rattle.wf_desk.specs.declared.task.Task.{Task}
 use Rattle.wf_desk.specs.Desks.{DeskShape, HasAdded, next_job, served}
-use Rattle.wf_desk.specs.Commits.{HasCommitted, HasServed, IsRightFor, IsTask, job_of_task}
+use Rattle.wf_desk.specs.Commits.{HasCommitted, HasPlanned, HasServed, IsRightFor, IsTask, job_of_task}
 use Rattle.wf_desk.proofs.DocketLaws as docket
 use Rattle.wf_desk.specs.Schedules.{HasGrown}
 use Rattle.wf_desk.specs.Tabling.{fixed_of, tagged, tagged_of}
 use Rattle.wf_desk.proofs.Scheduling.{begun_held, grown_committed, grown_served, held_on}
 use Rattle.wf_lanes.specs.declared.worker.Begun.{Begun}
 use Rattle.wf_lanes.specs.declared.worker.Begun.TheVariants as begun
+use Rattle.wf_lanes.proofs.Ahead.{grown_planned}
 use Rattle.wf_lanes.specs.Workers.{HasBegun, HasBegunAt, HasEnded, HasJoined, HasMadeAll, HasLanes, HasRoom, HasSeen, HasTurned, IsBegun, IsFirst, IsIdle, IsSameLane}
 
 -- ---- entries without their lanes
@@ -104,9 +105,14 @@ grows_served : (d e : DeskShape) (lane : ℕ) → HasServed d e lane true → Gr
 grows_served d e lane (job, (next, added)) =
     grows_added lane d e job _ _ (docket.next_lane lane (length (served d lane)) d.jobs job next) added
 
+grows_planned : (d e : DeskShape) (lane : ℕ) → HasPlanned d e lane → GrowsByOne lane (tagged_of e) (tagged_of d)
+grows_planned d e lane (job, (next, (plan, added))) =
+    grows_added lane d e job _ _ (docket.next_lane lane (length (served d lane)) d.jobs job next) added
+
 pub grows_begun : (d e : DeskShape) (lane : ℕ) (result : Begun) → HasBegunAt d e lane result → GrowsByOne lane (tagged_of e) (tagged_of d)
 grows_begun d e lane (begun.Task t) done = grows_same lane d e done.1.1.1
 grows_begun d e lane begun.Served done = grows_served d e lane done.1
+grows_begun d e lane begun.Planned done = grows_planned d e lane done.1
 grows_begun d e lane begun.Lacking done = grows_served d e lane done.1
 grows_begun d e lane begun.Ended done = grows_same lane d e done.1
 
@@ -121,6 +127,7 @@ fixed_committed d e t v result done = fixed_grown d e (grown_committed d e t v r
 pub fixed_begun : (d e : DeskShape) (lane : ℕ) (result : Begun) → HasBegunAt d e lane result → fixed_of e ≡ fixed_of d
 fixed_begun d e lane (begun.Task t) done = ap fixed_of done.1.1.1
 fixed_begun d e lane begun.Served done = fixed_grown d e (grown_served d e lane true done.1)
+fixed_begun d e lane begun.Planned done = fixed_grown d e (grown_planned d e lane done.1)
 fixed_begun d e lane begun.Lacking done = fixed_grown d e (grown_served d e lane true done.1)
 fixed_begun d e lane begun.Ended done = ap fixed_of done.1
 

@@ -9,7 +9,7 @@ use Rattle.wf_desk.specs.declared.outcome.Outcome.{Outcome}
 use Rattle.wf_desk.specs.declared.tabled.Fixed.{Fixed}
 use Rattle.wf_desk.specs.declared.task.Task.{Task}
 use Rattle.wf_desk.specs.Desks.{DeskShape, IsSoundDesk, next_job}
-use Rattle.wf_desk.specs.Commits.{HasCommitted, HasServed, IsTask, next_asks_search}
+use Rattle.wf_desk.specs.Commits.{HasCommitted, HasPlanned, HasServed, IsTask, next_asks_search}
 use Rattle.wf_desk.specs.Tabling.{fixed_of, tagged_of}
 use Rattle.wf_lanes.specs.declared.worker.Begun.{Begun}
 use Rattle.wf_lanes.specs.declared.worker.Begun.TheVariants as begun
@@ -36,14 +36,16 @@ pub record HasTurned (before after : LaneShape Fixed Entry) (d e : DeskShape) : 
 abbrev pub is_task : Begun → Bool
 is_task (begun.Task t) = true
 is_task begun.Served = false
+is_task begun.Planned = false
 is_task begun.Lacking = false
 is_task begun.Ended = false
 
 -- what came of beginning a lane's next job at a desk: a job that needs no search was decided inside the turn, and one
--- that needs it is a task, but where there was no memory for one
+-- that needs it by a plan that was at hand, or it is a task, but where there was no memory for one
 abbrev pub HasBegunAt : DeskShape → DeskShape → ℕ → Begun → Type 0
 HasBegunAt d e lane (begun.Task t) = (next_asks_search d lane ≡ true) × (IsTask d lane t × (IsSoundDesk d × (e ≡ d)))
 HasBegunAt d e lane begun.Served = (next_asks_search d lane ≡ false) × HasServed d e lane true
+HasBegunAt d e lane begun.Planned = (next_asks_search d lane ≡ true) × HasPlanned d e lane
 HasBegunAt d e lane begun.Lacking = (next_asks_search d lane ≡ true) × HasServed d e lane true
 HasBegunAt d e lane begun.Ended = (next_job d lane ≡ None) × (e ≡ d)
 

@@ -4,6 +4,7 @@ ghost use Rattle.wf_board.specs.Boards.{book_on};
 ghost use Rattle.wf_board.specs.Histories.{may_lack_memory};
 ghost use Rattle.wf_board.specs.Verdicts.{Decides};
 
+use constraint_forms::Plan;
 use grant_table::Cases;
 use policy_book::Policy;
 use std::alloc::Global;
@@ -13,6 +14,10 @@ use wf_talk::{Ask, Request};
 /// Told of each search outside a turn that is about to begin. It promises nothing, and changes
 /// nothing that a contract sees.
 pub trait Gate {
+    /// Whether it is to be told. Where it is not, what a plan at hand decides is decided in the
+    /// turn that takes it up, with no search outside.
+    fn watches(&self) -> bool;
+
     /// A lane is about to search for a verdict on the request of a line, counted from 0.
     fn solving(&self, lane: u8, line: u32);
 }
@@ -22,6 +27,10 @@ pub trait Gate {
 pub struct OpenGate;
 
 impl Gate for OpenGate {
+    fn watches(&self) -> bool {
+        false
+    }
+
     fn solving(&self, _lane: u8, _line: u32) {}
 }
 
@@ -45,6 +54,10 @@ impl<V: Decider, G: Gate> Decider for Gated<'_, V, G> {
 
     fn decide_deed(&self, alloc: Global, p: &Policy, cases: &Cases, deed: &Deed) -> Verdict {
         self.decider.decide_deed(alloc, p, cases, deed)
+    }
+
+    fn decide_near(&self, p: &Policy, cases: &Cases, deed: &Deed) -> Option<Plan> {
+        self.decider.decide_near(p, cases, deed)
     }
 }
 

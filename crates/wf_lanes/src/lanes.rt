@@ -17,15 +17,17 @@ use std::sync::Wait;
 use std::thread::{Threads, join};
 use turn_table::{Lane, Refused, TurnTable};
 use wf_board::Decider;
-use wf_desk::Desk;
-use wf_names::LANE_LIMIT;
+use wf_desk::{Desk, Taken};
+use wf_names::{BATCH_LINE_LIMIT, LANE_LIMIT};
 
 /// For each lane whether it has a job left.
 type Busy = [bool; LANE_LIMIT as usize];
 
 /// Serves the jobs of a batch, each lane's on a thread of its own: searches run outside the turns,
 /// on numbered snapshots, while other lanes go on; decisions are taken in turns, one at a time. It
-/// may wait. Where one lane alone has jobs, they are served by turns, with no thread.
+/// may wait. What needs no search is served by turns before any thread begins, up to the first job
+/// that has to be searched, unless a gate watches. Where one lane alone has jobs left, they are
+/// served by turns, with no thread.
 pub fn serve_by_lanes<R: Threads + Wait + Sync, V: Decider + Sync, G: Gate + Sync>(
     rt: &R,
     alloc: Global,
@@ -39,9 +41,50 @@ pub fn serve_by_lanes<R: Threads + Wait + Sync, V: Decider + Sync, G: Gate + Syn
     ensures on { HasGrown desk result }
     ensures done { IsDone result }
 {
+    let mut desk = desk;
+    serve_ahead(alloc, decider, gate, &mut desk);
     let mut desk = serve_on_lanes(rt, alloc, decider, gate, desk);
     serve_by_turns(alloc, decider, &mut desk);
     desk
+}
+
+// Serves jobs by turns, up to the first that has to be searched, unless a gate watches.
+fn serve_ahead<V: Decider, G: Gate>(alloc: Global, decider: &V, gate: &G, desk: &mut Desk)
+    requires ready { V.ready decider.now }
+    ensures { HasGrown desk.old desk.new }
+{
+    if !gate.watches() {
+        serve_rounds(alloc, decider, desk);
+    }
+}
+
+// Serves rounds of jobs, up to the first job that has to be searched.
+fn serve_rounds<V: Decider>(alloc: Global, decider: &V, desk: &mut Desk)
+    requires ready { V.ready decider.now }
+    ensures { HasGrown desk.old desk.new }
+{
+    'rounds: for _ in 0..BATCH_LINE_LIMIT {
+        if !serve_round(alloc, decider, desk) {
+            return;
+        }
+    }
+}
+
+// Serves one job of each lane that has one left, up to the first job that has to be searched;
+// whether there may be more.
+fn serve_round<V: Decider>(alloc: Global, decider: &V, desk: &mut Desk) -> bool
+    requires ready { V.ready decider.now }
+    ensures { HasGrown desk.old desk.new }
+{
+    let mut served = false;
+    'round: for lane in 0..desk.lanes() {
+        match desk.take_up(alloc, decider, true, lane) {
+            Ok(Taken::Served | Taken::Planned) => served = true,
+            Ok(Taken::Ended) => {}
+            Ok(Taken::Task(_)) | Err(_) => return false,
+        }
+    }
+    served
 }
 
 // Serves the jobs that lanes find at a table, if there is memory for one.
@@ -239,6 +282,7 @@ fn serve_lane<R: Wait, V: Decider, G: Gate>(
         rt,
         alloc,
         decider,
+        near: !gate.watches(),
         table,
         lane,
         number,
@@ -249,6 +293,7 @@ fn serve_lane<R: Wait, V: Decider, G: Gate>(
         rt: _,
         alloc: _,
         decider: _,
+        near: _,
         table: _,
         lane,
         number: _,

@@ -20,6 +20,8 @@ pub(crate) struct TableTurns<'a, R, V> {
     pub(crate) rt: &'a R,
     pub(crate) alloc: Global,
     pub(crate) decider: &'a V,
+    /// Whether plans at hand decide in the turn that takes a job up.
+    pub(crate) near: bool,
     pub(crate) table: &'a TurnTable<Desk>,
     pub(crate) lane: Lane<Desk>,
     pub(crate) number: u8,
@@ -38,7 +40,7 @@ impl<R: Wait, V: Decider> Turns for TableTurns<'_, R, V> {
 
     fn begin(&mut self) -> Begun {
         let mut desk = self.table.take(self.rt, &mut self.lane);
-        let begun = begin_at(self.alloc, self.decider, &mut desk, self.number);
+        let begun = begin_at(self.alloc, self.decider, self.near, &mut desk, self.number);
         self.table.give(&mut self.lane, desk);
         self.pending = matches!(begun, Begun::Task(_));
         begun
@@ -54,15 +56,22 @@ impl<R: Wait, V: Decider> Turns for TableTurns<'_, R, V> {
 }
 
 // Takes up a lane's next job at a desk. Without memory for its task it is decided at once.
-fn begin_at<V: Decider>(alloc: Global, decider: &V, desk: &mut Desk, lane: u8) -> Begun
+fn begin_at<V: Decider>(
+    alloc: Global,
+    decider: &V,
+    near: bool,
+    desk: &mut Desk,
+    lane: u8,
+) -> Begun
     requires ready { V.ready decider.now }
     requires lane { lane < desk.old.lanes }
     ensures { HasBegunAt desk.old desk.new lane result }
 {
     let _sound = desk.journal();
-    match desk.take_up(alloc, decider, lane) {
+    match desk.take_up(alloc, decider, near, lane) {
         Ok(Taken::Task(task)) => Begun::Task(task),
         Ok(Taken::Served) => Begun::Served,
+        Ok(Taken::Planned) => Begun::Planned,
         Ok(Taken::Ended) => Begun::Ended,
         Err(_) => decide_at(alloc, decider, desk, lane),
     }

@@ -20,6 +20,8 @@ pub(crate) enum Begun {
     Task(Task),
     /// The job needed no search, and was decided inside the turn.
     Served,
+    /// A plan that was at hand decided the job inside the turn.
+    Planned,
     /// There was no memory for a task, and the job was decided inside the turn.
     Lacking,
     /// The lane has no job left.
@@ -87,7 +89,7 @@ pub(crate) fn work<R: Wait, V: Decider, G: Gate, T: Turns>(
                 let verdict = find(alloc, decider, gate, tells, &task);
                 turns.commit(&task, verdict);
             }
-            Begun::Served | Begun::Lacking => {}
+            Begun::Served | Begun::Planned | Begun::Lacking => {}
             Begun::Ended => return,
         }
     }

@@ -1,0 +1,31 @@
+use Rattle.std.proofs.Common.{◌≡◌, IfSome, arith}
+use Rattle.std.proofs.lemmas.Grind.{common_steps}
+use Rattle.constraint_forms.specs.Assigned.{planned}
+use Rattle.policy_book.specs.Policies.{problem_of}
+use Rattle.policy_book.specs.Plans.{IsValidPlan}
+use Rattle.denial_reasons.specs.Causes.{assigned_with}
+use Rattle.case_record.specs.Cases.{finished_of}
+use Rattle.case_views.proofs.Deciding.{kept_length, search_within, valid_with}
+use Rattle.case_views.proofs.Editing.{said_same}
+use Rattle.case_views.proofs.found.plan_with.Goals as goal
+
+pub at-requires : goal.at-requires
+at-requires c =
+    omega (arith, kept_length c.args.p.now c.args.case.now c.args.kept.now c.requires.known c.requires.valid, c.requires.step)
+
+pub returns-then-eq : goal.returns-then-eq
+returns-then-eq c =
+    let k = c.args.case.now in
+    let gives : planned c.args.kept.now c.args.step ≡ c.args.user = grind (arith, common_steps, c.at.ensures, c.eq.ensures, c.if-eq.true) in
+    valid_with (problem_of c.args.p.now k.flow) k c.args.step c.args.user c.args.kept.now gives c.requires.valid
+
+pub plan_near-requires-clause-within : goal.plan_near-requires-clause-within
+plan_near-requires-clause-within c =
+    rw (c.flow.ensures, c.assigned_with-assigned.ensures.given)
+    (search_within c.args.p.now c.args.case.now c.args.kept.now c.args.step c.args.user c.requires.known c.requires.valid c.requires.step c.requires.user)
+
+pub returns : goal.returns
+returns c =
+    let k = c.args.case.now in
+    said_same (λ q a d. IfSome c.plan_near.result (IsValidPlan q a d)) c.args.p.now k.flow c.flow.result (assigned_with k c.args.step c.args.user) c.assigned_with-assigned.result (finished_of k) c.finished.result
+    c.flow.ensures c.assigned_with-assigned.ensures.given c.finished.ensures.value c.plan_near.ensures
