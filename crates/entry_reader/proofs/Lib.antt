@@ -8,6 +8,8 @@ pub mod PlainReplies
 pub mod RepliesBack
 pub mod RepliesWithin
 pub mod LinesBack
+pub mod LowTrees
+pub mod PlainDenials
 pub mod PlainLines
 pub mod Small
 pub mod FlowsBack

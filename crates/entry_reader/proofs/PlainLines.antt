@@ -1,6 +1,6 @@
 -- A line that is the text of an entry of a plain reply.
 use Rattle.std.proofs.Common.{◌≡◌, ℕ, zero, suc, ◌<◌, ◌≤◌, ◌^◌, List, [], ◌∷◌, map, max, refl, ap, arith, true, ltb-true}
-use Rattle.std.specs.Prelude.{nat_lt, Option, Some, None}
+use Rattle.std.specs.Prelude.{nat_lt, Option, Some}
 use Rattle.std.specs.List.{All, list_all}
 use Rattle.serde_json.specs.Data.{depth, items_depth}
 use Rattle.serde_json.specs.Read.{max_depth}
@@ -16,7 +16,7 @@ use Rattle.entry_reader.specs.declared.place.Place.{Place}
 use Rattle.entry_reader.specs.Named.{HasNames}
 use Rattle.entry_reader.specs.Places.{place_of_line}
 use Rattle.entry_reader.specs.Lines.{HasReply, IsLineOf, concerned, entry_at}
-use Rattle.entry_reader.specs.Plain.{IsPlainReply}
+use Rattle.entry_reader.specs.Plain.{IsPlainReply, IsGuessed}
 use Rattle.entry_reader.specs.Within.{IsReply}
 use Rattle.entry_reader.proofs.LinesBack.{line_reply, line_place}
 
@@ -49,18 +49,35 @@ plain_within p flows f (reply.Opened c plan) h = h
 plain_within p flows f reply.Withdrawn h = tt
 plain_within p flows f given h = absurd h
 
-plain_line : (p : PolicyShape) (flows : ℕ → Option ℕ) (text : List ℕ) (place : Place) (a : Ask) (r : Reply) → IsPlainReply p r
+guessed_nests : (p : PolicyShape) (flows : ℕ → Option ℕ) (f : Option ℕ) (place : Place) (a : Ask) (r : Reply) → IsGuessed p flows f r
+    → depth (entry_data p (entry_at place a r)) ≤ max_depth
+guessed_nests p flows f place a (reply.Denied d) h = omega (arith, h.1)
+guessed_nests p flows f place a given h = plain_nests p place a given h
+
+guessed_within : (p : PolicyShape) (flows : ℕ → Option ℕ) (f : Option ℕ) (r : Reply) → IsGuessed p flows f r → IsReply p flows f r
+guessed_within p flows f (reply.Denied d) h = h.0
+guessed_within p flows f given h = plain_within p flows f given h
+
+-- a plain reply is one that is guessed, whatever is concerned
+pub plain_guessed : (p : PolicyShape) (flows : ℕ → Option ℕ) (f : Option ℕ) (r : Reply) → IsPlainReply p r → IsGuessed p flows f r
+plain_guessed p flows f (reply.Denied d) h = absurd h
+plain_guessed p flows f given h = h
+
+guessed_line : (p : PolicyShape) (flows : ℕ → Option ℕ) (text : List ℕ) (place : Place) (a : Ask) (r : Reply) → IsGuessed p flows (concerned p flows a) r
     → place.at < 2 ^ 32 → place.lane < 2 ^ 8 → place.line < 2 ^ 32 → entry_text p (entry_at place a r) ≡ text → IsLineOf p flows text (entry_at place a r)
-plain_line p flows text place a r h first lane line same = record {
-  entry = record { place = first; lane = lane; line = line; reply = plain_within p flows (concerned p flows a) r h; nests = plain_nests p place a r h };
-  written = same;
-}
+guessed_line p flows text place a r h first lane line same =
+    let o = concerned p flows a in
+    record {
+      entry = record { place = first; lane = lane; line = line; reply = guessed_within p flows o r h; nests = guessed_nests p flows o place a r h };
+      written = same;
+    }
 
-pub plain_reply : (p : PolicyShape) (flows : ℕ → Option ℕ) (text : List ℕ) (place : Place) (a : Ask) (r : Reply) → HasNames p → IsPlainReply p r
+pub guessed_reply : (p : PolicyShape) (flows : ℕ → Option ℕ) (text : List ℕ) (place : Place) (a : Ask) (r : Reply) → HasNames p
+    → IsGuessed p flows (concerned p flows a) r
     → place.at < 2 ^ 32 → place.lane < 2 ^ 8 → place.line < 2 ^ 32 → entry_text p (entry_at place a r) ≡ text → HasReply p flows a text r
-plain_reply p flows text place a r k h first lane line same = line_reply p flows a text place r k (plain_line p flows text place a r h first lane line same)
+guessed_reply p flows text place a r k h first lane line same = line_reply p flows a text place r k (guessed_line p flows text place a r h first lane line same)
 
-pub plain_place : (p : PolicyShape) (text : List ℕ) (place : Place) (a : Ask) (r : Reply) → HasNames p → IsPlainReply p r
+pub guessed_place : (p : PolicyShape) (flows : ℕ → Option ℕ) (text : List ℕ) (place : Place) (a : Ask) (r : Reply) → HasNames p
+    → IsGuessed p flows (concerned p flows a) r
     → place.at < 2 ^ 32 → place.lane < 2 ^ 8 → place.line < 2 ^ 32 → entry_text p (entry_at place a r) ≡ text → place_of_line text ≡ Some place
-plain_place p text place a r k h first lane line same =
-    line_place p (λ n. None) a text place r k (plain_line p (λ n. None) text place a r h first lane line same)
+guessed_place p flows text place a r k h first lane line same = line_place p flows a text place r k (guessed_line p flows text place a r h first lane line same)

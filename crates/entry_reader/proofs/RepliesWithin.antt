@@ -40,7 +40,7 @@ either_read (Some y) b x e = inl e
 either_read None b x e = inr e
 
 -- what holds of each row's value
-abbrev AllRows : {X : Type 0} → (X → Type 0) → List (List ℕ × X) → Type 0
+abbrev pub AllRows : {X : Type 0} → (X → Type 0) → List (List ℕ × X) → Type 0
 AllRows P [] = Unit {0}
 AllRows P (r ∷ rows) = P r.1 × AllRows P rows
 
@@ -49,7 +49,7 @@ row_here : {X : Type 0} (P : X → Type 0) (r : List ℕ × X) (rest : Option (L
 row_here P r rest true x here later e = subst P (some_same r.1 x e) here
 row_here P r rest false x here later e = later e
 
-row_holds : {X : Type 0} (P : X → Type 0) (rows : List (List ℕ × X)) (w : List ℕ) (x : X) → AllRows P rows → row_of rows w ≡ Some x → P x
+pub row_holds : {X : Type 0} (P : X → Type 0) (rows : List (List ℕ × X)) (w : List ℕ) (x : X) → AllRows P rows → row_of rows w ≡ Some x → P x
 row_holds P [] w x all e = absurd (none_some x e)
 row_holds P (r ∷ rows) w x all e = row_here P r (find (λ q. pointwise nat_eq w q.0) rows) (pointwise nat_eq w r.0) x all.0 (row_holds P rows w x all.1) e
 

@@ -9,7 +9,10 @@ mod names;
 mod parts;
 mod place;
 mod plain;
+mod plain_denial;
+mod plain_tree;
 mod reply;
+mod rest;
 mod tree;
 
 pub use fault::TextFault;

@@ -3,13 +3,15 @@ ghost use Rattle.std.specs.Prelude.{◌≡◌, ◌≤◌, ◌<◌, nat_lt, lengt
 ghost use Rattle.std.specs.List.{All, list_all};
 ghost use Rattle.wf_names.specs.declared.limits.TheConstants.{STEP_LIMIT};
 ghost use Rattle.entry_reader.specs.Places.{place_of_line};
-ghost use Rattle.entry_reader.specs.Lines.{HasReply};
-ghost use Rattle.entry_reader.specs.Plain.{IsPlainReply};
+ghost use Rattle.entry_reader.specs.Lines.{HasReply, concerned};
+ghost use Rattle.entry_reader.specs.Plain.{IsGuessed, IsPlainReply};
 ghost use Rattle.entry_reader.specs.Within.{IsPlan};
 
-use crate::Place;
 use crate::names::know_names;
-use crate::reply::is_written;
+use crate::plain_denial::guess_denial;
+use crate::reply::{flow_asked, is_written};
+use crate::rest::{Rest, guess_number};
+use crate::{Place, TextFault};
 use memchr::memchr;
 use policy_book::{Plan, Policy};
 use std::alloc::{AllocError, Global};
@@ -23,9 +25,10 @@ pub fn guess_place(line: &[u8]) -> Option<Place> {
     Some(place)
 }
 
-/// The reply that a line tells for an ask at a place, where it is granted, finished, opened or one
-/// of a word, without blanks and with its keys as they are written. None says nothing.
-#[tactic(auto, using(crate::proofs::PlainLines::plain_reply, crate::proofs::PlainLines::plain_place))]
+/// The reply that a line tells for an ask at a place, where it is granted, finished, opened, one of
+/// a word or denied by anything but roles, without blanks and with its keys as they are written.
+/// None says nothing.
+#[tactic(auto, using(crate::proofs::PlainLines::guessed_reply, crate::proofs::PlainLines::guessed_place))]
 pub fn read_plain<F: FlowOf>(
     alloc: Global,
     p: &Policy,
@@ -38,8 +41,7 @@ pub fn read_plain<F: FlowOf>(
     ensures reply { IfOk result (λ o. IfSome o
         (HasReply p.now (F.FlowOf.flows cases.now) ask.now line.now)) }
 {
-    let _ = cases;
-    let Some(reply) = guess_reply(p, line) else {
+    let Some(reply) = guess_reply(alloc, p, cases, ask, line)? else {
         return Ok(None);
     };
     know_names(p);
@@ -76,26 +78,50 @@ fn guess_front(line: &[u8]) -> Option<(Place, &[u8])> {
     ))
 }
 
-// Some number, by the digits at the front of a text, and what follows.
-fn guess_number(text: &[u8]) -> Option<(u32, &[u8])> {
-    let mut n: u32 = 0;
-    'digits: for at in 0..text.len() {
-        if !text[at].is_ascii_digit() {
-            return Some((n, &text[at..]));
-        }
-        n = n
-            .wrapping_mul(10)
-            .wrapping_add(text[at] as u32)
-            .wrapping_sub(48);
+// A reply that a line may tell, by its first bytes.
+#[tactic(auto, using(crate::proofs::PlainLines::plain_guessed))]
+fn guess_reply<F: FlowOf>(
+    alloc: Global,
+    p: &Policy,
+    cases: &F,
+    ask: &Ask,
+    line: &[u8],
+) -> Result<Option<Reply>, AllocError>
+    ensures { IfOk result (λ o. IfSome o (IsGuessed p.now (F.FlowOf.flows cases.now)
+        (concerned p.now (F.FlowOf.flows cases.now) ask.now))) }
+{
+    let Some((_, text)) = guess_front(line) else {
+        return Ok(None);
+    };
+    if let Some(text) = text.strip_prefix(b"{\"denied\":") {
+        return guess_denied(alloc, p, cases, ask, text);
     }
-    None
+    Ok(guess_plain(p, text))
 }
 
-// A reply that a line may tell, by its first bytes.
-fn guess_reply(p: &Policy, line: &[u8]) -> Option<Reply>
+// A denial that a text may tell.
+fn guess_denied<F: FlowOf>(
+    alloc: Global,
+    p: &Policy,
+    cases: &F,
+    ask: &Ask,
+    text: &[u8],
+) -> Result<Option<Reply>, AllocError>
+    ensures { IfOk result (λ o. IfSome o (IsGuessed p.now (F.FlowOf.flows cases.now)
+        (concerned p.now (F.FlowOf.flows cases.now) ask.now))) }
+{
+    let flow = flow_asked(p, cases, ask);
+    match guess_denial(alloc, p, cases, flow, &mut Rest { text }) {
+        Ok(denial) => Ok(Some(Reply::Denied(denial))),
+        Err(TextFault::NotText) => Ok(None),
+        Err(TextFault::NoMemory) => Err(AllocError),
+    }
+}
+
+// A reply that a text may tell, and that is no denial.
+fn guess_plain(p: &Policy, rest: &[u8]) -> Option<Reply>
     ensures { IfSome result (IsPlainReply p.now) }
 {
-    let (_, rest) = guess_front(line)?;
     if let Some(rest) = rest.strip_prefix(b"{\"granted\":{\"plan\":[") {
         return Some(Reply::Granted(guess_plan(p, rest)?));
     }

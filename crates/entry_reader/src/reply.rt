@@ -21,7 +21,7 @@ use serde_json::Value;
 use std::alloc::{AllocError, Global};
 use wf_names::{FlowId, Name, Phase};
 use wf_talk::{Ask, Bad, Entry, Face, FlowOf, Reply, Request};
-use wire_json::{read_value, write_entry};
+use wire_json::{push_line, read_value};
 
 /// The reply of the entry whose text is this line, with its line end, where the entry answers this
 /// ask. The steps and trees in it are of the workflow that is concerned: the one of the case in the
@@ -58,8 +58,9 @@ pub(crate) fn is_written(
     ensures { IfOk result (λ b. MatchBool b (entry_text p.now entry.now ≡ text.now)
         (entry_text p.now entry.now ≢ text.now)) }
 {
-    let line = write_entry(alloc, p, entry)?;
-    Ok(line.as_bytes() == text)
+    let mut line = Vec::with_capacity(alloc, text.len())?;
+    push_line(&mut line, p, entry)?;
+    Ok(line.as_slice() == text)
 }
 
 // The entry that a line tells.
@@ -108,8 +109,8 @@ fn entry_in<F: FlowOf>(
     })
 }
 
-// The workflow that an ask concerns.
-fn flow_asked<F: FlowOf>(p: &Policy, cases: &F, ask: &Ask) -> Option<FlowId>
+/// The workflow that an ask concerns.
+pub(crate) fn flow_asked<F: FlowOf>(p: &Policy, cases: &F, ask: &Ask) -> Option<FlowId>
     ensures { result ≡ concerned p.now (F.FlowOf.flows cases.now) ask.now }
 {
     let Ask::Request(request) = ask else {

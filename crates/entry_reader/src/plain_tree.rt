@@ -1,0 +1,153 @@
+//! Trees as they are written: each is guessed in one pass over its text, without a value of it.
+ghost use Rattle.std.specs.Prelude.{◌<◌, IfOk};
+ghost use Rattle.refutation_tree.specs.Shapes.{no_kids};
+ghost use Rattle.refutation_tree.specs.Views.{branch_onto, shape_of};
+ghost use Rattle.entry_reader.specs.Within.{IsUser, IsStepOf, IsRule};
+ghost use Rattle.entry_reader.specs.Plain.{IsLow, AreLow, IsLowKid};
+
+use crate::TextFault;
+use crate::rest::Rest;
+use policy_book::Policy;
+use refutation_tree::{Branch, Branches, Kid, Tree};
+use std::alloc::Global;
+use wf_names::{FlowId, StepId, UserId};
+
+/// The tree over a workflow that comes next, with at most so many nodes one below the other.
+#[cycle(guess_tree)]
+#[tactic(auto, using(crate::proofs::LowTrees::low_node))]
+pub(crate) fn guess_tree(
+    alloc: Global,
+    p: &Policy,
+    f: FlowId,
+    height: usize,
+    rest: &mut Rest<'_>,
+) -> Result<Tree, TextFault>
+    ensures { IfOk result (λ t. IsLow p.now f height (shape_of t)) }
+{
+    if !rest.has(b"{\"step\":") {
+        return guess_leaf(p, f, height, rest);
+    }
+    if height == 0 {
+        return Err(TextFault::NotText);
+    }
+    let step = take_step(p, f, rest)?;
+    let branches = guess_branches(alloc, p, f, height - 1, rest)?;
+    Ok(Tree::Step(step, branches))
+}
+
+// The branches of a node, up to its end. There are not more of them than users.
+#[cycle(guess_tree)]
+#[tactic(auto, using(crate::proofs::LowTrees::low_none))]
+fn guess_branches(
+    alloc: Global,
+    p: &Policy,
+    f: FlowId,
+    height: usize,
+    rest: &mut Rest<'_>,
+) -> Result<Branches, TextFault>
+    ensures { IfOk result (AreLow p.now f height) }
+{
+    let mut branches = Branches::new(alloc);
+    rest.skip(b",\"users\":[")?;
+    'branches: for _ in 0..p.roster().users().len() {
+        if rest.has(b"]}") {
+            return Ok(branches);
+        }
+        branches.push(guess_branch(alloc, p, f, height, rest)?)?;
+        rest.has(b",");
+    }
+    rest.skip(b"]}")?;
+    Ok(branches)
+}
+
+// The branch that comes next.
+#[cycle(guess_tree)]
+fn guess_branch(
+    alloc: Global,
+    p: &Policy,
+    f: FlowId,
+    height: usize,
+    rest: &mut Rest<'_>,
+) -> Result<Branch, TextFault>
+    ensures { IfOk result (λ b. AreLow p.now f height (branch_onto b no_kids)) }
+{
+    rest.skip(b"[")?;
+    let user = take_user(p, rest)?;
+    rest.skip(b",")?;
+    let kid = guess_kid(alloc, p, f, height, rest)?;
+    rest.skip(b"]")?;
+    Ok(Branch { user, kid })
+}
+
+// The twin that comes next, or the tree.
+#[cycle(guess_tree)]
+#[tactic(auto, using(crate::proofs::LowTrees::low_tree, crate::proofs::LowTrees::low_twin))]
+fn guess_kid(
+    alloc: Global,
+    p: &Policy,
+    f: FlowId,
+    height: usize,
+    rest: &mut Rest<'_>,
+) -> Result<Kid, TextFault>
+    ensures { IfOk result (IsLowKid p.now f height) }
+{
+    if rest.has(b"{\"twin\":") {
+        let twin = take_user(p, rest)?;
+        rest.skip(b"}")?;
+        return Ok(Kid::Twin(twin));
+    }
+    Ok(Kid::Tree(guess_tree(alloc, p, f, height, rest)?))
+}
+
+// The leaf that comes next.
+fn guess_leaf(p: &Policy, f: FlowId, height: usize, rest: &mut Rest<'_>) -> Result<Tree, TextFault>
+    ensures { IfOk result (λ t. IsLow p.now f height (shape_of t)) }
+{
+    let leaf = if rest.has(b"{\"rule\":") {
+        Tree::Rule(take_rule(rest)?)
+    } else {
+        rest.skip(b"{\"holder\":")?;
+        Tree::Holder(take_step(p, f, rest)?)
+    };
+    rest.skip(b"}")?;
+    Ok(leaf)
+}
+
+/// Takes the number of a rule.
+pub(crate) fn take_rule(rest: &mut Rest<'_>) -> Result<u8, TextFault>
+    ensures { IfOk result IsRule }
+{
+    match rest.take_number() {
+        Some(n) if n < 256 => Ok(n as u8),
+        _ => Err(TextFault::NotText),
+    }
+}
+
+/// Takes the name of a user.
+pub(crate) fn take_user(p: &Policy, rest: &mut Rest<'_>) -> Result<UserId, TextFault>
+    ensures { IfOk result (IsUser p.now) }
+{
+    let Some(name) = rest.take_name() else {
+        return Err(TextFault::NotText);
+    };
+    match p.roster().users().find(&name) {
+        Some(u) => Ok(UserId(u)),
+        None => Err(TextFault::NotText),
+    }
+}
+
+/// Takes the name of a step of a workflow.
+pub(crate) fn take_step(p: &Policy, f: FlowId, rest: &mut Rest<'_>) -> Result<StepId, TextFault>
+    ensures { IfOk result (IsStepOf p.now f) }
+{
+    let Some(name) = rest.take_name() else {
+        return Err(TextFault::NotText);
+    };
+    if f.0 as u16 >= p.flows().len() {
+        return Err(TextFault::NotText);
+    }
+    match p.flow(f).steps().find(&name) {
+        Some(s) => Ok(StepId(s as u8)),
+        None => Err(TextFault::NotText),
+    }
+}
