@@ -3,3 +3,4 @@ pub mod Deciding
 pub mod Editing
 pub mod Listing
 pub mod Spreading
+pub mod Seeing
