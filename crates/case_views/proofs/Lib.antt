@@ -4,3 +4,4 @@ pub mod Editing
 pub mod Listing
 pub mod Spreading
 pub mod Seeing
+pub mod Granting

@@ -54,7 +54,7 @@ work_more p u rows i r ns ms all below is first second same =
     (granted_append p u (steps_of (open_in (take i rows))) (steps_of (open_in (r ∷ []))) ns ms all first second same)
 
 -- a step of which nobody is told to have it is free
-pub free_of : (x : StepState) (rest : List (Option Denial)) → first_of (option_map Taken (user_of x) ∷ rest) ≡ None → x ≡ Free
+free_of : (x : StepState) (rest : List (Option Denial)) → first_of (option_map Taken (user_of x) ∷ rest) ≡ None → x ≡ Free
 free_of Free rest clear = refl
 free_of (Held v) rest clear = cc
 free_of (Finished v) rest clear = cc

@@ -10,7 +10,7 @@ use std::alloc::Global;
 use wf_names::{StepState, UserId};
 
 /// How many cases are remembered at most.
-const REMEMBERED: usize = 32;
+pub(crate) const REMEMBERED: usize = 32;
 
 /// A factor that spreads the marks of cases.
 const SPREAD: u32 = 0x9e37_79b1;
@@ -74,8 +74,8 @@ impl Seen {
     }
 }
 
-// A number that is the same for cases that stand alike, and mostly another for others.
-fn mark_of(case: &Case) -> u32 {
+/// A number that is the same for cases that stand alike, and mostly another for others.
+pub(crate) fn mark_of(case: &Case) -> u32 {
     let mut mark = 0u32;
     for state in case.states() {
         mark = (mark ^ number_of(*state)).wrapping_mul(SPREAD);
@@ -91,8 +91,8 @@ fn number_of(state: StepState) -> u32 {
     }
 }
 
-// Whether two cases are of one workflow and stand alike.
-fn stands_alike(a: &Case, b: &Case) -> bool
+/// Whether two cases are of one workflow and stand alike.
+pub(crate) fn stands_alike(a: &Case, b: &Case) -> bool
     ensures { result ≡ true → a.now ≡ b.now }
 {
     a.flow() == b.flow() && a.phase() == b.phase() && are_alike(a.states(), b.states())

@@ -8,6 +8,7 @@ ghost use Rattle.case_views.specs.Listing.{AreStrandedIn, IsKeptRow, IsLeftAt, I
 
 use crate::edit_decider::left_at;
 use crate::found::Unfound;
+use crate::granted::Work;
 use crate::seen::Seen;
 use crate::stranded::stranded_at;
 use crate::work_lists::work_at;
@@ -44,7 +45,7 @@ pub(crate) fn work_parts<R: Threads + Sync>(
             |row: &Row| -> Result<WorkList, Unfound>
                 requires { IsKeptRow p.now row.now × (u < length p.now.roster.users) }
                 ensures { IfOk result (IsWorkIn p.entry.now u (row.now ∷ [])) }
-            { work_at(alloc, p, u, row, &mut Seen::nothing(alloc)) },
+            { work_at(alloc, p, u, row, &mut Work::nothing(alloc)) },
         )
         .collect(rt, alloc)?;
     parts

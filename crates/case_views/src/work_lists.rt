@@ -1,20 +1,19 @@
 //! Work lists: the steps of the open cases that a user would be granted.
-ghost use Rattle.std.specs.Prelude.{◌≡◌, ℕ, ◌<◌, ◌∷◌, [], None, length, IfOk, MatchBool, OnOk};
-ghost use Rattle.wf_names.specs.declared.states.StepState.TheVariants.{Free};
+ghost use Rattle.std.specs.Prelude.{◌≡◌, ℕ, ◌<◌, ◌∷◌, ◌&&◌, ◌||◌, ◌==◌, [], length, IfOk, MatchBool, OnOk};
+ghost use Rattle.wf_names.specs.declared.limits.TheConstants.{STEP_LIMIT};
+ghost use Rattle.constraint_forms.specs.Assigned.{is_member};
 ghost use Rattle.policy_book.specs.Shapes.{PolicyShape};
-ghost use Rattle.case_record.specs.Cases.{assigned_of, finished_of, state_at};
-ghost use Rattle.denial_reasons.specs.Causes.{assigned_with, first_cause};
 ghost use Rattle.wf_board.specs.Boards.{book_of, book_on, numbered};
 ghost use Rattle.wf_board.specs.Edited.{IsPlanOf};
 ghost use Rattle.wf_board.specs.Kept.{ArePlanned, IsOfPolicy, IsPlanned};
 ghost use Rattle.wf_board.specs.Views.{IsGrantable, IsWorkOf, item_of, steps_from};
 ghost use Rattle.case_views.specs.Listing.{AreGrantable, HasListed, IsWorkIn, is_plan};
-ghost use Rattle.case_views.specs.Seeing.{TellsRight};
+ghost use Rattle.case_views.specs.Granting.{TellsSteps, TellsWork};
 
 use crate::found::{Unfound, outcome_with};
-use crate::seen::Seen;
+use crate::granted::Work;
 use case_record::Case;
-use constraint_forms::Plan;
+use constraint_forms::{Plan, StepSet};
 use denial_reasons::has_cause;
 use grant_table::{Cases, Row};
 use policy_book::Policy;
@@ -56,9 +55,9 @@ fn work_in(alloc: Global, p: &Policy, u: UserId, rows: &[Row]) -> Result<WorkLis
     ensures { IfOk result (IsWorkIn p.now u rows.now) }
 {
     let mut items = WorkList::new(alloc);
-    let mut seen = Seen::nothing(alloc);
+    let mut work = Work::nothing(alloc);
     'rows: for i in 0..rows.len() {
-        let more = work_at(alloc, p, u, &rows[i], &mut seen)?;
+        let more = work_at(alloc, p, u, &rows[i], &mut work)?;
         items.push_all(more.as_slice())?;
     }
     Ok(items)
@@ -70,45 +69,107 @@ pub(crate) fn work_at(
     p: &Policy,
     u: UserId,
     row: &Row,
-    seen: &mut Seen,
+    work: &mut Work,
 ) -> Result<WorkList, Unfound>
     requires known { IsOfPolicy p.now row.now.case }
     requires planned { IsPlanned p.now row.now.case row.now.plan }
     requires user { u < length p.now.roster.users }
-    requires right { TellsRight p.now seen.old }
+    requires right { TellsWork p.now u work.old }
     ensures work { IfOk result (IsWorkIn p.now u (row.now ∷ [])) }
-    ensures right { TellsRight p.now seen.new }
+    ensures right { TellsWork p.now u work.new }
 {
     match row.plan() {
         Some(kept) if row.case().phase().is_live() => {
-            granted_steps(alloc, p, u, row, &kept, seen)
+            granted_steps(alloc, p, u, row, &kept, work)
         }
         _ => Ok(WorkList::new(alloc)),
     }
 }
 
-// The steps of a case that a user would be granted.
+// The steps of an open case that a user would be granted.
 fn granted_steps(
     alloc: Global,
     p: &Policy,
     u: UserId,
     row: &Row,
     kept: &Plan,
-    seen: &mut Seen,
+    work: &mut Work,
 ) -> Result<WorkList, Unfound>
     requires known { IsOfPolicy p.now row.now.case }
     requires valid { IsPlanOf p.now row.now.case kept.now }
     requires user { u < length p.now.roster.users }
-    requires right { TellsRight p.now seen.old }
+    requires right { TellsWork p.now u work.old }
     ensures steps { IfOk result (AreGrantable p.now u
         (steps_from (numbered row.now) (length row.now.case.states) 0)) }
-    ensures right { TellsRight p.now seen.new }
+    ensures right { TellsWork p.now u work.new }
 {
-    let case = row.case();
+    let found = known_steps(alloc, p, u, row.case(), kept, work)?;
+    Ok(items_of(alloc, row, &found)?)
+}
+
+// Those steps, as they were found of a case that stands alike, or are found now.
+fn known_steps(
+    alloc: Global,
+    p: &Policy,
+    u: UserId,
+    case: &Case,
+    kept: &Plan,
+    work: &mut Work,
+) -> Result<StepSet, Unfound>
+    requires known { IsOfPolicy p.now case.now }
+    requires valid { IsPlanOf p.now case.now kept.now }
+    requires user { u < length p.now.roster.users }
+    requires right { TellsWork p.now u work.old }
+    ensures told { IfOk result (TellsSteps p.now u case.now) }
+    ensures right { TellsWork p.now u work.new }
+{
+    if let Some(known) = work.steps(case) {
+        return Ok(known);
+    }
+    let found = found_steps(alloc, p, u, case, kept)?;
+    work.keep(case, found);
+    Ok(found)
+}
+
+fn found_steps(
+    alloc: Global,
+    p: &Policy,
+    u: UserId,
+    case: &Case,
+    kept: &Plan,
+) -> Result<StepSet, Unfound>
+    requires known { IsOfPolicy p.now case.now }
+    requires valid { IsPlanOf p.now case.now kept.now }
+    requires user { u < length p.now.roster.users }
+    ensures { IfOk result (TellsSteps p.now u case.now) }
+{
+    let count = case.steps();
+    let mut found = StepSet::empty();
+    'finding: for s in 0..count {
+        let granted = is_granted(alloc, p, u, case, kept, StepId(s))?;
+        found = with_if(&found, StepId(s), granted);
+    }
+    Ok(found)
+}
+
+// A set with one more step, where it is wanted.
+fn with_if(set: &StepSet, s: StepId, wanted: bool) -> StepSet
+    requires { s < STEP_LIMIT }
+    ensures { (t : ℕ) → is_member result t ≡ (is_member set.now t || (wanted && t == s)) }
+{
+    if wanted { set.with(s) } else { *set }
+}
+
+// Some steps of a case, as a work list has them.
+fn items_of(alloc: Global, row: &Row, found: &StepSet) -> Result<WorkList, AllocError>
+    ensures { IfOk result (λ items. (p : PolicyShape) → (u : ℕ)
+        → TellsSteps p u row.now.case found.now
+        → AreGrantable p u (steps_from (numbered row.now) (length row.now.case.states) 0) items) }
+{
+    let count = row.case().steps();
     let mut items = WorkList::new(alloc);
-    'steps: for s in 0..case.steps() {
-        let granted = is_granted(alloc, p, u, case, kept, StepId(s), seen)?;
-        add_step(row, StepId(s), granted, &mut items)?;
+    'listing: for s in 0..count {
+        add_step(row, StepId(s), found.has(StepId(s)), &mut items)?;
     }
     Ok(items)
 }
@@ -145,65 +206,23 @@ fn is_granted(
     case: &Case,
     kept: &Plan,
     step: StepId,
-    seen: &mut Seen,
 ) -> Result<bool, Unfound>
     requires known { IsOfPolicy p.now case.now }
     requires valid { IsPlanOf p.now case.now kept.now }
     requires user { u < length p.now.roster.users }
     requires step { step < length case.now.states }
-    requires right { TellsRight p.now seen.old }
-    ensures granted { IfOk result (λ b. MatchBool b (IsGrantable p.now case.now step u)
+    ensures { IfOk result (λ b. MatchBool b (IsGrantable p.now case.now step u)
         (¬ IsGrantable p.now case.now step u)) }
-    ensures right { TellsRight p.now seen.new }
 {
     if has_cause(p, case, step, u) {
         return Ok(false);
     }
-    let held = held_by(case, step, u);
-    if let Some(completable) = seen.completable(&held) {
-        return Ok(completable);
-    }
-    let completable = can_be_given(alloc, p, u, case, kept, step)?;
-    seen.keep(&held, completable);
-    Ok(completable)
-}
-
-// A case with one of its steps given to a user.
-fn held_by(case: &Case, step: StepId, u: UserId) -> Case
-    requires step { step < length case.now.states }
-    requires free { state_at case.now step ≡ Free }
-    ensures flow { result.flow ≡ case.now.flow }
-    ensures assigned { assigned_of result ≡ assigned_with case.now step u }
-    ensures finished { finished_of result ≡ finished_of case.now }
-{
-    let mut held = *case;
-    held.hold(step, u);
-    held
-}
-
-// Whether a case against whose claim there is no cause can be completed with it.
-fn can_be_given(
-    alloc: Global,
-    p: &Policy,
-    u: UserId,
-    case: &Case,
-    kept: &Plan,
-    step: StepId,
-) -> Result<bool, Unfound>
-    requires known { IsOfPolicy p.now case.now }
-    requires valid { IsPlanOf p.now case.now kept.now }
-    requires user { u < length p.now.roster.users }
-    requires step { step < length case.now.states }
-    requires clear { first_cause p.now case.now step u ≡ None }
-    ensures { IfOk result (λ b. MatchBool b (IsGrantable p.now case.now step u)
-        (¬ IsGrantable p.now case.now step u)) }
-{
     let _well_formed = p.rules(case.flow());
     let outcome = outcome_with(alloc, p, case, kept, step, u)?;
     Ok(is_plan(&outcome))
 }
 
-// Whether a plan was found.
+/// Whether a plan was found.
 pub(crate) fn is_plan(outcome: &Outcome) -> bool
     ensures { result ≡ is_plan outcome.now }
 {
