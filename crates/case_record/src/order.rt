@@ -19,7 +19,7 @@ pub(crate) fn first_unfinished(c: &Case, f: &Flow, s: StepId) -> Option<StepId>
     let count = f.steps().len();
     'steps: for t in 0..count {
         let t = StepId(t as u8);
-        if f.before(t, s) && !c.state(t).is_finished() {
+        if !c.state(t).is_finished() && f.before(t, s) {
             return Some(t);
         }
     }

@@ -3,3 +3,5 @@ pub mod Deciding
 pub mod Editing
 pub mod Listing
 pub mod Spreading
+pub mod Seeing
+pub mod Granting

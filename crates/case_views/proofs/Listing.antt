@@ -6,14 +6,12 @@ use Rattle.basics.proofs.Lists.{take_next}
 use Rattle.wf_names.specs.States.{user_of}
 use Rattle.wf_names.specs.declared.states.StepState.{StepState}
 use Rattle.wf_names.specs.declared.states.StepState.TheVariants.{Free, Held, Finished}
-use Rattle.refutation_tree.specs.declared.tree.Tree.{Tree}
 use Rattle.refutation_tree.specs.Views.{shape_of}
 use Rattle.policy_book.specs.Shapes.{PolicyShape}
-use Rattle.policy_book.specs.Facts.{IsSoundPolicy}
 use Rattle.policy_book.specs.Policies.{problem_of}
 use Rattle.policy_book.specs.Plans.{IsWellFormed}
 use Rattle.certificate_check.proofs.Refuted.{refutes_soundly}
-use Rattle.case_record.specs.Cases.{CaseShape, assigned_of, finished_of, is_open, state_at}
+use Rattle.case_record.specs.Cases.{CaseShape, finished_of, state_at}
 use Rattle.grant_table.specs.declared.rows.Row.{Row}
 use Rattle.wf_talk.specs.declared.reply.Denial.{Denial}
 use Rattle.wf_talk.specs.declared.reply.Denial.TheVariants.{Taken}
@@ -26,14 +24,10 @@ use Rattle.wf_board.specs.Boards.{numbered}
 use Rattle.wf_board.specs.Edited.{CanBeCompleted}
 use Rattle.wf_board.specs.States.{Numbered}
 use Rattle.wf_board.specs.Views.{AreThose, IsGrantable, Place, item_of, steps_from, steps_of}
-use Rattle.wf_board.proofs.Exact.{claimed_assigned, finished_assigned, well_formed_any}
-use Rattle.case_views.specs.Listing.{AreGrantable, AreStrandedIn, HasListed, IsLeftAt, IsWorkIn, is_plan, open_in}
+use Rattle.wf_board.proofs.Exact.{claimed_assigned}
+use Rattle.case_views.specs.Listing.{AreGrantable, AreStrandedIn, HasListed, IsWorkIn, is_plan, open_in}
 use Rattle.case_views.proofs.Editing.{open_append}
 use Rattle.case_views.proofs.Lists.{none_those, one_those, place, steps_append, steps_more, those_append}
-
--- the one open case of a row
-open_alone : (r : Row) → is_open r.case ≡ true → open_in (r ∷ []) ≡ numbered r ∷ []
-open_alone r live = rw live refl
 
 -- ---- work lists
 
@@ -114,12 +108,3 @@ stranded_more p rows i r ns ms all below is first second same =
     (subst (λ es. AreThose (stranded p) (kept p) (λ e. e.number) es (ns ++ ms))
     (sym (ap open_in (take_next rows i r below is) ∙ open_append (take i rows) (r ∷ [])))
     (those_append (stranded p) (kept p) (λ e. e.number) (open_in (take i rows)) (open_in (r ∷ [])) ns ms first second))
-
--- an open case that a tree refutes is stranded
-pub refuted_here : (p : PolicyShape) (r : Row) (tree : Tree) → IsSoundPolicy p → IsLeftAt p r (Some (outcome.Refuted tree)) → AreStrandedIn p (r ∷ []) (r.number ∷ [])
-refuted_here p r tree sound left =
-    let c = r.case in
-    let cannot : ¬ CanBeCompleted p c =
-    refutes_soundly (problem_of p c.flow) (assigned_of c) (finished_of c) (shape_of tree) (well_formed_any p c.flow sound) (finished_assigned c) left.1.refutes in
-    subst (λ es. AreThose (stranded p) (kept p) (λ e. e.number) es (r.number ∷ [])) (sym (open_alone r left.0))
-    (one_those (stranded p) (kept p) (λ e. e.number) (numbered r) cannot)

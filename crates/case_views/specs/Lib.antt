@@ -1,2 +1,4 @@
 pub mod Deciding
 pub mod Listing
+pub mod Seeing
+pub mod Granting

@@ -188,8 +188,8 @@ fn plan_for(
     }
 }
 
-// A plan for a case, near one of two others where one is valid, and else what a search finds.
-fn outcome_of(
+/// A plan for a case, near one of two others where one is valid, and else what a search finds.
+pub(crate) fn outcome_of(
     alloc: Global,
     p: &Policy,
     case: &Case,

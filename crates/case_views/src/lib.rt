@@ -5,6 +5,8 @@
 mod decider;
 mod edit_decider;
 mod found;
+mod granted;
+mod seen;
 mod spread;
 mod spread_parts;
 mod stranded;

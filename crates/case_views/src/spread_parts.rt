@@ -8,6 +8,8 @@ ghost use Rattle.case_views.specs.Listing.{AreStrandedIn, IsKeptRow, IsLeftAt, I
 
 use crate::edit_decider::left_at;
 use crate::found::Unfound;
+use crate::granted::Work;
+use crate::seen::Seen;
 use crate::stranded::stranded_at;
 use crate::work_lists::work_at;
 use admin_edits::Amendment;
@@ -43,7 +45,7 @@ pub(crate) fn work_parts<R: Threads + Sync>(
             |row: &Row| -> Result<WorkList, Unfound>
                 requires { IsKeptRow p.now row.now × (u < length p.now.roster.users) }
                 ensures { IfOk result (IsWorkIn p.entry.now u (row.now ∷ [])) }
-            { work_at(alloc, p, u, row) },
+            { work_at(alloc, p, u, row, &mut Work::nothing(alloc)) },
         )
         .collect(rt, alloc)?;
     parts
@@ -73,7 +75,7 @@ pub(crate) fn stranded_parts<R: Threads + Sync>(
                     × (after.now ≡ amended p.now a.now) }
                 ensures { IfOk result (λ part. AreStrandedIn after.entry.now (row.now ∷ [])
                     (list_of part)) }
-            { stranded_at(alloc, p, a, after, row, &mut None) },
+            { stranded_at(alloc, p, a, after, row, &mut Seen::nothing(alloc)) },
         )
         .collect(rt, alloc)?;
     parts

@@ -1,24 +1,32 @@
 //! Which open cases a change of the policy would strand.
-ghost use Rattle.std.specs.Prelude.{◌≡◌, ◌∷◌, ◌++◌, [], None, IfOk, OnOk};
+ghost use Rattle.std.specs.Prelude.{◌≡◌, ◌<◌, ◌∷◌, ◌++◌, [], None, true, length, IfOk, OnOk};
+ghost use Rattle.policy_book.specs.Shapes.{PolicyShape};
+ghost use Rattle.policy_book.specs.Policies.{problem_of};
+ghost use Rattle.policy_book.specs.Plans.{IsWithin};
+ghost use Rattle.case_record.specs.Cases.{assigned_of, is_open};
 ghost use Rattle.admin_edits.specs.Edits.{amended, edit_cause, edited_policy};
 ghost use Rattle.wf_board.specs.Boards.{book_of, book_on};
+ghost use Rattle.wf_board.specs.Edited.{IsPlanOf};
 ghost use Rattle.wf_board.specs.Found.{IsAllowed};
 ghost use Rattle.wf_board.specs.Kept.{ArePlanned, IsOfPolicy, IsPlanned};
 ghost use Rattle.wf_board.specs.States.{open_cases};
 ghost use Rattle.wf_board.specs.Views.{AreStranded};
 ghost use Rattle.case_views.specs.Listing.{AreStrandedIn, list_of};
+ghost use Rattle.case_views.specs.Seeing.{IsTold, TellsRight};
 
-use crate::edit_decider::left_at;
+use crate::edit_decider::outcome_of;
 use crate::found::Unfound;
+use crate::seen::Seen;
+use crate::work_lists::is_plan;
 use admin_edits::{Amendment, amended, amendment_of};
+use case_record::Case;
 use constraint_forms::Plan;
 use grant_table::{Cases, Row};
 use policy_book::Policy;
 use std::alloc::{AllocError, Global};
-use wf_board::Snap;
+use wf_board::{Snap, may_break};
 use wf_names::{CaseId, Name};
 use wf_talk::{CaseList, Edit};
-use wsp_solver::Outcome;
 
 /// The open cases that an edit against which there is no cause would leave without a valid plan,
 /// ascending. The plan that is kept for a case is taken where the edit cannot hurt it, else a plan
@@ -64,36 +72,126 @@ fn stranded_in(
     ensures { IfOk result (AreStrandedIn after.now rows.now) }
 {
     let mut numbers = CaseList::new(alloc);
-    let mut recent = None;
+    let mut seen = Seen::nothing(alloc);
     'rows: for i in 0..rows.len() {
-        let number = stranded_at(alloc, p, a, after, &rows[i], &mut recent)?;
+        let number = stranded_at(alloc, p, a, after, &rows[i], &mut seen)?;
         add_number(number, &mut numbers)?;
     }
     Ok(numbers)
 }
 
-/// The case of a row, if it is open and would be stranded. Where its plan is broken, the one that
-/// was found for another case is tried first, and what is found here is kept for the next.
+/// The case of a row, if it is open and would be stranded. What is found of it is remembered for
+/// the next.
 pub(crate) fn stranded_at(
     alloc: Global,
     p: &Policy,
     a: &Amendment,
     after: &Policy,
     row: &Row,
-    recent: &mut Option<Plan>,
+    seen: &mut Seen,
 ) -> Result<Option<CaseId>, Unfound>
     requires allowed { IsAllowed p.now a.now }
     requires after { after.now ≡ amended p.now a.now }
     requires known { IsOfPolicy p.now row.now.case }
     requires planned { IsPlanned p.now row.now.case row.now.plan }
-    ensures { IfOk result (λ number. AreStrandedIn after.now (row.now ∷ []) (list_of number)) }
+    requires right { TellsRight after.now seen.old }
+    ensures number { IfOk result
+        (λ number. AreStrandedIn after.now (row.now ∷ []) (list_of number)) }
+    ensures right { TellsRight after.now seen.new }
 {
-    let _sound = after.admin();
-    match left_at(alloc, p, a, after, row, recent)? {
-        Some(Outcome::Refuted(_)) => Ok(Some(row.number())),
-        Some(Outcome::Plan(_)) => Ok(None),
-        None => Ok(None),
+    match row.plan() {
+        Some(kept) if row.case().phase().is_live() => {
+            stranded_with(alloc, p, a, after, row, &kept, seen)
+        }
+        _ => Ok(None),
     }
+}
+
+// The same of an open case and the plan that is kept for it.
+fn stranded_with(
+    alloc: Global,
+    p: &Policy,
+    a: &Amendment,
+    after: &Policy,
+    row: &Row,
+    kept: &Plan,
+    seen: &mut Seen,
+) -> Result<Option<CaseId>, Unfound>
+    requires allowed { IsAllowed p.now a.now }
+    requires after { after.now ≡ amended p.now a.now }
+    requires known { IsOfPolicy p.now row.now.case }
+    requires live { is_open row.now.case ≡ true }
+    requires valid { IsPlanOf p.now row.now.case kept.now }
+    requires right { TellsRight after.now seen.old }
+    ensures number { IfOk result
+        (λ number. AreStrandedIn after.now (row.now ∷ []) (list_of number)) }
+    ensures right { TellsRight after.now seen.new }
+{
+    let completable = stays_completable(alloc, p, a, after, row.case(), kept, seen)?;
+    Ok(number_unless(row, completable))
+}
+
+// The number of the case of a row that is open, unless it can be completed.
+fn number_unless(row: &Row, completable: bool) -> Option<CaseId>
+    ensures { (p : PolicyShape) → is_open row.now.case ≡ true
+        → IsTold p row.now.case completable
+        → AreStrandedIn p (row.now ∷ []) (list_of result) }
+{
+    if completable {
+        None
+    } else {
+        Some(row.number())
+    }
+}
+
+// Whether a case can be completed under the changed policy.
+fn stays_completable(
+    alloc: Global,
+    p: &Policy,
+    a: &Amendment,
+    after: &Policy,
+    case: &Case,
+    kept: &Plan,
+    seen: &mut Seen,
+) -> Result<bool, Unfound>
+    requires allowed { IsAllowed p.now a.now }
+    requires after { after.now ≡ amended p.now a.now }
+    requires known { IsOfPolicy p.now case.now }
+    requires valid { IsPlanOf p.now case.now kept.now }
+    requires right { TellsRight after.now seen.old }
+    ensures told { IfOk result (IsTold after.now case.now) }
+    ensures right { TellsRight after.now seen.new }
+{
+    if may_break(p, after, a, case, kept) {
+        is_completable(alloc, after, case, kept, seen)
+    } else {
+        Ok(true)
+    }
+}
+
+// Whether a case can be completed, as was found of one that stands alike, or else as a plan tells
+// near one of two others or a search.
+fn is_completable(
+    alloc: Global,
+    p: &Policy,
+    case: &Case,
+    kept: &Plan,
+    seen: &mut Seen,
+) -> Result<bool, Unfound>
+    requires flow { case.now.flow < length p.now.flows }
+    requires within { IsWithin (problem_of p.now case.now.flow) (assigned_of case.now) }
+    requires right { TellsRight p.now seen.old }
+    ensures told { IfOk result (IsTold p.now case.now) }
+    ensures right { TellsRight p.now seen.new }
+{
+    if let Some(completable) = seen.completable(case) {
+        return Ok(completable);
+    }
+    let _sound = p.admin();
+    let outcome = outcome_of(alloc, p, case, kept, &mut seen.recent)?;
+    let completable = is_plan(&outcome);
+    seen.keep(case, completable);
+    Ok(completable)
 }
 
 /// Adds a number, where there is one.

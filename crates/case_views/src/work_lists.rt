@@ -1,18 +1,23 @@
 //! Work lists: the steps of the open cases that a user would be granted.
-ghost use Rattle.std.specs.Prelude.{◌≡◌, ◌<◌, ◌∷◌, [], length, IfOk, MatchBool, OnOk};
+ghost use Rattle.std.specs.Prelude.{◌≡◌, ℕ, ◌<◌, ◌∷◌, ◌&&◌, ◌||◌, ◌==◌, [], length, IfOk, MatchBool, OnOk};
+ghost use Rattle.wf_names.specs.declared.limits.TheConstants.{STEP_LIMIT};
+ghost use Rattle.constraint_forms.specs.Assigned.{is_member};
+ghost use Rattle.policy_book.specs.Shapes.{PolicyShape};
 ghost use Rattle.wf_board.specs.Boards.{book_of, book_on, numbered};
 ghost use Rattle.wf_board.specs.Edited.{IsPlanOf};
 ghost use Rattle.wf_board.specs.Kept.{ArePlanned, IsOfPolicy, IsPlanned};
 ghost use Rattle.wf_board.specs.Views.{IsGrantable, IsWorkOf, item_of, steps_from};
 ghost use Rattle.case_views.specs.Listing.{AreGrantable, HasListed, IsWorkIn, is_plan};
+ghost use Rattle.case_views.specs.Granting.{TellsSteps, TellsWork};
 
 use crate::found::{Unfound, outcome_with};
+use crate::granted::Work;
 use case_record::Case;
-use constraint_forms::Plan;
+use constraint_forms::{Plan, StepSet};
 use denial_reasons::has_cause;
 use grant_table::{Cases, Row};
 use policy_book::Policy;
-use std::alloc::Global;
+use std::alloc::{AllocError, Global};
 use wf_board::Snap;
 use wf_names::{StepId, UserId};
 use wf_talk::{WorkItem, WorkList};
@@ -50,65 +55,133 @@ fn work_in(alloc: Global, p: &Policy, u: UserId, rows: &[Row]) -> Result<WorkLis
     ensures { IfOk result (IsWorkIn p.now u rows.now) }
 {
     let mut items = WorkList::new(alloc);
+    let mut work = Work::nothing(alloc);
     'rows: for i in 0..rows.len() {
-        let more = work_at(alloc, p, u, &rows[i])?;
+        let more = work_at(alloc, p, u, &rows[i], &mut work)?;
         items.push_all(more.as_slice())?;
     }
     Ok(items)
 }
 
-/// The work of a user in the case of a row.
-pub(crate) fn work_at(alloc: Global, p: &Policy, u: UserId, row: &Row) -> Result<WorkList, Unfound>
+/// The work of a user in the case of a row. What is found of it is remembered for the next.
+pub(crate) fn work_at(
+    alloc: Global,
+    p: &Policy,
+    u: UserId,
+    row: &Row,
+    work: &mut Work,
+) -> Result<WorkList, Unfound>
     requires known { IsOfPolicy p.now row.now.case }
     requires planned { IsPlanned p.now row.now.case row.now.plan }
     requires user { u < length p.now.roster.users }
-    ensures { IfOk result (IsWorkIn p.now u (row.now ∷ [])) }
+    requires right { TellsWork p.now u work.old }
+    ensures work { IfOk result (IsWorkIn p.now u (row.now ∷ [])) }
+    ensures right { TellsWork p.now u work.new }
 {
     match row.plan() {
-        Some(kept) if row.case().phase().is_live() => granted_steps(alloc, p, u, row, &kept),
+        Some(kept) if row.case().phase().is_live() => {
+            granted_steps(alloc, p, u, row, &kept, work)
+        }
         _ => Ok(WorkList::new(alloc)),
     }
 }
 
-// The steps of a case that a user would be granted.
+// The steps of an open case that a user would be granted.
 fn granted_steps(
     alloc: Global,
     p: &Policy,
     u: UserId,
     row: &Row,
     kept: &Plan,
+    work: &mut Work,
 ) -> Result<WorkList, Unfound>
     requires known { IsOfPolicy p.now row.now.case }
     requires valid { IsPlanOf p.now row.now.case kept.now }
     requires user { u < length p.now.roster.users }
-    ensures { IfOk result (AreGrantable p.now u
+    requires right { TellsWork p.now u work.old }
+    ensures steps { IfOk result (AreGrantable p.now u
         (steps_from (numbered row.now) (length row.now.case.states) 0)) }
+    ensures right { TellsWork p.now u work.new }
 {
+    let found = known_steps(alloc, p, u, row.case(), kept, work)?;
+    Ok(items_of(alloc, row, &found)?)
+}
+
+// Those steps, as they were found of a case that stands alike, or are found now.
+fn known_steps(
+    alloc: Global,
+    p: &Policy,
+    u: UserId,
+    case: &Case,
+    kept: &Plan,
+    work: &mut Work,
+) -> Result<StepSet, Unfound>
+    requires known { IsOfPolicy p.now case.now }
+    requires valid { IsPlanOf p.now case.now kept.now }
+    requires user { u < length p.now.roster.users }
+    requires right { TellsWork p.now u work.old }
+    ensures told { IfOk result (TellsSteps p.now u case.now) }
+    ensures right { TellsWork p.now u work.new }
+{
+    if let Some(known) = work.steps(case) {
+        return Ok(known);
+    }
+    let found = found_steps(alloc, p, u, case, kept)?;
+    work.keep(case, found);
+    Ok(found)
+}
+
+fn found_steps(
+    alloc: Global,
+    p: &Policy,
+    u: UserId,
+    case: &Case,
+    kept: &Plan,
+) -> Result<StepSet, Unfound>
+    requires known { IsOfPolicy p.now case.now }
+    requires valid { IsPlanOf p.now case.now kept.now }
+    requires user { u < length p.now.roster.users }
+    ensures { IfOk result (TellsSteps p.now u case.now) }
+{
+    let count = case.steps();
+    let mut found = StepSet::empty();
+    'finding: for s in 0..count {
+        let granted = is_granted(alloc, p, u, case, kept, StepId(s))?;
+        found = with_if(&found, StepId(s), granted);
+    }
+    Ok(found)
+}
+
+// A set with one more step, where it is wanted.
+fn with_if(set: &StepSet, s: StepId, wanted: bool) -> StepSet
+    requires { s < STEP_LIMIT }
+    ensures { (t : ℕ) → is_member result t ≡ (is_member set.now t || (wanted && t == s)) }
+{
+    if wanted { set.with(s) } else { *set }
+}
+
+// Some steps of a case, as a work list has them.
+fn items_of(alloc: Global, row: &Row, found: &StepSet) -> Result<WorkList, AllocError>
+    ensures { IfOk result (λ items. (p : PolicyShape) → (u : ℕ)
+        → TellsSteps p u row.now.case found.now
+        → AreGrantable p u (steps_from (numbered row.now) (length row.now.case.states) 0) items) }
+{
+    let count = row.case().steps();
     let mut items = WorkList::new(alloc);
-    'steps: for s in 0..row.case().steps() {
-        add_step(alloc, p, u, row, kept, StepId(s), &mut items)?;
+    'listing: for s in 0..count {
+        add_step(row, StepId(s), found.has(StepId(s)), &mut items)?;
     }
     Ok(items)
 }
 
-// Lists a step of a case, if the user would be granted it.
-fn add_step(
-    alloc: Global,
-    p: &Policy,
-    u: UserId,
-    row: &Row,
-    kept: &Plan,
-    step: StepId,
-    items: &mut WorkList,
-) -> Result<(), Unfound>
-    requires known { IsOfPolicy p.now row.now.case }
-    requires valid { IsPlanOf p.now row.now.case kept.now }
-    requires user { u < length p.now.roster.users }
-    requires step { step < length row.now.case.states }
-    ensures { OnOk result (HasListed p.now u (record { of = numbered row.now; step = step })
-        items.old items.new) }
+// Lists a step of a case, if a user would be granted it.
+fn add_step(row: &Row, step: StepId, granted: bool, items: &mut WorkList) -> Result<(), AllocError>
+    ensures { OnOk result ((p : PolicyShape) → (u : ℕ)
+        → MatchBool granted (IsGrantable p row.now.case step u)
+        (¬ IsGrantable p row.now.case step u)
+        → HasListed p u (record { of = numbered row.now; step = step }) items.old items.new) }
 {
-    if is_granted(alloc, p, u, row.case(), kept, step)? {
+    if granted {
         items.push(item_of(row, step))?;
     }
     Ok(())
@@ -149,8 +222,8 @@ fn is_granted(
     Ok(is_plan(&outcome))
 }
 
-// Whether a plan was found.
-fn is_plan(outcome: &Outcome) -> bool
+/// Whether a plan was found.
+pub(crate) fn is_plan(outcome: &Outcome) -> bool
     ensures { result ≡ is_plan outcome.now }
 {
     matches!(outcome, Outcome::Plan(_))

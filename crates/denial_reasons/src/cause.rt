@@ -43,7 +43,8 @@ pub fn first_cause(
     }
 }
 
-/// Whether there is such a cause; its list of roles is not made.
+/// Whether there is such a cause. Its list of roles is not made, and what is least work to ask is asked
+/// first.
 pub fn has_cause(p: &Policy, c: &Case, s: StepId, u: UserId) -> bool
     requires flow { c.now.flow < length p.now.flows }
     requires steps { length c.now.states ≡ length (flow_at p.now c.now.flow).flow.steps }
@@ -53,8 +54,8 @@ pub fn has_cause(p: &Policy, c: &Case, s: StepId, u: UserId) -> bool
 {
     let f = c.flow();
     c.state(s).user().is_some()
-        || c.first_missing(p.flow(f), s).is_some()
         || !p.authorised(f, s, u)
+        || c.first_missing(p.flow(f), s).is_some()
         || first_falsified(p, f, &assigned_with(c, s, u)).is_some()
 }
 

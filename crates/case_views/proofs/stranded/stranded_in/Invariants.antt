@@ -1,7 +1,11 @@
 use Rattle.std.proofs.Common.{take}
 use Rattle.case_views.specs.Listing.{AreStrandedIn}
+use Rattle.case_views.specs.Seeing.{TellsRight}
 use Rattle.case_views.proofs.stranded.stranded_in.Given as goal
 
 -- the stranded cases so far are listed
 abbrev pub invariant-rows : goal.invariant-rows
-invariant-rows l = AreStrandedIn l.after (take l.i l.rows) l.numbers
+invariant-rows l = record {
+  stranded : AreStrandedIn l.after (take l.i l.rows) l.numbers;
+  right : TellsRight l.after l.seen;
+}

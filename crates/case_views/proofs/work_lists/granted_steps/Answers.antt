@@ -1,7 +1,14 @@
-use Rattle.wf_board.specs.Boards.{numbered}
-use Rattle.case_views.proofs.Listing.{step_more}
+use Rattle.std.proofs.Common.{sym, subst}
+use Rattle.case_record.specs.Cases.{CaseShape}
+use Rattle.wf_board.specs.Edited.{IsPlanOf}
+use Rattle.case_views.specs.Granting.{TellsSteps}
 use Rattle.case_views.proofs.work_lists.granted_steps.Goals as goal
 
-pub steps-preserved : goal.steps-preserved
-steps-preserved c =
-    step_more c.args.p.now c.args.u (numbered c.args.row.now) c.steps.s c.steps.items c.add_step.new.items c.steps.invariant c.in_ok-add_step.ensures
+pub known_steps-requires-clause-valid : goal.known_steps-requires-clause-valid
+known_steps-requires-clause-valid c = subst (λ (k : CaseShape). IsPlanOf c.args.p.now k c.args.kept.now) (sym c.case.ensures) c.requires.valid
+
+pub returns : goal.returns
+returns c =
+    let p = c.args.p.now in
+    let told = subst (λ (k : CaseShape). TellsSteps p c.args.u k c.in_ok-found.found) c.case.ensures c.in_ok-found.ensures.told in
+    record { steps = c.in_ok-items_of.ensures p c.args.u told; right = c.in_ok-found.ensures.right }
