@@ -25,7 +25,7 @@ use Rattle.wf_board.specs.declared.deed.Deed.TheVariants as deed
 use Rattle.wf_board.specs.States.{Book, Numbered, State, is_full, open_cases, open_count, with_case_changed}
 use Rattle.wf_board.specs.Decisions.{cause_full, decision_aside, decision_of}
 use Rattle.wf_board.specs.Steps.{Answers, IsReplyTo, IsStep, state_after_decision, state_after_deed, state_after_step}
-use Rattle.wf_board.specs.Views.{AreStranded, AreThose, IsWorkOf, Place, item_of, steps_from, steps_of}
+use Rattle.wf_board.specs.Views.{AreStranded, AreThose, IsWorkOf, item_of, steps_from, steps_of}
 use Rattle.wf_board.proofs.Faring.{Fares}
 use Rattle.wf_board.proofs.Told.{HoldsOf, then_holds, unless_holds, unless_tells}
 use Rattle.entry_laws.proofs.Numbers.{EachOf, IsOpenIn, open_found}

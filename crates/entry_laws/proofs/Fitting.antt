@@ -17,7 +17,7 @@ use Rattle.wf_board.proofs.HistoryLaws.{after_more, each_later, each_more}
 use Rattle.wire_json.specs.Replies.{entry_text}
 use Rattle.entry_reader.specs.Lines.{IsEntry}
 use Rattle.entry_reader.specs.Named.{HasNames}
-use Rattle.entry_laws.specs.Fits.{AreOfLines, ComeBehind, FitLines, LinesFit}
+use Rattle.entry_laws.specs.Fits.{AreOfLines, FitLines, LinesFit}
 use Rattle.entry_laws.specs.Laws.{HasFewSteps, IsLastOf, flows_of, is_by_tree}
 use Rattle.entry_laws.specs.Transcripts.{texts_of}
 use Rattle.entry_laws.proofs.Entries.{entries_are_lines, entry_reached, opening_reached, text_stays}

@@ -1,5 +1,5 @@
 -- A denial lists no more roles than there can be.
-use Rattle.std.proofs.Common.{ℕ, zero, suc, ◌+◌, ◌≤◌, Bool, true, false, List, [], ◌∷◌, length, Option, None, Some, Result, Ok, Err, if◌then◌else◌, arith}
+use Rattle.std.proofs.Common.{ℕ, zero, suc, ◌+◌, ◌≤◌, Bool, true, false, List, ◌∷◌, length, Option, None, Some, Result, Ok, Err, if◌then◌else◌, arith}
 use Rattle.std.specs.FinSet as set
 use Rattle.first_fault.specs.Reading.{◌>>=◌, check, or_fault}
 use Rattle.wf_names.specs.States.{user_of}
