@@ -35,22 +35,24 @@ record IsServedWith (set : Setting) (lanes : ℕ) (first : Cut) : Type 0 where
   named : (bytes : List ℕ) (ended : Bool) → AreNamedJobs (jobs_from first bytes ended).jobs
   none : jobs_from first [] false ≡ first
 
-session_fits : (set : Setting) (lanes : ℕ) (first : Cut) (room : ℕ) (before after : Streams) (told : Told) (ending : RunFault) → LinesFit → IsServedWith set lanes first →
+session_fits : (set : Setting) (lanes : ℕ) (first : Cut) (room : ℕ) (before after : Streams) (told : Told) (ending : RunFault) → LinesFit →
+    IsServedWith set lanes first →
     Served set first room before after told ending → HasNames (state_after (opening_state set.policy) (take set.restored told.entries)).book.policy →
     AreRightful (drop set.restored told.entries) →
     FitLines (texts_of (state_after (opening_state set.policy) (take set.restored told.entries)) (drop set.restored told.entries))
-session_fits set lanes first room before after told ending law with served names rightful =
+session_fits set lanes first room before after told ending law known served names rightful =
     let n = set.restored in
     let es = told.entries in
-    let answers = answer_lines lanes first before.input after.input room told ending with.few_lanes with.order with.named with.none served.reads served.fills in
+    let answers =
+    answer_lines lanes first before.input after.input room told ending known.few_lanes known.order known.named known.none served.reads served.fills in
     let few = answers.few in
     let whole : take n es ++ drop n es ≡ es = take-append-drop n es in
     let size : length (take n es) + length (drop n es) ≡ length es = sym (length-append (take n es) (drop n es)) ∙ ap length whole in
     law set.policy set.rounds (take n es) (drop n es) (record {
-      policy = with.file.sound;
-      steps = with.file.steps;
+      policy = known.file.sound;
+      steps = known.file.steps;
       legal = subst (IsLegal (opening_state set.policy) set.rounds) (sym whole) served.legal;
-      few_rounds = with.few_rounds;
+      few_rounds = known.few_rounds;
       few_entries = omega (arith, few, size);
       names = names;
       lines = lines_behind n es answers.lines;
@@ -63,8 +65,10 @@ unfolding jobs_from end_batch flush
 start_open lanes = refl
 
 -- of a session from the beginning on
-pub served_fits : (p : PolicyShape) (options : Options) (room : ℕ) (before after : Streams) (told : Told) (ending : RunFault) → LinesFit → JobsStayNamed → JobsAreInOrder options.lanes →
-    AreOptions options → IsFilePolicy p → HasNames p → Served (setting p options) (start options.lanes) room before after told ending → AreRightful told.entries →
+pub served_fits : (p : PolicyShape) (options : Options) (room : ℕ) (before after : Streams) (told : Told) (ending : RunFault) → LinesFit → JobsStayNamed →
+    JobsAreInOrder options.lanes →
+    AreOptions options → IsFilePolicy p → HasNames p → Served (setting p options) (start options.lanes) room before after told ending →
+    AreRightful told.entries →
     FitLines (texts_of (opening_state p) told.entries)
 served_fits p options room before after told ending law stay order within file names served rightful =
     let rounds = within.rounds in
@@ -81,7 +85,8 @@ served_fits p options room before after told ending law stay order within file n
 
 -- of one behind entries that were taken up
 pub behind_fits : (p : PolicyShape) (options : Options) (requests transcript : List ℕ) (b : Beginning) (before after : Streams) (told : Told) (ending : RunFault) → LinesFit → JobsStayNamed →
-    AreOptions options → IsFilePolicy p → HasBegun (session_of p options.lanes options.rounds (jobs_of_input requests true options.lanes)) (jobs_of_input requests true options.lanes) transcript b →
+    AreOptions options → IsFilePolicy p →
+    HasBegun (session_of p options.lanes options.rounds (jobs_of_input requests true options.lanes)) (jobs_of_input requests true options.lanes) transcript b →
     HasNames (state_after (opening_state b.desk.opening) b.desk.entries).book.policy →
     Served (setting_behind (session_of p options.lanes options.rounds (jobs_of_input requests true options.lanes)) (length b.desk.entries)) (next_input (jobs_of_input requests true options.lanes)) PIECE
     before after told ending → take (length b.desk.entries) told.entries ≡ b.desk.entries → AreRightful (drop (length b.desk.entries) told.entries) →

@@ -37,7 +37,8 @@ lead_last before [] total lead = lead
 lead_last before (x ∷ xs) total lead = lead_last x xs total lead.2
 
 -- all of it
-whole_up : (lanes : ℕ) (first : Cut) (jobs : List Job) (batch_ends bytes : List ℕ) (ended : Bool) → AreInOrderFrom lanes first → jobs ≡ (jobs_from first bytes ended).jobs →
+whole_up : (lanes : ℕ) (first : Cut) (jobs : List Job) (batch_ends bytes : List ℕ) (ended : Bool) → AreInOrderFrom lanes first →
+    jobs ≡ (jobs_from first bytes ended).jobs →
     batch_ends ≡ (jobs_from first bytes ended).ends → IsUpTo first jobs batch_ends
 whole_up lanes first jobs batch_ends bytes ended order same same_ends =
     let all = jobs_from first bytes ended in
@@ -70,7 +71,8 @@ nothing_open lanes cut goes =
     let none : nat_lt cut.from (length cut.jobs) ≡ false = lt_no cut.from (length cut.jobs) (omega (arith, from)) in
     rw none refl
 
-paused_up : (lanes : ℕ) (first : Cut) (jobs : List Job) (batch_ends front : List ℕ) (last : ℕ) → AreInOrderFrom lanes first → jobs ≡ (cut_all first (front ++ last ∷ [])).jobs →
+paused_up : (lanes : ℕ) (first : Cut) (jobs : List Job) (batch_ends front : List ℕ) (last : ℕ) → AreInOrderFrom lanes first →
+    jobs ≡ (cut_all first (front ++ last ∷ [])).jobs →
     batch_ends ≡ (cut_all first (front ++ last ∷ [])).ends → length (cut_all first front).ends < length batch_ends → IsUpTo first jobs batch_ends
 unfolding jobs_from
 paused_up lanes first jobs batch_ends front last order same same_ends more =
@@ -83,17 +85,23 @@ paused_up lanes first jobs batch_ends front last order same same_ends more =
 
 paused_to : (lanes : ℕ) (first : Cut) (before after : Option (List ℕ)) (room : ℕ) (told : Told) (how : Paused) → AreInOrderFrom lanes first →
     ReadsTo before after room (handed_in first told) how → IsUpTo first told.jobs told.batch_ends
-paused_to lanes first before after room told paused.Batch order reads = paused_up lanes first told.jobs told.batch_ends reads.front reads.last order reads.jobs reads.ends reads.before_last
-paused_to lanes first before after room told paused.End order reads = whole_up lanes first told.jobs told.batch_ends reads.bytes true order reads.jobs reads.ends
-paused_to lanes first before after room told paused.Failed order reads = whole_up lanes first told.jobs told.batch_ends reads.bytes false order reads.jobs reads.ends
+paused_to lanes first before after room told paused.Batch order reads =
+    paused_up lanes first told.jobs told.batch_ends reads.front reads.last order reads.jobs reads.ends reads.before_last
+paused_to lanes first before after room told paused.End order reads =
+    whole_up lanes first told.jobs told.batch_ends reads.bytes true order reads.jobs reads.ends
+paused_to lanes first before after room told paused.Failed order reads =
+    whole_up lanes first told.jobs told.batch_ends reads.bytes false order reads.jobs reads.ends
 paused_to lanes first before after room told (paused.Stopped stop) order reads =
     whole_up lanes first told.jobs told.batch_ends (reads.front ++ reads.last ∷ []) false order reads.jobs reads.ends
 paused_to lanes first before after room told paused.NoMemory order reads = record { bytes = reads.bytes; ended = reads.ended; up = reads.up }
 
-handed_to : (lanes : ℕ) (first : Cut) (before after : Option (List ℕ)) (room : ℕ) (told : Told) (ending : RunFault) → AreInOrderFrom lanes first → jobs_from first [] false ≡ first →
+handed_to : (lanes : ℕ) (first : Cut) (before after : Option (List ℕ)) (room : ℕ) (told : Told) (ending : RunFault) → AreInOrderFrom lanes first →
+    jobs_from first [] false ≡ first →
     ReadsFor before after room (handed_in first told) ending → IsUpTo first told.jobs told.batch_ends
-handed_to lanes first before after room told fault.Nothing order none reads = whole_up lanes first told.jobs told.batch_ends reads.bytes true order reads.jobs reads.ends
-handed_to lanes first before after room told fault.Read order none reads = whole_up lanes first told.jobs told.batch_ends reads.bytes false order reads.jobs reads.ends
+handed_to lanes first before after room told fault.Nothing order none reads =
+    whole_up lanes first told.jobs told.batch_ends reads.bytes true order reads.jobs reads.ends
+handed_to lanes first before after room told fault.Read order none reads =
+    whole_up lanes first told.jobs told.batch_ends reads.bytes false order reads.jobs reads.ends
 handed_to lanes first before after room told (fault.LineTooLong line) order none reads =
     whole_up lanes first told.jobs told.batch_ends (reads.front ++ reads.last ∷ []) false order reads.jobs reads.ends
 handed_to lanes first before after room told fault.TooManyLines order none reads =
@@ -113,7 +121,8 @@ pub record IsLineJob (j : Job) : Type 0 where
   pub named : IsNamedAsk j.ask
   pub adds : AddsNamed j.ask
 
-line_jobs : (lanes : ℕ) (jobs : List Job) → lanes ≤ LANE_LIMIT → AreOfLanes lanes jobs → AreLinesBelow SESSION_LINE_LIMIT jobs → AreNamedJobs jobs → EachJob IsLineJob jobs
+line_jobs : (lanes : ℕ) (jobs : List Job) → lanes ≤ LANE_LIMIT → AreOfLanes lanes jobs → AreLinesBelow SESSION_LINE_LIMIT jobs → AreNamedJobs jobs →
+    EachJob IsLineJob jobs
 line_jobs lanes [] few of below named = tt
 line_jobs lanes (j ∷ js) few of below named =
     let lane = of.0 in
@@ -154,9 +163,11 @@ are_handed lanes first jobs batch_ends few order named is =
     let ordered = order is.bytes is.ended in
     let k = is.up.ends.0 in
     let same : batch_ends ≡ take k all.ends = is.up.ends.1 in
-    let below : last_or 0 batch_ends ≤ length all.jobs = subst (λ es. last_or 0 es ≤ length all.jobs) (sym same) (first_below 0 k (length all.jobs) all.ends ordered.ends) in
+    let below : last_or 0 batch_ends ≤ length all.jobs =
+    subst (λ es. last_or 0 es ≤ length all.jobs) (sym same) (first_below 0 k (length all.jobs) all.ends ordered.ends) in
     let size : length jobs ≡ last_or 0 batch_ends = ap length is.up.within ∙ length-take-le (last_or 0 batch_ends) all.jobs below in
-    let leads : LeadTo 0 batch_ends (last_or 0 batch_ends) = subst (λ es. LeadTo 0 es (last_or 0 es)) (sym same) (lead_first 0 k (length all.jobs) all.ends ordered.ends) in
+    let leads : LeadTo 0 batch_ends (last_or 0 batch_ends) =
+    subst (λ es. LeadTo 0 es (last_or 0 es)) (sym same) (lead_first 0 k (length all.jobs) all.ends ordered.ends) in
     let short = ordered.few in
     record {
       each = subst (EachJob IsLineJob) (sym is.up.within)
@@ -169,15 +180,15 @@ are_handed lanes first jobs batch_ends few order named is =
 
 by_lanes : (P : Job → Type 0) (js : List Job) → ((lane : ℕ) → EachJob P (lane_jobs lane js)) → EachJob P js
 by_lanes P [] each = tt
-by_lanes P (j ∷ js) each = (own (nat_eq j.lane j.lane) (eq_same j.lane) (each j.lane), by_lanes P js (λ lane. rest (nat_eq j.lane lane) (each lane)))
+by_lanes P (j ∷ js) each = (own (nat_eq j.lane j.lane) (eq_same j.lane) (each j.lane), by_lanes P js (λ lane. rest lane (nat_eq j.lane lane) (each lane)))
   where
     own : (b : Bool) → b ≡ true → EachJob P (if b then j ∷ lane_jobs j.lane js else lane_jobs j.lane js) → P j
     own true is all = all.0
     own false is all = cc
 
-    rest : {lane : ℕ} (b : Bool) → EachJob P (if b then j ∷ lane_jobs lane js else lane_jobs lane js) → EachJob P (lane_jobs lane js)
-    rest true all = all.1
-    rest false all = all
+    rest : (lane : ℕ) (b : Bool) → EachJob P (if b then j ∷ lane_jobs lane js else lane_jobs lane js) → EachJob P (lane_jobs lane js)
+    rest lane true all = all.1
+    rest lane false all = all
 
 two_parts : (P : Job → Type 0) (n : ℕ) (js : List Job) → EachJob P (take n js) → EachJob P (drop n js) → EachJob P js
 two_parts P zero js first later = later
@@ -202,7 +213,8 @@ filled_to P es jobs ends (suc k) fills each known =
     (λ lane. subst (EachJob P) (sym (fills.batches k (omega (arith, known)) lane))
     (each_lane P lane (batch_jobs ends k jobs) (each_rest P start (take end jobs) (each_first P end jobs each)))))
 
-filled : (P : Job → Type 0) (es : List Entry) (jobs : List Job) (ends : List ℕ) → FillsJobs es jobs ends → EndAt ends (length jobs) → EachJob P jobs → EachJob P (map job_of_entry es)
+filled : (P : Job → Type 0) (es : List Entry) (jobs : List Job) (ends : List ℕ) → FillsJobs es jobs ends → EndAt ends (length jobs) → EachJob P jobs →
+    EachJob P (map job_of_entry es)
 filled P es jobs ends fills at_end each =
     let all = map job_of_entry es in
     let size : length all ≡ length jobs = length-map es job_of_entry ∙ fills.whole in
@@ -223,7 +235,8 @@ pub record AnswerLines (es : List Entry) : Type 0 where
   pub lines : AreOfLines es
   pub few : length es ≤ SESSION_LINE_LIMIT
 
-pub answer_lines : (lanes : ℕ) (first : Cut) (before after : Option (List ℕ)) (room : ℕ) (told : Told) (ending : RunFault) → lanes ≤ LANE_LIMIT → AreInOrderFrom lanes first →
+pub answer_lines : (lanes : ℕ) (first : Cut) (before after : Option (List ℕ)) (room : ℕ) (told : Told) (ending : RunFault) → lanes ≤ LANE_LIMIT →
+    AreInOrderFrom lanes first →
     ((bytes : List ℕ) (ended : Bool) → AreNamedJobs (jobs_from first bytes ended).jobs) → jobs_from first [] false ≡ first →
     ReadsFor before after room (handed_in first told) ending → FillsJobs told.entries told.jobs told.batch_ends → AnswerLines told.entries
 answer_lines lanes first before after room told ending few order named none reads fills =

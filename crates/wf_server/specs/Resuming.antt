@@ -49,17 +49,19 @@ pub record RefusesFrom (s : Session) (transcript : List ℕ) (r : Run) : Type 0 
   pub untold : r.told ≡ nothing_told
   pub tells : TellsAs (fault_line number kind) r.before.output r.after.output r.fault
 
--- the entries of the transcript are taken up, and a session goes on behind them: it answers the jobs of the requests that
--- have none, and then what is read; what was taken up stays as it is and is not written again; of the entries that come,
--- only an opening, a claim, an edit or a view over the open cases is answered with want of memory, the text of each fits a
--- line of an audit, and where it may not be so, none is answered again
+-- the entries of the transcript are taken up, and a session goes on behind them: it answers the
+-- jobs of the requests that have none, and then what is read; what was taken up stays as it is and
+-- is not written again; of the entries that come, the text of each fits a line of an audit, only an
+-- opening, a claim, an edit or a view over the open cases is answered with want of memory, and where
+-- it may not be so, none is answered again
 pub record GoesOnFrom (s : Session) (cut : Cut) (transcript : List ℕ) (repeats : Bool) (r : Run) : Type 0 where
   pub entries : List Entry
   pub taken : IsTakenUp s transcript entries
   pub begins : take (length entries) r.told.entries ≡ entries
   pub served : Served (setting_behind s (length entries)) (next_input cut) PIECE r.before r.after r.told r.fault
   pub wants : AreRightful (drop (length entries) r.told.entries)
-  pub fits : FitLines (texts_of (state_after (opening_state s.policy) entries) (drop (length entries) r.told.entries))
+  pub fits : FitLines (texts_of (state_after (opening_state s.policy) entries)
+      (drop (length entries) r.told.entries))
   pub once : repeats ≡ false → AreAnsweredOnce (drop (length entries) r.told.entries)
 
 -- what becomes of a transcript of which no line is too long: there is no memory before it is taken up, or it is refused, or

@@ -30,8 +30,8 @@ EndsBefore file fault = ⊥
 abbrev pub setting : PolicyShape → Options → Setting
 setting p options = record { policy = p; lanes = options.lanes; rounds = options.rounds; restored = 0 }
 
--- the policy of a file is served; only an opening, a claim, an edit or a view over the open cases is answered with want of
--- memory; and the text of each entry fits a line of an audit
+-- the policy of a file is served; only an opening, a claim, an edit or a view over the open cases
+-- is answered with want of memory; and the text of each entry fits a line of an audit
 pub record ServesPolicy (file : List ℕ) (options : Options) (r : Run) : Type 0 where
   pub policy : PolicyShape
   pub within : length file ≤ POLICY_FILE_LIMIT
