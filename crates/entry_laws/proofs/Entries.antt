@@ -58,7 +58,7 @@ step_reached s what answer is step =
       serial = step_serial s what answer is.serial;
     }
 
-entry_reached : (start : State) (rounds : ℕ) (earlier : List Entry) (e : Entry) → IsReached (state_after start earlier) → IsRightAfter start rounds earlier e
+pub entry_reached : (start : State) (rounds : ℕ) (earlier : List Entry) (e : Entry) → IsReached (state_after start earlier) → IsRightAfter start rounds earlier e
     → IsReached (state_after start (earlier ++ e ∷ []))
 entry_reached start rounds earlier e is right = subst IsReached (sym (after_more start earlier e)) (by_reply right.1)
   where
@@ -66,7 +66,7 @@ entry_reached start rounds earlier e is right = subst IsReached (sym (after_more
     by_reply (inl step) = step_reached (state_after start earlier) e.ask e.reply is step
     by_reply (inr retry) = subst IsReached (sym (again_stays (state_after start earlier) e.ask e.reply retry.0 retry.1.0 retry.1.1.0)) is
 
-opening_reached : (p : PolicyShape) → IsSoundPolicy p → HasFewSteps p → IsReached (opening_state p)
+pub opening_reached : (p : PolicyShape) → IsSoundPolicy p → HasFewSteps p → IsReached (opening_state p)
 opening_reached p sound few = record {
   sound = record { policy = sound; cases = λ n c found. cc };
   kept = λ n c found live. cc;

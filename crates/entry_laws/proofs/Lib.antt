@@ -8,3 +8,8 @@ pub mod Entries
 pub mod Texts
 pub mod Listed
 pub mod Long
+pub mod Names
+pub mod Short
+pub mod Roles
+pub mod Few
+pub mod Fitting

@@ -1,5 +1,5 @@
 -- The text of an entry that denies by a tree fits into a line.
-use Rattle.std.proofs.Common.{◌≡◌, ℕ, ◌+◌, ◌*◌, ◌<◌, ◌≤◌, ◌^◌, Bool, false, true, List, [], ◌∷◌, ◌++◌, length, Option, refl, ap, ◌∙◌, arith}
+use Rattle.std.proofs.Common.{◌≡◌, ℕ, ◌+◌, ◌≤◌, false, true, List, [], ◌∷◌, ◌++◌, length, Option, refl, ap, ◌∙◌, arith}
 use Rattle.std.specs.Prelude.{codes, decimal}
 use Rattle.std.proofs.lemmas.Fmt.{length-decimal-le}
 use Rattle.std.proofs.lemmas.List.{length-append}
@@ -130,9 +130,11 @@ entry_long at lane line given =
     let e : length (codes "}") ≡ 1 = refl in
     omega (arith, one, two, three, four, a, b, c, d, e)
 
-pub trees_fit_lines : TreesFitLines
+-- an entry whose reply is no longer than one with a tree is no longer than a line of an audit
+pub entry_fits : (p : PolicyShape) (flows : ℕ → Option ℕ) (e : Entry) → IsEntry p flows e → length (compact_text (reply_data p e.reply)) ≤ 16200100 →
+    length (entry_text p e) ≤ TRANSCRIPT_LINE_LIMIT + 1
 unfolding entry_text escape_byte
-trees_fit_lines p flows e names is by_tree small =
+entry_fits p flows e is short =
     let given = compact_text (reply_data p e.reply) in
     let rest = codes ",\"line\":" ++ (decimal e.line ++ (codes ",\"reply\":" ++ (given ++ codes "}"))) in
     let text = codes "{\"at\":" ++ (decimal e.at ++ (codes ",\"lane\":" ++ (decimal e.lane ++ rest))) in
@@ -143,9 +145,12 @@ trees_fit_lines p flows e names is by_tree small =
     omega (
       arith,
       whole,
+      short,
       entry_long (decimal e.at) (decimal e.lane) (decimal e.line) given,
-      reply_long p flows _ e.reply names is.reply by_tree small,
       length-decimal-le 10 e.at (omega arith) (omega (arith, place)) (omega (arith, place)),
       length-decimal-le 3 e.lane (omega arith) (omega (arith, lane)) (omega (arith, lane)),
       length-decimal-le 10 e.line (omega arith) (omega (arith, line)) (omega (arith, line)),
     )
+
+pub trees_fit_lines : TreesFitLines
+trees_fit_lines p flows e names is by_tree small = entry_fits p flows e is (reply_long p flows _ e.reply names is.reply by_tree small)

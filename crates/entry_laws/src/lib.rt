@@ -2,6 +2,7 @@
 //! is the law.
 #![tactic(auto)]
 
+ghost use Rattle.entry_laws.specs.Fits.{LinesFit};
 ghost use Rattle.entry_laws.specs.Laws.{EntriesAreLines, TextsAreLines, TreesFitLines};
 
 /// The text of each entry of a legal history is a line that the reader of transcripts accepts.
@@ -18,4 +19,10 @@ pub fn texts_are_lines()
 /// tree is one that a session shows.
 pub fn trees_fit_lines()
     ensures { TreesFitLines }
+{}
+
+/// The text of each entry that a session made, each with the names of the policy after it, is no
+/// longer than a line that an audit reads.
+pub fn lines_fit()
+    ensures { LinesFit }
 {}

@@ -22,6 +22,7 @@ use Rattle.wire_json.specs.Requests.{Row, Reading, rows, edits, row_of, by, the_
 use Rattle.line_cutter.specs.Jobs.{Cut, start, without_cr, job_of, end_batch, end_full_batch, next_line, with_job, end_line, step, cut_all, flush, jobs_from}
 use Rattle.wf_talk.specs.Jobs.{IsNamedAsk, IsNamedBad}
 use Rattle.line_cutter.specs.Laws.{AddsNamed, AreNamedJobs, JobsAreNamed}
+use Rattle.line_cutter.specs.Naming.{JobsStayNamed}
 use Rattle.line_cutter.proofs.Adding.{line_adding}
 
 -- ---- requests
@@ -229,7 +230,9 @@ unfolding flush
 named_flush c ended h =
     named_if ended _ c (named_if (is_some c.stop) c _ h (named_if (length c.line == 0) c _ h (named_job c c.line h))) h
 
-pub jobs_are_named : (lanes : ℕ) → JobsAreNamed lanes
+pub jobs_stay_named : JobsStayNamed
 unfolding jobs_from
-jobs_are_named lanes bytes ended =
-    named_end (flush ended (cut_all (start lanes) bytes)) (named_flush (cut_all (start lanes) bytes) ended (named_all (start lanes) bytes tt))
+jobs_stay_named c bytes ended h = named_end (flush ended (cut_all c bytes)) (named_flush (cut_all c bytes) ended (named_all c bytes h))
+
+pub jobs_are_named : (lanes : ℕ) → JobsAreNamed lanes
+jobs_are_named lanes bytes ended = jobs_stay_named (start lanes) bytes ended tt

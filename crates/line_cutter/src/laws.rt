@@ -1,6 +1,7 @@
 //! Laws of the jobs of an input.
 ghost use Rattle.std.specs.Prelude.{◌<◌};
 ghost use Rattle.line_cutter.specs.Laws.{InputsGoOn, JobsAreInOrder, JobsAreNamed};
+ghost use Rattle.line_cutter.specs.Naming.{JobsStayNamed};
 
 /// The jobs of every input: at most as many as a session may have lines, of lines that ascend
 /// strictly, each of one of the lanes; the ends of their batches ascend by at most what a batch may
@@ -18,6 +19,12 @@ pub fn jobs_are_named(lanes: u8)
 {
     let _ = lanes;
 }
+
+/// The names in the jobs that are cut behind others have a name's form, where those of the others
+/// have.
+pub fn jobs_stay_named()
+    ensures { JobsStayNamed }
+{}
 
 /// Behind each text that meets no limit an input goes on: its lines are numbered on, its first line
 /// begins a batch, and the jobs of both are in order as those of one input are.

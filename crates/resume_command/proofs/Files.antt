@@ -117,8 +117,8 @@ transcript_map S T G H filed stops goes at =
     (λ file. text_map TRANSCRIPT_FILE_LIMIT S T (OverTranscript S G) (OverTranscript T H) file stops
     (λ text. long_map S T (G text) (H text) (first_long 0 (lines_of (whole_lines text))) stops (goes text))) at
 
-both_map : (lanes : ℕ) (S T : RunFault → Type 0) (G H : Cut → List ℕ → Type 0) (requests transcript : Filed) → ((x : RunFault) → S x → T x) → ((c : Cut) (x : List ℕ) → G c x → H c x)
-    → OverBoth lanes S G requests transcript → OverBoth lanes T H requests transcript
+both_map : (lanes : ℕ) (S T : RunFault → Type 0) (G H : Cut → List ℕ → Type 0) (requests transcript : Filed) → ((x : RunFault) → S x → T x)
+    → ((text x : List ℕ) → G (jobs_of_input text true lanes) x → H (jobs_of_input text true lanes) x) → OverBoth lanes S G requests transcript → OverBoth lanes T H requests transcript
 both_map lanes S T G H requests transcript stops goes at =
     let O = OverRequests lanes S (λ cut. OverTranscriptFile S (G cut) transcript) in
     let P = OverRequests lanes T (λ cut. OverTranscriptFile T (H cut) transcript) in
@@ -126,18 +126,19 @@ both_map lanes S T G H requests transcript stops goes at =
     (λ file. text_map REQUESTS_FILE_LIMIT S T O P file stops
     (λ text. let cut = jobs_of_input text true lanes in
     stop_map S T (OverTranscriptFile S (G cut) transcript) (OverTranscriptFile T (H cut) transcript) cut.stop stops
-    (transcript_map S T (G cut) (H cut) transcript stops (goes cut)))) at
+    (transcript_map S T (G cut) (H cut) transcript stops (goes text)))) at
 
 -- what stops stops, and what goes on goes on
 pub files_map : (files : List ℕ → Filed) (names : Names) (lanes : ℕ) (S T : RunFault → Type 0) (G H : PolicyShape → Cut → List ℕ → Type 0) → ((x : RunFault) → S x → T x)
-    → ((p : PolicyShape) (c : Cut) (x : List ℕ) → IsFilePolicy p → G p c x → H p c x) → OverFiles files names lanes S G → OverFiles files names lanes T H
+    → ((p : PolicyShape) (text x : List ℕ) → IsFilePolicy p → G p (jobs_of_input text true lanes) x → H p (jobs_of_input text true lanes) x)
+    → OverFiles files names lanes S G → OverFiles files names lanes T H
 files_map files names lanes S T G H stops goes at =
     let requests = files names.requests in
     let transcript = files names.transcript in
     let O = λ (p : PolicyShape). OverBoth lanes S (G p) requests transcript in
     let P = λ (p : PolicyShape). OverBoth lanes T (H p) requests transcript in
     filed_map S T (OverPolicy S O) (OverPolicy T P) (files names.policy) stops
-    (λ file. policy_map S T O P file stops (λ p sound. both_map lanes S T (G p) (H p) requests transcript stops (λ c x. goes p c x sound))) at
+    (λ file. policy_map S T O P file stops (λ p sound. both_map lanes S T (G p) (H p) requests transcript stops (λ text x. goes p text x sound))) at
 
 -- ---- what comes of files over which a run does not stop
 

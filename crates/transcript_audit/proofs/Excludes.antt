@@ -30,25 +30,25 @@ use Rattle.transcript_audit.specs.Keeping.{IsSoundAudit}
 use Rattle.transcript_audit.proofs.Batches.{part_none}
 use Rattle.transcript_audit.proofs.Sound.{entries_few, sound_more, sound_start}
 use Rattle.transcript_audit.proofs.Exact.{all_sound, state_more}
-use Rattle.transcript_audit.proofs.Names.{step_names}
+use Rattle.entry_laws.proofs.Names.{step_names}
 
 -- ---- jobs of a session
 
-abbrev EachJob : (Job → Type 0) → List Job → Type 0
+abbrev pub EachJob : (Job → Type 0) → List Job → Type 0
 EachJob P [] = Unit {0}
 EachJob P (j ∷ js) = P j × EachJob P js
 
-each_first : (P : Job → Type 0) (n : ℕ) (jobs : List Job) → EachJob P jobs → EachJob P (take n jobs)
+pub each_first : (P : Job → Type 0) (n : ℕ) (jobs : List Job) → EachJob P jobs → EachJob P (take n jobs)
 each_first P zero jobs each = tt
 each_first P (suc n) [] each = tt
 each_first P (suc n) (j ∷ js) each = (each.0, each_first P n js each.1)
 
-each_rest : (P : Job → Type 0) (n : ℕ) (jobs : List Job) → EachJob P jobs → EachJob P (drop n jobs)
+pub each_rest : (P : Job → Type 0) (n : ℕ) (jobs : List Job) → EachJob P jobs → EachJob P (drop n jobs)
 each_rest P zero jobs each = each
 each_rest P (suc n) [] each = tt
 each_rest P (suc n) (j ∷ js) each = each_rest P n js each.1
 
-each_lane : (P : Job → Type 0) (lane : ℕ) (jobs : List Job) → EachJob P jobs → EachJob P (lane_jobs lane jobs)
+pub each_lane : (P : Job → Type 0) (lane : ℕ) (jobs : List Job) → EachJob P jobs → EachJob P (lane_jobs lane jobs)
 each_lane P lane [] each = tt
 each_lane P lane (j ∷ js) each = by_test (nat_eq j.lane lane) (each_lane P lane js each.1)
   where

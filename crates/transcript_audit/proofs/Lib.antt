@@ -8,4 +8,3 @@ pub mod Entering
 pub mod Looking
 pub mod Taking
 pub mod Parts
-pub mod Names

@@ -1,6 +1,5 @@
 -- A session behind the entries that were taken up, and the run of its command.
 use Rattle.std.proofs.Common.{◌≡◌, ◌≢◌, ℕ, zero, suc, ◌+◌, ◌<◌, ◌≤◌, nat_lt, Bool, true, false, List, [], ◌∷◌, ◌++◌, length, take, drop, slice_index_or, Option, None, Some, Result, Ok, Err, ◌&&◌, inl, inr, refl, sym, ap, subst, ◌∙◌, arith, ◌⊎◌}
-use Rattle.std.proofs.lemmas.Bool.{le-ltb}
 use Rattle.std.proofs.lemmas.Grind.{common_steps}
 use Rattle.std.proofs.lemmas.List.{drop_all, take_all}
 use Rattle.wf_outside.specs.Outside.{Filed, HasPart, HasTaken, with_bytes}
@@ -9,13 +8,16 @@ use Rattle.policy_book.specs.Shapes.{PolicyShape}
 use Rattle.policy_reader.specs.FilePolicies.{IsFilePolicy}
 use Rattle.wf_talk.specs.declared.entry.Entry.{Entry}
 use Rattle.wf_talk.specs.declared.job.Job.{Job}
-use Rattle.wf_board.specs.Histories.{AreAnsweredOnce, AreRightful, IsLegal, batch_start}
+use Rattle.wf_board.specs.Histories.{AreAnsweredOnce, AreRightful, IsLegal, batch_start, state_after}
 use Rattle.wf_board.specs.Laws.{HistoriesAreExact, HistoriesKeepCompletable}
 use Rattle.wf_board.specs.States.{opening_state}
 use Rattle.wf_desk.specs.Desks.{AreOfLanes, DeskShape}
 use Rattle.line_cutter.specs.Cutter.{after_handing}
-use Rattle.line_cutter.specs.Jobs.{Cut, UpToAnEnd, end_batch, flush, jobs_from, last_or, next_input, start_at}
+use Rattle.line_cutter.specs.Jobs.{Cut, UpToAnEnd, jobs_of_input, last_or, next_input, start_at}
 use Rattle.line_cutter.specs.Laws.{AreInOrder, GoesOn}
+use Rattle.line_cutter.specs.Naming.{JobsStayNamed}
+use Rattle.entry_reader.specs.Named.{HasNames}
+use Rattle.entry_laws.specs.Fits.{LinesFit}
 use Rattle.batch_reader.specs.Reading.{Handed, HasRead, IsReadUp, ReaderShape}
 use Rattle.run_record.specs.declared.fault.RunFault.{RunFault}
 use Rattle.run_record.specs.declared.fault.RunFault.TheVariants as fault
@@ -45,6 +47,8 @@ use Rattle.wf_server.proofs.SessionLaws.{lanes_of, late_reads, serves_kept}
 use Rattle.wf_server.proofs.ServeLaws.{loads_late}
 use Rattle.wf_server.proofs.WayLaws.{once_legal}
 use Rattle.wf_server.proofs.Endings.{reads_so, writes_so}
+use Rattle.wf_server.proofs.Fitting.{behind_fits}
+use Rattle.wf_server.proofs.Handed.{nothing_open}
 
 -- ---- behind the jobs of a file
 
@@ -53,14 +57,6 @@ last_first : (d : ℕ) (ends : List ℕ) (k : ℕ) → k ≤ length ends → las
 last_first d ends zero known = refl
 last_first d [] (suc k) known = absurd (omega (arith, known))
 last_first d (x ∷ xs) (suc k) known = last_first x xs k (omega (arith, known))
-
--- no batch is open where the input goes on
-pub nothing_open : (lanes : ℕ) (cut : Cut) → GoesOn lanes cut → jobs_from (next_input cut) [] false ≡ next_input cut
-unfolding jobs_from end_batch flush
-nothing_open lanes cut goes =
-    let from : length cut.jobs + 0 ≡ cut.from = ap (λ (c : Cut). c.from) goes.begins in
-    let none : nat_lt cut.from (length cut.jobs) ≡ false = le-ltb cut.from (length cut.jobs) (omega (arith, from)) in
-    rw none refl
 
 up_to : (s : Session) (cut : Cut) (count : ℕ) (told : Told) → s.jobs ≡ cut.jobs → s.batch_ends ≡ cut.ends → IsToldTo s.jobs s.batch_ends count told → UpToAnEnd told.jobs told.batch_ends (next_input cut)
 up_to s cut count told jobs ends is = record {
@@ -262,7 +258,7 @@ ended_run names options repeats ending r within is nothing orderly over = record
       (λ p cut transcript. BeginsBy (session_of p options.lanes options.rounds cut) cut transcript (Err (Ends ending)))
       (λ p cut transcript. ResumesFrom (session_of p options.lanes options.rounds cut) cut transcript repeats r)
       (λ x stops. let same : ending ≡ x = cc in (is ∙ same, nothing))
-      (λ p cut transcript sound lacks. inl (is ∙ lacks, nothing)) over;
+      (λ p requests transcript sound lacks. inl (is ∙ lacks, nothing)) over;
   orderly = orderly;
 }
 
@@ -277,7 +273,9 @@ refused_run names options repeats number kind r within unread untold tells order
       (λ p cut transcript. BeginsBy (session_of p options.lanes options.rounds cut) cut transcript (Err (Line number kind)))
       (λ p cut transcript. ResumesFrom (session_of p options.lanes options.rounds cut) cut transcript repeats r)
       (λ x stops. absurd cc)
-      (λ p cut transcript sound refused. told_refusal (session_of p options.lanes options.rounds cut) cut transcript repeats number kind r refused unread untold r.fault refl tells) over;
+      (λ p requests transcript sound refused.
+      let cut = jobs_of_input requests true options.lanes in
+      told_refusal (session_of p options.lanes options.rounds cut) cut transcript repeats number kind r refused unread untold r.fault refl tells) over;
   orderly = orderly;
 }
 
@@ -305,16 +303,18 @@ went_orderly s cut n r served loads =
 pub gone_on : (names : Names) (options : Options) (repeats : Bool) (b : Beginning) (r : Run) → AreOptions options → r.load_faults_after ≡ r.load_faults
     → ((s : Session) (cut : Cut) (transcript : List ℕ) → HasBegun s cut transcript b → Served (setting_behind s (length b.desk.entries)) (next_input cut) PIECE r.before r.after r.told r.fault)
     → take (length b.desk.entries) r.told.entries ≡ b.desk.entries → AreRightful (drop (length b.desk.entries) r.told.entries)
+    → LinesFit → JobsStayNamed → HasNames (state_after (opening_state b.desk.opening) b.desk.entries).book.policy
     → (repeats ≡ false → AreAnsweredOnce (drop (length b.desk.entries) r.told.entries) ⊎ (options.rounds ≡ 0))
     → OverFiles r.files names options.lanes (StopsBy (Ok b)) (λ p cut transcript. BeginsBy (session_of p options.lanes options.rounds cut) cut transcript (Ok b))
     → ResumesRun names options repeats r
-gone_on names options repeats b r within loads served begins wants once over = record {
+gone_on names options repeats b r within loads served begins wants law stay named once over = record {
   within = within;
   resumes = files_map r.files names options.lanes (StopsBy (Ok b)) (EndsBy r)
       (λ p cut transcript. BeginsBy (session_of p options.lanes options.rounds cut) cut transcript (Ok b))
       (λ p cut transcript. ResumesFrom (session_of p options.lanes options.rounds cut) cut transcript repeats r)
       (λ x stops. absurd cc)
-      (λ p cut transcript sound begun.
+      (λ p requests transcript sound begun.
+      let cut = jobs_of_input requests true options.lanes in
       let s = session_of p options.lanes options.rounds cut in
       let all = served s cut transcript begun in
       inr (inr (record {
@@ -323,6 +323,7 @@ gone_on names options repeats b r within loads served begins wants once over = r
         begins = begins;
         served = all;
         wants = wants;
+        fits = behind_fits p options requests transcript b r.before r.after r.told r.fault law stay within sound begun named all begins wants;
         once = λ never. elim (once never) [
           | inl so ↦ so
           | inr none ↦ once_behind (length b.desk.entries) r.told.entries (once_legal (opening_state p) options.rounds r.told.entries all.legal none)

@@ -11,7 +11,10 @@ use Rattle.wf_commands.specs.Load.{GivesPolicy, IsLoadEnding, PolicyOf}
 use Rattle.wf_server.specs.declared.serve.TheConstants.{PIECE}
 use Rattle.line_cutter.specs.Jobs.{start}
 use Rattle.wf_server.specs.Sessions.{Served}
+use Rattle.wf_board.specs.States.{opening_state}
 use Rattle.wf_board.specs.Histories.{AreRightful}
+use Rattle.entry_laws.specs.Fits.{FitLines}
+use Rattle.entry_laws.specs.Transcripts.{texts_of}
 use Rattle.command_words.specs.Words.{AreOptions, Options}
 use Rattle.wf_server.specs.Serving.{setting, EndsBefore, ServesFile, ServesRun}
 
@@ -87,12 +90,13 @@ refused_run policy options r fault is gives ending nothing loads reads writes li
 
 -- the policy was there, and was served
 pub is_served : (f : Filed) (p : PolicyShape) (options : Options) (r : Run) → GivesPolicy f (Ok p) → IsFilePolicy p
-    → Served (setting p options) (start options.lanes) PIECE r.before r.after r.told r.fault → AreRightful r.told.entries → OverFile f r.fault (λ file. ServesFile file options r)
-is_served untold p options r gives sound served wants =
-    (gives.0, inr (record { policy = p; within = gives.1.0; read = gives.1.1; sound = sound; served = served; wants = wants }))
-is_served missing p options r gives sound served wants = cc
-is_served (told file) p options r gives sound served wants =
-    inr (record { policy = p; within = gives.0; read = gives.1; sound = sound; served = served; wants = wants })
+    → Served (setting p options) (start options.lanes) PIECE r.before r.after r.told r.fault → AreRightful r.told.entries
+    → FitLines (texts_of (opening_state p) r.told.entries) → OverFile f r.fault (λ file. ServesFile file options r)
+is_served untold p options r gives sound served wants fits =
+    (gives.0, inr (record { policy = p; within = gives.1.0; read = gives.1.1; sound = sound; served = served; wants = wants; fits = fits }))
+is_served missing p options r gives sound served wants fits = cc
+is_served (told file) p options r gives sound served wants fits =
+    inr (record { policy = p; within = gives.0; read = gives.1; sound = sound; served = served; wants = wants; fits = fits })
 
 -- a session does not end with a load fault
 pub loads_late : (fault : RunFault) (before after : ℕ) → is_before_input fault ≡ false → after ≡ before → CountsLoads fault before after

@@ -4,7 +4,10 @@ use Rattle.std.proofs.Common.{◌⊎◌}
 use Rattle.wf_outside.specs.Outside.{HasPart, with_bytes}
 use Rattle.policy_book.specs.Shapes.{PolicyShape}
 use Rattle.wf_talk.specs.declared.entry.Entry.{Entry}
-use Rattle.wf_board.specs.Histories.{AreAnsweredOnce, AreRightful}
+use Rattle.wf_board.specs.States.{opening_state}
+use Rattle.wf_board.specs.Histories.{AreAnsweredOnce, AreRightful, state_after}
+use Rattle.entry_laws.specs.Fits.{FitLines}
+use Rattle.entry_laws.specs.Transcripts.{texts_of}
 use Rattle.line_cutter.specs.Jobs.{Cut, next_input}
 use Rattle.run_record.specs.declared.fault.RunFault.{RunFault}
 use Rattle.run_record.specs.declared.fault.RunFault.TheVariants.{Found, Write, NoMemory}
@@ -46,16 +49,19 @@ pub record RefusesFrom (s : Session) (transcript : List ℕ) (r : Run) : Type 0 
   pub untold : r.told ≡ nothing_told
   pub tells : TellsAs (fault_line number kind) r.before.output r.after.output r.fault
 
--- the entries of the transcript are taken up, and a session goes on behind them: it answers the jobs of the requests that
--- have none, and then what is read; what was taken up stays as it is and is not written again; of the entries that come,
--- only an opening, a claim, an edit or a view over the open cases is answered with want of memory, and where it may not be
--- so, none is answered again
+-- the entries of the transcript are taken up, and a session goes on behind them: it answers the
+-- jobs of the requests that have none, and then what is read; what was taken up stays as it is and
+-- is not written again; of the entries that come, the text of each fits a line of an audit, only an
+-- opening, a claim, an edit or a view over the open cases is answered with want of memory, and where
+-- it may not be so, none is answered again
 pub record GoesOnFrom (s : Session) (cut : Cut) (transcript : List ℕ) (repeats : Bool) (r : Run) : Type 0 where
   pub entries : List Entry
   pub taken : IsTakenUp s transcript entries
   pub begins : take (length entries) r.told.entries ≡ entries
   pub served : Served (setting_behind s (length entries)) (next_input cut) PIECE r.before r.after r.told r.fault
   pub wants : AreRightful (drop (length entries) r.told.entries)
+  pub fits : FitLines (texts_of (state_after (opening_state s.policy) entries)
+      (drop (length entries) r.told.entries))
   pub once : repeats ≡ false → AreAnsweredOnce (drop (length entries) r.told.entries)
 
 -- what becomes of a transcript of which no line is too long: there is no memory before it is taken up, or it is refused, or

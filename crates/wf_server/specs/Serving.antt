@@ -10,7 +10,10 @@ use Rattle.run_record.specs.declared.fault.RunFault.TheVariants.{Policy, Load, N
 use Rattle.run_record.specs.Run.{Run, IsUntouched, IsOrderly, OverFile}
 use Rattle.line_cutter.specs.Jobs.{start}
 use Rattle.wf_server.specs.declared.serve.TheConstants.{PIECE}
+use Rattle.wf_board.specs.States.{opening_state}
 use Rattle.wf_board.specs.Histories.{AreRightful}
+use Rattle.entry_laws.specs.Fits.{FitLines}
+use Rattle.entry_laws.specs.Transcripts.{texts_of}
 use Rattle.wf_server.specs.Sessions.{Served, Setting}
 use Rattle.command_words.specs.Words.{AreOptions, Options}
 
@@ -27,8 +30,8 @@ EndsBefore file fault = ⊥
 abbrev pub setting : PolicyShape → Options → Setting
 setting p options = record { policy = p; lanes = options.lanes; rounds = options.rounds; restored = 0 }
 
--- the policy of a file is served; only an opening, a claim, an edit or a view over the open cases is answered with want of
--- memory
+-- the policy of a file is served; only an opening, a claim, an edit or a view over the open cases
+-- is answered with want of memory; and the text of each entry fits a line of an audit
 pub record ServesPolicy (file : List ℕ) (options : Options) (r : Run) : Type 0 where
   pub policy : PolicyShape
   pub within : length file ≤ POLICY_FILE_LIMIT
@@ -36,6 +39,7 @@ pub record ServesPolicy (file : List ℕ) (options : Options) (r : Run) : Type 0
   pub sound : IsFilePolicy policy
   pub served : Served (setting policy options) (start options.lanes) PIECE r.before r.after r.told r.fault
   pub wants : AreRightful r.told.entries
+  pub fits : FitLines (texts_of (opening_state policy) r.told.entries)
 
 -- a run over a policy file ends before its session, or serves the policy
 abbrev pub ServesFile : List ℕ → Options → Run → Type 0

@@ -4,7 +4,9 @@ ghost use Rattle.std.proofs.Common.{◌⊎◌};
 ghost use Rattle.run_record.specs.Fault.{status_of, CountsWrites};
 ghost use Rattle.run_record.specs.Report.{nothing_told, told_by};
 ghost use Rattle.run_record.specs.Run.{run_of, streams_of};
-ghost use Rattle.wf_board.specs.Histories.{AreAnsweredOnce, AreRightful};
+ghost use Rattle.wf_board.specs.States.{opening_state};
+ghost use Rattle.wf_board.specs.Histories.{AreAnsweredOnce, AreRightful, state_after};
+ghost use Rattle.entry_reader.specs.Named.{HasNames};
 ghost use Rattle.line_cutter.specs.Jobs.{Cut, next_input};
 ghost use Rattle.transcript_resume.specs.Resumed.{Session};
 ghost use Rattle.resume_command.specs.declared.start.TheConstants.{PIECE};
@@ -19,9 +21,12 @@ ghost use Rattle.wf_server.specs.Ways.{IsWay, ServesOnce};
 use crate::batch::Answered;
 use crate::file::answer_requests;
 use crate::session::{report_of, serve_batches};
+use crate::texts::names_known;
 use audit_command::fault_text;
 use case_views::PlainDecider;
 use command_words::Options;
+use entry_laws::lines_fit;
+use line_cutter::jobs_stay_named;
 use resume_command::{Beginning, Refusal, begin};
 use run_record::{Report, RunFault, bare_report};
 use std::alloc::Global;
@@ -56,6 +61,8 @@ pub(crate) fn run_resume<F: Shelf, S: Source, K: Sink, W: Fn(Desk) -> Desk>(
         (streams_of S.left S.faults K.held K.faults source.old sink.old)
         (streams_of S.left S.faults K.held K.faults source.new sink.new) result) }
 {
+    lines_fit();
+    jobs_stay_named();
     match begin(
         alloc,
         &PlainDecider,
@@ -111,6 +118,8 @@ fn go_on<S: Source, K: Sink, W: Fn(Desk) -> Desk>(
         → AreAnsweredOnce (drop (length beginning.desk.entries) (told_by result).entries) }
     ensures wants { AreRightful
         (drop (length beginning.desk.entries) (told_by result).entries) }
+    ensures named { HasNames (state_after (opening_state beginning.desk.opening)
+        beginning.desk.entries).book.policy }
     ensures status { result.status ≡ status_of result.fault }
 {
     histories_keep_completable();
@@ -123,6 +132,7 @@ fn go_on<S: Source, K: Sink, W: Fn(Desk) -> Desk>(
         ends,
         mut reader,
     } = beginning;
+    names_known(&desk);
     let mut told = Answered {
         jobs,
         batch_ends: ends,

@@ -3,7 +3,11 @@ ghost use Rattle.std.specs.Prelude.{◌≡◌, false};
 ghost use Rattle.run_record.specs.Fault.{status_of, is_before_input};
 ghost use Rattle.run_record.specs.Report.{told_by};
 ghost use Rattle.run_record.specs.Run.{run_of, streams_of};
+ghost use Rattle.policy_reader.specs.FilePolicies.{IsFilePolicy};
+ghost use Rattle.wf_board.specs.States.{opening_state};
 ghost use Rattle.wf_board.specs.Histories.{AreAnsweredOnce, AreRightful};
+ghost use Rattle.entry_laws.specs.Fits.{FitLines};
+ghost use Rattle.entry_laws.specs.Transcripts.{texts_of};
 ghost use Rattle.line_cutter.specs.Jobs.{start};
 ghost use Rattle.wf_server.specs.Sessions.{Served};
 ghost use Rattle.command_words.specs.Words.{AreOptions};
@@ -13,6 +17,9 @@ ghost use Rattle.wf_server.specs.Ways.{IsWay, ServesOnce};
 
 use crate::session::run_session;
 use command_words::Options;
+use entry_laws::lines_fit;
+use entry_reader::know_names;
+use line_cutter::{jobs_are_in_order, jobs_stay_named};
 use policy_book::Policy;
 use run_record::{Report, RunFault, bare_report};
 use std::alloc::Global;
@@ -62,17 +69,23 @@ fn serve_policy<S: Source, K: Sink, W: Fn(Desk) -> Desk>(
 ) -> Report
     requires way { IsWay (W.pre way.now) (W.post way.now) }
     requires options { AreOptions (options_in options) }
+    requires file { IsFilePolicy policy }
     ensures served { Served (setting policy (options_in options)) (start options.lanes) PIECE
         (streams_of S.left S.faults K.held K.faults source.old sink.old)
         (streams_of S.left S.faults K.held K.faults source.new sink.new)
         (told_by result) result.fault }
     ensures once { ServesOnce (W.post way.now) → AreAnsweredOnce (told_by result).entries }
     ensures wants { AreRightful (told_by result).entries }
+    ensures fits { FitLines (texts_of (opening_state policy) (told_by result).entries) }
     ensures late { is_before_input result.fault ≡ false }
     ensures status { result.status ≡ status_of result.fault }
 {
     let _ = policy.admin();
+    know_names(&policy);
     histories_keep_completable();
     histories_are_exact();
+    jobs_are_in_order(options.lanes);
+    jobs_stay_named();
+    lines_fit();
     run_session(alloc, way, policy, options, PIECE, source, sink)
 }

@@ -1,7 +1,11 @@
 //! What is written of entries is the same with the names of a later policy.
+ghost use Rattle.wf_board.specs.States.{opening_state};
+ghost use Rattle.wf_board.specs.Histories.{state_after};
+ghost use Rattle.entry_reader.specs.Named.{HasNames};
 ghost use Rattle.wf_server.specs.Names.{KeepsTexts};
 
 use admin_edits::laws::changes_keep_names;
+use entry_reader::know_names;
 use wf_board::laws::steps_keep_completable;
 use wf_desk::Desk;
 
@@ -13,4 +17,12 @@ pub(crate) fn texts_stay(desk: &Desk)
     steps_keep_completable();
     changes_keep_names();
     let _users = desk.board().policy().roster().users();
+}
+
+/// The names of the policy at a desk have a name's form. Does nothing.
+pub(crate) fn names_known(desk: &Desk)
+    ensures { HasNames (state_after (opening_state desk.now.opening)
+        desk.now.entries).book.policy }
+{
+    know_names(desk.board().policy());
 }

@@ -29,7 +29,7 @@ name_short : (s : List ℕ) → is_name s ≡ true → length s ≤ 40
 unfolding is_name
 name_short s h = grind (arith, common_steps)
 
-quoted_short : (s : List ℕ) → is_name s ≡ true → length (quoted s) ≤ 42
+pub quoted_short : (s : List ℕ) → is_name s ≡ true → length (quoted s) ≤ 42
 quoted_short s h =
     let same : length (quoted s) ≡ suc (length (escape s ++ 34 ∷ [])) = refl in
     let parts : length (escape s ++ 34 ∷ []) ≡ length (escape s) + 1 = length-append (escape s) (34 ∷ []) in
@@ -41,7 +41,7 @@ there_or_not [] n = inl refl
 there_or_not (x ∷ xs) zero = inr refl
 there_or_not (x ∷ xs) (suc n) = there_or_not xs n
 
-named_short : (names : List (List ℕ)) (n : ℕ) → AreNames names → length (compact_text (named names n)) ≤ 42
+pub named_short : (names : List (List ℕ)) (n : ℕ) → AreNames names → length (compact_text (named names n)) ≤ 42
 named_short names n known = at (there_or_not names n)
   where
     at : (slice_index_or names n [] ≡ []) ⊎ (slice_get names n ≡ Some (slice_index_or names n [])) → length (quoted (slice_index_or names n [])) ≤ 42

@@ -14,6 +14,7 @@ returns-in-Ok-clause-resumes g c repeats once =
     let names : Names = record { policy = c.args.policy.now; requests = c.args.requests.now; transcript = c.args.transcript.now } in
     gone_on names (options_in c.args.options) repeats c.in-Ok.beginning _ c.requires.options
     c.in-Ok.ensures.loads c.go_on.ensures.served c.go_on.ensures.begins c.go_on.ensures.wants
+    c.lines_fit.ensures c.jobs_stay_named.ensures c.go_on.ensures.named
     (λ never. elim (once never) [
       | inl serves ↦ inl (c.go_on.ensures.once serves)
       | inr none ↦ inr none

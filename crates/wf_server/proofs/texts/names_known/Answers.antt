@@ -1,0 +1,11 @@
+use Rattle.std.proofs.Common.{ap, subst, ◌∙◌}
+use Rattle.policy_book.specs.Shapes.{PolicyShape}
+use Rattle.wf_board.specs.Boards.{BoardShape}
+use Rattle.wf_board.specs.States.{State}
+use Rattle.entry_reader.specs.Named.{HasNames}
+use Rattle.wf_server.proofs.texts.names_known.Goals as goal
+
+pub returns : goal.returns
+returns c =
+    subst HasNames
+    (c.policy.ensures.policy ∙ ap (λ (b : BoardShape). b.policy) c.board.ensures.board ∙ ap (λ (s : State). s.book.policy) c.board.ensures.sound.state) c.know_names.ensures
