@@ -60,8 +60,7 @@ impl StepSet {
 
     /// The steps of this set and of another one.
     pub fn union(&self, by: &StepSet) -> StepSet
-        ensures either { (s : ℕ) → is_member result s
-            ≡ (is_member self.now s || is_member by.now s) }
+        ensures either { (s : ℕ) → is_member result s ≡ (is_member self.now s || is_member by.now s) }
         ensures len { length result ≡ STEP_LIMIT }
     {
         StepSet {
