@@ -48,12 +48,13 @@ pub fn serve_by_lanes<R: Threads + Wait + Sync, V: Decider + Sync, G: Gate + Syn
     desk
 }
 
-// Serves jobs by turns, up to the first that has to be searched, unless a gate watches.
+// Serves jobs by turns, up to the first that has to be searched, where two lanes have some and no
+// gate watches.
 fn serve_ahead<V: Decider, G: Gate>(alloc: Global, decider: &V, gate: &G, desk: &mut Desk)
     requires ready { V.ready decider.now }
     ensures { HasGrown desk.old desk.new }
 {
-    if !gate.watches() {
+    if !gate.watches() && has_two(&busy_lanes(desk)) {
         serve_rounds(alloc, decider, desk);
     }
 }
