@@ -1,20 +1,19 @@
 -- Inside: what a search knows of each user.
-use Rattle.std.specs.Prelude.{◌≡◌, ℕ, zero, suc, ◌<◌, ◌≤◌, ◌+◌, Bool, true, false, not, ◌&&◌, ◌||◌, ◌==◌, nat_lt, List, [], length, Option, None, Some, if◌then◌else◌, slice_index_or, slice_set}
+use Rattle.std.specs.Prelude.{◌≡◌, ℕ, ◌<◌, ◌≤◌, ◌+◌, Bool, true, false, not, ◌&&◌, ◌||◌, ◌==◌, nat_lt, List, [], length, Option, None, Some, slice_index_or}
 use Rattle.wf_names.specs.declared.limits.TheConstants.{STEP_LIMIT}
 use Rattle.constraint_forms.specs.declared.rule.Rule.{Rule}
 use Rattle.constraint_forms.specs.Assigned.{no_steps}
 use Rattle.constraint_forms.specs.Flags.{word_of}
 use Rattle.constraint_forms.specs.Rules.{all_read, any_read, reads}
+use Rattle.policy_book.specs.Duties.{steps_below}
 use Rattle.policy_book.specs.Plans.{Problem}
 use Rattle.policy_book.specs.Twins.{are_twins, is_alike_to}
-use Rattle.wf_names.specs.UserSets.{has_user}
 use Rattle.wsp_solver.specs.Searches.{AreNamed}
 use Rattle.wsp_solver.specs.declared.crew.Crew.{Crew}
 
 -- the steps below n for which a user is authorised
 abbrev pub duties_below : Problem → ℕ → ℕ → List Bool
-duties_below p u zero = no_steps
-duties_below p u (suc n) = if p.authorised n u then slice_set (duties_below p u n) n true else duties_below p u n
+duties_below p u n = steps_below n (λ s. p.authorised s u)
 
 -- the steps of a user in a table
 abbrev pub duties_of : List (List Bool) → ℕ → List Bool
@@ -23,10 +22,6 @@ duties_of duties u = slice_index_or duties u no_steps
 -- a table has the steps for which each user is authorised
 abbrev pub AreDuties : Problem → List (List Bool) → Type 0
 AreDuties p duties = (u : ℕ) → u < p.users → duties_of duties u ≡ duties_below p u p.steps
-
--- rows have the users who are authorised for each step
-abbrev pub AreAllowed : Problem → List (List ℕ) → Type 0
-AreAllowed p rows = (s : ℕ) → s < length rows → (u : ℕ) → has_user (slice_index_or rows s []) u ≡ p.authorised s u
 
 -- a user has certain steps in a table
 abbrev pub has_steps : List (List Bool) → List Bool → ℕ → Bool

@@ -4,16 +4,16 @@ ghost use Rattle.std.specs.Prelude.{◌≡◌, ◌<◌, ◌≤◌, ◌||◌, ◌
 ghost use Rattle.policy_book.specs.Policies.{problem_of};
 ghost use Rattle.constraint_forms.specs.Rules.{all_read, any_read, reads};
 ghost use Rattle.policy_book.specs.Twins.{agree, all_below, are_related_alike, are_twins, is_alike_to, is_rule_alike, treats_alike};
-ghost use Rattle.wsp_solver.specs.Crews.{AreAllowed, AreDuties, AreFirstTwins, IsCrewOf, IsFirstTwin, IsNextWith, class_in, duties_below, duties_of, has_steps, is_told_apart, reads_as, tells_apart};
+ghost use Rattle.wsp_solver.specs.Crews.{AreDuties, AreFirstTwins, IsCrewOf, IsFirstTwin, IsNextWith, class_in, duties_below, duties_of, has_steps, is_told_apart, reads_as, tells_apart};
 ghost use Rattle.wsp_solver.specs.Searches.{AreNamed};
 
 use crate::leaf::steps_of_rule;
-use crate::steps::{step_count, with_if};
+use crate::steps::step_count;
 use constraint_forms::{Holds, Rule};
 use plan_finder::Finder;
 use policy_book::{Policy, StepSet};
 use std::alloc::{AllocError, Global};
-use wf_names::{FlowId, RelId, STEP_LIMIT, StepId, UserId, UserSet};
+use wf_names::{FlowId, RelId, STEP_LIMIT, UserId};
 
 /// The users of a policy, as the search for a tree sees them.
 #[derive(Drop)]
@@ -55,57 +55,24 @@ fn all_named(alloc: Global, p: &Policy, f: FlowId) -> Result<Vec<StepSet>, Alloc
     Ok(named)
 }
 
-// The users who are authorised for each step.
-fn all_allowed(alloc: Global, p: &Policy, f: FlowId) -> Result<Vec<UserSet>, AllocError>
-    requires flow { f < length p.now.flows }
-    ensures { IfOk result (λ rows. AreAllowed (problem_of p.now f) rows.items) }
-{
-    let mut rows = Vec::new(alloc);
-    'steps: for s in 0..p.flow(f).steps().len() {
-        rows.push(p.authorised_users(f, StepId(s as u8)))?;
-    }
-    Ok(rows)
-}
-
-// Whether a user is authorised for a step, by the rows of some steps.
-fn may_do(p: &Policy, f: FlowId, allowed: &[UserSet], s: StepId, u: UserId) -> bool
-    requires flow { f < length p.now.flows }
-    requires allowed { AreAllowed (problem_of p.now f) allowed.now }
-    requires step { s < (problem_of p.now f).steps }
-    requires user { u < (problem_of p.now f).users }
-    ensures { result ≡ (problem_of p.now f).authorised s u }
-{
-    match allowed.get(s.0 as usize) {
-        Some(row) => row.has(u),
-        None => p.authorised(f, s, u),
-    }
-}
-
 fn all_duties(alloc: Global, p: &Policy, f: FlowId) -> Result<Vec<StepSet>, AllocError>
     requires flow { f < length p.now.flows }
     ensures { IfOk result (λ rows. AreDuties (problem_of p.now f) rows.items) }
 {
-    let allowed = all_allowed(alloc, p, f)?;
     let mut rows = Vec::new(alloc);
     'users: for u in 0..p.roster().users().len() {
-        rows.push(duties(p, f, &allowed, UserId(u)))?;
+        rows.push(duties(p, f, UserId(u)))?;
     }
     Ok(rows)
 }
 
-// The steps for which a user is authorised.
-fn duties(p: &Policy, f: FlowId, allowed: &[UserSet], u: UserId) -> StepSet
+// The steps for which a user is authorised, as the policy keeps them.
+fn duties(p: &Policy, f: FlowId, u: UserId) -> StepSet
     requires flow { f < length p.now.flows }
-    requires allowed { AreAllowed (problem_of p.now f) allowed.now }
     requires user { u < (problem_of p.now f).users }
     ensures { result ≡ duties_below (problem_of p.now f) u (problem_of p.now f).steps }
 {
-    let mut set = StepSet::empty();
-    'steps: for s in 0..p.flow(f).steps().len() {
-        let step = StepId(s as u8);
-        set = with_if(&set, step, may_do(p, f, allowed, step, u));
-    }
-    set
+    p.duties(f, u)
 }
 
 // The table of classes where nobody was asked for.
