@@ -106,7 +106,7 @@ handed_to lanes first before after room told (fault.LineTooLong line) order none
     whole_up lanes first told.jobs told.batch_ends (reads.front ++ reads.last ∷ []) false order reads.jobs reads.ends
 handed_to lanes first before after room told fault.TooManyLines order none reads =
     whole_up lanes first told.jobs told.batch_ends (reads.front ++ reads.last ∷ []) false order reads.jobs reads.ends
-handed_to lanes first before after room told fault.Write order none (inl reads) = paused_to lanes first before after room told reads.0 order reads.1.1
+handed_to lanes first before after room told fault.Write order none (inl reads) = paused_to lanes first before after room told reads.0 order reads.2
 handed_to lanes first before after room told fault.Write order none (inr within) =
     record { bytes = []; ended = false; up = subst (UpToAnEnd told.jobs told.batch_ends) (sym none) within.up }
 handed_to lanes first before after room told fault.NoMemory order none reads = record { bytes = reads.bytes; ended = reads.ended; up = reads.up }
