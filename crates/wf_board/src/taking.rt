@@ -156,13 +156,7 @@ fn take_by(p: &Policy, cases: &mut Cases, ask: &Ask, deed: Deed, verdict: Verdic
 }
 
 /// Answers a request on whose deed there is a plan.
-pub(crate) fn take_plan(
-    p: &Policy,
-    cases: &mut Cases,
-    ask: &Ask,
-    deed: Deed,
-    plan: Plan,
-) -> Reply
+pub(crate) fn take_plan(p: &Policy, cases: &mut Cases, ask: &Ask, deed: Deed, plan: Plan) -> Reply
     requires kept { IsKept p.now cases.old }
     requires undecided { IsUndecided p.now cases.old ask.now deed }
     requires plan { IsPlanFor (book_of p.now cases.old) (Ok deed) plan }

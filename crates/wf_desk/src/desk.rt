@@ -255,9 +255,9 @@ impl Desk {
         true
     }
 
-    /// Takes up a lane's next job, in a turn. Where nothing has to be searched it is decided at once,
-    /// and with `near` also where a plan is at hand. Else there is its task, or no memory for one,
-    /// and nothing changes.
+    /// Takes up a lane's next job, in a turn. Where nothing has to be searched it is decided at
+    /// once, and with `near` also where a plan is at hand. Else there is its task, or no memory for
+    /// one, and nothing changes.
     pub fn take_up<V: Decider>(
         &mut self,
         alloc: Global,

@@ -56,13 +56,7 @@ impl<R: Wait, V: Decider> Turns for TableTurns<'_, R, V> {
 }
 
 // Takes up a lane's next job at a desk. Without memory for its task it is decided at once.
-fn begin_at<V: Decider>(
-    alloc: Global,
-    decider: &V,
-    near: bool,
-    desk: &mut Desk,
-    lane: u8,
-) -> Begun
+fn begin_at<V: Decider>(alloc: Global, decider: &V, near: bool, desk: &mut Desk, lane: u8) -> Begun
     requires ready { V.ready decider.now }
     requires lane { lane < desk.old.lanes }
     ensures { HasBegunAt desk.old desk.new lane result }

@@ -1,4 +1,4 @@
-use Rattle.std.proofs.Common.{◌≡◌, ◌<◌, Some, ap, sym, subst, ◌∙◌}
+use Rattle.std.proofs.Common.{◌≡◌, ◌<◌, Some, sym, subst, ◌∙◌}
 use Rattle.wf_desk.specs.Commits.{HasTakenUp}
 use Rattle.wf_desk.specs.Desks.{DeskShape, next_job}
 use Rattle.wf_desk.proofs.DocketLaws.{next_lane}
