@@ -26,6 +26,7 @@ struct Hold {
 /// It counts the lines that enter, all of them.
 #[derive(Drop)]
 struct TwoHolds {
+    watches: bool,
     holds: [Hold; 2],
     entered: [AtomicU64; 2],
     misses: AtomicU64,
@@ -33,8 +34,9 @@ struct TwoHolds {
 }
 
 impl TwoHolds {
-    fn new(holds: [Hold; 2]) -> TwoHolds {
+    fn new(watches: bool, holds: [Hold; 2]) -> TwoHolds {
         TwoHolds {
+            watches,
             holds,
             entered: [AtomicU64::new(0), AtomicU64::new(0)],
             misses: AtomicU64::new(0),
@@ -73,7 +75,7 @@ impl TwoHolds {
 
 impl Gate for TwoHolds {
     fn watches(&self) -> bool {
-        true
+        self.watches
     }
 
     fn solving(&self, _lane: u8, line: u32) {
@@ -144,6 +146,14 @@ fn eight_lanes_answer_each_line_once(rt: HostRuntime) -> Result<(), Fail> {
     Ok(())
 }
 
+// The same where nobody watches: the first opening is searched for, and those beside it may be.
+// Each claim has a plan at hand, which is the one of its case, and is searched for nowhere.
+#[test]
+fn plans_at_hand_answer_on_eight_lanes(rt: HostRuntime) -> Result<(), Fail> {
+    assert!(rt; is_whole_unwatched(&rt, rt.alloc())?);
+    Ok(())
+}
+
 // Each lane works on the case with its own number.
 const EIGHT_CASES: &str = r#"{"do":"open","flow":"pay","lane":0}
 {"do":"open","flow":"pay","lane":1}
@@ -189,9 +199,17 @@ fn is_whole<R: Threads + Wait + Sync>(
     rounds: &str,
     searches: u64,
 ) -> Result<bool, AllocError> {
-    let gate = TwoHolds::new([FREE, FREE]);
+    let gate = TwoHolds::new(true, [FREE, FREE]);
     let whole = answers_each(rt, alloc, rounds, &gate)?;
     Ok(whole && gate.count.load(Ordering::SeqCst) == searches)
+}
+
+// The same at a gate that does not watch, with one to eight searches.
+fn is_whole_unwatched<R: Threads + Wait + Sync>(rt: &R, alloc: Global) -> Result<bool, AllocError> {
+    let gate = TwoHolds::new(false, [FREE, FREE]);
+    let whole = answers_each(rt, alloc, "2", &gate)?;
+    let searches = gate.count.load(Ordering::SeqCst);
+    Ok(whole && 1 <= searches && searches <= 8)
 }
 
 // At which no line waits.
@@ -247,7 +265,7 @@ fn writes<R: Threads + Wait + Sync>(
     holds: [Hold; 2],
     parts: &[&str],
 ) -> Result<bool, AllocError> {
-    let gate = TwoHolds::new(holds);
+    let gate = TwoHolds::new(true, holds);
     let written = writes_at(rt, alloc, policy, input, &gate, parts)?;
     Ok(written && gate.is_kept())
 }
